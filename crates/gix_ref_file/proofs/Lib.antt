@@ -1,0 +1,10 @@
+pub mod Ascending
+pub mod Below
+pub mod Entries
+pub mod Histories
+pub mod Moved
+pub mod Others
+pub mod Places
+pub mod Rooted
+pub mod Trees
+pub mod Undone

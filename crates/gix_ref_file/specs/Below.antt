@@ -1,0 +1,23 @@
+-- Where the paths of a folder lie in the order of paths.
+use Rattle.std.specs.Prelude.{◌≡◌, ◌<◌, ℕ, ⊤, List, [], ◌∷◌, ◌++◌, length, Vec}
+use Rattle.std.specs.declared.alloc.Global.{Global}
+use Rattle.std.specs.declared.ops.Bound.{Bound}
+use Rattle.std.specs.declared.ops.Bound.TheVariants.{Included, Excluded, Unbounded}
+
+-- where what stands below a folder begins: at `folder/`
+abbrev pub IsStart : List ℕ → Bound (Vec ℕ Global) → Type 0
+IsStart [] Unbounded = ⊤
+IsStart (byte ∷ folder) (Included first) = first.items ≡ (byte ∷ folder) ++ 47 ∷ []
+IsStart _ _ = ⊥
+
+-- and where it ends: before `folder0`, since `0` is the byte behind `/`
+abbrev pub IsEnd : List ℕ → Bound (Vec ℕ Global) → Type 0
+IsEnd [] Unbounded = ⊤
+IsEnd (byte ∷ folder) (Excluded next) = next.items ≡ (byte ∷ folder) ++ 48 ∷ []
+IsEnd _ _ = ⊥
+
+-- behind a path, and perhaps behind all of a folder that it stands in and that lies deeper than this one
+abbrev pub IsBehind : List ℕ → List ℕ → Bound (Vec ℕ Global) → Type 0
+IsBehind folder path (Excluded last) = last.items ≡ path
+IsBehind folder path (Included next) = (sub : List ℕ) × (rest : List ℕ) × (path ≡ sub ++ 47 ∷ rest) × (next.items ≡ sub ++ 48 ∷ []) × (length folder < length sub)
+IsBehind folder path Unbounded = ⊥

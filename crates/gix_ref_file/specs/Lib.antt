@@ -1,0 +1,7 @@
+pub mod Below
+pub mod Changes
+pub mod Fuse
+pub mod History
+pub mod Nodes
+pub mod Past
+pub mod Tree

@@ -1,0 +1,16 @@
+//! A tree of files, whose changes may be stopped at any moment.
+#![tactic(auto)]
+
+mod files;
+mod fuse;
+pub mod laws;
+mod memory;
+mod nodes;
+mod paths;
+mod ranges;
+#[cfg(test)]
+mod tests;
+
+pub use files::{FileError, Files, Place};
+pub use fuse::Fuse;
+pub use memory::MemoryFiles;

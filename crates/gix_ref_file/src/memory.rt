@@ -1,0 +1,193 @@
+// Files in memory.
+mod record;
+
+ghost use Rattle.std.specs.Prelude.{◌≡◌, option_map, length};
+ghost use Rattle.gix_ref_file.specs.Tree.{node_at, place_of, bytes_of, bytes_at};
+ghost use Rattle.gix_ref_file.specs.Changes.{may_hold_file};
+
+use crate::files::{FileError, Files, Place};
+use crate::nodes::{Entry, Nodes};
+use crate::paths::{is_path, parent};
+use record::Undo;
+use std::alloc::{AllocError, Global};
+use std::cmp::Ordering;
+
+/// A tree of files in memory, and a record of its changes that tells the tree before each.
+///
+/// A change answers `Failed` only where the tree doesn't allow it, and `Memory` only where memory was refused. Both leave the
+/// tree and the record as they were, since all room is made before anything changes. A reading never answers `Failed`. The record
+/// costs a change its path and what it replaced, moved and not copied.
+#[derive(Debug, Drop)]
+pub struct MemoryFiles {
+    nodes: Nodes,
+    past: Vec<Undo>,
+}
+
+impl MemoryFiles {
+    ghost use Rattle.gix_ref_file.specs.Tree.{IsRooted};
+    ghost use Rattle.gix_ref_file.specs.Past.{history_of, start};
+
+    /// A tree in which nothing stands but the root, and a record of no changes.
+    pub fn new(alloc: Global) -> Self
+        ensures history { history_of result ≡ start }
+        ensures honest { IsRooted (history_of result).tree }
+    {
+        MemoryFiles {
+            nodes: Nodes::new(alloc),
+            past: Vec::new(alloc),
+        }
+    }
+
+    fn place(&self, path: &[u8]) -> Place
+        ensures { result ≡ place_of (node_at self.now.nodes path.now) }
+    {
+        if path.is_empty() {
+            return Place::Folder;
+        }
+        match self.nodes.get(path) {
+            Some(Entry::File(bytes)) => Place::File(bytes.len() as u64),
+            Some(Entry::Folder) => Place::Folder,
+            None => Place::Absent,
+        }
+    }
+
+    fn may_hold_file(&self, path: &[u8]) -> bool
+        ensures { result ≡ may_hold_file self.now.nodes path.now }
+    {
+        is_path(path)
+            && self.place(parent(path)) == Place::Folder
+            && self.place(path) != Place::Folder
+    }
+
+    fn file_len(&self, path: &[u8]) -> usize
+        ensures { result ≡ length (bytes_at self.now.nodes path.now) }
+    {
+        match self.file(path) {
+            Some(bytes) => bytes.len(),
+            None => 0,
+        }
+    }
+
+    fn file(&self, path: &[u8]) -> Option<&Vec<u8>>
+        ensures { option_map (λ bytes. bytes.now.items) result ≡ bytes_of (node_at self.now.nodes path.now) }
+    {
+        if path.is_empty() {
+            return None;
+        }
+        match self.nodes.get(path) {
+            Some(Entry::File(bytes)) => Some(bytes),
+            _ => None,
+        }
+    }
+}
+
+impl Files for MemoryFiles {
+    ghost use Rattle.std.specs.Prelude.{⊤};
+    ghost use Rattle.gix_ref_file.specs.Tree.{IsRooted};
+    ghost use Rattle.gix_ref_file.specs.Past.{history_of};
+
+    ghost history = { history_of };
+
+    ghost is_honest = { λ files. IsRooted (history_of files).tree };
+
+    ghost failures = { λ _. 0 };
+
+    ghost reading_may_fail = { ⊥ };
+
+    ghost is_atomic = { ⊤ };
+
+    fn kind_of(&self, path: &[u8]) -> Result<Place, FileError> {
+        Ok(self.place(path))
+    }
+
+    fn read(&self, path: &[u8], out: &mut Vec<u8>) -> Result<Option<usize>, FileError> {
+        let Some(bytes) = self.file(path) else {
+            return Ok(None);
+        };
+        out.extend_from_slice(bytes)?;
+        Ok(Some(bytes.len()))
+    }
+
+    fn read_at(&self, path: &[u8], at: u64, buffer: &mut [u8]) -> Result<Option<usize>, FileError> {
+        let Some(bytes) = self.file(path) else {
+            return Ok(None);
+        };
+        let start = at.min(bytes.len() as u64) as usize;
+        let count = buffer.len().min(bytes.len() - start);
+        buffer[..count].copy_from_slice(&bytes[start..start + count]);
+        Ok(Some(count))
+    }
+
+    fn list(&self, alloc: Global, folder: &[u8]) -> Result<Vec<Vec<u8>>, FileError> {
+        if self.place(folder) != Place::Folder {
+            return Ok(Vec::new(alloc));
+        }
+        Ok(self.nodes.names(alloc, folder)?)
+    }
+
+    fn create_new(&mut self, alloc: Global, path: &[u8]) -> Result<bool, FileError> {
+        if self.place(path) != Place::Absent {
+            return Ok(false);
+        }
+        if !self.may_hold_file(path) {
+            return Err(FileError::Failed);
+        }
+        self.put(alloc, path, Entry::File(Vec::new(alloc)))?;
+        Ok(true)
+    }
+
+    fn write(&mut self, alloc: Global, path: &[u8], bytes: &[u8]) -> Result<(), FileError> {
+        if !self.may_hold_file(path) {
+            return Err(FileError::Failed);
+        }
+        let file = Entry::File(bytes.to_vec(alloc)?);
+        Ok(self.put(alloc, path, file)?)
+    }
+
+    fn append(&mut self, alloc: Global, path: &[u8], bytes: &[u8]) -> Result<(), FileError> {
+        if !self.may_hold_file(path) {
+            return Err(FileError::Failed);
+        }
+        if self.file(path).is_some() {
+            return Ok(self.lengthen(alloc, path, bytes)?);
+        }
+        let entry = Entry::File(bytes.to_vec(alloc)?);
+        Ok(self.put(alloc, path, entry)?)
+    }
+
+    fn rename(&mut self, alloc: Global, from: &[u8], to: &[u8]) -> Result<(), FileError> {
+        if self.file(from).is_none() || !self.may_hold_file(to) {
+            return Err(FileError::Failed);
+        }
+        if from.cmp(to) == Ordering::Equal {
+            return Ok(());
+        }
+        Ok(self.move_file(alloc, from, to)?)
+    }
+
+    fn remove_file(&mut self, alloc: Global, path: &[u8]) -> Result<(), FileError> {
+        if self.file(path).is_none() {
+            return Err(FileError::Failed);
+        }
+        Ok(self.take(alloc, path)?)
+    }
+
+    fn make_folder(&mut self, alloc: Global, path: &[u8]) -> Result<(), FileError> {
+        if self.place(path) != Place::Absent || !self.may_hold_file(path) {
+            return Err(FileError::Failed);
+        }
+        Ok(self.put(alloc, path, Entry::Folder)?)
+    }
+
+    fn remove_empty_folder(&mut self, alloc: Global, path: &[u8]) -> Result<(), FileError> {
+        if !is_path(path)
+            || self.place(path) != Place::Folder
+            || self.nodes.has_children(alloc, path)?
+        {
+            return Err(FileError::Failed);
+        }
+        Ok(self.take(alloc, path)?)
+    }
+
+    ghost rooted = { λ files honest. honest };
+}

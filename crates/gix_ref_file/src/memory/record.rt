@@ -1,0 +1,95 @@
+// The changes of a tree in memory, each with a record of how to undo it. All room is made before anything changes.
+ghost use Rattle.std.specs.Prelude.{◌≡◌, OnOk, OnErr, IsTrue, IsFalse};
+ghost use Rattle.std.specs.FinMap as map;
+ghost use Rattle.gix_ref_file.specs.Tree.{same_path};
+ghost use Rattle.gix_ref_file.specs.Changes.{may_hold_file, is_file_at, after, to_rename, to_append};
+ghost use Rattle.gix_ref_file.specs.History.{Steps};
+ghost use Rattle.gix_ref_file.specs.Nodes.{node_of};
+ghost use Rattle.gix_ref_file.specs.Past.{history_of};
+
+use super::MemoryFiles;
+use crate::nodes::Entry;
+use std::alloc::{AllocError, Global};
+
+// How to undo a change.
+#[derive(Debug, Drop)]
+pub enum Undo {
+    // Puts back what stood at a path.
+    Restore {
+        path: Vec<u8>,
+        before: Option<Entry>,
+    },
+    // Gives a file its old path again, and puts back what stood at the new one.
+    Return {
+        from: Vec<u8>,
+        to: Vec<u8>,
+        replaced: Option<Entry>,
+    },
+    // Takes what was appended off again.
+    Shorten {
+        path: Vec<u8>,
+        len: usize,
+    },
+}
+
+impl MemoryFiles {
+    // Puts an entry at a path.
+    pub fn put(&mut self, alloc: Global, path: &[u8], entry: Entry) -> Result<(), AllocError>
+        ensures ok { OnOk result (Steps (history_of self.old) (history_of self.new) (map.insert self.old.nodes path.now (node_of entry))) }
+        ensures err { OnErr result (history_of self.new ≡ history_of self.old) }
+    {
+        self.past.reserve(1)?;
+        let kept = path.to_vec(alloc)?;
+        let before = self.nodes.insert(path.to_vec(alloc)?, entry)?;
+        self.past
+            .push_reserved(Undo::Restore { path: kept, before });
+        Ok(())
+    }
+
+    // Takes away what stands at a path.
+    pub fn take(&mut self, alloc: Global, path: &[u8]) -> Result<(), AllocError>
+        ensures ok { OnOk result (Steps (history_of self.old) (history_of self.new) (map.remove self.old.nodes path.now)) }
+        ensures err { OnErr result (history_of self.new ≡ history_of self.old) }
+    {
+        self.past.reserve(1)?;
+        let kept = path.to_vec(alloc)?;
+        let before = self.nodes.remove(path);
+        self.past
+            .push_reserved(Undo::Restore { path: kept, before });
+        Ok(())
+    }
+
+    // Gives a file another path.
+    pub fn move_file(&mut self, alloc: Global, from: &[u8], to: &[u8]) -> Result<(), AllocError>
+        requires there { IsTrue (is_file_at self.old.nodes from.now) }
+        requires path { IsTrue (may_hold_file self.old.nodes to.now) }
+        requires apart { IsFalse (same_path from.now to.now) }
+        ensures ok { OnOk result (Steps (history_of self.old) (history_of self.new) (after (to_rename from.now to.now) self.old.nodes)) }
+        ensures err { OnErr result (history_of self.new ≡ history_of self.old) }
+    {
+        self.past.reserve(1)?;
+        let old_path = from.to_vec(alloc)?;
+        let new_path = to.to_vec(alloc)?;
+        let replaced = self.nodes.rename(alloc, from, to)?;
+        self.past.push_reserved(Undo::Return {
+            from: old_path,
+            to: new_path,
+            replaced,
+        });
+        Ok(())
+    }
+
+    // Puts bytes behind those of a file.
+    pub fn lengthen(&mut self, alloc: Global, path: &[u8], bytes: &[u8]) -> Result<(), AllocError>
+        requires { IsTrue (is_file_at self.old.nodes path.now) }
+        ensures ok { OnOk result (Steps (history_of self.old) (history_of self.new) (after (to_append path.now bytes.now) self.old.nodes)) }
+        ensures err { OnErr result (history_of self.new ≡ history_of self.old) }
+    {
+        self.past.reserve(1)?;
+        let kept = path.to_vec(alloc)?;
+        let len = self.file_len(path);
+        self.nodes.append(alloc, path, bytes)?;
+        self.past.push_reserved(Undo::Shorten { path: kept, len });
+        Ok(())
+    }
+}

@@ -1,0 +1,143 @@
+// A map from paths to what stands there.
+ghost use Rattle.std.specs.Prelude.{◌≡◌, ◌++◌, [], length, map as list_map, filter_map, option_map, unwrap_or, IsSome, IsFalse, IfOk, OnOk, OnErr, IfNone};
+ghost use Rattle.std.specs.List.{list_any};
+ghost use Rattle.std.specs.FinMap as map;
+ghost use Rattle.gix_ref_file.specs.Tree.{file, bytes_of, same_path, parent, name_in};
+ghost use Rattle.gix_ref_file.specs.Nodes.{node_of, with_node};
+
+use crate::paths::{name, parent};
+use crate::ranges::{behind, below};
+use std::alloc::{AllocError, Global};
+use std::cmp::Ordering;
+use std::collections::BTreeMap;
+use std::marker::Model;
+use std::mem;
+
+#[derive(Debug, Drop)]
+pub enum Entry {
+    File(Vec<u8>),
+    Folder,
+}
+
+#[derive(Debug, Drop)]
+pub struct Nodes {
+    entries: BTreeMap<Vec<u8>, Entry>,
+}
+
+impl Model for Nodes {
+    ghost use Rattle.gix_ref_file.specs.Tree.{Tree};
+    ghost use Rattle.gix_ref_file.specs.Nodes.{tree_of, IsInOrder, coded_tree};
+
+    ghost Value = { Tree };
+
+    ghost coded = { coded_tree };
+
+    ghost view = { λ a. tree_of a.entries.entries };
+
+    ghost invariant = { λ a. IsInOrder a.entries.entries };
+}
+
+impl Nodes {
+    pub fn new(alloc: Global) -> Self
+        ensures { result ≡ map.empty }
+    {
+        Nodes {
+            entries: BTreeMap::new(alloc),
+        }
+    }
+
+    pub fn get(&self, path: &[u8]) -> Option<&Entry>
+        ensures { option_map (λ entry. node_of entry.now) result ≡ map.get self.now path.now }
+    {
+        self.entries.get(path)
+    }
+
+    /// Puts an entry in, and answers the one that stood there.
+    pub fn insert(&mut self, path: Vec<u8>, entry: Entry) -> Result<Option<Entry>, AllocError>
+        ensures before { IfOk result (λ before. option_map node_of before ≡ map.get self.old path.items) }
+        ensures ok { OnOk result (self.new ≡ map.insert self.old path.items (node_of entry)) }
+        ensures err { OnErr result (self.new ≡ self.old) }
+    {
+        Ok(self.entries.insert(path, entry)?)
+    }
+
+    pub fn remove(&mut self, path: &[u8]) -> Option<Entry>
+        ensures before { option_map node_of result ≡ map.get self.old path.now }
+        ensures removed { self.new ≡ map.remove self.old path.now }
+    {
+        self.entries.remove(path)
+    }
+
+    /// Puts an entry in the place of the one that stands there, and answers that one.
+    pub fn replace(&mut self, path: &[u8], entry: Entry) -> Option<Entry>
+        ensures before { option_map node_of result ≡ map.get self.old path.now }
+        ensures replaced { IsSome (map.get self.old path.now) → self.new ≡ map.insert self.old path.now (node_of entry) }
+        ensures absent { IfNone result (self.new ≡ self.old) }
+    {
+        let slot = self.entries.get_mut(path)?;
+        Some(mem::replace(slot, entry))
+    }
+
+    /// Moves what stands at one path to another, and answers what stood there.
+    pub fn rename(
+        &mut self,
+        alloc: Global,
+        from: &[u8],
+        to: &[u8],
+    ) -> Result<Option<Entry>, AllocError>
+        requires there { IsSome (map.get self.old from.now) }
+        requires apart { IsFalse (same_path from.now to.now) }
+        ensures before { IfOk result (λ before. option_map node_of before ≡ map.get self.old to.now) }
+        ensures ok { OnOk result (self.new ≡ with_node (map.remove self.old from.now) to.now (map.get self.old from.now)) }
+        ensures err { OnErr result (self.new ≡ self.old) }
+    {
+        // With this place made nothing fails any more.
+        let before = self.insert(to.to_vec(alloc)?, Entry::Folder)?;
+        let Some(moved) = self.remove(from) else {
+            unreachable!()
+        };
+        let _ = self.replace(to, moved);
+        Ok(before)
+    }
+
+    /// Puts bytes behind those of a file.
+    pub fn append(&mut self, alloc: Global, path: &[u8], bytes: &[u8]) -> Result<(), AllocError>
+        requires { IsSome (bytes_of (map.get self.old path.now)) }
+        ensures ok { OnOk result (self.new ≡ map.insert self.old path.now (file (unwrap_or (bytes_of (map.get self.old path.now)) [] ++ bytes.now))) }
+        ensures err { OnErr result (self.new ≡ self.old) }
+    {
+        let Some(Entry::File(mut stored)) = self.replace(path, Entry::File(Vec::new(alloc))) else {
+            unreachable!()
+        };
+        let appended = stored.extend_from_slice(bytes);
+        let _ = self.replace(path, Entry::File(stored));
+        appended
+    }
+
+    /// Whether something stands right in a folder.
+    pub fn has_children(&self, alloc: Global, folder: &[u8]) -> Result<bool, AllocError>
+        ensures { IfOk result (λ found. found ≡ list_any (λ path. same_path (parent path) folder.now) (map.keys self.now)) }
+    {
+        let below = below(alloc, folder)?;
+        Ok(
+            self.entries
+                .range(below)
+                .any(|(path, _)| parent(path).cmp(folder) == Ordering::Equal),
+        )
+    }
+
+    /// The names right in a folder, ascending. What stands deeper is passed over, a subfolder at a time.
+    pub fn names(&self, alloc: Global, folder: &[u8]) -> Result<Vec<Vec<u8>>, AllocError>
+        ensures { IfOk result (λ names. list_map (λ name. name.items) names.items ≡ filter_map (name_in folder.now) (map.keys self.now)) }
+    {
+        let (mut start, end) = below(alloc, folder)?;
+        let mut found = Vec::new(alloc);
+        while let Some((path, _)) = self.entries.range((start.as_ref(), end.as_ref())).next() {
+            if parent(path).cmp(folder) == Ordering::Equal {
+                found.push(name(path).to_vec(alloc)?)?;
+            }
+            start = behind(alloc, folder, path)?;
+        }
+        Ok(found)
+    }
+}

@@ -1,0 +1,49 @@
+// The parts of a path.
+ghost use Rattle.std.specs.Prelude.{◌≡◌, ◌-◌, ◌≤◌, not, length};
+ghost use Rattle.std.specs.List.{suffix_len, after_last};
+ghost use Rattle.gix_ref_file.specs.Tree.{is_slash, is_component, is_path, parent};
+
+// The most bytes that a path has.
+const MAX_PATH: usize = 4096;
+
+/// Whether these bytes are a path: at most 4,096, components with slashes between.
+pub fn is_path(path: &[u8]) -> bool
+    ensures { result ≡ is_path path.now }
+{
+    path.len() <= MAX_PATH
+        && path
+            .split(|byte| *byte == b'/')
+            .all(|part| is_component(part))
+}
+
+fn is_component(part: &[u8]) -> bool
+    ensures { result ≡ is_component part.now }
+{
+    !part.is_empty() && part != b".".as_slice() && part != b"..".as_slice() && !part.contains(&0)
+}
+
+// Where the last part begins.
+fn last_part_start(path: &[u8]) -> usize
+    ensures within { result ≤ length path.now }
+    ensures start { result ≡ length path.now - suffix_len (λ byte. not (is_slash byte)) path.now }
+{
+    let mut start = path.len();
+    while start > 0 && path[start - 1] != b'/' {
+        start -= 1;
+    }
+    start
+}
+
+/// The folder that a path stands in.
+pub fn parent(path: &[u8]) -> &[u8]
+    ensures { result.now ≡ parent path.now }
+{
+    &path[..last_part_start(path).saturating_sub(1)]
+}
+
+/// The last part.
+pub fn name(path: &[u8]) -> &[u8]
+    ensures { result.now ≡ after_last is_slash path.now }
+{
+    &path[last_part_start(path)..]
+}
