@@ -1,0 +1,52 @@
+mod PartLemmas
+mod GrammarLemmas
+mod RestLemmas
+mod EditLemmas
+mod NameLemmas
+mod RestRowLemmas
+mod RowLemmas
+mod FirstRowLemmas
+mod StepLemmas
+mod RecoveryLemmas
+mod FreshLemmas
+mod RecoveredLemmas
+mod RoundLemmas
+mod ReadingLemmas
+mod AfterFirstLemmas
+mod OneFileLemmas
+mod StreamRowLemmas
+mod EntryLemmas
+mod TableLines
+mod TableRunLemmas
+mod TableReaches
+mod TableRests
+mod TableStops
+mod TableWords
+pub mod TableLaws
+mod AlikeLemmas
+mod OnePair
+mod OnePairLines
+mod OnePairTexts
+mod PastLemmas
+mod WholeCommands
+mod WholeForms
+mod WholeGrowth
+mod WholeItems
+mod WholeLists
+mod WholeNames
+mod WholePaths
+mod WholeReads
+mod WholeRoots
+mod WholeSteps
+mod WholeStored
+mod WholeStores
+mod WholeTexts
+pub mod TreePlaces
+pub mod TreePuts
+pub mod TreeTexts
+pub mod TreeMoves
+pub mod CommitStands
+pub mod OfferedFiles
+pub mod OfferedSteps
+pub mod OfferedCauses
+pub mod OfferedReads

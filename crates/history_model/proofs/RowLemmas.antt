@@ -1,0 +1,85 @@
+-- Worked rows, computed.
+use Rattle.std.proofs.Common.{◌≡◌, List, [], ◌∷◌, ◌++◌, refl, sym, ◌∙◌, ap, arith, codes, length}
+use Rattle.std.specs.FinMap.{entries, empty, len-entries, len-empty, get-empty}
+use Rattle.std.specs.FinMap.Entries.{put}
+use Rattle.sha1.specs.Sha1.{sha1, hash_after, compress, rounds, schedule, first_words, digest_bytes}
+use Rattle.hex.specs.Hex.{encode_with}
+use Rattle.std.specs.Fmt.{digits}
+use Rattle.history_model.specs.Bytes.{Bytes, by_bytes, line}
+use Rattle.history_model.specs.FileMap.{Content}
+use Rattle.history_model.specs.Objects.{hex, digest, blob_text, blob_id, tree_text, object_text, root, root_within, folder_id, commit_content, id_of, StoredCommit}
+use Rattle.history_model.specs.Repository.{fresh, Reference}
+use Rattle.history_model.specs.Meaning.{new_commit}
+use Rattle.history_model.specs.Rows.{first_command, first_commit, three_files, content}
+use Rattle.history_model.specs.declared.Kind.{Kind}
+use Rattle.history_model.specs.declared.Kind.TheVariants.{Sha1}
+use Rattle.history_model.specs.declared.FileKind.TheVariants.{Exec}
+
+pub blob_text_hello : blob_text (codes "hello") ≡ codes "blob 5" ++ 0 ∷ codes "hello"
+unfolding digits
+blob_text_hello = refl
+
+pub empty_blob : hex (blob_id Sha1 []) ≡ codes "e69de29bb2d1d6434b8b29ae775ad8c2e48c5391"
+unfolding digest sha1 hash_after compress rounds schedule first_words digest_bytes encode_with digits
+empty_blob = refl
+
+pub hello_blob : hex (blob_id Sha1 (codes "hello")) ≡ codes "b6fc4c620b67d95f953a5c1c1230aaab5db5a1b0"
+unfolding digest sha1 hash_after compress rounds schedule first_words digest_bytes encode_with digits
+hello_blob = refl
+
+-- ---- the first commit
+
+no_entries : {X : Type 0} (files : List X) → length files ≡ 0 → files ≡ []
+no_entries [] e = refl
+no_entries (x ∷ xs) e = absurd (omega arith)
+
+pub entries-empty : {X : Type 0} → entries (empty {X = X} {R = by_bytes}) ≡ []
+entries-empty {X} = no_entries _ (sym (len-entries (empty {X = X} {R = by_bytes})) ∙ len-empty by_bytes X)
+
+pub root-empty : (kind : Kind) → root kind empty ≡ []
+unfolding root root_within
+root-empty kind = rw (entries-empty {X = Content}) refl
+
+pub empty_tree_computed : hex (digest Sha1 (tree_text [])) ≡ codes "4b825dc642cb6eb9a060e54bf8d69288fbee4904"
+unfolding digest sha1 hash_after compress rounds schedule first_words digest_bytes encode_with digits
+empty_tree_computed = refl
+
+pub empty_tree : hex (folder_id Sha1 empty) ≡ codes "4b825dc642cb6eb9a060e54bf8d69288fbee4904"
+empty_tree = ap (λ content. hex (digest Sha1 (tree_text content))) (root-empty Sha1) ∙ empty_tree_computed
+
+-- the commit's content, with the tree's id put in
+unfoldable pub text_with : Bytes → Bytes
+text_with tree = line (codes "tree " ++ tree) ++ line (codes "author A <a@b> 1 +0000") ++ line (codes "committer A <a@b> 1 +0000") ++ line [] ++ codes "one"
+
+first_content_shown : commit_content Sha1 first_commit ≡ text_with (hex (folder_id Sha1 empty))
+unfolding digits text_with encode_with digest sha1 digest_bytes
+first_content_shown = refl
+
+pub first_content : commit_content Sha1 first_commit ≡ text_with (codes "4b825dc642cb6eb9a060e54bf8d69288fbee4904")
+first_content = first_content_shown ∙ ap text_with empty_tree
+
+first_length_counted : length (text_with (codes "4b825dc642cb6eb9a060e54bf8d69288fbee4904")) ≡ 99
+unfolding text_with
+first_length_counted = refl
+
+pub first_length : length (commit_content Sha1 first_commit) ≡ 99
+first_length = ap length first_content ∙ first_length_counted
+
+first_id_computed : hex (digest Sha1 (object_text (codes "commit") (text_with (codes "4b825dc642cb6eb9a060e54bf8d69288fbee4904")))) ≡ codes "d39b036c797dcd9c0210b66a094ee846a3bc4fd9"
+unfolding digest sha1 hash_after compress rounds schedule first_words digest_bytes encode_with digits text_with
+first_id_computed = refl
+
+pub first_id : hex (id_of Sha1 (StoredCommit first_commit)) ≡ codes "d39b036c797dcd9c0210b66a094ee846a3bc4fd9"
+first_id = ap (λ content. hex (digest Sha1 (object_text (codes "commit") content))) first_content ∙ first_id_computed
+
+-- ---- three files
+
+pub three_in_order : put by_bytes (codes "a0") (record { kind = Exec; bytes = codes "3" }) (put by_bytes (codes "a/c") (content (codes "2")) (put by_bytes (codes "a.b") (content (codes "1")) [])) ≡ three_files
+three_in_order = refl
+
+pub three_tree : hex (digest Sha1 (tree_text (root_within 4 Sha1 three_files))) ≡ codes "b8b673d28f410aa8dd3222ef9fffe69e44e01d26"
+unfolding root_within digest sha1 hash_after compress rounds schedule first_words digest_bytes encode_with digits
+three_tree = refl
+
+pub first_new_commit : new_commit (fresh Sha1) first_command ≡ first_commit
+first_new_commit = simp (get-empty {X = Reference} by_bytes) refl

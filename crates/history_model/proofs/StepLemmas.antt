@@ -1,0 +1,215 @@
+-- The laws on steps and repositories.
+use Rattle.std.proofs.Common.{◌≡◌, ℕ, ◌⊎◌, Bool, true, false, cond, not, ◌&&◌, ◌||◌, List, [], ◌∷◌, refl, sym, ◌∙◌, ap, subst, inl, inr, Option, Some, None, is_some, IsTrue, bytes_eq, option_map, unwrap_or, find, slice_get, zero, suc, MatchBool}
+use Rattle.std.specs.List.{list_any}
+use Rattle.std.specs.Ordering.{eq_by_cmp}
+use Rattle.std.specs.FinMap.{get, get-insert, get-remove, insert, remove}
+use Rattle.std.proofs.lemmas.Cmp.{nat_list_cmp_total}
+use Rattle.std.proofs.lemmas.Map.Text.{is_eq-slice_cmp}
+use Rattle.std.proofs.lemmas.Slice.Eq.{bytes_eq-Decides}
+use Rattle.history_model.specs.Bytes.{Bytes, by_bytes}
+use Rattle.history_model.specs.FileMap.{FileMap}
+use Rattle.history_model.specs.Objects.{Id, CommitValue, StoredFolder, id_of}
+use Rattle.history_model.specs.Repository.{Repository, Reference, id_at, stands, commit_at}
+use Rattle.history_model.specs.Commands.{Command, Commit, Tag, Move, Rename, Delete, Switch, Pack, Index, Names, Files, Past, Log, Show}
+use Rattle.history_model.specs.Replies.{Reply, RefusedFor, Faulted, FilesAre, ShowsCommit, ShowsContent}
+use Rattle.history_model.specs.Meaning.{after, moved_reference, history_actor}
+use Rattle.history_model.specs.Causes.{first_cause, holds, in_order}
+use Rattle.history_model.specs.Answers.{Answers, StandsForCommit, files_shown, commit_shown, content_shown}
+use Rattle.history_model.specs.Steps.{Step, is_faulted, Accepts}
+use Rattle.history_model.specs.Stops.{LeftByStop, Between, IsNotLost, is_changing}
+use Rattle.history_model.specs.Laws.{TreesAreCanonical, StepsAreDetermined, RepliesTellTheState, RenamesLoseNothing, is_log, StopsMayLeaveAll}
+use Rattle.history_model.specs.declared.Cause.{Cause}
+use Rattle.history_model.specs.declared.Cause.TheVariants.{NameTwice, NoSuchName, Taken}
+
+some_same : {X : Type 0} (x y : X) → Some x ≡ Some y → x ≡ y
+some_same x y e = ap (λ o. unwrap_or o x) e
+
+-- ---- trees
+
+abbrev files_in : FileMap → Rattle.history_model.specs.Objects.Value → FileMap
+files_in d (StoredFolder files) = files
+files_in d _ = d
+
+pub trees_are_canonical : TreesAreCanonical
+trees_are_canonical r a b m n whole at_a at_b = (
+  λ e. ap (files_in m) (some_same (StoredFolder m) (StoredFolder n) (sym at_a ∙ ap (get r.objects) e ∙ at_b)),
+  λ e. (whole.store).own_ids a (StoredFolder m) at_a ∙ ap (λ files. id_of r.kind (StoredFolder files)) e ∙ sym ((whole.store).own_ids b (StoredFolder n) at_b),
+)
+
+-- ---- steps
+
+-- what a step without a fault is: a refusal, or an answer
+outcome : (old new : Repository) (command : Command) (reply : Reply) → is_faulted reply ≡ false → Step old command reply new
+    → ((cause : Cause) × (reply ≡ RefusedFor cause) × (first_cause old command ≡ Some cause) × (new ≡ old)) ⊎ Accepts old command reply new
+outcome old new command (RefusedFor cause) f h = inl (cause, refl, h.0, h.1)
+outcome old new command (Faulted fault) f h = cc
+outcome old new command reply f h = inr h
+
+same_commit : (r : Repository) (word : Bytes) (i j : Id) (a b : CommitValue) → StandsForCommit r word i a → StandsForCommit r word j b → (i ≡ j) × (a ≡ b)
+same_commit r word i j a b h k =
+    let ids : i ≡ j = some_same i j (sym h.read ∙ k.read) in
+    (ids, some_same a b (sym h.holds ∙ ap (commit_at r) ids ∙ k.holds))
+
+answers_same : (r : Repository) (command : Command) (x y : Reply) → is_log command ≡ false → Answers r command x → Answers r command y → x ≡ y
+answers_same r (Commit c) x y f a b = a ∙ sym b
+answers_same r (Tag c) x y f a b = a ∙ sym b
+answers_same r (Move c) x y f a b = a ∙ sym b
+answers_same r (Rename from to) x y f a b = a ∙ sym b
+answers_same r (Delete name at) x y f a b = a ∙ sym b
+answers_same r (Switch name) x y f a b = a ∙ sym b
+answers_same r Pack x y f a b = a ∙ sym b
+answers_same r Index x y f a b = a ∙ sym b
+answers_same r (Names folder) x y f a b = a ∙ sym b
+answers_same r (Past name) x y f a b = a ∙ sym b
+answers_same r (Log c) x y f a b = cc
+answers_same r (Files word) x y f (i, m, h, e) (j, n, k, g) =
+    e ∙ ap (λ commit. FilesAre (files_shown r commit.files)) (same_commit r word i j m n h k).1 ∙ sym g
+answers_same r (Show word None) x y f (i, m, h, e) (j, n, k, g) =
+    let same = same_commit r word i j m n h k in
+    e ∙ ap (λ id. ShowsCommit (commit_shown r id m)) same.0 ∙ ap (λ commit. ShowsCommit (commit_shown r j commit)) same.1 ∙ sym g
+answers_same r (Show word (Some path)) x y f (i, m, u, h, p, e) (j, n, v, k, q, g) =
+    let same = same_commit r word i j m n h k in
+    let contents : u ≡ v = some_same u v (sym p ∙ ap (λ commit. get commit.files path) same.1 ∙ q) in
+    e ∙ ap (λ content. ShowsContent (content_shown r content)) contents ∙ sym g
+
+none_some : {A X : Type 0} (x : X) → Some x ≡ None → A
+none_some x e = absurd (subst (λ o. IsTrue (is_some o) → ⊥) (sym e) (λ h. cc) refl)
+
+pub steps_are_determined : StepsAreDetermined
+steps_are_determined old a b command x y log fx fy h k = go (outcome old a command x fx h) (outcome old b command y fy k)
+  where
+    go : ((cause : Cause) × (x ≡ RefusedFor cause) × (first_cause old command ≡ Some cause) × (a ≡ old)) ⊎ Accepts old command x a
+        → ((cause : Cause) × (y ≡ RefusedFor cause) × (first_cause old command ≡ Some cause) × (b ≡ old)) ⊎ Accepts old command y b → (x ≡ y) × (a ≡ b)
+    go (inl (c, e, first, s)) (inl (d, g, second, t)) = (e ∙ ap RefusedFor (some_same c d (sym first ∙ second)) ∙ sym g, s ∙ sym t)
+    go (inl (c, e, first, s)) (inr v) = none_some c (sym first ∙ v.no_cause)
+    go (inr u) (inl (d, g, second, t)) = none_some d (sym second ∙ u.no_cause)
+    go (inr u) (inr v) = (answers_same old command x y log u.answer v.answer, u.result ∙ sym v.result)
+
+pub replies_tell_the_state : RepliesTellTheState
+replies_tell_the_state old new command (RefusedFor cause) h g = h.1
+replies_tell_the_state old new command (Faulted fault) h g = unchanged command h.1 g
+  where
+    unchanged : (command : Command) → MatchBool (Rattle.history_model.specs.Stops.is_changing command) (LeftByStop old command new) (new ≡ old) → not (Rattle.history_model.specs.Stops.is_changing command && true) ≡ true → new ≡ old
+    unchanged (Commit c) h g = cc
+    unchanged (Tag c) h g = cc
+    unchanged (Move c) h g = cc
+    unchanged (Rename from to) h g = cc
+    unchanged (Delete name at) h g = cc
+    unchanged (Switch name) h g = cc
+    unchanged Pack h g = cc
+    unchanged Index h g = h
+    unchanged (Names folder) h g = h
+    unchanged (Files word) h g = h
+    unchanged (Past name) h g = h
+    unchanged (Log c) h g = h
+    unchanged (Show word path) h g = h
+replies_tell_the_state old new command reply h g = h.result
+
+-- ---- renames
+
+-- the test fails, and so do the later ones
+passed : {X : Type 0} (b : Bool) (x : X) (rest : Option X) → cond b (Some x) rest ≡ None → (b ≡ false) × (rest ≡ None)
+passed true x rest e = cc
+passed false x rest e = (refl, e)
+
+-- where nothing is found, the test fails at each place
+none_at : {X : Type 0} (test : X → Bool) (xs : List X) → find test xs ≡ None → (i : ℕ) (x : X) → slice_get xs i ≡ Some x → test x ≡ false
+none_at test [] e i x h = none_some x (sym h)
+none_at test (y ∷ ys) e zero x h = subst (λ z. test z ≡ false) (some_same y x h) (passed (test y) y (find test ys) e).0
+none_at test (y ∷ ys) e (suc i) x h = none_at test ys (passed (test y) y (find test ys) e).1 i x h
+
+no_cause : (r : Repository) (c : Command) → first_cause r c ≡ None → (i : ℕ) (cause : Cause) → slice_get in_order i ≡ Some cause → holds cause r c ≡ false
+no_cause r c e i cause h = none_at (λ cause. holds cause r c) in_order e i cause h
+
+or_left : (a b : Bool) → (a || b) ≡ false → a ≡ false
+or_left true b e = cc
+or_left false b e = refl
+
+stands_so : (b : Bool) → (not b || false) ≡ false → b ≡ true
+stands_so true e = refl
+stands_so false e = cc
+
+is_none_so : {X : Type 0} (o : Option X) → is_some o ≡ false → o ≡ None
+is_none_so None e = refl
+is_none_so (Some x) e = cc
+
+held : (o : Option Reference) → is_some o ≡ true → Some (unwrap_or (option_map (λ ref. ref.id) o) []) ≡ option_map (λ ref. ref.id) o
+held None e = cc
+held (Some ref) e = refl
+
+same_key : (p q : Bytes) → eq_by_cmp by_bytes p q ≡ bytes_eq p q
+same_key p q = is_eq-slice_cmp p q
+
+itself : (p : Bytes) → eq_by_cmp by_bytes p p ≡ true
+itself p = same_key p p ∙ (bytes_eq-Decides p p).1 refl
+
+pub renames_lose_nothing : RenamesLoseNothing
+renames_lose_nothing old x from to none left = record {
+  somewhere = between.not_lost;
+  from_holds = elim ((between.names from).id) [ inl e ↦ inl e | inr e ↦ inr (e ∙ from_gone) ];
+  to_holds = elim ((between.names to).id) [ inl e ↦ inr (e ∙ to_free) | inr e ↦ inl (e ∙ to_made) ];
+}
+  where
+    between : Between old (Rename from to) x
+    between = subst (λ o. MatchBool (not (is_some o)) (Between old (Rename from to) x) (x ≡ old)) none left.1
+
+    made : Reference
+    made = moved_reference old to (unwrap_or (id_at old from) []) history_actor (Rattle.std.specs.Prelude.codes "rename")
+
+    differ : bytes_eq from to ≡ false
+    differ = no_cause old (Rename from to) none 2 NameTwice refl
+
+    stood : stands old from ≡ true
+    stood = stands_so _ (no_cause old (Rename from to) none 7 NoSuchName refl)
+
+    free : stands old to ≡ false
+    free = or_left _ _ (no_cause old (Rename from to) none 8 Taken refl)
+
+    from_gone : id_at (after old (Rename from to)) from ≡ None
+    from_gone = ap (option_map (λ ref. ref.id))
+        (get-insert nat_list_cmp_total (remove old.names from) to made from
+        ∙ ap (λ b. cond b (Some made) (get (remove old.names from) from)) (same_key from to ∙ differ)
+        ∙ get-remove nat_list_cmp_total old.names from from
+        ∙ ap (λ b. cond b None (get old.names from)) (itself from))
+
+    to_free : id_at old to ≡ None
+    to_free = ap (option_map (λ ref. ref.id)) (is_none_so (get old.names to) free)
+
+    to_made : id_at (after old (Rename from to)) to ≡ id_at old from
+    to_made = ap (option_map (λ ref. ref.id))
+        (get-insert nat_list_cmp_total (remove old.names from) to made to
+        ∙ ap (λ b. cond b (Some made) (get (remove old.names from) to)) (itself to))
+        ∙ held (get old.names from) stood
+
+-- ---- a stop that leaves all as it was
+
+not_lost_before : (old : Repository) (command : Command) → IsNotLost old command old
+not_lost_before old (Rename from to) = inl refl
+not_lost_before old (Commit c) = tt
+not_lost_before old (Tag c) = tt
+not_lost_before old (Move c) = tt
+not_lost_before old (Delete name at) = tt
+not_lost_before old (Switch name) = tt
+not_lost_before old Pack = tt
+not_lost_before old Index = tt
+not_lost_before old (Names folder) = tt
+not_lost_before old (Files word) = tt
+not_lost_before old (Past name) = tt
+not_lost_before old (Log c) = tt
+not_lost_before old (Show word path) = tt
+
+either_way : (b : Bool) {P Q : Type 0} → P → Q → MatchBool b P Q
+either_way true p q = p
+either_way false p q = q
+
+pub stops_may_leave_all : StopsMayLeaveAll
+stops_may_leave_all old command whole = (
+  whole,
+  either_way (is_changing command && not (is_some (first_cause old command))) (record {
+    kind = refl;
+    stored = record { keeps = λ id value at. at; no_more = λ id value at. inl at };
+    names = λ name. record { id = inl refl; moves = inl refl; log_follows_name = inl refl };
+    branch = inl refl;
+    not_lost = not_lost_before old command;
+  }) refl,
+)

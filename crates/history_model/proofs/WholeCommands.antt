@@ -1,0 +1,128 @@
+-- The store after a command of which no cause holds is whole.
+use Rattle.std.proofs.Common.{◌≡◌, ◌⊎◌, false, List, [], ◌∷◌, ◌++◌, map, refl, sym, ap, subst, inl, inr, Option, Some, None, is_none, unwrap_or}
+use Rattle.std.specs.List.{flat_map}
+use Rattle.std.specs.FinMap.{entries, keys}
+use Rattle.history_model.specs.Bytes.{Bytes}
+use Rattle.history_model.specs.FileMap.{FileMap, Content, inside, beginnings, folders_of, Edit, Put, Remove, RemoveFile}
+use Rattle.history_model.specs.Objects.{Id, Value, StoredCommit, StoredBytes, StoredFolder}
+use Rattle.history_model.specs.Repository.{Repository, IsStored, HoldsCommit, peeled, IsWholeStore}
+use Rattle.history_model.specs.Forms.{IsWrittenFiles, IsWritten}
+use Rattle.history_model.specs.Words.{WordReading, ReadsAs, Unborn, Unknown, Ambiguous, commit_read, commit_of, word_reading}
+use Rattle.history_model.specs.Commands.{Command, Commit, Tag, Move, Rename, Delete, Switch, Pack, Index, Names, Files, Past, Log, Show, CommitCommand, TagCommand}
+use Rattle.history_model.specs.Meaning.{parents_of, first_files, edits_of, new_commit, put_bytes, stored_by, takes_id, names_after, branch_after, after}
+use Rattle.history_model.specs.CommandParts.{words_in, at_word}
+use Rattle.history_model.specs.Causes.{first_cause, is_unknown, is_ambiguous, is_unborn, is_no_commit}
+use Rattle.history_model.specs.declared.Cause.TheVariants.{UnknownWord, AmbiguousWord, UnbornHead, NotACommit}
+use Rattle.history_model.proofs.WholeLists.{In, in_left, in_right, in_either, in_map, of_flat, in_flat, none_passes}
+use Rattle.history_model.proofs.WholeRoots.{HasAll, ArePlain, of_folders, inside_has, plain_inside}
+use Rattle.history_model.proofs.WholeStores.{in_get}
+use Rattle.history_model.proofs.WholeGrowth.{Fits, grown_whole}
+use Rattle.history_model.proofs.WholeReads.{no_cause, tests_ambiguous_word, tests_not_a_commit, tests_unborn_head, tests_unknown_word, read_holds, parents_hold, plain_written, Fine, first_fine, edits_from, new_written}
+
+-- ---- words
+
+-- each word of the command stands for a commit
+pub word_commit : (r : Repository) (command : Command) → first_cause r command ≡ None → (word : Bytes) → In word (words_in command) → (t : Id) × (commit_of r word ≡ Some t)
+word_commit r command none word i = go (word_reading r word)
+    (none_passes (λ w. is_unknown (word_reading r w)) (words_in command) (no_cause r command none UnknownWord tests_unknown_word) word i)
+    (none_passes (λ w. is_ambiguous (word_reading r w)) (words_in command) (no_cause r command none AmbiguousWord tests_ambiguous_word) word i)
+    (none_passes (λ w. is_unborn (word_reading r w)) (words_in command) (no_cause r command none UnbornHead tests_unborn_head) word i)
+    (none_passes (λ w. is_no_commit r (word_reading r w)) (words_in command) (no_cause r command none NotACommit tests_not_a_commit) word i)
+  where
+    some : (o : Option Id) → is_none o ≡ false → (t : Id) × (o ≡ Some t)
+    some None h = cc
+    some (Some t) h = (t, refl)
+
+    go : (reading : WordReading) → is_unknown reading ≡ false → is_ambiguous reading ≡ false → is_unborn reading ≡ false → is_no_commit r reading ≡ false → (t : Id) × (commit_read r reading ≡ Some t)
+    go Unknown a b c d = cc
+    go Ambiguous a b c d = cc
+    go Unborn a b c d = cc
+    go (ReadsAs id) a b c d = some (peeled r id) d
+
+-- ---- what a commit stores
+
+module _ (r : Repository) (whole : IsWholeStore r) (written : IsWritten r) where
+  module _ (c : CommitCommand) (none : first_cause r (Commit c) ≡ None) where
+    abbrev files : FileMap
+    files = (new_commit r c).files
+
+    abbrev stored : List Value
+    stored = stored_by r (Commit c)
+
+    pub old_fine : Fine r (first_files r (parents_of r c))
+    old_fine = first_fine r whole written (parents_of r c) (λ id i. parents_hold r whole c id i)
+
+    pub files_written : IsWrittenFiles files
+    files_written = new_written r c none old_fine.1
+
+    plain : ArePlain (entries files)
+    plain = plain_written files files_written
+
+    folder_in : (v : Value) → In v (map StoredFolder (folders_of files)) → In v stored
+    folder_in v i = in_left v (flat_map put_bytes (edits_of r c) ++ map StoredFolder (folders_of files)) (StoredCommit (new_commit r c) ∷ [])
+        (in_right v (flat_map put_bytes (edits_of r c)) (map StoredFolder (folders_of files)) i)
+
+    abbrev Coming : Value → Type 0
+    Coming v = In v stored ⊎ IsStored r v
+
+    -- each folder and all bytes of the commit's files are stored, or come with it
+    coming : HasAll Coming files
+    coming = record {
+      itself = inl (folder_in (StoredFolder files) (inl refl));
+      folders = λ path content folder i j. inl (folder_in (StoredFolder (inside folder files)) (inr (in_map StoredFolder (inside folder files)
+          (map (λ folder. inside folder files) (flat_map beginnings (keys files)))
+          (in_map (λ folder. inside folder files) folder (flat_map beginnings (keys files))
+          (in_flat beginnings folder path (keys files) (in_map (λ (e : Bytes × Content). e.0) (path, content) (entries files) i) j)))));
+      bytes = λ path content i. elim (edits_from (first_files r (parents_of r c)) (edits_of r c) path content (in_get files path content i)) [
+        | inl a ↦ inr (old_fine.0 path content a)
+        | inr b ↦ inl (in_left (StoredBytes content.bytes) (flat_map put_bytes (edits_of r c) ++ map StoredFolder (folders_of files)) (StoredCommit (new_commit r c) ∷ [])
+            (in_left (StoredBytes content.bytes) (flat_map put_bytes (edits_of r c)) (map StoredFolder (folders_of files)) (in_flat put_bytes (StoredBytes content.bytes) b.0 (edits_of r c) b.1 b.3)))
+      ];
+    }
+
+    folders_fit : HasAll (Fits r stored) files
+    folders_fit = record {
+      itself = (coming, plain);
+      folders = λ path content folder i j. (inside_has Coming files coming path content folder i j, plain_inside folder files plain);
+      bytes = λ path content i. tt;
+    }
+
+    put_fits : (v : Value) (e : Edit) → In v (put_bytes e) → Fits r stored v
+    put_fits v (Put kind path bytes) (inl e) = subst (Fits r stored) (sym e) tt
+    put_fits v (Put kind path bytes) (inr i) = absurd i
+    put_fits v (Remove path) i = absurd i
+    put_fits v (RemoveFile path) i = absurd i
+
+    commit_fits : (v : Value) → In v stored → Fits r stored v
+    commit_fits v i = elim (in_either v (flat_map put_bytes (edits_of r c) ++ map StoredFolder (folders_of files)) (StoredCommit (new_commit r c) ∷ []) i) [
+      | inl a ↦ elim (in_either v (flat_map put_bytes (edits_of r c)) (map StoredFolder (folders_of files)) a) [
+        | inl b ↦ let from = of_flat put_bytes v (edits_of r c) b in put_fits v from.0 from.2
+        | inr b ↦ of_folders (Fits r stored) files folders_fit v b
+      ]
+      | inr (inl e) ↦ subst (Fits r stored) (sym e) (parents_hold r whole c, folder_in (StoredFolder files) (inl refl))
+      | inr (inr e) ↦ absurd e
+    ]
+
+  tag_fits : (c : TagCommand) → first_cause r (Tag c) ≡ None → (v : Value) → In v (stored_by r (Tag c)) → Fits r (stored_by r (Tag c)) v
+  tag_fits c none v (inl e) =
+      let word = word_commit r (Tag c) none c.word (in_right c.word (at_word c.expect) (c.word ∷ []) (inl refl)) in
+      subst (Fits r (stored_by r (Tag c))) (sym e) (subst (HoldsCommit r) (sym (ap (λ o. unwrap_or o []) word.1)) (read_holds r whole (word_reading r c.word) word.0 word.1))
+  tag_fits c none v (inr i) = absurd i
+
+  pub all_fits : (command : Command) → first_cause r command ≡ None → (v : Value) → In v (stored_by r command) → Fits r (stored_by r command) v
+  all_fits (Commit c) none v i = commit_fits c none v i
+  all_fits (Tag c) none v i = tag_fits c none v i
+  all_fits (Move c) none v i = absurd i
+  all_fits (Rename from to) none v i = absurd i
+  all_fits (Delete name at) none v i = absurd i
+  all_fits (Switch name) none v i = absurd i
+  all_fits Pack none v i = absurd i
+  all_fits Index none v i = absurd i
+  all_fits (Names folder) none v i = absurd i
+  all_fits (Files word) none v i = absurd i
+  all_fits (Past word) none v i = absurd i
+  all_fits (Log c) none v i = absurd i
+  all_fits (Show word path) none v i = absurd i
+
+  pub after_store : (command : Command) → first_cause r command ≡ None → takes_id r command ≡ false → IsWholeStore (after r command)
+  after_store command none free = grown_whole r whole (λ q m at. plain_written m ((written.values q (StoredFolder m) at).0)) (stored_by r command) free (all_fits command none) (names_after r command) (branch_after r command)

@@ -1,0 +1,5 @@
+use Rattle.history_model.proofs.TableLaws.{table_takes_fields as lemma}
+use Rattle.history_model.proofs.laws.grammar.table_takes_fields.Goals as goal
+
+pub returns : goal.returns
+returns c = lemma

@@ -1,0 +1,5 @@
+use Rattle.history_model.proofs.ReadingLemmas.{packs_change_nothing as lemma}
+use Rattle.history_model.proofs.laws.packs_change_nothing.Goals as goal
+
+pub returns : goal.returns
+returns c = lemma

@@ -1,0 +1,101 @@
+-- Paths, file maps and edits. A file map is what Git's trees say of a commit's files, without the trees.
+use Rattle.std.specs.Prelude.{◌+◌, Bool, false, not, ◌&&◌, ◌||◌, List, [], ◌∷◌, ◌++◌, length, drop, map, ◌==◌, if◌then◌else◌, Some, None, bytes_eq, IsTrue, IsFalse}
+use Rattle.std.specs.List.{list_any, slice_split, flat_map, filter_map}
+use Rattle.std.specs.FinMap.{FinMap, entries, keys, contains_key, insert, retain_keys, from_entries}
+use Rattle.history_model.specs.Bytes.{Bytes, by_bytes, begins, has_byte, is_empty}
+use Rattle.history_model.specs.declared.FileKind.{FileKind}
+
+-- The parts of a path between its slashes.
+abbrev pub components : Bytes → List Bytes
+components path = slice_split (λ b. b == 47) path
+
+-- A path's components are not empty, and no zero byte stands in it.
+abbrev pub is_path : Bytes → Bool
+is_path path = not (list_any is_empty (components path)) && not (has_byte 0 path)
+
+-- the first path is a proper beginning of the second, component by component
+abbrev pub is_below : Bytes → Bytes → Bool
+is_below folder path = begins (folder ++ 47 ∷ []) path
+
+-- the same, or the two are one
+abbrev pub is_within : Bytes → Bytes → Bool
+is_within folder path = bytes_eq folder path || is_below folder path
+
+-- what stands at a path
+pub record Content : Type 0 where
+  pub kind : FileKind
+  pub bytes : Bytes
+
+-- The entries of a file map stand in the order of their paths' bytes.
+abbrev pub FileMap : Type 0
+FileMap = FinMap by_bytes Content
+
+-- Paths are paths, and none is a proper beginning of another.
+pub record IsFileMap (files : FileMap) : Type 0 where
+  pub paths : (p : Bytes) → IsTrue (contains_key files p) → IsTrue (is_path p)
+  pub apart : (p q : Bytes) → IsTrue (contains_key files p) → IsTrue (contains_key files q) → IsFalse (is_below p q)
+
+-- whether a file stands below the path
+abbrev pub has_below : FileMap → Bytes → Bool
+has_below files path = list_any (is_below path) (keys files)
+
+-- the files at one of the paths or below it
+abbrev pub cut_to : List Bytes → FileMap → FileMap
+cut_to paths files = retain_keys files (λ q. list_any (λ path. is_within path q) paths)
+
+-- the files below a folder, by the rest of their paths
+abbrev pub inside : Bytes → FileMap → FileMap
+inside folder files = from_entries (filter_map (λ e. if is_below folder e.0 then Some (drop (length folder + 1) e.0, e.1) else None) (entries files))
+
+-- the proper beginnings of a path: those of the rest, with the front put before them
+abbrev pub beginnings_from : Bytes → Bytes → List Bytes
+beginnings_from front [] = []
+beginnings_from front (b ∷ path) = if b == 47 then front ∷ beginnings_from (front ++ b ∷ []) path else beginnings_from (front ++ b ∷ []) path
+
+abbrev pub beginnings : Bytes → List Bytes
+beginnings path = beginnings_from [] path
+
+-- the file map itself and each folder of it
+abbrev pub folders_of : FileMap → List FileMap
+folders_of files = files ∷ map (λ folder. inside folder files) (flat_map beginnings (keys files))
+
+-- ---- edits
+
+pub data Edit : Type 0 where
+  Put : FileKind → Bytes → Bytes → Edit
+  Remove : Bytes → Edit
+  RemoveFile : Bytes → Edit
+
+-- without all at or below the path
+abbrev pub removed : Bytes → FileMap → FileMap
+removed path files = retain_keys files (λ q. not (is_within path q))
+
+-- also without a file at a beginning of the path, and then with this content at it
+abbrev pub put_at : Bytes → Content → FileMap → FileMap
+put_at path content files = insert (retain_keys files (λ q. not (is_within path q || is_within q path))) path content
+
+abbrev pub edited : FileMap → Edit → FileMap
+edited files (Put kind path bytes) = put_at path (record { kind = kind; bytes = bytes }) files
+edited files (Remove path) = removed path files
+edited files (RemoveFile path) = removed path files
+
+-- by these edits in their order
+abbrev pub edited_by : FileMap → List Edit → FileMap
+edited_by files [] = files
+edited_by files (edit ∷ edits) = edited_by (edited files edit) edits
+
+-- a `remove-file` where something stands below the path
+abbrev pub is_refused : FileMap → Edit → Bool
+is_refused files (Put kind path bytes) = false
+is_refused files (Remove path) = false
+is_refused files (RemoveFile path) = has_below files path
+
+-- whether one of the edits is refused where its turn comes
+abbrev pub some_refused : FileMap → List Edit → Bool
+some_refused files [] = false
+some_refused files (edit ∷ edits) = is_refused files edit || some_refused (edited files edit) edits
+
+abbrev pub edit_path : Edit → Bytes
+edit_path (Put kind path bytes) = path
+edit_path (Remove path) = path
+edit_path (RemoveFile path) = path

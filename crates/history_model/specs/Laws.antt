@@ -1,0 +1,133 @@
+-- What the laws say.
+use Rattle.std.specs.Prelude.{◌≡◌, ◌⊎◌, Bool, false, List, [], ◌∷◌, map, Some, None, option_map, IsTrue, IsFalse, ◌↔◌, bytes_eq, codes, if◌then◌else◌}
+use Rattle.std.specs.List.{list_all}
+use Rattle.std.specs.List.Sorted.{IsStrictlySortedBy}
+use Rattle.std.specs.FinMap.{get, empty, insert}
+use Rattle.gix_ref_file.specs.Tree.{Tree, file, folder}
+use Rattle.history_model.specs.Bytes.{Bytes, by_bytes}
+use Rattle.history_model.specs.FileMap.{FileMap, Edit, cut_to, IsFileMap, edited_by, edit_path, is_path}
+use Rattle.history_model.specs.Objects.{Id, StoredFolder, entry_at}
+use Rattle.history_model.specs.Repository.{Repository, IsWhole, id_at, moves_at, fresh}
+use Rattle.history_model.specs.Commands.{Command, Rename, Pack, Files, Log}
+use Rattle.history_model.specs.Replies.{Reply, FileLine, FilesAre}
+use Rattle.history_model.specs.Causes.{first_cause}
+use Rattle.history_model.specs.Places.{Pair, file_at, head_place, is_log_place, is_object_folder, is_name_folder}
+use Rattle.history_model.specs.StandsFor.{StandsFor, StandsWhole, head_text}
+use Rattle.history_model.specs.Readings.{reading}
+use Rattle.history_model.specs.Recovery.{recovered, recovered_names, is_leftover}
+use Rattle.history_model.specs.Logs.{whole_lines}
+use Rattle.history_model.specs.Stops.{LeftByStop}
+use Rattle.history_model.specs.Steps.{Step, goes_on, is_faulted, next}
+use Rattle.history_model.specs.Rounds.{Round, AreRounds, last_left, Outcomes}
+use Rattle.history_model.specs.declared.Kind.{Kind}
+
+-- ---- trees and files
+
+-- Edits at paths leave a file map.
+abbrev pub EditsKeep : Type 0
+EditsKeep = (files : FileMap) (edits : List Edit) → IsFileMap files
+    → IsTrue (list_all (λ edit. is_path (edit_path edit)) edits) → IsFileMap (edited_by files edits)
+
+-- In a whole repository two stored trees have one id exactly if the files below them are one map.
+abbrev pub TreesAreCanonical : Type 0
+TreesAreCanonical = (r : Repository) (a b : Id) (m n : FileMap) → IsWhole r
+    → get r.objects a ≡ Some (StoredFolder m) → get r.objects b ≡ Some (StoredFolder n) → (a ≡ b) ↔ (m ≡ n)
+
+-- The entries at a path of two stored trees, the mode and id of each, are equal exactly where the files at or below it are.
+abbrev pub EntriesTellFiles : Type 0
+EntriesTellFiles = (r : Repository) (a b : Id) (m n : FileMap) (path : Bytes) → IsWhole r → IsFileMap m → IsFileMap n
+    → get r.objects a ≡ Some (StoredFolder m) → get r.objects b ≡ Some (StoredFolder n)
+    → (entry_at r.kind m path ≡ entry_at r.kind n path) ↔ (cut_to (path ∷ []) m ≡ cut_to (path ∷ []) n)
+
+-- `files` prints paths strictly ascending by their bytes, so each once.
+abbrev pub FilesAscend : Type 0
+FilesAscend = (old new : Repository) (word : Bytes) (files : List FileLine)
+    → Step old (Files word) (FilesAre files) new
+    → IsStrictlySortedBy by_bytes (map (λ file. file.path) files)
+
+-- ---- steps
+
+abbrev pub is_log : Command → Bool
+is_log (Log c) = Bool.true
+is_log _ = false
+
+-- The reply that is no fault, and the state after it, are a function of state and command; a log may choose among equal times.
+abbrev pub StepsAreDetermined : Type 0
+StepsAreDetermined = (old a b : Repository) (command : Command) (x y : Reply)
+    → IsFalse (is_log command) → IsFalse (is_faulted x) → IsFalse (is_faulted y)
+    → Step old command x a → Step old command y b → (x ≡ y) × (a ≡ b)
+
+-- The state after a step is told by the reply, where the run goes on.
+abbrev pub RepliesTellTheState : Type 0
+RepliesTellTheState = (old new : Repository) (command : Command) (reply : Reply)
+    → Step old command reply new → IsTrue (goes_on command reply) → new ≡ next old command reply
+
+-- ---- stops
+
+-- a stop may leave all as it was
+abbrev pub StopsMayLeaveAll : Type 0
+StopsMayLeaveAll = (old : Repository) (command : Command) → IsWhole old → LeftByStop old command old
+
+-- A rename of which no cause holds, stopped anywhere, leaves the old name, the new one or both at what the old one held,
+-- and neither at anything else.
+pub record IsAtEither (old x : Repository) (from to : Bytes) : Type 0 where
+  pub somewhere : (id_at x from ≡ id_at old from) ⊎ (id_at x to ≡ id_at old from)
+  pub from_holds : (id_at x from ≡ id_at old from) ⊎ (id_at x from ≡ None)
+  pub to_holds : (id_at x to ≡ id_at old from) ⊎ (id_at x to ≡ None)
+
+abbrev pub RenamesLoseNothing : Type 0
+RenamesLoseNothing = (old x : Repository) (from to : Bytes)
+    → first_cause old (Rename from to) ≡ None → LeftByStop old (Rename from to) x → IsAtEither old x from to
+
+-- A `pack` stopped anywhere changes neither what a name holds nor its moves, nor HEAD's branch.
+pub record HoldsTheSame (old x : Repository) : Type 0 where
+  pub ids : (name : Bytes) → id_at x name ≡ id_at old name
+  pub moves : (name : Bytes) → moves_at x name ≡ moves_at old name
+  pub branch : x.branch ≡ old.branch
+
+abbrev pub PacksChangeNothing : Type 0
+PacksChangeNothing = (old x : Repository) → LeftByStop old Pack x → HoldsTheSame old x
+
+-- ---- rounds
+
+-- Where each round's run and recovery do what they promise, the pair that the last one left stands for a whole repository,
+-- which the stops of the runs explain one after another.
+abbrev pub RoundsJoin : Type 0
+RoundsJoin = (kind : Kind) (pair : Pair) (rounds : List Round) (old : Repository) → StandsWhole kind pair old → AreRounds kind pair rounds
+    → (new : Repository) × StandsWhole kind (last_left pair rounds) new × Outcomes old rounds new
+
+-- ---- recovery
+
+-- Recovery leaves at each path of the names part the file that stood there, without leftovers, and of a log its whole lines.
+abbrev pub RecoveryKeeps : Type 0
+RecoveryKeeps = (kind : Kind) (tree : Tree) (path : Bytes) → file_at (recovered_names kind tree) path
+    ≡ (if is_leftover kind tree path then None else option_map (λ text. if is_log_place path then whole_lines text else text) (file_at tree path))
+
+-- Recovery changes no name's reading.
+abbrev pub RecoveryReads : Type 0
+RecoveryReads = (kind : Kind) (tree : Tree) (name : Bytes) → reading kind (recovered_names kind tree) name ≡ reading kind tree name
+
+-- To recover twice is to recover once.
+abbrev pub RecoveryEnds : Type 0
+RecoveryEnds = (kind : Kind) (pair : Pair) → recovered kind (recovered kind pair) ≡ recovered kind pair
+
+-- What stands for a repository stands for it when it is recovered.
+abbrev pub RecoveredStands : Type 0
+RecoveredStands = (kind : Kind) (pair : Pair) (r : Repository) → StandsFor kind pair r → StandsFor kind (recovered kind pair) r
+
+-- ---- a new folder
+
+-- A new folder has the file HEAD alone, and no folder that a repository has not.
+pub record IsFresh (pair : Pair) : Type 0 where
+  pub objects : (path : Bytes) → file_at pair.objects path ≡ None
+  pub object_folders : (path : Bytes) → get pair.objects path ≡ Some folder → IsTrue (is_object_folder path)
+  pub names : (path : Bytes) → file_at pair.names path ≡ (if bytes_eq path head_place then Some (head_text (codes "refs/heads/main")) else None)
+  pub folders : (path : Bytes) → get pair.names path ≡ Some folder → IsTrue (is_name_folder path)
+
+-- the smallest one
+abbrev pub fresh_pair : Pair
+fresh_pair = record { objects = empty; names = insert empty head_place (file (head_text (codes "refs/heads/main"))) }
+
+-- It stands for the repository without names and objects, and that is whole.
+abbrev pub FreshStands : Type 0
+FreshStands = (kind : Kind) (pair : Pair) → IsFresh pair → StandsWhole kind pair (fresh kind)

@@ -1,0 +1,99 @@
+-- What the files go through while commands are acted on: the moments between commands, and the pairs that a stop may leave.
+-- The histories of both parts name every tree that stood; ReadingMayFail says that a reading of the files may fail.
+use Rattle.std.specs.Prelude.{◌≡◌, ◌⊎◌, ◌≤◌, ℕ, not, Bool, true, List, [], ◌∷◌, Some, IsTrue, if◌then◌else◌, Contains, slice_get}
+use Rattle.gix_ref_file.specs.Tree.{Tree}
+use Rattle.gix_ref_file.specs.History.{History, trees, stood_between, HasRisen}
+use Rattle.history_model.specs.Repository.{Repository}
+use Rattle.history_model.specs.Commands.{Command}
+use Rattle.history_model.specs.Places.{Pair}
+use Rattle.history_model.specs.StandsFor.{StandsWhole}
+use Rattle.history_model.specs.Recovery.{recovered}
+use Rattle.history_model.specs.Replies.{Reply, RefusedFor, Faulted}
+use Rattle.history_model.specs.Stops.{LeftByStop, is_changing}
+use Rattle.history_model.specs.Steps.{Step, goes_on}
+use Rattle.history_model.specs.declared.Fault.TheVariants.{File}
+
+-- a moment of both parts: how many trees stood before it in each, and how many calls of each had failed
+pub record Moment : Type 0 where
+  pub objects : ℕ
+  pub names : ℕ
+  pub object_failures : ℕ
+  pub name_failures : ℕ
+
+-- of one part: the tree that stood at a moment, and those from a moment to another
+abbrev pub StoodAt : History → ℕ → Tree → Type 0
+StoodAt history moment tree = slice_get (trees history) moment ≡ Some tree
+
+abbrev pub StoodBetween : History → ℕ → ℕ → Tree → Type 0
+StoodBetween history from to tree = Contains (stood_between history from to) tree
+
+-- the pair that stood at a moment
+abbrev pub IsPairAt : History → History → Moment → Pair → Type 0
+IsPairAt objects names moment pair = StoodAt objects moment.objects pair.objects × StoodAt names moment.names pair.names
+
+-- Between two moments all changes of the objects part come before the first of the names part.
+abbrev pub IsStepPair : History → History → Moment → Moment → Pair → Type 0
+IsStepPair objects names begin finish pair =
+    (StoodBetween objects begin.objects finish.objects pair.objects × StoodAt names begin.names pair.names)
+    ⊎ (StoodAt objects finish.objects pair.objects × StoodBetween names begin.names finish.names pair.names)
+
+-- a pair of one of the commands, of which each ends and the next begins at these moments
+abbrev pub IsCommandPair : History → History → Moment → List Moment → Pair → Type 0
+IsCommandPair objects names begin [] pair = ⊥
+IsCommandPair objects names begin (next ∷ moments) pair = IsStepPair objects names begin next pair ⊎ IsCommandPair objects names next moments pair
+
+-- a pair of a run: the one that it begins at, or one of its commands
+abbrev pub IsRunPair : History → History → Moment → List Moment → Pair → Type 0
+IsRunPair objects names begin moments pair = IsPairAt objects names begin pair ⊎ IsCommandPair objects names begin moments pair
+
+-- a failed call was counted between two moments
+abbrev pub HasFailedCall : Type 0 → Moment → Moment → Type 0
+HasFailedCall ReadingMayFail begin finish =
+    HasRisen begin.object_failures finish.object_failures ⊎ HasRisen begin.name_failures finish.name_failures ⊎ ReadingMayFail
+
+-- What stood at a moment stands for a whole repository; where a changing command had failed, what recovery makes of it does.
+abbrev pub StandsAt : History → History → Moment → Bool → Repository → Type 0
+StandsAt objects names moment failed r = (pair : Pair) × IsPairAt objects names moment pair
+    × StandsWhole r.kind (if failed then recovered r.kind pair else pair) r
+
+-- the pair, once recovered, is what a stop in the command leaves
+abbrev pub LeavesStopped : Repository → Command → Pair → Type 0
+LeavesStopped old command pair = (x : Repository) × LeftByStop old command x × StandsWhole old.kind (recovered old.kind pair) x
+
+-- no tree stood after the one moment and before the other
+abbrev pub IsUnchanged : Moment → Moment → Type 0
+IsUnchanged begin finish = (finish.objects ≡ begin.objects) × (finish.names ≡ begin.names)
+
+-- whether a command that has this reply leaves the files alone: a refused one, and one that changes none
+abbrev pub leaves_files : Command → Reply → Bool
+leaves_files command (RefusedFor cause) = true
+leaves_files command reply = not (is_changing command)
+
+-- One command is acted on between two moments.
+pub record ActedOn (objects names : History) (ReadingMayFail : Type 0) (old : Repository) (begin : Moment)
+    (command : Command) (reply : Reply) (finish : Moment) (new : Repository) : Type 0 where
+  pub step : Step old command reply new
+  pub later : (begin.objects ≤ finish.objects) × (begin.names ≤ finish.names)
+  pub unchanged : IsTrue (leaves_files command reply) → IsUnchanged begin finish
+  pub stands : StandsAt objects names finish (not (goes_on command reply)) new
+  pub stops : (pair : Pair) → IsStepPair objects names begin finish pair → LeavesStopped old command pair
+  pub failure : reply ≡ Faulted File → HasFailedCall ReadingMayFail begin finish
+
+-- These commands are acted on in a row, each between two moments; after each but the last the run goes on.
+abbrev pub ActsOn : History → History → Type 0 → Repository → Moment → List Command → List Reply → List Moment → Repository → Type 0
+ActsOn objects names ReadingMayFail old begin [] [] [] new = new ≡ old
+ActsOn objects names ReadingMayFail old begin (command ∷ commands) (reply ∷ replies) (next ∷ moments) new =
+    (mid : Repository) × ActedOn objects names ReadingMayFail old begin command reply next mid × (IsTrue (goes_on command reply) ⊎ (commands ≡ []))
+    × ActsOn objects names ReadingMayFail mid next commands replies moments new
+ActsOn _ _ _ _ _ _ _ _ _ = ⊥
+
+abbrev pub last_moment : Moment → List Moment → Moment
+last_moment begin [] = begin
+last_moment begin (next ∷ moments) = last_moment next moments
+
+-- What a run does to the files beside what it writes: its first moment is its begin, the last its end.
+pub record Traces (objects names : History) (ReadingMayFail : Type 0) (old : Repository) (begin : Moment)
+    (commands : List Command) (replies : List Reply) (finish : Moment) (new : Repository) : Type 0 where
+  pub moments : List Moment
+  pub acts : ActsOn objects names ReadingMayFail old begin commands replies moments new
+  pub ends : last_moment begin moments ≡ finish

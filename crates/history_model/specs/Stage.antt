@@ -1,0 +1,26 @@
+-- What is offered at this stage. The other modules state all commands; each of the three cuts below is applied at one place
+-- of them (the grammar, the words, the test for a bad path), and to offer more is to widen this module alone.
+use Rattle.std.specs.Prelude.{Bool, true, false, not, ◌&&◌, ◌||◌, bytes_eq, codes}
+use Rattle.std.specs.List.{list_all}
+use Rattle.history_model.specs.Bytes.{Bytes, is_empty, has_byte}
+use Rattle.history_model.specs.Commands.{Command, Commit, Files, Show, EditLine, PutLine}
+
+abbrev pub is_put : EditLine → Bool
+is_put (PutLine kind path content) = true
+is_put _ = false
+
+-- A commit on the first branch without parent lines, whose edits are all `put`, and the readings `files` and `show`.
+-- In a stream any other line is one that the grammar doesn't allow.
+abbrev pub is_offered : Command → Bool
+is_offered (Commit c) = (bytes_eq c.name (codes "refs/heads/main") || bytes_eq c.name (codes "HEAD")) && is_empty c.parents && list_all is_put c.edits
+is_offered (Files word) = true
+is_offered (Show word path) = true
+is_offered _ = false
+
+-- A path has one component: any other is a bad path.
+abbrev pub is_offered_path : Bytes → Bool
+is_offered_path path = not (has_byte 47 path)
+
+-- Short ids aren't read: a word that means no name is unknown.
+abbrev pub offers_short_ids : Bool
+offers_short_ids = false

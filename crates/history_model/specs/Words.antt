@@ -1,0 +1,62 @@
+-- What a word stands for, by the candidates of gitrevisions(7) for a `<refname>` and a short object name.
+use Rattle.std.specs.Prelude.{◌*◌, Bool, not, ◌&&◌, List, [], ◌∷◌, ◌++◌, length, nat_le, filter, find, Option, Some, None, option_map, unwrap_or, bytes_eq, codes, if◌then◌else◌}
+use Rattle.std.specs.List.{list_all}
+use Rattle.std.specs.FinMap.{keys}
+use Rattle.hex.specs.Hex.{is_hex_digit}
+use Rattle.history_model.specs.Bytes.{Bytes, begins, lower}
+use Rattle.history_model.specs.Objects.{Id, id_len, hex}
+use Rattle.history_model.specs.Forms.{is_private}
+use Rattle.history_model.specs.Stage.{offers_short_ids}
+use Rattle.history_model.specs.Repository.{Repository, id_at, stands, peeled}
+
+abbrev pub head_word : Bytes
+head_word = codes "HEAD"
+
+-- the names that a word may mean, in the order of the search; the word itself only where it begins with `refs/`
+abbrev pub candidates : Bytes → List Bytes
+candidates word = filter (λ name. begins (codes "refs/") name && not (is_private name))
+    (word ∷ (codes "refs/" ++ word) ∷ (codes "refs/tags/" ++ word) ∷ (codes "refs/heads/" ++ word)
+    ∷ (codes "refs/remotes/" ++ word) ∷ (codes "refs/remotes/" ++ word ++ codes "/HEAD") ∷ [])
+
+-- what a word reads as, before a tag stands for its commit
+pub data WordReading : Type 0 where
+  ReadsAs : Id → WordReading
+  Unborn : WordReading
+  Unknown : WordReading
+  Ambiguous : WordReading
+
+-- 4 digits to the kind's length
+abbrev pub is_short_id : Repository → Bytes → Bool
+is_short_id r word = nat_le 4 (length word) && nat_le (length word) (2 * id_len r.kind) && list_all is_hex_digit word
+
+-- the stored ids that begin with the word, whatever the case of its letters
+abbrev pub matches : Repository → Bytes → List Id
+matches r word = filter (λ id. begins (lower word) (hex id)) (keys r.objects)
+
+abbrev pub only_one : List Id → WordReading
+only_one [] = Unknown
+only_one (id ∷ []) = ReadsAs id
+only_one (id ∷ other ∷ ids) = Ambiguous
+
+abbrev pub id_reading : Repository → Bytes → WordReading
+id_reading r word = if offers_short_ids && is_short_id r word then only_one (matches r word) else Unknown
+
+abbrev pub name_reading : Option Id → WordReading
+name_reading None = Unborn
+name_reading (Some id) = ReadsAs id
+
+-- HEAD always stands, and reads as its branch. Of other words the first candidate that stands wins, also over an id.
+abbrev pub word_reading : Repository → Bytes → WordReading
+word_reading r word =
+    if bytes_eq word head_word then name_reading (id_at r r.branch)
+    else unwrap_or (option_map (λ name. name_reading (id_at r name)) (find (stands r) (candidates word))) (id_reading r word)
+
+abbrev pub commit_read : Repository → WordReading → Option Id
+commit_read r (ReadsAs id) = peeled r id
+commit_read r Unborn = None
+commit_read r Unknown = None
+commit_read r Ambiguous = None
+
+-- the commit that a word stands for
+abbrev pub commit_of : Repository → Bytes → Option Id
+commit_of r word = commit_read r (word_reading r word)

@@ -1,0 +1,101 @@
+// Laws of the trees that stand for a repository, over the definitions alone.
+
+ghost use Rattle.history_model.specs.TreeHalves.{HalvesStand, NamesSpeakOfNoValues, PlacesTellIds, PlacesTellValues, ValuesHaveIds};
+ghost use Rattle.history_model.specs.TreeSteps.{PutsStore, StandingIsStored, StoredStands, TreesTellTaken, OwnIdsStay, MovesMove, NoneUnfinished, RenamesPut};
+ghost use Rattle.history_model.specs.CommitSteps.{PutsStoreAll, CommitsStand};
+ghost use Rattle.history_model.specs.TreeReads.{ObjectsTellValues, CommitsAreRead, FoldersAreRead, BytesAreRead};
+
+/// A pair stands for a repository exactly where each of its trees holds its half.
+pub fn halves_stand()
+    ensures { HalvesStand }
+{}
+
+/// Where no names are packed, what the tree of names holds speaks of no values.
+pub fn names_speak_of_no_values()
+    ensures { NamesSpeakOfNoValues }
+{}
+
+/// Different ids have different places.
+pub fn places_tell_ids()
+    ensures { PlacesTellIds }
+{}
+
+/// At the place of an id stands the text of what is stored under it, or no file.
+pub fn places_tell_values()
+    ensures { PlacesTellValues }
+{}
+
+/// What a value is stored under is an id.
+pub fn values_have_ids()
+    ensures { ValuesHaveIds }
+{}
+
+/// A put of a value whose id is not taken stores it.
+pub fn puts_store()
+    ensures { PutsStore }
+{}
+
+/// Where the text of a value stands at its place, to store it changes nothing.
+pub fn standing_is_stored()
+    ensures { StandingIsStored }
+{}
+
+/// Under an id that is not taken stands the text of the value, if anything.
+pub fn stored_stands()
+    ensures { StoredStands }
+{}
+
+/// The tree tells whether the id of a value is taken.
+pub fn trees_tell_taken()
+    ensures { TreesTellTaken }
+{}
+
+/// To store a value keeps each value under its own id.
+pub fn own_ids_stay()
+    ensures { OwnIdsStay }
+{}
+
+/// A move of the files of a name moves the name.
+pub fn moves_move()
+    ensures { MovesMove }
+{}
+
+/// The puts of several values, one after another, store them all.
+pub fn puts_store_all()
+    ensures { PutsStoreAll }
+{}
+
+/// The puts of what a commit stores and the move of its name leave what stands for the repository after it.
+pub fn commits_stand()
+    ensures { CommitsStand }
+{}
+
+/// Where an object stands, a value of its type and content is stored.
+pub fn objects_tell_values()
+    ensures { ObjectsTellValues }
+{}
+
+/// Where a commit stands, one of its content is stored.
+pub fn commits_are_read()
+    ensures { CommitsAreRead }
+{}
+
+/// Where a tree stands, a folder of its content is stored.
+pub fn folders_are_read()
+    ensures { FoldersAreRead }
+{}
+
+/// Where a blob stands, its bytes are stored.
+pub fn bytes_are_read()
+    ensures { BytesAreRead }
+{}
+
+/// No file stands where an object is written before it is renamed to its place.
+pub fn none_unfinished()
+    ensures { NoneUnfinished }
+{}
+
+/// A text that was written there and renamed to its place is put.
+pub fn renames_put()
+    ensures { RenamesPut }
+{}

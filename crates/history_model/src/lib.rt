@@ -1,0 +1,75 @@
+// The words of the engine that its contracts and its definitions share.
+#![tactic(auto)]
+
+/// Which digest names the objects.
+#[derive(Clone, Copy, Debug, PartialEq, Eq)]
+pub enum Kind {
+    Sha1,
+}
+
+/// What a file is.
+#[derive(Clone, Copy, Debug, PartialEq, Eq)]
+pub enum FileKind {
+    /// A plain file.
+    File,
+    /// A file that may be run.
+    Exec,
+    /// A symbolic link; its content is the target.
+    Link,
+}
+
+/// Why a command is refused, in the order of the tests.
+#[derive(Clone, Copy, Debug, PartialEq, Eq)]
+pub enum Cause {
+    Syntax,
+    Truncated,
+    LineTooLong,
+    BadName,
+    PrivateName,
+    NameTwice,
+    UnknownWord,
+    AmbiguousWord,
+    UnbornHead,
+    NotACommit,
+    NoSuchName,
+    Taken,
+    NotExpected,
+    Collides,
+    HoldsTag,
+    TooManyParents,
+    DuplicateParent,
+    BadPath,
+    IsFolder,
+    NoSuchPath,
+    BadActor,
+    BadTime,
+    BadMessage,
+    TooLarge,
+    NothingMoves,
+    OrderWithParents,
+}
+
+/// Why a command that is not refused has no reply.
+#[derive(Clone, Copy, Debug, PartialEq, Eq)]
+pub enum Fault {
+    /// Room was refused.
+    Memory,
+    /// A call of the files failed.
+    File,
+    /// An object's id names other bytes.
+    IdTaken,
+}
+
+/// How a run ends.
+#[derive(Clone, Copy, Debug, PartialEq, Eq)]
+pub enum End {
+    /// At the end of the input, between two commands.
+    Input,
+    /// At a rest of the input that begins with no command.
+    Refused,
+    /// After a fault in a command that changes files, or where memory ran out on a rest that begins with no command.
+    Fault,
+}
+
+pub mod laws;
+pub mod rows;

@@ -1,0 +1,47 @@
+// Worked examples, computed on the definitions: each is the contract of a function that does nothing.
+
+ghost use Rattle.std.specs.Prelude.{◌≡◌, ◌++◌, ◌∷◌, [], length, codes};
+ghost use Rattle.history_model.specs.Bytes.{line};
+ghost use Rattle.history_model.specs.Objects.{hex, blob_id, blob_text, digest, tree_text, root_within, empty_tree_id, commit_content, id_of, StoredCommit};
+ghost use Rattle.history_model.specs.Rows.{Gives, Refuses, first_commit, first_stream, first_output, empty_file_stream, empty_file_output};
+ghost use Rattle.history_model.specs.Rows.{hello_stream, hello_output, three_files, xs};
+ghost use Rattle.history_model.specs.declared.Kind.TheVariants.{Sha1};
+
+/// Ids of blobs and of the empty tree, the first commit's 99 bytes and id, three files in their order and their tree.
+pub fn ids()
+    ensures hello { blob_text (codes "hello") ≡ codes "blob 5" ++ 0 ∷ codes "hello" }
+    ensures blob { hex (blob_id Sha1 []) ≡ codes "e69de29bb2d1d6434b8b29ae775ad8c2e48c5391" }
+    ensures hello_blob { hex (blob_id Sha1 (codes "hello")) ≡ codes "b6fc4c620b67d95f953a5c1c1230aaab5db5a1b0" }
+    ensures empty_tree { hex (empty_tree_id Sha1) ≡ codes "4b825dc642cb6eb9a060e54bf8d69288fbee4904" }
+    ensures commit_len { length (commit_content Sha1 first_commit) ≡ 99 }
+    ensures commit_id { hex (id_of Sha1 (StoredCommit first_commit)) ≡ codes "d39b036c797dcd9c0210b66a094ee846a3bc4fd9" }
+    ensures tree { hex (digest Sha1 (tree_text (root_within 4 Sha1 three_files))) ≡ codes "b8b673d28f410aa8dd3222ef9fffe69e44e01d26" }
+{}
+
+/// A commit without files, its files and itself shown.
+pub fn first_commit()
+    ensures { Gives first_stream first_output }
+{}
+
+/// A commit of one file without bytes, its files shown.
+pub fn empty_file()
+    ensures { Gives empty_file_stream empty_file_output }
+{}
+
+/// A commit of the file `hello`, its files and the file's content shown.
+pub fn hello_file()
+    ensures { Gives hello_stream hello_output }
+{}
+
+/// What begins with no command: a word that is none, the longest line, a line that is longer, and a command that is cut short.
+pub fn refusals()
+    ensures hello { Refuses (line (codes "hello")) (line (codes "refused Syntax")) }
+    ensures longest { Refuses (line (xs 4096)) (line (codes "refused Syntax")) }
+    ensures too_long { Refuses (xs 4097) (line (codes "refused LineTooLong")) }
+    ensures cut_short { Refuses (line (codes "commit refs/heads/main new")) (line (codes "refused Truncated")) }
+{}
+
+/// A stream without bytes gives none.
+pub fn empty_stream()
+    ensures { Gives [] [] }
+{}
