@@ -1,0 +1,39 @@
+-- The command whose parts have come.
+use Rattle.std.proofs.Common.{◌≡◌, ◌≢◌, Bool, true, false, ◌&&◌, List, [], Some, refl, ap, subst}
+use Rattle.std.specs.List.{list_all}
+use Rattle.history_model.specs.Commands as model
+use Rattle.history_model.specs.Spelling.{Part, parts_of, parts_text, is_part, has_enough}
+use Rattle.history_model.specs.Stage.{is_offered}
+use Rattle.history_model.specs.Grammar.{Spells}
+use Rattle.history_model.specs.LineTable as table
+use Rattle.history_model.specs.TableRuns.{reached}
+use Rattle.history_model.proofs.TableLaws.{at, parts_fit}
+use Rattle.history_word.specs.Drafts.{IsDraft, place_of}
+use Rattle.history_word.specs.declared.place.Place.{Place}
+use Rattle.history_word.specs.declared.place.Place.TheVariants as place
+use Rattle.history_word.specs.declared.draft.Draft.{Draft}
+use Rattle.history_word.specs.declared.draft.Draft.TheVariants as draft
+
+pub live : (p : Place) → p ≢ place.Done → place_of p ≢ table.Done
+live place.Done h e = h refl
+live p h e = cc
+
+is_enough : (d : Draft) (order : model.Command) → IsDraft d order → (has_enough order ≡ true) × (is_offered order ≡ true)
+is_enough (draft.Commit c) (model.Commit order) h = (refl, h.offered)
+is_enough (draft.Files w) (model.Files word) h = (refl, refl)
+is_enough (draft.Show s) (model.Show word path) h = (refl, refl)
+is_enough d order h = absurd h
+
+both : (a b : Bool) → a ≡ true → b ≡ true → (a && b) ≡ true
+both true b e f = f
+both false b e f = cc
+
+-- at the end, the parts are those of the command that the draft has
+pub spells : (parts : List Part) (p : table.Place) (d : Draft) (order : model.Command) → reached parts ≡ Some (at [] p) → parts ≡ parts_of order → IsDraft d order → Spells (parts_text parts) order
+spells parts p d order e is h =
+    let fit = parts_fit parts [] table.Start (at [] p) refl e in
+    let enough = is_enough d order h in (
+      both (list_all is_part (parts_of order) && has_enough order) (is_offered order)
+          (both (list_all is_part (parts_of order)) (has_enough order) (subst (λ ps. list_all is_part ps ≡ true) is fit.0) enough.0) enough.1,
+      ap parts_text is,
+    )

@@ -1,0 +1,105 @@
+-- What a draft has after each line.
+use Rattle.std.proofs.Common.{◌≡◌, ℕ, ◌<◌, Bool, true, false, List, [], ◌∷◌, ◌++◌, length, map, Some, None, refl, sym, ap, subst, ◌∙◌, arith, flat_map}
+use Rattle.std.specs.List.{join_with_byte}
+use Rattle.std.specs.Prelude.{if◌then◌else◌}
+use Rattle.std.proofs.lemmas.List.{length-append}
+use Rattle.history_model.specs.Bytes.{Bytes, line}
+use Rattle.history_model.specs.Commands as model
+use Rattle.history_model.specs.Spelling as spelling
+use Rattle.history_model.specs.LineTable as table
+use Rattle.history_model.specs.TableRuns.{run_from}
+use Rattle.history_model.specs.declared.FileKind.{FileKind}
+use Rattle.history_model.proofs.TableLaws.{at}
+use Rattle.history_word.specs.Drafts.{place_of, HasCome, TakesLine, TakesParts}
+use Rattle.history_word.specs.declared.heading.Heading.{Heading}
+use Rattle.history_word.specs.declared.place.Place.{Place}
+use Rattle.history_word.specs.declared.place.Place.TheVariants as place
+use Rattle.history_word.specs.declared.draft.Draft.{Draft}
+use Rattle.history_word.proofs.ProgressLemmas.{leads_line, leads_field}
+
+-- ---- a line and the fields behind it
+
+-- the line, with what it says told apart
+pub record TakesAs (p : Place) (h : table.Heading) (q : Place) (xs : Bytes) : Type 0 where
+  pub spelled : xs ≡ spelling.part_text (spelling.Line (table.words_of h))
+  pub known : spelling.is_part (spelling.Line (table.words_of h)) ≡ true
+  pub sized : table.are_sizes (table.sizes h) ≡ true
+  pub stands : table.next (place_of p) h ≡ Some (place_of q)
+
+pub as_said : (p q : Place) (said : Heading) (h : table.Heading) (xs : Bytes) (t : TakesLine p said q xs) → t.heading ≡ h → TakesAs p h q xs
+as_said p q said h xs t e = subst (λ h. TakesAs p h q xs) e (record { spelled = t.spelled; known = t.known; sized = t.sized; stands = t.stands })
+
+abbrev pub parts_with : table.Heading → List Bytes → List spelling.Part
+parts_with h fields = spelling.Line (table.words_of h) ∷ map spelling.Field fields
+
+fields_text : (fields : List Bytes) → spelling.parts_text (map spelling.Field fields) ≡ flat_map line fields
+fields_text [] = refl
+fields_text (f ∷ fields) = ap (λ t. line f ++ t) (fields_text fields)
+
+leads_fields : (fields : List Bytes) (q : table.Place) → run_from (at (map length fields) q) (map spelling.Field fields) ≡ Some (at [] q)
+leads_fields [] q = refl
+leads_fields (f ∷ fields) q = leads_field f (map length fields) q (map spelling.Field fields) ∙ leads_fields fields q
+
+line_some : (text : Bytes) → 0 < length (line text)
+line_some text = omega (arith, length-append text (10 ∷ []))
+
+pub leads_with : (p q : Place) (h : table.Heading) (xs : Bytes) (fields : List Bytes) → TakesAs p h q xs → table.sizes h ≡ map length fields
+    → run_from (at [] (place_of p)) (parts_with h fields) ≡ Some (at [] (place_of q))
+leads_with p q h xs fields t sizes =
+    leads_line (place_of p) (place_of q) h (map spelling.Field fields) t.stands t.known t.sized
+    ∙ ap (λ s. run_from (at s (place_of q)) (map spelling.Field fields)) sizes ∙ leads_fields fields (place_of q)
+
+pub takes_parts : (p q from to : Place) (old new : Draft) (h : table.Heading) (xs taken : Bytes) (fields : List Bytes) → TakesAs p h q xs → table.sizes h ≡ map length fields
+    → p ≡ from → q ≡ to → taken ≡ xs ++ flat_map line fields
+    → ((before : List spelling.Part) → HasCome from old before → HasCome to new (before ++ parts_with h fields)) → TakesParts p old q new taken
+takes_parts p q from to old new h xs taken fields t sizes is_from is_to split come = record {
+  parts = parts_with h fields;
+  spelled = split ∙ ap (λ t. t ++ flat_map line fields) t.spelled ∙ ap (λ t. spelling.part_text (spelling.Line (table.words_of h)) ++ t) (sym (fields_text fields));
+  some = omega (arith, ap length split, length-append xs (flat_map line fields), ap length t.spelled, line_some (join_with_byte 32 (table.words_of h)));
+  leads = leads_with p q h xs fields t sizes;
+  come = subst (λ a. (before : List spelling.Part) → HasCome a old before → HasCome q new (before ++ parts_with h fields)) (sym is_from)
+      (subst (λ b. (before : List spelling.Part) → HasCome from old before → HasCome b new (before ++ parts_with h fields)) (sym is_to) come);
+}
+
+-- ---- where each line stands, and what it leads to
+
+chosen : (b : Bool) (q : Place) → b ≡ true → (if b then Some table.Edits else None) ≡ Some (place_of q) → q ≡ place.Edits
+chosen true place.Edits h e = refl
+chosen true q h e = cc
+chosen false q h e = cc
+
+pub commit_place : (p q : Place) (n : Bytes) (x : model.Expect) → table.is_commit_name n ≡ true → table.next (place_of p) (table.CommitHeading n x) ≡ Some (place_of q) → (p ≡ place.Start) × (q ≡ place.Edits)
+commit_place place.Start q n x h e = (refl, chosen (table.is_commit_name n) q h e)
+commit_place p q n x h e = cc
+
+pub put_place : (p q : Place) (kind : FileKind) (m n : ℕ) → table.next (place_of p) (table.PutHeading kind m n) ≡ Some (place_of q) → (p ≡ place.Edits) × (q ≡ place.Edits)
+put_place place.Edits place.Edits kind m n e = (refl, refl)
+put_place p q kind m n e = cc
+
+pub author_place : (p q : Place) (m n : ℕ) (s o : Bytes) → table.next (place_of p) (table.ActorHeading table.Author m n s o) ≡ Some (place_of q) → (p ≡ place.Edits) × (q ≡ place.Committer)
+author_place place.Edits place.Committer m n s o e = (refl, refl)
+author_place p q m n s o e = cc
+
+pub committer_place : (p q : Place) (m n : ℕ) (s o : Bytes) → table.next (place_of p) (table.ActorHeading table.Committer m n s o) ≡ Some (place_of q) → (p ≡ place.Committer) × (q ≡ place.Message)
+committer_place place.Committer place.Message m n s o e = (refl, refl)
+committer_place p q m n s o e = cc
+
+pub message_place : (p q : Place) (n : ℕ) → table.next (place_of p) (table.MessageHeading n) ≡ Some (place_of q) → (p ≡ place.Message) × (q ≡ place.End)
+message_place place.Message place.End n e = (refl, refl)
+message_place p q n e = cc
+
+pub end_place : (p q : Place) → table.next (place_of p) table.EndHeading ≡ Some (place_of q) → (p ≡ place.End) × (q ≡ place.Done)
+end_place place.End place.Done e = (refl, refl)
+end_place p q e = cc
+
+pub files_place : (p q : Place) (w : Bytes) → table.next (place_of p) (table.FilesHeading w) ≡ Some (place_of q) → (p ≡ place.Start) × (q ≡ place.Done)
+files_place place.Start place.Done w e = (refl, refl)
+files_place p q w e = cc
+
+pub show_place : (p q : Place) (w : Bytes) → table.next (place_of p) (table.ShowHeading w) ≡ Some (place_of q) → (p ≡ place.Start) × (q ≡ place.Done)
+show_place place.Start place.Done w e = (refl, refl)
+show_place p q w e = cc
+
+pub path_place : (p q : Place) (w : Bytes) (n : ℕ) → table.next (place_of p) (table.ShowPathHeading w n) ≡ Some (place_of q) → (p ≡ place.Start) × (q ≡ place.Done)
+path_place place.Start place.Done w n e = (refl, refl)
+path_place p q w n e = cc

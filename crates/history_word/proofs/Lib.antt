@@ -1,0 +1,11 @@
+pub mod HeldLemmas
+pub mod UnbrokenLemmas
+pub mod TakingLemmas
+pub mod StopLemmas
+pub mod SinkLemmas
+pub mod FieldLemmas
+pub mod LineLemmas
+pub mod ProgressLemmas
+pub mod DraftLemmas
+pub mod LineEndLemmas
+pub mod CommandLemmas

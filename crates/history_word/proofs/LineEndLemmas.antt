@@ -1,0 +1,232 @@
+-- What a line that was taken, and the fields behind it, leave in the draft.
+use Rattle.std.proofs.Common.{◌≡◌, ℕ, true, List, [], ◌∷◌, ◌++◌, length, map, Option, Some, None, refl, sym, ap, ◌∙◌, append_assoc, codes, flat_map, ◌&&◌, Bool, false}
+use Rattle.std.specs.Prelude.{IfSome, IsTrue}
+use Rattle.std.proofs.lemmas.Grind.{flat_map-append}
+use Rattle.std.proofs.lemmas.List.{append-nil}
+use Rattle.history_model.specs.Bytes.{Bytes, line}
+use Rattle.history_model.specs.Commands as model
+use Rattle.history_model.specs.Spelling as spelling
+use Rattle.history_model.specs.Stage.{is_offered}
+use Rattle.history_model.specs.LineTable as table
+use Rattle.history_model.specs.TableRuns.{run_from}
+use Rattle.history_model.specs.declared.Cause.{Cause}
+use Rattle.history_model.specs.declared.FileKind.{FileKind}
+use Rattle.history_model.proofs.TableLaws.{at}
+use Rattle.history_word.specs.Commands.{IsExpect}
+use Rattle.history_word.specs.Progress.{IsNoField, StopsFrom}
+use Rattle.history_word.specs.Drafts.{role_of, place_of, IsHeading, IsDraft, TakesLine, TakesParts, with_edit, with_actor, with_message}
+use Rattle.std.proofs.Common.{Vec, Global}
+use Rattle.history_word.specs.declared.command.Expect.{Expect}
+use Rattle.history_word.specs.declared.heading.Heading.{Heading}
+use Rattle.history_word.specs.declared.heading.Heading.TheVariants as heading
+use Rattle.history_word.specs.declared.heading.Role.{Role}
+use Rattle.history_word.specs.declared.heading.Role.TheVariants.{Author, Committer}
+use Rattle.history_word.specs.declared.place.Place.{Place}
+use Rattle.history_word.specs.declared.place.Place.TheVariants as place
+use Rattle.history_word.specs.declared.draft.Draft.{Draft}
+use Rattle.history_word.specs.declared.draft.Draft.TheVariants as draft
+use Rattle.history_word.proofs.ProgressLemmas.{leads_line, leads_field, stops_here, stops_after, field_stops}
+use Rattle.history_word.proofs.DraftLemmas.{as_said, parts_with, takes_parts, commit_place, put_place, author_place, committer_place, message_place, end_place, files_place, show_place, path_place}
+
+abbrev Word : Type 0
+Word = Option (Vec ℕ Global)
+
+-- ---- what a line says is one line of the table
+
+pub put_said : (kind : FileKind) (m n : ℕ) (h : table.Heading) → IsHeading (heading.Put kind m n) h → h ≡ table.PutHeading kind m n
+put_said kind m n (table.PutHeading k a b) e = λ i. table.PutHeading (sym e.0 i) (sym e.1 i) (sym e.2 i)
+put_said kind m n h e = absurd e
+
+pub message_said : (n : ℕ) (h : table.Heading) → IsHeading (heading.Message n) h → h ≡ table.MessageHeading n
+message_said n (table.MessageHeading a) e = λ i. table.MessageHeading (sym e i)
+message_said n h e = absurd e
+
+pub end_said : (h : table.Heading) → IsHeading heading.End h → h ≡ table.EndHeading
+end_said table.EndHeading e = refl
+end_said h e = absurd e
+
+pub actor_said : (role : Role) (m n : ℕ) (seconds offset : Word) (h : table.Heading) → IsHeading (heading.Actor role m n seconds offset) h
+    → (s o : Bytes) × (h ≡ table.ActorHeading (role_of role) m n s o) × IfSome seconds (λ x. x.items ≡ s) × IfSome offset (λ x. x.items ≡ o)
+actor_said role m n seconds offset (table.ActorHeading r a b s o) e = (s, o, (λ i. table.ActorHeading (sym e.0 i) (sym e.1 i) (sym e.2 i) s o), e.3, e.4)
+actor_said role m n seconds offset h e = absurd e
+
+pub commit_said : (name : Word) (expect : Option Expect) (h : table.Heading) → IsHeading (heading.Commit name expect) h
+    → (n : Bytes) × (x : model.Expect) × (h ≡ table.CommitHeading n x) × IfSome name (λ w. w.items ≡ n) × IfSome expect (λ e. IsExpect e x) × IsTrue (table.is_commit_name n)
+commit_said name expect (table.CommitHeading n x) e = (n, x, refl, e.0, e.1, e.2)
+commit_said name expect h e = absurd e
+
+pub files_said : (word : Word) (h : table.Heading) → IsHeading (heading.Files word) h → (w : Bytes) × (h ≡ table.FilesHeading w) × IfSome word (λ x. x.items ≡ w)
+files_said word (table.FilesHeading w) e = (w, refl, e)
+files_said word h e = absurd e
+
+pub show_said : (word : Word) (h : table.Heading) → IsHeading (heading.Show word) h → (w : Bytes) × (h ≡ table.ShowHeading w) × IfSome word (λ x. x.items ≡ w)
+show_said word (table.ShowHeading w) e = (w, refl, e)
+show_said word h e = absurd e
+
+pub path_said : (word : Word) (n : ℕ) (h : table.Heading) → IsHeading (heading.ShowPath word n) h → (w : Bytes) × (h ≡ table.ShowPathHeading w n) × IfSome word (λ x. x.items ≡ w)
+path_said word n (table.ShowPathHeading w m) e = (w, (λ i. table.ShowPathHeading w (sym e.1 i)), e.0)
+path_said word n h e = absurd e
+
+pub actor_sizes : (role : Role) (m n : ℕ) (seconds offset : Word) (h : table.Heading) → IsHeading (heading.Actor role m n seconds offset) h → table.sizes h ≡ m ∷ n ∷ []
+actor_sizes role m n seconds offset h e = ap table.sizes (actor_said role m n seconds offset h e).2
+
+pub path_sizes : (word : Word) (n : ℕ) (h : table.Heading) → IsHeading (heading.ShowPath word n) h → table.sizes h ≡ n ∷ []
+path_sizes word n h e = ap table.sizes (path_said word n h e).1
+
+-- ---- the sizes of the fields that follow
+
+pub put_sizes : (kind : FileKind) (m n : ℕ) (h : table.Heading) → IsHeading (heading.Put kind m n) h → table.sizes h ≡ m ∷ n ∷ []
+put_sizes kind m n h e = ap table.sizes (put_said kind m n h e)
+
+pub message_sizes : (n : ℕ) (h : table.Heading) → IsHeading (heading.Message n) h → table.sizes h ≡ n ∷ []
+message_sizes n h e = ap table.sizes (message_said n h e)
+
+-- ---- a field that stops
+
+pub first_stops : (p q : Place) (said : Heading) (xs : Bytes) (t : TakesLine p said q xs) (size : ℕ) (later : List ℕ) → table.sizes t.heading ≡ size ∷ later
+    → (ys : Bytes) (cause : Cause) → IsNoField size ys cause → StopsFrom [] (place_of p) (xs ++ ys) cause
+first_stops p q said xs t size later e ys cause bad =
+    stops_after [] (size ∷ later) (place_of p) (place_of q) (spelling.Line (table.words_of t.heading) ∷ []) xs ys cause
+    (leads_line (place_of p) (place_of q) t.heading [] t.stands t.known t.sized ∙ ap (λ s. Some (at s (place_of q))) e)
+    (t.spelled ∙ sym (append-nil (spelling.part_text (spelling.Line (table.words_of t.heading)))))
+    (stops_here (size ∷ later) (place_of q) ys cause (field_stops size later (place_of q) ys cause bad))
+
+pub second_stops : (p q : Place) (said : Heading) (xs zs : Bytes) (t : TakesLine p said q xs) (first size : ℕ) (later : List ℕ) → table.sizes t.heading ≡ first ∷ size ∷ later
+    → (field : Bytes) → length field ≡ first → zs ≡ line field → (ys : Bytes) (cause : Cause) → IsNoField size ys cause → StopsFrom [] (place_of p) ((xs ++ zs) ++ ys) cause
+second_stops p q said xs zs t first size later e field l z ys cause bad =
+    let head = spelling.Line (table.words_of t.heading) in
+    let sizes : table.sizes t.heading ≡ length field ∷ size ∷ later = e ∙ ap (λ n. n ∷ size ∷ later) (sym l) in
+    stops_after [] (size ∷ later) (place_of p) (place_of q) (head ∷ spelling.Field field ∷ []) (xs ++ zs) ys cause
+    (leads_line (place_of p) (place_of q) t.heading (spelling.Field field ∷ []) t.stands t.known t.sized
+    ∙ ap (λ s. run_from (at s (place_of q)) (spelling.Field field ∷ [])) sizes ∙ leads_field field (size ∷ later) (place_of q) [])
+    (ap (λ x. x ++ zs) t.spelled ∙ ap (λ z. spelling.part_text head ++ z) (z ∙ sym (append-nil (line field))))
+    (stops_here (size ∷ later) (place_of q) ys cause (field_stops size later (place_of q) ys cause bad))
+
+-- ---- the text of the fields
+
+one_text : (xs ys a : Bytes) → ys ≡ line a → xs ++ ys ≡ xs ++ flat_map line (a ∷ [])
+one_text xs ys a e = ap (λ y. xs ++ y) (e ∙ sym (append-nil (line a)))
+
+two_texts : (xs ys zs a b : Bytes) → ys ≡ line a → zs ≡ line b → (xs ++ ys) ++ zs ≡ xs ++ flat_map line (a ∷ b ∷ [])
+two_texts xs ys zs a b e f = append_assoc xs ys zs ∙ ap (λ y. xs ++ (y ++ zs)) e ∙ ap (λ z. xs ++ (line a ++ z)) (f ∙ sym (append-nil (line b)))
+
+-- ---- the lines, one by one
+
+pub put_parts : (p q : Place) (kind : FileKind) (m n : ℕ) (xs ys zs : Bytes) (old new : Draft) → TakesLine p (heading.Put kind m n) q xs → (a b : Bytes) → length a ≡ m → ys ≡ line a → length b ≡ n → zs ≡ line b
+    → ((order : model.CommitCommand) → IsDraft old (model.Commit order) → IsDraft new (model.Commit (with_edit order (model.PutLine kind a b)))) → TakesParts p old q new ((xs ++ ys) ++ zs)
+put_parts p q kind m n xs ys zs old new t a b la ya lb zb f =
+    let h = table.PutHeading kind (length a) (length b) in
+    let said : t.heading ≡ h = put_said kind m n t.heading t.is ∙ (λ i. table.PutHeading kind (sym la i) (sym lb i)) in
+    let s = as_said p q (heading.Put kind m n) h xs t said in
+    let places = put_place p q kind (length a) (length b) s.stands in
+    takes_parts p q place.Edits place.Edits old new h xs ((xs ++ ys) ++ zs) (a ∷ b ∷ []) s refl places.0 places.1 (two_texts xs ys zs a b ya zb)
+    (λ before come.
+    let edit = model.PutLine kind a b in
+    let head = spelling.Line (codes "commit" ∷ come.0.name ∷ spelling.expect_words come.0.expect) in
+    (with_edit come.0 edit, ap (λ x. x ++ spelling.edit_parts edit) come.1 ∙ ap (λ y. head ∷ y) (sym (flat_map-append spelling.edit_parts come.0.edits (edit ∷ []))), f come.0 come.2))
+
+pub message_parts : (p q : Place) (n : ℕ) (xs ys : Bytes) (old new : Draft) → TakesLine p (heading.Message n) q xs → (a : Bytes) → length a ≡ n → ys ≡ line a
+    → ((order : model.CommitCommand) → IsDraft old (model.Commit order) → IsDraft new (model.Commit (with_message order a))) → TakesParts p old q new (xs ++ ys)
+message_parts p q n xs ys old new t a la ya f =
+    let h = table.MessageHeading (length a) in
+    let said : t.heading ≡ h = message_said n t.heading t.is ∙ (λ i. table.MessageHeading (sym la i)) in
+    let s = as_said p q (heading.Message n) h xs t said in
+    let places = message_place p q (length a) s.stands in
+    takes_parts p q place.Message place.End old new h xs (xs ++ ys) (a ∷ []) s refl places.0 places.1 (one_text xs ys a ya)
+    (λ before come. (with_message come.0 a, ap (λ x. x ++ spelling.message_parts a) come.1, f come.0 come.2))
+
+no_parents : (d : Draft) (order : model.CommitCommand) → IsDraft d (model.Commit order) → order.parents ≡ []
+no_parents (draft.Commit c) order h = h.parents
+no_parents d order h = absurd h
+
+whole : (head : spelling.Part) (e a c m z : List spelling.Part) → ((((head ∷ e) ++ a) ++ c) ++ m) ++ z ≡ head ∷ (e ++ (a ++ (c ++ (m ++ z))))
+whole head e a c m z = ap (λ t. head ∷ t) (append_assoc ((e ++ a) ++ c) m z ∙ append_assoc (e ++ a) c (m ++ z) ∙ append_assoc e a (c ++ (m ++ z)))
+
+pub end_parts : (p q : Place) (xs : Bytes) (d : Draft) → TakesLine p heading.End q xs → TakesParts p d q d xs
+end_parts p q xs d t =
+    let h = table.EndHeading in
+    let s = as_said p q heading.End h xs t (end_said t.heading t.is) in
+    let places = end_place p q s.stands in
+    takes_parts p q place.End place.Done d d h xs xs [] s refl places.0 places.1 (sym (append-nil xs))
+    (λ before come.
+    let c = come.0 in
+    let head = spelling.Line (codes "commit" ∷ c.name ∷ spelling.expect_words c.expect) in (
+      model.Commit c,
+      ap (λ x. x ++ spelling.end_part) come.1
+          ∙ whole head (flat_map spelling.edit_parts c.edits) (spelling.actor_parts (codes "author") c.author) (spelling.actor_parts (codes "committer") c.committer) (spelling.message_parts c.message) spelling.end_part
+          ∙ ap (λ ps. head ∷ (map spelling.parent_part ps ++ (flat_map spelling.edit_parts c.edits ++ spelling.signed_parts c))) (sym (no_parents d c come.2)),
+      come.2,
+    ))
+
+nobody : model.ActorLine
+nobody = record { name = []; email = []; seconds = []; offset = [] }
+
+both_true : (a b : Bool) → a ≡ true → b ≡ true → (a && b) ≡ true
+both_true true b e f = f
+both_true false b e f = cc
+
+pub commit_parts : (p q : Place) (name : Word) (expect : Option Expect) (xs : Bytes) (old new : Draft) → TakesLine p (heading.Commit name expect) q xs
+    → ((order : model.CommitCommand) → IfSome name (λ w. w.items ≡ order.name) → IfSome expect (λ e. IsExpect e order.expect) → order.parents ≡ [] → IsTrue (is_offered (model.Commit order)) → order.edits ≡ [] → IsDraft new (model.Commit order))
+    → TakesParts p old q new xs
+commit_parts p q name expect xs old new t f =
+    let said = commit_said name expect t.heading t.is in
+    let h = table.CommitHeading said.0 said.1 in
+    let s = as_said p q (heading.Commit name expect) h xs t said.2 in
+    let places = commit_place p q said.0 said.1 said.5 s.stands in
+    let order : model.CommitCommand = record { name = said.0; expect = said.1; parents = []; edits = []; author = nobody; committer = nobody; message = [] } in
+    takes_parts p q place.Start place.Edits old new h xs xs [] s refl places.0 places.1 (sym (append-nil xs))
+    (λ before come. (order, ap (λ x. x ++ parts_with h []) come, f order said.3 said.4 refl (both_true (table.is_commit_name said.0 && true) true (both_true (table.is_commit_name said.0) true said.5 refl) refl) refl))
+
+pub actor_parts : (p q : Place) (role : Role) (m n : ℕ) (seconds offset : Word) (xs ys zs : Bytes) (old new : Draft) → TakesLine p (heading.Actor role m n seconds offset) q xs
+    → (a b : Bytes) → length a ≡ m → ys ≡ line a → length b ≡ n → zs ≡ line b → (A B : Bytes → Type 0)
+    → ((line : model.ActorLine) (order : model.CommitCommand) → IsDraft old (model.Commit order) → A line.name → B line.email → IfSome seconds (λ x. x.items ≡ line.seconds) → IfSome offset (λ x. x.items ≡ line.offset)
+    → IsDraft new (model.Commit (with_actor (role_of role) order line)))
+    → A a → B b → TakesParts p old q new ((xs ++ ys) ++ zs)
+actor_parts p q Author m n seconds offset xs ys zs old new t a b la ya lb zb A B f ka kb =
+    let said = actor_said Author m n seconds offset t.heading t.is in
+    let h = table.ActorHeading table.Author (length a) (length b) said.0 said.1 in
+    let is : t.heading ≡ h = said.2 ∙ (λ i. table.ActorHeading table.Author (sym la i) (sym lb i) said.0 said.1) in
+    let s = as_said p q (heading.Actor Author m n seconds offset) h xs t is in
+    let places = author_place p q (length a) (length b) said.0 said.1 s.stands in
+    let line : model.ActorLine = record { name = a; email = b; seconds = said.0; offset = said.1 } in
+    takes_parts p q place.Edits place.Committer old new h xs ((xs ++ ys) ++ zs) (a ∷ b ∷ []) s refl places.0 places.1 (two_texts xs ys zs a b ya zb)
+    (λ before come. (with_actor table.Author come.0 line, ap (λ x. x ++ spelling.actor_parts (codes "author") line) come.1, f line come.0 come.2 ka kb said.3 said.4))
+actor_parts p q Committer m n seconds offset xs ys zs old new t a b la ya lb zb A B f ka kb =
+    let said = actor_said Committer m n seconds offset t.heading t.is in
+    let h = table.ActorHeading table.Committer (length a) (length b) said.0 said.1 in
+    let is : t.heading ≡ h = said.2 ∙ (λ i. table.ActorHeading table.Committer (sym la i) (sym lb i) said.0 said.1) in
+    let s = as_said p q (heading.Actor Committer m n seconds offset) h xs t is in
+    let places = committer_place p q (length a) (length b) said.0 said.1 s.stands in
+    let line : model.ActorLine = record { name = a; email = b; seconds = said.0; offset = said.1 } in
+    takes_parts p q place.Committer place.Message old new h xs ((xs ++ ys) ++ zs) (a ∷ b ∷ []) s refl places.0 places.1 (two_texts xs ys zs a b ya zb)
+    (λ before come. (with_actor table.Committer come.0 line, ap (λ x. x ++ spelling.actor_parts (codes "committer") line) come.1, f line come.0 come.2 ka kb said.3 said.4))
+
+pub files_parts : (p q : Place) (word : Word) (xs : Bytes) (old : Draft) → TakesLine p (heading.Files word) q xs → TakesParts p old q (draft.Files word) xs
+files_parts p q word xs old t =
+    let said = files_said word t.heading t.is in
+    let h = table.FilesHeading said.0 in
+    let s = as_said p q (heading.Files word) h xs t said.1 in
+    let places = files_place p q said.0 s.stands in
+    takes_parts p q place.Start place.Done old (draft.Files word) h xs xs [] s refl places.0 places.1 (sym (append-nil xs))
+    (λ before come. (model.Files said.0, ap (λ x. x ++ parts_with h []) come, said.2))
+
+pub show_parts : (p q : Place) (word : Word) (xs : Bytes) (old new : Draft) → TakesLine p (heading.Show word) q xs
+    → ((w : Bytes) → IfSome word (λ x. x.items ≡ w) → IsDraft new (model.Show w None)) → TakesParts p old q new xs
+show_parts p q word xs old new t f =
+    let said = show_said word t.heading t.is in
+    let h = table.ShowHeading said.0 in
+    let s = as_said p q (heading.Show word) h xs t said.1 in
+    let places = show_place p q said.0 s.stands in
+    takes_parts p q place.Start place.Done old new h xs xs [] s refl places.0 places.1 (sym (append-nil xs))
+    (λ before come. (model.Show said.0 None, ap (λ x. x ++ parts_with h []) come, f said.0 said.2))
+
+pub path_parts : (p q : Place) (word : Word) (n : ℕ) (xs ys : Bytes) (old new : Draft) → TakesLine p (heading.ShowPath word n) q xs → (a : Bytes) → length a ≡ n → ys ≡ line a
+    → ((w : Bytes) → IfSome word (λ x. x.items ≡ w) → IsDraft new (model.Show w (Some a))) → TakesParts p old q new (xs ++ ys)
+path_parts p q word n xs ys old new t a la ya f =
+    let said = path_said word n t.heading t.is in
+    let h = table.ShowPathHeading said.0 (length a) in
+    let is : t.heading ≡ h = said.1 ∙ (λ i. table.ShowPathHeading said.0 (sym la i)) in
+    let s = as_said p q (heading.ShowPath word n) h xs t is in
+    let places = path_place p q said.0 (length a) s.stands in
+    takes_parts p q place.Start place.Done old new h xs (xs ++ ys) (a ∷ []) s refl places.0 places.1 (one_text xs ys a ya)
+    (λ before come. (model.Show said.0 (Some a), ap (λ x. x ++ parts_with h (a ∷ [])) come, f said.0 said.2))

@@ -1,0 +1,57 @@
+use Rattle.std.proofs.Common.{◌≡◌, ◌∷◌, sym, ap, subst, ◌∙◌}
+use Rattle.std.specs.Prelude.{codes}
+use Rattle.std.proofs.lemmas.Slice.Eq.{slice_eq-Decides}
+use Rattle.std.proofs.lemmas.Bool.Decides.{Decides-eqb}
+use Rattle.history_model.specs.LineTable.{heading_of}
+use Rattle.history_word.specs.Lines.{split_words}
+use Rattle.history_word.specs.Words.{left}
+use Rattle.history_word.specs.Drafts.{Says}
+use Rattle.history_word.proofs.heading.said.Goals as goal
+
+pub returns-then-eq : goal.returns-then-eq
+returns-then-eq c =
+    let name = (slice_eq-Decides Decides-eqb _ _ _ c.eq.ensures).0 c.if-eq.true ∙ c.as_slice.ensures in
+    let words : split_words c.args.line.now ≡ codes "commit" ∷ left c.next.new.self = sym c.new-words.ensures ∙ c.in_ok-first.ensures.found ∙ ap (λ w. w ∷ left c.next.new.self) name in
+    subst (λ ws. Says c.commit.result (heading_of ws)) (sym words) c.commit.ensures
+
+pub returns-then-eq-2 : goal.returns-then-eq-2
+returns-then-eq-2 c =
+    let name = (slice_eq-Decides Decides-eqb _ _ _ c.eq-else-eq.ensures).0 c.if-eq-2.true ∙ c.as_slice-else-eq.ensures in
+    let words : split_words c.args.line.now ≡ codes "put" ∷ left c.next.new.self = sym c.new-words.ensures ∙ c.in_ok-first.ensures.found ∙ ap (λ w. w ∷ left c.next.new.self) name in
+    subst (λ ws. Says c.put.result (heading_of ws)) (sym words) c.put.ensures
+
+pub returns-then-eq-3 : goal.returns-then-eq-3
+returns-then-eq-3 c =
+    let name = (slice_eq-Decides Decides-eqb _ _ _ c.eq-else-eq-2.ensures).0 c.if-eq-3.true ∙ c.as_slice-else-eq-2.ensures in
+    let words : split_words c.args.line.now ≡ codes "author" ∷ left c.next.new.self = sym c.new-words.ensures ∙ c.in_ok-first.ensures.found ∙ ap (λ w. w ∷ left c.next.new.self) name in
+    subst (λ ws. Says c.actor.result (heading_of ws)) (sym words) c.actor.ensures
+
+pub returns-then-eq-4 : goal.returns-then-eq-4
+returns-then-eq-4 c =
+    let name = (slice_eq-Decides Decides-eqb _ _ _ c.eq-else-eq-3.ensures).0 c.if-eq-4.true ∙ c.as_slice-else-eq-3.ensures in
+    let words : split_words c.args.line.now ≡ codes "committer" ∷ left c.next.new.self = sym c.new-words.ensures ∙ c.in_ok-first.ensures.found ∙ ap (λ w. w ∷ left c.next.new.self) name in
+    subst (λ ws. Says c.actor-then-eq-4.result (heading_of ws)) (sym words) c.actor-then-eq-4.ensures
+
+pub returns-then-eq-5 : goal.returns-then-eq-5
+returns-then-eq-5 c =
+    let name = (slice_eq-Decides Decides-eqb _ _ _ c.eq-else-eq-4.ensures).0 c.if-eq-5.true ∙ c.as_slice-else-eq-4.ensures in
+    let words : split_words c.args.line.now ≡ codes "message" ∷ left c.next.new.self = sym c.new-words.ensures ∙ c.in_ok-first.ensures.found ∙ ap (λ w. w ∷ left c.next.new.self) name in
+    subst (λ ws. Says c.message.result (heading_of ws)) (sym words) c.message.ensures
+
+pub returns-then-eq-6 : goal.returns-then-eq-6
+returns-then-eq-6 c =
+    let name = (slice_eq-Decides Decides-eqb _ _ _ c.eq-else-eq-5.ensures).0 c.if-eq-6.true ∙ c.as_slice-else-eq-5.ensures in
+    let words : split_words c.args.line.now ≡ codes "end" ∷ left c.next.new.self = sym c.new-words.ensures ∙ c.in_ok-first.ensures.found ∙ ap (λ w. w ∷ left c.next.new.self) name in
+    subst (λ ws. Says c.end.result (heading_of ws)) (sym words) c.end.ensures
+
+pub returns-then-eq-7 : goal.returns-then-eq-7
+returns-then-eq-7 c =
+    let name = (slice_eq-Decides Decides-eqb _ _ _ c.eq-else-eq-6.ensures).0 c.if-eq-7.true ∙ c.as_slice-else-eq-6.ensures in
+    let words : split_words c.args.line.now ≡ codes "files" ∷ left c.next.new.self = sym c.new-words.ensures ∙ c.in_ok-first.ensures.found ∙ ap (λ w. w ∷ left c.next.new.self) name in
+    subst (λ ws. Says c.files.result (heading_of ws)) (sym words) c.files.ensures
+
+pub returns-then-eq-8 : goal.returns-then-eq-8
+returns-then-eq-8 c =
+    let name = (slice_eq-Decides Decides-eqb _ _ _ c.eq-else-eq-7.ensures).0 c.if-eq-8.true ∙ c.as_slice-else-eq-7.ensures in
+    let words : split_words c.args.line.now ≡ codes "show" ∷ left c.next.new.self = sym c.new-words.ensures ∙ c.in_ok-first.ensures.found ∙ ap (λ w. w ∷ left c.next.new.self) name in
+    subst (λ ws. Says c.show.result (heading_of ws)) (sym words) c.show.ensures

@@ -1,0 +1,10 @@
+use Rattle.std.proofs.Common.{◌-◌, length, []}
+use Rattle.history_word.specs.Buffer.{unread}
+use Rattle.history_word.specs.Taking.{Took}
+use Rattle.history_word.proofs.reader.read_line.Given as goal
+
+abbrev pub invariant-loop-length : goal.invariant-loop-length
+invariant-loop-length g l = Took g.R.Source.left g.R.Source.readings l.fn.source l.fn.buffer l.source l.buffer []
+
+abbrev pub decreases-loop-length : goal.decreases-loop-length
+decreases-loop-length g l = 8192 - length (unread l.buffer)

@@ -1,0 +1,73 @@
+-- What a command that was read stands for.
+use Rattle.std.specs.Prelude.{◌≡◌, ℕ, ⊤, List, [], Option, Some, None}
+use Rattle.std.specs.List.{AllZip}
+use Rattle.history_model.specs.Bytes.{Bytes}
+use Rattle.history_model.specs.Commands as model
+use Rattle.history_model.specs.Stops.{is_changing}
+use Rattle.history_word.specs.Fields.{Keeps}
+use Rattle.history_word.specs.declared.command.Field.{Field}
+use Rattle.history_word.specs.declared.command.Expect.{Expect}
+use Rattle.history_word.specs.declared.command.Expect.TheVariants.{Any, New, At}
+use Rattle.history_word.specs.declared.command.Edit.{Edit}
+use Rattle.history_word.specs.declared.command.Edit.TheVariants.{Put}
+use Rattle.history_word.specs.declared.command.ActorLine.{ActorLine}
+use Rattle.history_word.specs.declared.command.Commit.{Commit}
+use Rattle.history_word.specs.declared.command.Command.{Command}
+use Rattle.history_word.specs.declared.command.Command.TheVariants as command
+use Rattle.history_word.specs.declared.reader.Reading.{Reading}
+use Rattle.history_word.specs.declared.reader.Reading.TheVariants as reading
+
+-- the most bytes of a path, of a name or an email, and of a content or a message
+abbrev pub max_path : ℕ
+max_path = 4096
+
+abbrev pub max_actor_part : ℕ
+max_actor_part = 512
+
+abbrev pub max_content : ℕ
+max_content = 16777216
+
+abbrev pub IsExpect : Expect → model.Expect → Type 0
+IsExpect Any model.Any = ⊤
+IsExpect New model.New = ⊤
+IsExpect (At word) (model.At bytes) = word.items ≡ bytes
+IsExpect _ _ = ⊥
+
+abbrev pub IsEdit : Edit → model.EditLine → Type 0
+IsEdit (Put put) (model.PutLine kind path content) = (put.kind ≡ kind) × Keeps max_path put.path path × Keeps max_content put.content content
+IsEdit _ _ = ⊥
+
+abbrev pub AreEdits : List Edit → List model.EditLine → Type 0
+AreEdits = AllZip IsEdit
+
+pub record IsActor (actor : ActorLine) (line : model.ActorLine) : Type 0 where
+  pub name : Keeps max_actor_part actor.name line.name
+  pub email : Keeps max_actor_part actor.email line.email
+  pub seconds : actor.seconds.items ≡ line.seconds
+  pub offset : actor.offset.items ≡ line.offset
+
+pub record IsCommit (commit : Commit) (order : model.CommitCommand) : Type 0 where
+  pub name : commit.name.items ≡ order.name
+  pub expect : IsExpect commit.expect order.expect
+  pub parents : order.parents ≡ []
+  pub edits : AreEdits commit.edits.items order.edits
+  pub author : IsActor commit.author order.author
+  pub committer : IsActor commit.committer order.committer
+  pub message : Keeps max_content commit.message order.message
+
+abbrev pub IsPath : Option Field → Option Bytes → Type 0
+IsPath (Some field) (Some path) = Keeps max_path field path
+IsPath None None = ⊤
+IsPath _ _ = ⊥
+
+-- the command that was read is this one, but for the bytes of fields over their limits
+abbrev pub StandsFor : Command → model.Command → Type 0
+StandsFor (command.Commit commit) (model.Commit order) = IsCommit commit order
+StandsFor (command.Files word) (model.Files bytes) = word.items ≡ bytes
+StandsFor (command.Show show) (model.Show word path) = (show.word.items ≡ word) × IsPath show.path path
+StandsFor _ _ = ⊥
+
+-- a command was read, or read past for want of memory
+abbrev pub IsReading : Reading → model.Command → Type 0
+IsReading (reading.Command command) order = StandsFor command order
+IsReading (reading.NoMemory changing) order = changing ≡ is_changing order

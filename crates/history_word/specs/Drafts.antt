@@ -1,0 +1,140 @@
+-- What a command's draft, and the line that stands first, have of the command.
+use Rattle.std.specs.Prelude.{◌≡◌, ◌<◌, ⊤, IsTrue, List, [], ◌∷◌, ◌++◌, length, Option, Some, None, IfSome, codes}
+use Rattle.std.specs.List.{flat_map, join_with_byte}
+use Rattle.history_model.specs.Bytes.{Bytes}
+use Rattle.history_model.specs.Commands as model
+use Rattle.history_model.specs.Spelling as spelling
+use Rattle.history_model.specs.Stage.{is_offered}
+use Rattle.history_model.specs.LineTable as table
+use Rattle.history_model.specs.TableRuns as runs
+use Rattle.history_word.specs.Fields.{Keeps}
+use Rattle.history_word.specs.Commands.{IsExpect, AreEdits, IsActor, IsPath, max_content}
+use Rattle.history_word.specs.declared.command.Expect.{Expect}
+use Rattle.history_word.specs.declared.heading.Role.{Role}
+use Rattle.history_word.specs.declared.heading.Role.TheVariants.{Author, Committer}
+use Rattle.history_word.specs.declared.heading.Heading.{Heading}
+use Rattle.history_word.specs.declared.heading.Heading.TheVariants as heading
+use Rattle.history_word.specs.declared.place.Place.{Place}
+use Rattle.history_word.specs.declared.place.Place.TheVariants as place
+use Rattle.history_word.specs.declared.draft.CommitDraft.{CommitDraft}
+use Rattle.history_word.specs.declared.draft.Draft.{Draft}
+use Rattle.history_word.specs.declared.draft.Draft.TheVariants as draft
+
+abbrev pub role_of : Role → table.Role
+role_of Author = table.Author
+role_of Committer = table.Committer
+
+abbrev pub place_of : Place → table.Place
+place_of place.Start = table.Start
+place_of place.Edits = table.Edits
+place_of place.Committer = table.ToCommitter
+place_of place.Message = table.ToMessage
+place_of place.End = table.ToEnd
+place_of place.Done = table.Done
+
+-- The line is this one. A word that found no memory may be any.
+abbrev pub IsHeading : Heading → table.Heading → Type 0
+IsHeading (heading.Commit name expect) (table.CommitHeading n e) = IfSome name (λ word. word.items ≡ n) × IfSome expect (λ x. IsExpect x e) × IsTrue (table.is_commit_name n)
+IsHeading (heading.Put kind path content) (table.PutHeading k m n) = (kind ≡ k) × (path ≡ m) × (content ≡ n)
+IsHeading (heading.Actor role name email seconds offset) (table.ActorHeading r m n s o) = (role_of role ≡ r) × (name ≡ m) × (email ≡ n) × IfSome seconds (λ word. word.items ≡ s) × IfSome offset (λ word. word.items ≡ o)
+IsHeading (heading.Message size) (table.MessageHeading n) = size ≡ n
+IsHeading heading.End table.EndHeading = ⊤
+IsHeading (heading.Files word) (table.FilesHeading w) = IfSome word (λ x. x.items ≡ w)
+IsHeading (heading.Show word) (table.ShowHeading w) = IfSome word (λ x. x.items ≡ w)
+IsHeading (heading.ShowPath word path) (table.ShowPathHeading w n) = IfSome word (λ x. x.items ≡ w) × (path ≡ n)
+IsHeading _ _ = ⊥
+
+-- What is read is what the words say; none is read where they say nothing that may stand anywhere.
+abbrev pub Says : Option Heading → Option table.Heading → Type 0
+Says (Some line) (Some h) = IsHeading line h
+Says (Some line) None = ⊥
+Says None (Some h) = (p : table.Place) → table.next p h ≡ None
+Says None None = ⊤
+
+abbrev pub SaysExpect : Option (Option Expect) → Option model.Expect → Type 0
+SaysExpect (Some expect) (Some e) = IfSome expect (λ x. IsExpect x e)
+SaysExpect None None = ⊤
+SaysExpect _ _ = ⊥
+
+-- the draft of a commit has these parts, each that found memory
+pub record IsCommitDraft (draft : CommitDraft) (order : model.CommitCommand) : Type 0 where
+  pub name : IfSome draft.name (λ word. word.items ≡ order.name)
+  pub expect : IfSome draft.expect (λ x. IsExpect x order.expect)
+  pub parents : order.parents ≡ []
+  pub offered : IsTrue (is_offered (model.Commit order))
+  pub edits : IfSome draft.edits (λ edits. AreEdits edits.items order.edits)
+  pub author : IfSome draft.author (λ actor. IsActor actor order.author)
+  pub committer : IfSome draft.committer (λ actor. IsActor actor order.committer)
+  pub message : IfSome draft.message (λ field. Keeps max_content field order.message)
+
+abbrev pub IsDraft : Draft → model.Command → Type 0
+IsDraft (draft.Commit commit) (model.Commit order) = IsCommitDraft commit order
+IsDraft (draft.Files word) (model.Files bytes) = IfSome word (λ x. x.items ≡ bytes)
+IsDraft (draft.Show show) (model.Show word path) = IfSome show (λ x. (x.word.items ≡ word) × IsPath x.path path)
+IsDraft _ _ = ⊥
+
+abbrev pub with_actor : table.Role → model.CommitCommand → model.ActorLine → model.CommitCommand
+with_actor table.Author order actor = record order { author = actor }
+with_actor table.Committer order actor = record order { committer = actor }
+
+abbrev pub with_edit : model.CommitCommand → model.EditLine → model.CommitCommand
+with_edit order edit = record order { edits = order.edits ++ edit ∷ [] }
+
+abbrev pub with_message : model.CommitCommand → Bytes → model.CommitCommand
+with_message order message = record order { message = message }
+
+-- ---- as far as a commit has come
+
+abbrev pub to_edits : model.CommitCommand → List spelling.Part
+to_edits c = spelling.Line (codes "commit" ∷ c.name ∷ spelling.expect_words c.expect) ∷ flat_map spelling.edit_parts c.edits
+
+abbrev pub to_author : model.CommitCommand → List spelling.Part
+to_author c = to_edits c ++ spelling.actor_parts (codes "author") c.author
+
+abbrev pub to_committer : model.CommitCommand → List spelling.Part
+to_committer c = to_author c ++ spelling.actor_parts (codes "committer") c.committer
+
+abbrev pub to_message : model.CommitCommand → List spelling.Part
+to_message c = to_committer c ++ spelling.message_parts c.message
+
+-- the parts that have come where a commit stands at this place
+abbrev pub parts_before : Place → model.CommitCommand → List spelling.Part
+parts_before place.Start c = []
+parts_before place.Edits c = to_edits c
+parts_before place.Committer c = to_author c
+parts_before place.Message c = to_committer c
+parts_before place.End c = to_message c
+parts_before place.Done c = spelling.parts_of (model.Commit c)
+
+-- at this place these parts have come, and the draft has them
+abbrev pub HasCome : Place → Draft → List spelling.Part → Type 0
+HasCome place.Start d parts = parts ≡ []
+HasCome place.Done d parts = (order : model.Command) × (parts ≡ spelling.parts_of order) × IsDraft d order
+HasCome p d parts = (order : model.CommitCommand) × (parts ≡ parts_before p order) × IsDraft d (model.Commit order)
+
+-- ---- what the readers of a line and of a line with its fields give
+
+-- the line, without its line feed, is one of the table's
+pub record IsLine (line : Heading) (text : Bytes) : Type 0 where
+  pub heading : table.Heading
+  pub spelled : text ≡ join_with_byte 32 (table.words_of heading)
+  pub known : IsTrue (spelling.is_part (spelling.Line (table.words_of heading)))
+  pub sized : IsTrue (table.are_sizes (table.sizes heading))
+  pub is : IsHeading line heading
+
+-- the line was taken, and leads from the one place to the other
+pub record TakesLine (place : Place) (line : Heading) (next : Place) (taken : Bytes) : Type 0 where
+  pub heading : table.Heading
+  pub spelled : taken ≡ spelling.part_text (spelling.Line (table.words_of heading))
+  pub known : IsTrue (spelling.is_part (spelling.Line (table.words_of heading)))
+  pub sized : IsTrue (table.are_sizes (table.sizes heading))
+  pub stands : table.next (place_of place) heading ≡ Some (place_of next)
+  pub is : IsHeading line heading
+
+-- parts were taken into the draft, and lead from the one place to the other
+pub record TakesParts (place : Place) (old : Draft) (next : Place) (new : Draft) (taken : Bytes) : Type 0 where
+  pub parts : List spelling.Part
+  pub spelled : taken ≡ spelling.parts_text parts
+  pub some : 0 < length taken
+  pub leads : runs.run_from (record { fields = []; place = place_of place }) parts ≡ Some (record { fields = []; place = place_of next })
+  pub come : (before : List spelling.Part) → HasCome place old before → HasCome next new (before ++ parts)

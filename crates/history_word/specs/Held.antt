@@ -1,0 +1,18 @@
+-- The part of an array that is held, and lines in it.
+use Rattle.std.specs.Prelude.{◌≡◌, ℕ, ◌-◌, ◌<◌, ◌≤◌, List, length, take, drop, slice_index, IsFalse}
+use Rattle.history_model.specs.Bytes.{has_byte}
+
+-- what stands from start to end
+unfoldable pub held : ℕ → ℕ → List ℕ → List ℕ
+held start end bytes = take (end - start) (drop start bytes)
+
+-- no line feed stands in the bytes
+abbrev pub IsUnbroken : List ℕ → Type 0
+IsUnbroken bytes = IsFalse (has_byte 10 bytes)
+
+-- a line of n bytes stands first, within the limit
+pub record IsLineOf (n : ℕ) (bytes : List ℕ) : Type 0 where
+  pub short : n ≤ 4096
+  pub within : n < length bytes
+  pub ends : slice_index bytes n ≡ 10
+  pub whole : IsUnbroken (take n bytes)

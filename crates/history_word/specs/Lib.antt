@@ -1,0 +1,12 @@
+pub mod Streams
+pub mod Held
+pub mod Buffer
+pub mod Taking
+pub mod Lines
+pub mod Words
+pub mod Fields
+pub mod Commands
+pub mod Drafts
+pub mod Progress
+pub mod Reading
+pub mod StdStream

@@ -1,0 +1,25 @@
+-- The words of a line.
+use Rattle.std.specs.Prelude.{◌≡◌, ◌≢◌, Bool, not, ◌==◌, List, [], ◌∷◌, ◌++◌, Option, Some, None, All}
+use Rattle.std.specs.List.{list_all, slice_split}
+use Rattle.history_model.specs.Bytes.{Bytes, is_empty}
+
+-- what stands between the spaces
+abbrev pub split_words : Bytes → List Bytes
+split_words line = slice_split (λ b. b == 32) line
+
+-- of a rest of a line, which is none behind the last word
+abbrev pub words_left : Option Bytes → List Bytes
+words_left None = []
+words_left (Some line) = split_words line
+
+abbrev pub HasNoSpace : Bytes → Type 0
+HasNoSpace word = All (λ b. b ≢ 32) word
+
+-- a line, cut at its first space
+abbrev pub IsCut : Bytes → Bytes → Option Bytes → Type 0
+IsCut line word None = (line ≡ word) × HasNoSpace word
+IsCut line word (Some rest) = (line ≡ word ++ 32 ∷ rest) × HasNoSpace word
+
+-- no word is empty
+abbrev pub are_nonempty : List Bytes → Bool
+are_nonempty words = list_all (λ word. not (is_empty word)) words

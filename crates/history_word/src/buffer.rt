@@ -1,0 +1,142 @@
+ghost use Rattle.std.specs.Prelude.{◌≡◌, ◌-◌, ◌+◌, ◌<◌, ◌≤◌, ◌⊎◌, true, [], length, take, drop, IfOk, OnErr, IfSome, IfNone};
+ghost use Rattle.std.specs.Bool.{MatchBool};
+ghost use Rattle.std.specs.Io.KnownBytes.{IsAtEnd};
+ghost use Rattle.history_word.specs.Held.{held, IsUnbroken, IsLineOf};
+
+use crate::streams::{Broken, Source};
+use memchr::memchr;
+
+/// How many bytes a buffer has room for.
+const ROOM: usize = 8_192;
+
+/// How many bytes a line may have, without its line feed.
+pub(crate) const MAX_LINE: usize = 4_096;
+
+/// Bytes that were read from a source and not taken yet.
+#[derive(Debug, Drop)]
+pub struct Buffer {
+    bytes: [u8; 8_192],
+    start: usize,
+    end: usize,
+    /// How many of the unread bytes were looked at and found to be no line feed.
+    scanned: usize,
+    readings: u64,
+    ghost ordered: { start + scanned ≤ end },
+    ghost within: { end ≤ 8192 },
+    ghost sized: { length bytes ≡ 8192 },
+    ghost unbroken: { IsUnbroken (take scanned (held start end bytes)) },
+}
+
+impl Buffer {
+    ghost use Rattle.history_word.specs.Buffer.{unread, readings_made, work};
+    ghost use Rattle.history_word.specs.Taking.{Took, IsLast};
+
+    /// An empty buffer, through which no reading was made.
+    pub fn new() -> Self
+        ensures empty { unread result ≡ [] }
+        ensures fresh { readings_made result ≡ 0 }
+    {
+        Buffer {
+            bytes: [0; 8_192],
+            start: 0,
+            end: 0,
+            scanned: 0,
+            readings: 0,
+        }
+    }
+
+    /// The bytes that were read and not taken yet.
+    pub(crate) fn unread(&self) -> &[u8]
+        ensures { result.now ≡ unread self.now }
+    {
+        &self.bytes[self.start..self.end]
+    }
+
+    /// Takes bytes that were read.
+    pub(crate) fn skip(&mut self, count: usize)
+        requires { count ≤ length (unread self.old) }
+        ensures rest { unread self.new ≡ drop count (unread self.old) }
+        ensures readings { readings_made self.new ≡ readings_made self.old }
+        ensures work { work self.new + count ≡ work self.old }
+    {
+        self.start += count;
+        self.scanned = 0;
+    }
+
+    /// Makes room behind what is unread, where it doesn't fill the buffer.
+    fn make_room(&mut self)
+        ensures same { unread self.new ≡ unread self.old }
+        ensures size { self.new.end - self.new.start ≡ self.old.end - self.old.start }
+        ensures room { self.new.end - self.new.start < 8192 → self.new.end < 8192 }
+        ensures readings { readings_made self.new ≡ readings_made self.old }
+    {
+        if self.start == self.end || self.end == ROOM {
+            self.bytes.copy_within(self.start..self.end, 0);
+            self.end -= self.start;
+            self.start = 0;
+        }
+    }
+
+    /// The length of the line that stands first, without its line feed, if it stands whole and within the limit.
+    /// No byte is looked at twice, however few come at a time.
+    pub(crate) fn line(&mut self) -> Option<usize>
+        ensures found { IfSome result (λ n. IsLineOf n (unread self.new)) }
+        ensures none { IfNone result (IsUnbroken (take 4097 (unread self.new))) }
+        ensures same { unread self.new ≡ unread self.old }
+        ensures readings { readings_made self.new ≡ readings_made self.old }
+        ensures work { work self.new ≡ work self.old }
+    {
+        let known = self.scanned;
+        let looked = self.unread().len().min(MAX_LINE + 1);
+        if looked <= known {
+            return None;
+        }
+        match memchr(b'\n', &self.unread()[known..looked]) {
+            Some(at) => Some(known + at),
+            None => {
+                self.scanned = looked;
+                None
+            }
+        }
+    }
+
+    /// Reads once more. `false` is the end of the source.
+    pub(crate) fn fill<R: Source>(&mut self, source: &mut R) -> Result<bool, Broken>
+        requires { length (unread self.old) < 8192 }
+        ensures took { Took R.left R.readings source.old self.old source.new self.new [] }
+        ensures ok { IfOk result (λ is_more. MatchBool is_more
+            (length (unread self.old) < length (unread self.new))
+            (IsAtEnd (R.left source.new) × (unread self.new ≡ unread self.old))) }
+        ensures err { OnErr result (((R.has_failed source.new ≡ true) × (unread self.new ≡ unread self.old)) ⊎ IsLast self.new) }
+    {
+        let Some(readings) = self.readings.checked_add(1) else {
+            return Err(Broken);
+        };
+        self.make_room();
+        self.readings = readings;
+        let end = self.end;
+        let count = source.read(&mut self.bytes[end..])?;
+        self.end += count;
+        if readings == u64::MAX {
+            return Err(Broken);
+        }
+        Ok(count > 0)
+    }
+
+    /// Whether a byte follows. Reads, once, only where none stands in the buffer.
+    ///
+    /// `Broken` is answered where the source has failed, and at the 18,446,744,073,709,551,615th reading through this
+    /// buffer.
+    pub fn has_more<R: Source>(&mut self, source: &mut R) -> Result<bool, Broken>
+        ensures took { Took R.left R.readings source.old self.old source.new self.new [] }
+        ensures ok { IfOk result (λ is_more. MatchBool is_more
+            (0 < length (unread self.new))
+            ((unread self.new ≡ []) × IsAtEnd (R.left source.new))) }
+        ensures err { OnErr result (((R.has_failed source.new ≡ true) × (unread self.new ≡ [])) ⊎ IsLast self.new) }
+    {
+        if !self.unread().is_empty() {
+            return Ok(true);
+        }
+        self.fill(source)
+    }
+}

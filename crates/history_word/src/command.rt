@@ -1,0 +1,116 @@
+use history_model::FileKind;
+use std::alloc::{AllocError, Global};
+
+/// The most bytes that a path may have.
+pub(crate) const MAX_PATH: u64 = 4_096;
+
+/// The most bytes that an actor's name or email may have.
+pub(crate) const MAX_ACTOR_PART: u64 = 512;
+
+/// The most bytes that a file's content or a message may have.
+pub(crate) const MAX_CONTENT: u64 = 16_777_216;
+
+/// How many of its first bytes are kept of a field that is over its limit: they decide whether a title is one.
+pub(crate) const MAX_KEPT: usize = 1_025;
+
+/// A field of a command.
+#[derive(Debug, Drop)]
+pub enum Field {
+    /// All of its bytes.
+    Whole(Vec<u8>),
+    /// The first 1,025 bytes, or all if there are fewer, of a field over its limit.
+    TooLong(Vec<u8>),
+}
+
+/// What a command expects of the name that it moves.
+#[derive(Debug, Drop)]
+pub enum Expect {
+    /// Nothing.
+    Any,
+    /// That it doesn't stand.
+    New,
+    /// That it stands at the commit of this word.
+    At(Vec<u8>),
+}
+
+/// A file to be put at a path. The path has at most 4,096 bytes, the content at most 16,777,216.
+#[derive(Debug, Drop)]
+pub struct Put {
+    pub kind: FileKind,
+    pub path: Field,
+    pub content: Field,
+}
+
+/// One change of a commit's files.
+#[derive(Debug, Drop)]
+pub enum Edit {
+    Put(Put),
+}
+
+/// Who acts, and when: the words for the seconds and the offset are as they were sent. The name and the email have at
+/// most 512 bytes each.
+#[derive(Debug, Drop)]
+pub struct ActorLine {
+    pub name: Field,
+    pub email: Field,
+    pub seconds: Vec<u8>,
+    pub offset: Vec<u8>,
+}
+
+/// The edits are made in order. The message has at most 16,777,216 bytes.
+#[derive(Debug, Drop)]
+pub struct Commit {
+    pub name: Vec<u8>,
+    pub expect: Expect,
+    pub edits: Vec<Edit>,
+    pub author: ActorLine,
+    pub committer: ActorLine,
+    pub message: Field,
+}
+
+/// Shows a commit, or what stands at a path of its files. The path has at most 4,096 bytes.
+#[derive(Debug, Drop)]
+pub struct Show {
+    pub word: Vec<u8>,
+    pub path: Option<Field>,
+}
+
+/// What a client asks. A word is nonempty, without space or line feed, and a line's words have at most 4,096 bytes.
+#[derive(Debug, Drop)]
+pub enum Command {
+    Commit(Commit),
+    /// Lists the files of this word's commit.
+    Files(Vec<u8>),
+    Show(Show),
+}
+
+impl Field {
+    ghost use Rattle.std.specs.Prelude.{ℕ, [], ◌++◌, OnOk};
+    ghost use Rattle.history_model.specs.Bytes.{Bytes};
+    ghost use Rattle.history_word.specs.Fields.{KeepsFront};
+
+    /// A field of this size, of which nothing has come yet.
+    pub(crate) fn new(alloc: Global, size: u64, limit: u64) -> Self
+        ensures { KeepsFront limit size result [] }
+    {
+        if size <= limit {
+            Field::Whole(Vec::new(alloc))
+        } else {
+            Field::TooLong(Vec::new(alloc))
+        }
+    }
+
+    /// Takes the next bytes.
+    pub(crate) fn add(&mut self, bytes: &[u8]) -> Result<(), AllocError>
+        ensures { (limit size : ℕ) (front : Bytes) → KeepsFront limit size self.old front
+            → OnOk result (KeepsFront limit size self.new (front ++ bytes.now)) }
+    {
+        match self {
+            Field::Whole(kept) => kept.extend_from_slice(bytes),
+            Field::TooLong(kept) => {
+                let room = MAX_KEPT.saturating_sub(kept.len());
+                kept.extend_from_slice(&bytes[..room.min(bytes.len())])
+            }
+        }
+    }
+}

@@ -1,0 +1,224 @@
+ghost use Rattle.std.specs.Prelude.{◌≡◌, ◌∷◌, ◌≤◌, length, IfSome, IfNone, OnSome, IsTrue};
+ghost use Rattle.history_model.specs.LineTable.{Place, heading_of, is_commit_name, expect_of, commit_of_words, put_of_words, actor_of_words, message_of_words, end_of_words, files_of_words, show_of_words};
+ghost use Rattle.history_model.specs.TableRuns.{IsLineAt};
+ghost use Rattle.history_word.specs.Held.{IsUnbroken};
+ghost use Rattle.history_word.specs.Lines.{split_words};
+ghost use Rattle.history_word.specs.Words.{left};
+ghost use Rattle.history_word.specs.Drafts.{role_of, Says, SaysExpect, IsLine};
+
+use crate::command::Expect;
+use crate::words::{Words, are_words, file_kind, number};
+use history_model::FileKind;
+use std::alloc::Global;
+
+/// Whose line it is.
+#[derive(Clone, Copy, Debug, PartialEq, Eq)]
+pub(crate) enum Role {
+    Author,
+    Committer,
+}
+
+/// What a line says. A number is the size of a field that follows the line; a word is `None` where it found no memory.
+#[derive(Debug, Drop)]
+pub(crate) enum Heading {
+    Commit {
+        name: Option<Vec<u8>>,
+        expect: Option<Expect>,
+    },
+    Put {
+        kind: FileKind,
+        path: u64,
+        content: u64,
+    },
+    Actor {
+        role: Role,
+        name: u64,
+        email: u64,
+        seconds: Option<Vec<u8>>,
+        offset: Option<Vec<u8>>,
+    },
+    Message {
+        size: u64,
+    },
+    End,
+    Files {
+        word: Option<Vec<u8>>,
+    },
+    Show {
+        word: Option<Vec<u8>>,
+    },
+    ShowPath {
+        word: Option<Vec<u8>>,
+        path: u64,
+    },
+}
+
+/// A word of its own, if there is memory for it.
+fn kept(alloc: Global, word: &[u8]) -> Option<Vec<u8>>
+    ensures { IfSome result (λ own. own.items ≡ word.now) }
+{
+    Vec::from_slice(alloc, word).ok()
+}
+
+/// Whether a commit may move this name.
+fn is_commit_name(name: &[u8]) -> bool
+    ensures { result ≡ is_commit_name name.now }
+{
+    name == b"refs/heads/main".as_slice() || name == b"HEAD".as_slice()
+}
+
+/// `any`, `new` or `at <word>`. It is `Some(None)` where the word found no memory.
+fn expect(alloc: Global, words: &mut Words) -> Option<Option<Expect>>
+    ensures { SaysExpect result (expect_of (left words.old)) }
+{
+    let first = words.next()?;
+    if first == b"at".as_slice() {
+        let word = words.last()?;
+        return Some(kept(alloc, word).map(Expect::At));
+    }
+    if !words.is_done() {
+        return None;
+    }
+    if first == b"any".as_slice() {
+        Some(Some(Expect::Any))
+    } else if first == b"new".as_slice() {
+        Some(Some(Expect::New))
+    } else {
+        None
+    }
+}
+
+/// What follows `commit`: `<name> <expect>`.
+fn commit(alloc: Global, words: &mut Words) -> Option<Heading>
+    ensures { Says result (commit_of_words (left words.old)) }
+{
+    let name = words.next()?;
+    if !is_commit_name(name) {
+        return None;
+    }
+    let expect = expect(alloc, words)?;
+    Some(Heading::Commit {
+        name: kept(alloc, name),
+        expect,
+    })
+}
+
+/// What follows `put`: `<file, exec or link> <path size> <content size>`.
+fn put(words: &mut Words) -> Option<Heading>
+    ensures { Says result (put_of_words (left words.old)) }
+{
+    let kind = file_kind(words.next()?)?;
+    let path = number(words.next()?)?;
+    let content = number(words.last()?)?;
+    Some(Heading::Put {
+        kind,
+        path,
+        content,
+    })
+}
+
+/// What follows a role: `<name size> <email size> <seconds> <offset>`.
+fn actor(alloc: Global, role: Role, words: &mut Words) -> Option<Heading>
+    ensures { Says result (actor_of_words (role_of role) (left words.old)) }
+{
+    let name = number(words.next()?)?;
+    let email = number(words.next()?)?;
+    let seconds = words.next()?;
+    let offset = words.last()?;
+    Some(Heading::Actor {
+        role,
+        name,
+        email,
+        seconds: kept(alloc, seconds),
+        offset: kept(alloc, offset),
+    })
+}
+
+/// What follows `message`: `<size>`.
+fn message(words: &mut Words) -> Option<Heading>
+    ensures { Says result (message_of_words (left words.old)) }
+{
+    let size = number(words.last()?)?;
+    Some(Heading::Message { size })
+}
+
+/// What follows `end`: nothing.
+fn end(words: &Words) -> Option<Heading>
+    ensures { Says result (end_of_words (left words.now)) }
+{
+    if words.is_done() {
+        Some(Heading::End)
+    } else {
+        None
+    }
+}
+
+/// What follows `files`: `<word>`.
+fn files(alloc: Global, words: &mut Words) -> Option<Heading>
+    ensures { Says result (files_of_words (left words.old)) }
+{
+    let word = words.last()?;
+    Some(Heading::Files {
+        word: kept(alloc, word),
+    })
+}
+
+/// What follows `show`: `<word>`, or `<word> path <size>`.
+fn show(alloc: Global, words: &mut Words) -> Option<Heading>
+    ensures { Says result (show_of_words (left words.old)) }
+{
+    let word = words.next()?;
+    if words.is_done() {
+        return Some(Heading::Show {
+            word: kept(alloc, word),
+        });
+    }
+    if words.next()? != b"path".as_slice() {
+        return None;
+    }
+    let path = number(words.last()?)?;
+    Some(Heading::ShowPath {
+        word: kept(alloc, word),
+        path,
+    })
+}
+
+/// What the words of the line say, of which none is empty.
+fn said(alloc: Global, line: &[u8]) -> Option<Heading>
+    ensures { Says result (heading_of (split_words line.now)) }
+{
+    let mut words = Words::new(line);
+    let first = words.next()?;
+    if first == b"commit".as_slice() {
+        commit(alloc, &mut words)
+    } else if first == b"put".as_slice() {
+        put(&mut words)
+    } else if first == b"author".as_slice() {
+        actor(alloc, Role::Author, &mut words)
+    } else if first == b"committer".as_slice() {
+        actor(alloc, Role::Committer, &mut words)
+    } else if first == b"message".as_slice() {
+        message(&mut words)
+    } else if first == b"end".as_slice() {
+        end(&words)
+    } else if first == b"files".as_slice() {
+        files(alloc, &mut words)
+    } else if first == b"show".as_slice() {
+        show(alloc, &mut words)
+    } else {
+        None
+    }
+}
+
+/// What the line says, which comes without its line feed.
+pub(crate) fn parse(alloc: Global, line: &[u8]) -> Option<Heading>
+    requires whole { IsUnbroken line.now }
+    requires short { length line.now ≤ 4096 }
+    ensures found { IfSome result (λ heading. IsLine heading line.now) }
+    ensures none { IfNone result ((place : Place) → ¬ (IsLineAt place line.now)) }
+{
+    if !are_words(line) {
+        return None;
+    }
+    said(alloc, line)
+}

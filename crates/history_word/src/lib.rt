@@ -1,0 +1,23 @@
+//! Where the program's bytes come from and go to, and the reader that makes commands of them.
+#![tactic(auto)]
+
+mod buffer;
+mod command;
+mod draft;
+mod heading;
+mod memory;
+mod place;
+mod reader;
+mod stream;
+mod streams;
+mod words;
+
+pub use buffer::Buffer;
+pub use command::{ActorLine, Command, Commit, Edit, Expect, Field, Put, Show};
+pub use memory::{Bytes, Collected};
+pub use reader::{Reading, Stop, read_command};
+pub use stream::Stream;
+pub use streams::{Broken, Sink, Source, write_all};
+
+#[cfg(test)]
+mod tests;

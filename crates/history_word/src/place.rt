@@ -1,0 +1,48 @@
+ghost use Rattle.std.specs.Prelude.{◌≡◌, option_map};
+ghost use Rattle.history_model.specs.LineTable as table;
+ghost use Rattle.history_word.specs.Drafts.{place_of, IsHeading};
+
+use crate::heading::{Heading, Role};
+
+/// Where the next line of a command stands.
+#[derive(Clone, Copy, Debug, PartialEq, Eq)]
+pub(crate) enum Place {
+    Start,
+    Edits,
+    Committer,
+    Message,
+    End,
+    Done,
+}
+
+impl Place {
+    /// The place behind a line that may stand here.
+    pub(crate) fn next(self, heading: &Heading) -> Option<Place>
+        ensures { (h : table.Heading) → IsHeading heading.now h → option_map place_of result ≡ table.next (place_of self) h }
+    {
+        match (self, heading) {
+            (Place::Start, Heading::Commit { .. }) => Some(Place::Edits),
+            (Place::Start, Heading::Files { .. }) => Some(Place::Done),
+            (Place::Start, Heading::Show { .. }) => Some(Place::Done),
+            (Place::Start, Heading::ShowPath { .. }) => Some(Place::Done),
+            (Place::Edits, Heading::Put { .. }) => Some(Place::Edits),
+            (
+                Place::Edits,
+                Heading::Actor {
+                    role: Role::Author,
+                    ..
+                },
+            ) => Some(Place::Committer),
+            (
+                Place::Committer,
+                Heading::Actor {
+                    role: Role::Committer,
+                    ..
+                },
+            ) => Some(Place::Message),
+            (Place::Message, Heading::Message { .. }) => Some(Place::End),
+            (Place::End, Heading::End) => Some(Place::Done),
+            _ => None,
+        }
+    }
+}

@@ -1,0 +1,206 @@
+ghost use Rattle.std.specs.Prelude.{◌≡◌, ◌≢◌, ℕ, List, [], ◌++◌, length, IfSome};
+ghost use Rattle.history_model.specs.Bytes.{Bytes, line};
+ghost use Rattle.history_model.specs.Commands as model;
+ghost use Rattle.history_model.specs.Spelling.{spelling};
+ghost use Rattle.history_model.specs.Grammar.{Spells};
+ghost use Rattle.history_model.specs.LineTable as table;
+ghost use Rattle.history_model.specs.TableRuns.{StopsAt};
+ghost use Rattle.history_word.specs.Held.{IsLineOf};
+ghost use Rattle.history_word.specs.Buffer.{unread};
+ghost use Rattle.history_word.specs.Fields.{KeepsFront, Keeps};
+ghost use Rattle.history_word.specs.Commands.{IsReading};
+ghost use Rattle.history_word.specs.Drafts.{place_of, TakesLine, TakesParts};
+ghost use Rattle.history_word.specs.Progress.{IsEndless, IsNoField, StopsFrom, IsCauseOf};
+ghost use Rattle.history_word.specs.Reading.{Reads};
+ghost use Rattle.history_word.specs.declared.reader.Stop.TheVariants.{Broken as broken};
+
+use crate::buffer::{Buffer, MAX_LINE};
+use crate::command::{Command, Field, MAX_ACTOR_PART, MAX_CONTENT, MAX_PATH};
+use crate::draft::{Draft, actor_line};
+use crate::heading::{Heading, parse};
+use crate::place::Place;
+use crate::streams::{Broken, Source};
+use history_model::Cause;
+use std::alloc::Global;
+
+/// Why no command was read.
+#[derive(Clone, Copy, Debug, PartialEq, Eq)]
+pub enum Stop {
+    /// What came begins with no command: `Syntax`, `Truncated` or `LineTooLong`.
+    Refused(Cause),
+    /// The source has failed, or the last reading that a `u64` counts was made.
+    Broken,
+}
+
+impl From<Broken> for Stop {
+    ghost from_gives = { λ _ stop. stop ≡ broken };
+
+    fn from(_broken: Broken) -> Stop {
+        Stop::Broken
+    }
+}
+
+/// A whole command that was read.
+#[derive(Debug, Drop)]
+pub enum Reading {
+    Command(Command),
+    /// Some part of it found no memory; it was read past all the same.
+    NoMemory { is_changing: bool },
+}
+
+/// Reads until a whole line stands first, and says how long it is without its line feed.
+fn read_line<R: Source>(buffer: &mut Buffer, source: &mut R) -> Result<usize, Stop>
+    ensures { Reads R.left R.has_failed R.readings source.old buffer.old source.new buffer.new
+        (λ n taken. (taken ≡ []) × IsLineOf n (unread buffer.new)) IsEndless result }
+{
+    loop {
+        if let Some(length) = buffer.line() {
+            return Ok(length);
+        }
+        if buffer.unread().len() > MAX_LINE {
+            return Err(Stop::Refused(Cause::LineTooLong));
+        }
+        if !buffer.fill(source)? {
+            return Err(Stop::Refused(Cause::Truncated));
+        }
+    }
+}
+
+/// Takes the line that stands at this place, and says what it says and where the next one stands.
+fn read_heading<R: Source>(
+    alloc: Global,
+    buffer: &mut Buffer,
+    source: &mut R,
+    place: Place,
+) -> Result<(Heading, Place), Stop>
+    requires { place_of place ≢ table.Done }
+    ensures { Reads R.left R.has_failed R.readings source.old buffer.old source.new buffer.new
+        (λ read taken. TakesLine place read.0 read.1 taken) (StopsAt [] (place_of place)) result }
+{
+    let length = read_line(buffer, source)?;
+    let Some(heading) = parse(alloc, &buffer.unread()[..length]) else {
+        return Err(Stop::Refused(Cause::Syntax));
+    };
+    let Some(next) = place.next(&heading) else {
+        return Err(Stop::Refused(Cause::Syntax));
+    };
+    buffer.skip(length + 1);
+    Ok((heading, next))
+}
+
+/// Takes a field of this size and its line feed. It is `None` where it found no memory.
+fn read_field<R: Source>(
+    alloc: Global,
+    buffer: &mut Buffer,
+    source: &mut R,
+    size: u64,
+    limit: u64,
+) -> Result<Option<Field>, Stop>
+    ensures { Reads R.left R.has_failed R.readings source.old buffer.old source.new buffer.new
+        (λ field taken. (bytes : Bytes) × (length bytes ≡ size) × (taken ≡ line bytes) × IfSome field (λ kept. Keeps limit kept bytes)) (IsNoField size) result }
+{
+    let mut field = Some(Field::new(alloc, size, limit));
+    let mut rest = size;
+    while rest > 0 {
+        if !buffer.has_more(source)? {
+            return Err(Stop::Refused(Cause::Truncated));
+        }
+        let count = rest.min(buffer.unread().len() as u64) as usize;
+        field = added(field, &buffer.unread()[..count]);
+        buffer.skip(count);
+        rest -= count as u64;
+    }
+    if !buffer.has_more(source)? {
+        return Err(Stop::Refused(Cause::Truncated));
+    }
+    if buffer.unread()[0] != b'\n' {
+        return Err(Stop::Refused(Cause::Syntax));
+    }
+    buffer.skip(1);
+    Ok(field)
+}
+
+/// The field with its next bytes, if there is memory for them.
+fn added(field: Option<Field>, bytes: &[u8]) -> Option<Field>
+    ensures { (limit size : ℕ) (front : Bytes) → IfSome field (λ kept. KeepsFront limit size kept front)
+        → IfSome result (λ kept. KeepsFront limit size kept (front ++ bytes.now)) }
+{
+    let mut field = field?;
+    field.add(bytes).ok()?;
+    Some(field)
+}
+
+/// Takes a line and its fields into the draft, and says where the next line stands.
+fn read_part<R: Source>(
+    alloc: Global,
+    buffer: &mut Buffer,
+    source: &mut R,
+    place: Place,
+    draft: &mut Draft,
+) -> Result<Place, Stop>
+    requires { place_of place ≢ table.Done }
+    ensures { Reads R.left R.has_failed R.readings source.old buffer.old source.new buffer.new
+        (λ next taken. TakesParts place draft.old next draft.new taken) (StopsFrom [] (place_of place)) result }
+{
+    let (heading, next) = read_heading(alloc, buffer, source, place)?;
+    match heading {
+        Heading::Commit { name, expect } => *draft = Draft::commit(alloc, name, expect),
+        Heading::Put {
+            kind,
+            path,
+            content,
+        } => {
+            let path = read_field(alloc, buffer, source, path, MAX_PATH)?;
+            let content = read_field(alloc, buffer, source, content, MAX_CONTENT)?;
+            draft.add_put(kind, path, content);
+        }
+        Heading::Actor {
+            role,
+            name,
+            email,
+            seconds,
+            offset,
+        } => {
+            let name = read_field(alloc, buffer, source, name, MAX_ACTOR_PART)?;
+            let email = read_field(alloc, buffer, source, email, MAX_ACTOR_PART)?;
+            draft.set_actor(role, actor_line(name, email, seconds, offset));
+        }
+        Heading::Message { size } => {
+            draft.set_message(read_field(alloc, buffer, source, size, MAX_CONTENT)?);
+        }
+        Heading::End => {}
+        Heading::Files { word } => *draft = Draft::Files(word),
+        Heading::Show { word } => *draft = Draft::show(word),
+        Heading::ShowPath { word, path } => {
+            let path = read_field(alloc, buffer, source, path, MAX_PATH)?;
+            *draft = Draft::show_path(word, path);
+        }
+    }
+    Ok(next)
+}
+
+/// Reads a whole command.
+///
+/// `Refused` is answered where what came begins with no command: `LineTooLong` where 4,097 bytes come without a line
+/// feed in the place of a line, `Truncated` where the input ends inside a command, after which nothing is left unread,
+/// and `Syntax` where a whole line may not stand in its place or a field is not followed by a line feed. `Broken` is
+/// answered where the source has failed, and at the 18,446,744,073,709,551,615th reading through this buffer.
+pub fn read_command<R: Source>(
+    alloc: Global,
+    buffer: &mut Buffer,
+    source: &mut R,
+) -> Result<Reading, Stop>
+    ensures { Reads R.left R.has_failed R.readings source.old buffer.old source.new buffer.new
+        (λ reading taken. (order : model.Command) × Spells taken order × IsReading reading order) IsCauseOf result }
+{
+    let mut draft = Draft::Empty;
+    let mut place = Place::Start;
+    while place != Place::Done {
+        place = read_part(alloc, buffer, source, place, &mut draft)?;
+    }
+    let is_changing = draft.is_changing();
+    match draft.finish() {
+        Some(command) => Ok(Reading::Command(command)),
+        None => Ok(Reading::NoMemory { is_changing }),
+    }
+}
