@@ -1,0 +1,106 @@
+-- What changes leave of the folders.
+use Rattle.std.proofs.Common.{◌≡◌, ◌≢◌, ◌⊎◌, inl, inr, refl, sym, ◌∙◌, ap, subst, ℕ, zero, suc, ◌<◌, Bool, true, false, cond, [], ◌∷◌, ◌++◌, take, drop, length, get_or, arith}
+use Rattle.std.specs.Prelude.{Some, None}
+use Rattle.std.specs.FinMap.{get, insert, remove}
+use Rattle.gix_ref_file.specs.Tree.{Tree, file, folder, same_path, bytes_of, bytes_at}
+use Rattle.gix_ref_file.specs.Changes.{to_write, to_append, to_rename, to_make_folder, after, MayLeave}
+use Rattle.gix_ref_file.specs.History.{History, Adds}
+use Rattle.gix_ref_file.proofs.Histories.{adds_weaker, adds_joined}
+use Rattle.gix_ref_file.proofs.Rooted.{adds_now}
+use Rattle.gix_ref_file.proofs.Trees.{get-inserted, get-removed, one_path, same_path_itself}
+use Rattle.history_model.specs.Bytes.{Bytes}
+use Rattle.history_model.specs.Places.{file_at, unfinished_place, log_place}
+use Rattle.history_store.specs.Stores.{IsAbove, OneFolderMore, FoldersAbove}
+use Rattle.history_store.specs.References.{FoldersOfName}
+use Rattle.history_store.proofs.Stored.{apart_from_inserted}
+
+-- ---- one change
+inserted_folder : (t : Tree) (k q : Bytes) → get (insert t k folder) q ≡ Some folder → (get t q ≡ Some folder) ⊎ (q ≡ k)
+inserted_folder t k q is = by_test (same_path q k) refl
+  where
+    by_test : (same : Bool) → same_path q k ≡ same → (get t q ≡ Some folder) ⊎ (q ≡ k)
+    by_test true same = inr (one_path q k same)
+    by_test false other = inl (sym (get-inserted t k folder q ∙ ap (λ b. cond b (Some folder) (get t q)) other) ∙ is)
+
+pub while_one_made : (k : Bytes) (t x : Tree) → MayLeave (to_make_folder k) t x → OneFolderMore k t x
+while_one_made k t x (inl same) = λ q is. inl (ap (λ y. get y q) (sym same) ∙ is)
+while_one_made k t x (inr (n, may, made)) = λ q is. inserted_folder t k q (ap (λ y. get y q) (sym made) ∙ is)
+
+-- a file where it is put is no folder
+pub file_put : (t : Tree) (k bytes q : Bytes) → get (insert t k (file bytes)) q ≡ Some folder → get t q ≡ Some folder
+file_put t k bytes q is = by_test (same_path q k) refl
+  where
+    by_test : (same : Bool) → same_path q k ≡ same → get t q ≡ Some folder
+    by_test true same = let found : Some (file bytes) ≡ Some folder = sym (get-inserted t k (file bytes) q ∙ ap (λ b. cond b (Some (file bytes)) (get t q)) same) ∙ is in cc
+    by_test false other = sym (get-inserted t k (file bytes) q ∙ ap (λ b. cond b (Some (file bytes)) (get t q)) other) ∙ is
+
+removed : (t : Tree) (k q : Bytes) → get (remove t k) q ≡ Some folder → get t q ≡ Some folder
+removed t k q is = by_test (same_path q k) refl
+  where
+    by_test : (same : Bool) → same_path q k ≡ same → get t q ≡ Some folder
+    by_test true same = let found : None ≡ Some folder = sym (get-removed t k q ∙ ap (λ b. cond b None (get t q)) same) ∙ is in cc
+    by_test false other = sym (get-removed t k q ∙ ap (λ b. cond b None (get t q)) other) ∙ is
+
+-- ---- one after another
+pub now_above : (path : Bytes) (old new : History) → Adds (FoldersAbove path old.tree) old new → FoldersAbove path old.tree new.tree
+now_above path old new adds = from_now (adds_now _ old new adds)
+  where
+    from_now : (new.tree ≡ old.tree) ⊎ FoldersAbove path old.tree new.tree → FoldersAbove path old.tree new.tree
+    from_now (inl same) = λ q is. inl (ap (λ y. get y q) (sym same) ∙ is)
+    from_now (inr above) = above
+
+one_more : (path k : Bytes) (old mid new : Tree) → IsAbove k path → FoldersAbove path old mid → OneFolderMore k mid new → FoldersAbove path old new
+one_more path k old mid new above first second = λ q is. from_last q (second q is)
+  where
+    from_last : (q : Bytes) → (get mid q ≡ Some folder) ⊎ (q ≡ k) → (get old q ≡ Some folder) ⊎ IsAbove q path
+    from_last q (inl stood) = first q stood
+    from_last q (inr same) = inr (subst (λ p. IsAbove p path) (sym same) above)
+
+pub above_joined : (path k : Bytes) (old mid new : History) → IsAbove k path → Adds (FoldersAbove path old.tree) old mid → Adds (OneFolderMore k mid.tree) mid new
+    → Adds (FoldersAbove path old.tree) old new
+above_joined path k old mid new above first second =
+    adds_joined old mid new first (adds_weaker mid new second (λ x more. one_more path k old.tree mid.tree x above (now_above path old mid first) more))
+
+-- a slash in a path
+pub above_slash : (path : Bytes) (at : ℕ) → at < length path → get_or path at 0 ≡ 47 → IsAbove (take at path) path
+above_slash path at below is = (drop (suc at) path, cut path at below is)
+  where
+    cut : (path : Bytes) (at : ℕ) → at < length path → get_or path at 0 ≡ 47 → path ≡ take at path ++ 47 ∷ drop (suc at) path
+    cut [] at below is = absurd (omega (arith, below))
+    cut (x ∷ path) zero below is = ap (λ y. y ∷ path) is
+    cut (x ∷ path) (suc at) below is = ap (λ t. x ∷ t) (cut path at (omega (arith, below)) is)
+
+-- ---- a put and a move
+pub nowhere_more : (path : Bytes) (t : Tree) → FoldersAbove path t t
+nowhere_more path t = λ q is. inl is
+
+pub put_above : (path k bytes : Bytes) (old made new : Tree) → FoldersAbove path old made → new ≡ insert made k (file bytes) → FoldersAbove path old new
+put_above path k bytes old made new first is_new = λ q is. first q (file_put made k bytes q (ap (λ y. get y q) (sym is_new) ∙ is))
+
+pub renamed_above : (path from to : Bytes) (old mid new : Tree) → FoldersAbove path old mid → new ≡ after (to_rename from to) mid → FoldersAbove path old new
+renamed_above path from to old mid new first is_new = λ q is. first q (removed mid from q (file_put (remove mid from) to (bytes_at mid from) q (ap (λ y. get y q) (sym is_new) ∙ is)))
+
+module _ (place header content : Bytes) (old made written appended new : History) where
+  pub object_folders : Adds (FoldersAbove place old.tree) old made → written.tree ≡ after (to_write unfinished_place header) made.tree → appended.tree ≡ after (to_append unfinished_place content) written.tree
+      → new.tree ≡ after (to_rename unfinished_place place) appended.tree → FoldersAbove place old.tree new.tree
+  object_folders first is_written is_appended is_new =
+      renamed_above place unfinished_place place old.tree appended.tree new.tree
+      (put_above place unfinished_place (bytes_at written.tree unfinished_place ++ content) old.tree written.tree appended.tree
+      (put_above place unfinished_place header old.tree made.tree written.tree (now_above place old made first) is_written) is_appended) is_new
+
+pub gone : (place : Bytes) (t new : Tree) → place ≢ unfinished_place → new ≡ after (to_rename unfinished_place place) t → file_at new unfinished_place ≡ None
+gone place t new apart is_new =
+    ap (λ y. file_at y unfinished_place) is_new
+    ∙ apart_from_inserted (remove t unfinished_place) place (file (bytes_at t unfinished_place)) unfinished_place (λ same. apart (sym same))
+    ∙ ap bytes_of (get-removed t unfinished_place unfinished_place ∙ ap (λ b. cond b None (get t unfinished_place)) (same_path_itself unfinished_place))
+
+pub name_folders : (name : Bytes) (old mid new : Tree) → FoldersAbove (log_place name) old mid → FoldersAbove name mid new → FoldersOfName name old new
+name_folders name old mid new first second = λ q is. from_last q (second q is)
+  where
+    from_first : (q : Bytes) → (get old q ≡ Some folder) ⊎ IsAbove q (log_place name) → (get old q ≡ Some folder) ⊎ IsAbove q name ⊎ IsAbove q (log_place name)
+    from_first q (inl stood) = inl stood
+    from_first q (inr above) = inr (inr above)
+
+    from_last : (q : Bytes) → (get mid q ≡ Some folder) ⊎ IsAbove q name → (get old q ≡ Some folder) ⊎ IsAbove q name ⊎ IsAbove q (log_place name)
+    from_last q (inl stood) = from_first q (first q stood)
+    from_last q (inr above) = inr (inl above)

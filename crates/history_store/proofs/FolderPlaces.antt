@@ -1,0 +1,171 @@
+-- The folders of objects and names, below which their files stand.
+use Rattle.std.proofs.Common.{◌≡◌, ◌≢◌, ◌⊎◌, inl, inr, refl, sym, ◌∙◌, ap, ℕ, zero, suc, ◌<◌, ◌≤◌, ◌/◌, ◌%◌, Bool, true, false, ◌&&◌, ◌||◌, [], ◌∷◌, ◌++◌, take, drop, length, arith}
+use Rattle.std.specs.Prelude.{IsTrue, ◌==◌, nat_lt, Some, codes, slice_index}
+use Rattle.std.specs.List.{list_all}
+use Rattle.std.specs.FinMap.{get}
+use Rattle.std.proofs.lemmas.Bool.Decides.{Decides-eqb}
+use borrow.Author.Tests.{ltb-true}
+use Rattle.hex.specs.Hex.{encode_with, lower_digits}
+use Rattle.gix_ref_file.specs.Tree.{Tree, folder}
+use Rattle.history_model.specs.Bytes.{Bytes, has_byte}
+use Rattle.history_model.specs.Objects.{Id, hex}
+use Rattle.history_model.specs.Places.{object_place, is_lower_hex, is_object_folder, is_name_folder, log_place}
+use Rattle.history_store.specs.Stores.{IsAbove, FoldersAbove}
+use Rattle.history_store.specs.References.{FoldersOfName}
+
+both : (a b : Bool) → (a && b) ≡ true → (a ≡ true) × (b ≡ true)
+both true b h = (refl, h)
+both false b h = cc
+
+neither : (a b : Bool) → (a || b) ≡ false → (a ≡ false) × (b ≡ false)
+neither true b h = cc
+neither false b h = (refl, h)
+
+head_same : (x y : ℕ) (s t : Bytes) → x ∷ s ≡ y ∷ t → x ≡ y
+head_same x y s t e = cc
+
+tail_same : (x y : ℕ) (s t : Bytes) → x ∷ s ≡ y ∷ t → s ≡ t
+tail_same x y s t e = cc
+
+-- ---- what stands above a path whose first part ends at a slash
+abbrev pub Behind : Bytes → Bytes → Bytes → Bytes → Type 0
+Behind front back place rest = (place ≡ front) ⊎ ((inner : Bytes) × (place ≡ front ++ 47 ∷ inner) × (back ≡ inner ++ 47 ∷ rest))
+
+behind_more : (f x : ℕ) (front back place rest : Bytes) → x ≡ f → Behind front back place rest → Behind (f ∷ front) back (x ∷ place) rest
+behind_more f x front back place rest same (inl is) = inl (λ i. same i ∷ is i)
+behind_more f x front back place rest same (inr (inner, is, left)) = inr (inner, (λ i. same i ∷ is i), left)
+
+pub behind : (front back place rest : Bytes) → has_byte 47 front ≡ false → front ++ 47 ∷ back ≡ place ++ 47 ∷ rest → Behind front back place rest
+behind [] back [] rest clear is = inl refl
+behind [] back (x ∷ place) rest clear is = inr (place, ap (λ b. b ∷ place) (sym (head_same 47 x back (place ++ 47 ∷ rest) is)), tail_same 47 x back (place ++ 47 ∷ rest) is)
+behind (f ∷ front) back [] rest clear is =
+    let no_slash : (f == 47) ≡ false = (neither (f == 47) (has_byte 47 front) clear).0 in
+    let slash : (f == 47) ≡ true = ap (λ b. b == 47) (head_same f 47 (front ++ 47 ∷ back) rest is) in
+    let wrong : true ≡ false = sym slash ∙ no_slash in
+    absurd (cc wrong)
+behind (f ∷ front) back (x ∷ place) rest clear is =
+    behind_more f x front back place rest (sym (head_same f x (front ++ 47 ∷ back) (place ++ 47 ∷ rest) is))
+    (behind front back place rest (neither (f == 47) (has_byte 47 front) clear).1 (tail_same f x (front ++ 47 ∷ back) (place ++ 47 ∷ rest) is))
+
+none_above : (path place rest : Bytes) → has_byte 47 path ≡ false → path ≢ place ++ 47 ∷ rest
+none_above [] [] rest clear is = cc
+none_above [] (x ∷ place) rest clear is = cc
+none_above (p ∷ path) [] rest clear is =
+    let no_slash : (p == 47) ≡ false = (neither (p == 47) (has_byte 47 path) clear).0 in
+    let slash : (p == 47) ≡ true = ap (λ b. b == 47) (head_same p 47 path rest is) in
+    let wrong : true ≡ false = sym slash ∙ no_slash in
+    absurd (cc wrong)
+none_above (p ∷ path) (x ∷ place) rest clear is = none_above path place rest (neither (p == 47) (has_byte 47 path) clear).1 (tail_same p x path (place ++ 47 ∷ rest) is)
+
+-- ---- objects
+lower_digit : (d : ℕ) → d < 16 → is_lower_hex (slice_index lower_digits d) ≡ true
+lower_digit zero below = refl
+lower_digit (suc zero) below = refl
+lower_digit (suc (suc zero)) below = refl
+lower_digit (suc (suc (suc zero))) below = refl
+lower_digit (suc (suc (suc (suc zero)))) below = refl
+lower_digit (suc (suc (suc (suc (suc zero))))) below = refl
+lower_digit (suc (suc (suc (suc (suc (suc zero)))))) below = refl
+lower_digit (suc (suc (suc (suc (suc (suc (suc zero))))))) below = refl
+lower_digit (suc (suc (suc (suc (suc (suc (suc (suc zero)))))))) below = refl
+lower_digit (suc (suc (suc (suc (suc (suc (suc (suc (suc zero))))))))) below = refl
+lower_digit (suc (suc (suc (suc (suc (suc (suc (suc (suc (suc zero)))))))))) below = refl
+lower_digit (suc (suc (suc (suc (suc (suc (suc (suc (suc (suc (suc zero))))))))))) below = refl
+lower_digit (suc (suc (suc (suc (suc (suc (suc (suc (suc (suc (suc (suc zero)))))))))))) below = refl
+lower_digit (suc (suc (suc (suc (suc (suc (suc (suc (suc (suc (suc (suc (suc zero))))))))))))) below = refl
+lower_digit (suc (suc (suc (suc (suc (suc (suc (suc (suc (suc (suc (suc (suc (suc zero)))))))))))))) below = refl
+lower_digit (suc (suc (suc (suc (suc (suc (suc (suc (suc (suc (suc (suc (suc (suc (suc zero))))))))))))))) below = refl
+lower_digit (suc (suc (suc (suc (suc (suc (suc (suc (suc (suc (suc (suc (suc (suc (suc (suc d)))))))))))))))) below = absurd (omega (arith, below))
+
+hex_lower : (id : Id) → list_all (λ b. nat_lt b 256) id ≡ true → list_all is_lower_hex (hex id) ≡ true
+unfolding encode_with
+hex_lower [] bytes = refl
+hex_lower (b ∷ id) bytes =
+    let parts = both (nat_lt b 256) (list_all (λ b. nat_lt b 256) id) bytes in
+    let below : b < 256 = ltb-true _ _ parts.0 in
+    let high : b / 16 < 16 = omega (arith, below) in
+    let low : b % 16 < 16 = omega arith in
+    (λ i. lower_digit (b / 16) high i && (lower_digit (b % 16) low i && hex_lower id parts.1 i))
+
+no_slash_lower : (h : Bytes) → list_all is_lower_hex h ≡ true → has_byte 47 h ≡ false
+no_slash_lower [] lower = refl
+no_slash_lower (a ∷ h) lower =
+    let parts = both (is_lower_hex a) (list_all is_lower_hex h) lower in
+    (λ i. no_slash a parts.0 i || no_slash_lower h parts.1 i)
+  where
+    no_slash : (a : ℕ) → is_lower_hex a ≡ true → (a == 47) ≡ false
+    no_slash a lower = by_test (a == 47) refl
+      where
+        by_test : (b : Bool) → (a == 47) ≡ b → (a == 47) ≡ false
+        by_test true slash = let wrong : false ≡ true = ap is_lower_hex (sym ((Decides-eqb a 47).0 slash)) ∙ lower in absurd (cc wrong)
+        by_test false other = other
+
+object_above : (h place : Bytes) → 2 ≤ length h → list_all is_lower_hex h ≡ true → IsAbove place (codes "objects/" ++ take 2 h ++ 47 ∷ drop 2 h) → is_object_folder place ≡ true
+object_above [] place long lower above = absurd (omega (arith, long))
+object_above (a ∷ []) place long lower above = absurd (omega (arith, long))
+object_above (a ∷ b ∷ h) place long lower (rest, is) = from_first (behind (codes "objects") (a ∷ b ∷ 47 ∷ h) place rest refl is)
+  where
+    rest_lower : list_all is_lower_hex h ≡ true
+    rest_lower = (both (is_lower_hex b) (list_all is_lower_hex h) (both (is_lower_hex a) (list_all is_lower_hex (b ∷ h)) lower).1).1
+
+    two_lower : list_all is_lower_hex (a ∷ b ∷ []) ≡ true
+    two_lower = (λ i. (both (is_lower_hex a) (list_all is_lower_hex (b ∷ h)) lower).0 i && ((both (is_lower_hex b) (list_all is_lower_hex h) (both (is_lower_hex a) (list_all is_lower_hex (b ∷ h)) lower).1).0 i && true))
+
+    from_second : (inner : Bytes) → Behind (a ∷ b ∷ []) h inner rest → is_object_folder (codes "objects/" ++ inner) ≡ true
+    from_second inner (inl same) = ap (λ p. is_object_folder (codes "objects/" ++ p)) same ∙ two_lower
+    from_second inner (inr (deeper, same, left)) = absurd (none_above h deeper rest (no_slash_lower h rest_lower) left)
+
+    from_first : Behind (codes "objects") (a ∷ b ∷ 47 ∷ h) place rest → is_object_folder place ≡ true
+    from_first (inl same) = ap is_object_folder same
+    from_first (inr (inner, same, left)) = ap is_object_folder same ∙ from_second inner (behind (a ∷ b ∷ []) h inner rest (no_slash_lower (a ∷ b ∷ []) two_lower) left)
+
+-- Where all folders were object folders, they are after a put.
+pub object_folders_stay : (id : Id) (old new : Tree) → 1 ≤ length id → list_all (λ b. nat_lt b 256) id ≡ true → FoldersAbove (object_place id) old new
+    → ((path : Bytes) → get old path ≡ Some folder → IsTrue (is_object_folder path)) → (path : Bytes) → get new path ≡ Some folder → IsTrue (is_object_folder path)
+unfolding encode_with
+object_folders_stay [] old new long bytes above before path is = absurd (omega (arith, long))
+object_folders_stay (b ∷ id) old new long bytes above before path is = by_case (above path is)
+  where
+    by_case : (get old path ≡ Some folder) ⊎ IsAbove path (object_place (b ∷ id)) → IsTrue (is_object_folder path)
+    by_case (inl stood) = before path stood
+    by_case (inr placed) = object_above (hex (b ∷ id)) path (omega arith) (hex_lower (b ∷ id) bytes) placed
+
+-- ---- the branch main
+abbrev main : Bytes
+main = codes "refs/heads/main"
+
+main_above : (place : Bytes) → IsAbove place main → is_name_folder place ≡ true
+main_above place (rest, is) = from_first (behind (codes "refs") (codes "heads/main") place rest refl is)
+  where
+    from_second : (inner : Bytes) → Behind (codes "heads") (codes "main") inner rest → is_name_folder (codes "refs/" ++ inner) ≡ true
+    from_second inner (inl same) = ap (λ p. is_name_folder (codes "refs/" ++ p)) same
+    from_second inner (inr (deeper, same, left)) = absurd (none_above (codes "main") deeper rest refl left)
+
+    from_first : Behind (codes "refs") (codes "heads/main") place rest → is_name_folder place ≡ true
+    from_first (inl same) = ap is_name_folder same
+    from_first (inr (inner, same, left)) = ap is_name_folder same ∙ from_second inner (behind (codes "heads") (codes "main") inner rest refl left)
+
+main_log_above : (place : Bytes) → IsAbove place (log_place main) → is_name_folder place ≡ true
+main_log_above place (rest, is) = from_first (behind (codes "logs") main place rest refl is)
+  where
+    from_third : (inner : Bytes) → Behind (codes "heads") (codes "main") inner rest → is_name_folder (codes "logs/refs/" ++ inner) ≡ true
+    from_third inner (inl same) = ap (λ p. is_name_folder (codes "logs/refs/" ++ p)) same
+    from_third inner (inr (deeper, same, left)) = absurd (none_above (codes "main") deeper rest refl left)
+
+    from_second : (inner : Bytes) → Behind (codes "refs") (codes "heads/main") inner rest → is_name_folder (codes "logs/" ++ inner) ≡ true
+    from_second inner (inl same) = ap (λ p. is_name_folder (codes "logs/" ++ p)) same
+    from_second inner (inr (deeper, same, left)) = ap (λ p. is_name_folder (codes "logs/" ++ p)) same ∙ from_third deeper (behind (codes "heads") (codes "main") deeper rest refl left)
+
+    from_first : Behind (codes "logs") main place rest → is_name_folder place ≡ true
+    from_first (inl same) = ap is_name_folder same
+    from_first (inr (inner, same, left)) = ap is_name_folder same ∙ from_second inner (behind (codes "refs") (codes "heads/main") inner rest refl left)
+
+-- Where all folders were folders of names, they are after a move of the branch main.
+pub main_folders_stay : (old new : Tree) → FoldersOfName (codes "refs/heads/main") old new
+    → ((path : Bytes) → get old path ≡ Some folder → IsTrue (is_name_folder path)) → (path : Bytes) → get new path ≡ Some folder → IsTrue (is_name_folder path)
+main_folders_stay old new above before path is = by_case (above path is)
+  where
+    by_case : (get old path ≡ Some folder) ⊎ IsAbove path (codes "refs/heads/main") ⊎ IsAbove path (log_place (codes "refs/heads/main")) → IsTrue (is_name_folder path)
+    by_case (inl stood) = before path stood
+    by_case (inr (inl placed)) = main_above path placed
+    by_case (inr (inr placed)) = main_log_above path placed

@@ -1,0 +1,39 @@
+-- What the changes of making a repository leave.
+use Rattle.std.proofs.Common.{◌≡◌, refl, ◌∙◌, ap, cond, []}
+use Rattle.std.specs.Prelude.{Option, Some, None, unwrap_or, codes}
+use Rattle.std.specs.FinMap.{get, remove}
+use Rattle.gix_ref_file.specs.Tree.{Tree, Node, file, folder, node_at, place_of, bytes_of, bytes_at}
+use Rattle.gix_ref_file.specs.Changes.{to_write, to_rename, to_remove_file, after}
+use Rattle.gix_ref_file.specs.declared.files.Place.TheVariants.{Absent}
+use Rattle.gix_ref_file.proofs.Trees.{get-removed, get_inserted, same_path_itself}
+use Rattle.history_model.specs.Bytes.{Bytes, line}
+use Rattle.history_model.specs.Places.{file_at, head_place, unfinished_place}
+use Rattle.history_store.specs.Creation.{head_lock, IsCleared, HasHead}
+use Rattle.history_store.proofs.Stored.{apart_from_inserted, apart_from_removed}
+
+no_file : (o : Option Node) → Absent ≡ place_of o → bytes_of o ≡ None
+no_file None is = refl
+no_file (Some (file bytes)) is = cc
+no_file (Some folder) is = cc
+
+pub nothing_to_clear : (t : Tree) → Absent ≡ place_of (node_at t unfinished_place) → IsCleared t t
+nothing_to_clear t is = record { gone = no_file _ is; others = λ path apart. refl }
+
+file_removed : (t : Tree) (k : Bytes) → bytes_of (get (remove t k) k) ≡ None
+file_removed t k = ap bytes_of (get-removed t k k ∙ ap (λ same. cond same None (get t k)) (same_path_itself k))
+
+pub cleared : (old new : Tree) → new ≡ after (to_remove_file unfinished_place) old → IsCleared old new
+cleared old new is = record {
+  gone = ap (λ t. file_at t unfinished_place) is ∙ file_removed old unfinished_place;
+  others = λ path apart. ap (λ t. file_at t path) is ∙ apart_from_removed old unfinished_place path apart;
+}
+
+pub head_written : (text : Bytes) (old mid new : Tree) → text ≡ line (codes "ref: refs/heads/main") → mid ≡ after (to_write head_lock text) old → new ≡ after (to_rename head_lock head_place) mid → HasHead old new
+head_written text old mid new is_text is_mid is_new =
+    let locked : bytes_at mid head_lock ≡ text = ap (λ t. bytes_at t head_lock) is_mid ∙ ap (λ node. unwrap_or (bytes_of node) []) (get_inserted old head_lock (file text)) in
+    record {
+      head = ap (λ t. file_at t head_place) is_new ∙ ap bytes_of (get_inserted (remove mid head_lock) head_place (file (bytes_at mid head_lock))) ∙ ap Some (locked ∙ is_text);
+      lock = ap (λ t. file_at t head_lock) is_new ∙ apart_from_inserted (remove mid head_lock) head_place _ head_lock (λ same. cc) ∙ file_removed mid head_lock;
+      others = λ path apart other. ap (λ t. file_at t path) is_new ∙ apart_from_inserted (remove mid head_lock) head_place _ path apart ∙ apart_from_removed mid head_lock path other
+          ∙ ap (λ t. file_at t path) is_mid ∙ apart_from_inserted old head_lock (file text) path other;
+    }

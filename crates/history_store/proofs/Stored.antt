@@ -1,0 +1,181 @@
+-- What the changes of a put leave of the files.
+use Rattle.std.proofs.Common.{◌≡◌, ◌≢◌, ◌⊎◌, inl, inr, refl, sym, ◌∙◌, ap, subst, Bool, true, false, cond, ◌&&◌, [], ◌∷◌, ◌++◌, take}
+use Rattle.std.specs.Prelude.{IsTrue, Option, Some, None, is_some, is_none, unwrap_or, Result, Ok, Err, OnOk}
+use Rattle.std.specs.Bool.{Decides}
+use Rattle.std.proofs.lemmas.List.{append_cancel_left}
+use Rattle.std.specs.FinMap.{get, insert, remove}
+use Rattle.gix_ref_file.specs.Tree.{Tree, Node, file, folder, same_path, node_at, bytes_of, bytes_at}
+use Rattle.gix_ref_file.specs.Changes.{to_write, to_append, to_rename, to_make_folder, allows, after, may_hold_file, is_file_at, MayLeave}
+use Rattle.gix_ref_file.specs.History.{History, Adds}
+use Rattle.gix_ref_file.proofs.Histories.{adds_weaker, adds_joined}
+use Rattle.gix_ref_file.proofs.Rooted.{adds_now}
+use Rattle.gix_ref_file.proofs.Trees.{get-inserted, get-removed, get_inserted, one_path}
+use Rattle.history_model.specs.Bytes.{Bytes}
+use Rattle.history_model.specs.Places.{file_at, unfinished_place}
+use Rattle.history_store.specs.Stores.{SameFiles, KeepsFiles, HoldsFile, MayStand}
+
+-- ---- one after another
+pub same_then_same : (old mid new : Tree) → SameFiles old mid → SameFiles mid new → SameFiles old new
+same_then_same old mid new first second = λ path. second path ∙ first path
+
+pub same_keeps : (old new : Tree) → SameFiles old new → KeepsFiles old new
+same_keeps old new same = λ path apart. same path
+
+pub keeps_then_keeps : (old mid new : Tree) → KeepsFiles old mid → KeepsFiles mid new → KeepsFiles old new
+keeps_then_keeps old mid new first second = λ path apart. second path apart ∙ first path apart
+
+pub keeps_then_may : (place text : Bytes) (old mid new : Tree) → KeepsFiles old mid → MayStand place text mid new → MayStand place text old new
+keeps_then_may place text old mid new first (inl second) = inl (keeps_then_keeps old mid new first second)
+keeps_then_may place text old mid new first (inr second) = inr (record { here = second.here; others = λ path apart other. second.others path apart other ∙ first path apart })
+
+-- ---- one change
+other_path : (p q : Bytes) → p ≢ q → same_path p q ≡ false
+other_path p q apart = by_test (same_path p q) refl
+  where
+    by_test : (b : Bool) → same_path p q ≡ b → b ≡ false
+    by_test true same = absurd (apart (one_path p q same))
+    by_test false other = refl
+
+-- a path apart from what is put in keeps its file
+pub apart_from_inserted : (t : Tree) (k : Bytes) (n : Node) (q : Bytes) → q ≢ k → file_at (insert t k n) q ≡ file_at t q
+apart_from_inserted t k n [] apart = refl
+apart_from_inserted t k n (b ∷ q) apart = ap bytes_of (get-inserted t k n (b ∷ q) ∙ ap (λ same. cond same (Some n) (get t (b ∷ q))) (other_path (b ∷ q) k apart))
+
+pub apart_from_removed : (t : Tree) (k q : Bytes) → q ≢ k → file_at (remove t k) q ≡ file_at t q
+apart_from_removed t k [] apart = refl
+apart_from_removed t k (b ∷ q) apart = ap bytes_of (get-removed t k (b ∷ q) ∙ ap (λ same. cond same None (get t (b ∷ q))) (other_path (b ∷ q) k apart))
+
+from_and : (a b : Bool) → IsTrue (a && b) → IsTrue a
+from_and true b h = refl
+from_and false b h = absurd (cc h)
+
+no_node : (o : Option Node) → IsTrue (is_none o) → bytes_of o ≡ None
+no_node None h = refl
+no_node (Some n) h = absurd (cc h)
+
+-- where nothing stands a folder changes no file
+folder_inserted : (t : Tree) (k q : Bytes) → IsTrue (is_none (node_at t k)) → file_at (insert t k folder) q ≡ file_at t q
+folder_inserted t k [] absent = refl
+folder_inserted t k (b ∷ q) absent = ap bytes_of (get-inserted t k folder (b ∷ q)) ∙ by_test (same_path (b ∷ q) k) refl
+  where
+    by_test : (same : Bool) → same_path (b ∷ q) k ≡ same → bytes_of (cond same (Some folder) (get t (b ∷ q))) ≡ file_at t (b ∷ q)
+    by_test true same = sym (no_node (node_at t (b ∷ q)) (ap (λ p. is_none (node_at t p)) (one_path (b ∷ q) k same) ∙ absent))
+    by_test false other = refl
+
+pub while_made : (folder' : Bytes) (t x : Tree) → MayLeave (to_make_folder folder') t x → SameFiles t x
+while_made k t x (inl same) = λ q. ap (λ y. file_at y q) same
+while_made k t x (inr (n, may, is)) = λ q. ap (λ y. file_at y q) is ∙ folder_inserted t k q (from_and _ _ may)
+
+pub while_written : (bytes : Bytes) (t x : Tree) → MayLeave (to_write unfinished_place bytes) t x → KeepsFiles t x
+while_written bytes t x (inl same) = λ q apart. ap (λ y. file_at y q) same
+while_written bytes t x (inr (n, may, is)) = λ q apart. ap (λ y. file_at y q) is ∙ apart_from_inserted t unfinished_place (file (take n bytes)) q apart
+
+pub while_appended : (bytes : Bytes) (t x : Tree) → MayLeave (to_append unfinished_place bytes) t x → KeepsFiles t x
+while_appended bytes t x (inl same) = λ q apart. ap (λ y. file_at y q) same
+while_appended bytes t x (inr (n, may, is)) = λ q apart. ap (λ y. file_at y q) is ∙ apart_from_inserted t unfinished_place (file (bytes_at t unfinished_place ++ take n bytes)) q apart
+
+-- the root is no file's place
+not_root : (t : Tree) (place : Bytes) → IsTrue (may_hold_file t place) → (u : Tree) → node_at u place ≡ get u place
+not_root t [] may u = cc
+not_root t (b ∷ place) may u = refl
+
+from_and_2 : (a b : Bool) → IsTrue (a && b) → IsTrue b
+from_and_2 true b h = h
+from_and_2 false b h = absurd (cc h)
+
+renamed : (place text : Bytes) (t : Tree) → IsTrue (may_hold_file t place) → bytes_at t unfinished_place ≡ text → HoldsFile place text t (insert (remove t unfinished_place) place (file (bytes_at t unfinished_place)))
+renamed place text t may is = record {
+  here = ap bytes_of (not_root t place may (insert (remove t unfinished_place) place (file (bytes_at t unfinished_place))) ∙ get_inserted (remove t unfinished_place) place (file (bytes_at t unfinished_place))) ∙ ap Some is;
+  others = λ q apart other. apart_from_inserted (remove t unfinished_place) place _ q other ∙ apart_from_removed t unfinished_place q apart;
+}
+
+pub while_renamed : (place text : Bytes) (t x : Tree) → bytes_at t unfinished_place ≡ text → MayLeave (to_rename unfinished_place place) t x → MayStand place text t x
+while_renamed place text t x is (inl same) = inl (λ q apart. ap (λ y. file_at y q) same)
+while_renamed place text t x is (inr (n, may, made)) = inr (subst (HoldsFile place text t) (sym made) (renamed place text t (from_and_2 _ _ may) is))
+
+pub after_rename : (place text : Bytes) (t x : Tree) → bytes_at t unfinished_place ≡ text → IsTrue (allows t (to_rename unfinished_place place)) → x ≡ after (to_rename unfinished_place place) t → HoldsFile place text t x
+after_rename place text t x is may made = subst (HoldsFile place text t) (sym made) (renamed place text t (from_and_2 _ _ may) is)
+
+-- what is written, and what then is appended
+file_inserted : (t : Tree) (bytes : Bytes) → bytes_at (insert t unfinished_place (file bytes)) unfinished_place ≡ bytes
+file_inserted t bytes = ap (λ node. unwrap_or (bytes_of node) []) (get_inserted t unfinished_place (file bytes))
+
+pub both_written : (header content : Bytes) (t u v : Tree) → u ≡ after (to_write unfinished_place header) t → v ≡ after (to_append unfinished_place content) u → bytes_at v unfinished_place ≡ header ++ content
+both_written header content t u v is_u is_v =
+    ap (λ y. bytes_at y unfinished_place) is_v ∙ file_inserted u _ ∙ ap (λ y. bytes_at y unfinished_place ++ content) is_u ∙ ap (λ bytes. bytes ++ content) (file_inserted t header)
+
+-- ---- histories
+pub now_same : (old new : History) → Adds (SameFiles old.tree) old new → SameFiles old.tree new.tree
+now_same old new adds = from_now (adds_now _ old new adds)
+  where
+    from_now : (new.tree ≡ old.tree) ⊎ SameFiles old.tree new.tree → SameFiles old.tree new.tree
+    from_now (inl same) = λ q. ap (λ y. file_at y q) same
+    from_now (inr same) = same
+
+pub same_joined : (old mid new : History) → Adds (SameFiles old.tree) old mid → Adds (SameFiles mid.tree) mid new → Adds (SameFiles old.tree) old new
+same_joined old mid new first second =
+    adds_joined old mid new first (adds_weaker mid new second (λ x same. same_then_same old.tree mid.tree x (now_same old mid first) same))
+
+-- the histories of a put: folders are made, the header written, the content appended, the file renamed
+module _ (place header content : Bytes) (old made written appended new : History) where
+  abbrev text : Bytes
+  text = header ++ content
+
+  pub may_from_same : Adds (SameFiles old.tree) old made → Adds (MayStand place text old.tree) old made
+  may_from_same first = adds_weaker old made first (λ x same. inl (same_keeps old.tree x same))
+
+  pub may_from_write : Adds (SameFiles old.tree) old made → Adds (MayLeave (to_write unfinished_place header) made.tree) made written → Adds (MayStand place text old.tree) old written
+  may_from_write first second =
+      adds_joined old made written (may_from_same first)
+      (adds_weaker made written second (λ x left. inl (keeps_then_keeps old.tree made.tree x (same_keeps old.tree made.tree (now_same old made first)) (while_written header made.tree x left))))
+
+  keeps_written : Adds (SameFiles old.tree) old made → written.tree ≡ after (to_write unfinished_place header) made.tree → KeepsFiles old.tree written.tree
+  keeps_written first is_written =
+      keeps_then_keeps old.tree made.tree written.tree (same_keeps old.tree made.tree (now_same old made first))
+      (λ q apart. ap (λ y. file_at y q) is_written ∙ apart_from_inserted made.tree unfinished_place (file header) q apart)
+
+  pub may_from_append : Adds (SameFiles old.tree) old made → Adds (MayLeave (to_write unfinished_place header) made.tree) made written → written.tree ≡ after (to_write unfinished_place header) made.tree
+      → Adds (MayLeave (to_append unfinished_place content) written.tree) written appended → Adds (MayStand place text old.tree) old appended
+  may_from_append first second is_written third =
+      adds_joined old written appended (may_from_write first second)
+      (adds_weaker written appended third (λ x left. inl (keeps_then_keeps old.tree written.tree x (keeps_written first is_written) (while_appended content written.tree x left))))
+
+  keeps_appended : Adds (SameFiles old.tree) old made → written.tree ≡ after (to_write unfinished_place header) made.tree → appended.tree ≡ after (to_append unfinished_place content) written.tree → KeepsFiles old.tree appended.tree
+  keeps_appended first is_written is_appended =
+      keeps_then_keeps old.tree written.tree appended.tree (keeps_written first is_written)
+      (λ q apart. ap (λ y. file_at y q) is_appended ∙ apart_from_inserted written.tree unfinished_place (file (bytes_at written.tree unfinished_place ++ content)) q apart)
+
+  pub may_from_rename : Adds (SameFiles old.tree) old made → Adds (MayLeave (to_write unfinished_place header) made.tree) made written → written.tree ≡ after (to_write unfinished_place header) made.tree
+      → Adds (MayLeave (to_append unfinished_place content) written.tree) written appended → appended.tree ≡ after (to_append unfinished_place content) written.tree
+      → Adds (MayLeave (to_rename unfinished_place place) appended.tree) appended new → Adds (MayStand place text old.tree) old new
+  may_from_rename first second is_written third is_appended fourth =
+      adds_joined old appended new (may_from_append first second is_written third)
+      (adds_weaker appended new fourth (λ x left. keeps_then_may place text old.tree appended.tree x (keeps_appended first is_written is_appended)
+      (while_renamed place text appended.tree x (both_written header content made.tree written.tree appended.tree is_written is_appended) left)))
+
+  pub stored : Adds (SameFiles old.tree) old made → written.tree ≡ after (to_write unfinished_place header) made.tree → appended.tree ≡ after (to_append unfinished_place content) written.tree
+      → IsTrue (allows appended.tree (to_rename unfinished_place place)) → new.tree ≡ after (to_rename unfinished_place place) appended.tree → HoldsFile place text old.tree new.tree
+  stored first is_written is_appended may is_new =
+      let last = after_rename place text appended.tree new.tree (both_written header content made.tree written.tree appended.tree is_written is_appended) may is_new in
+      record { here = last.here; others = λ q apart other. last.others q apart other ∙ keeps_appended first is_written is_appended q apart }
+
+pub on_ok_both : {T E A B C : Type 0} (r : Result T E) → (A → B → C) → OnOk r A → OnOk r B → OnOk r C
+on_ok_both (Ok x) f a b = f a b
+on_ok_both (Err e) f a b = tt
+
+-- a text is a front and a content where it begins so and the rest is the content
+pub same_text : (text read front rest content : Bytes) (b : Bool) → text ≡ read → read ≡ front ++ rest → Decides b (rest ≡ content) → (b ≡ true → text ≡ front ++ content) × (text ≡ front ++ content → b ≡ true)
+same_text bytes read front rest content b is_read begins decides = (
+  λ same. is_read ∙ begins ∙ ap (λ r. front ++ r) (decides.0 same),
+  λ is. decides.1 (append_cancel_left front rest content (sym begins ∙ sym is_read ∙ is)),
+)
+
+-- where a file of other bytes stands
+pub taken_by_other : (tree : Tree) (stands place header content bytes : Bytes) → stands ≡ place → is_file_at tree stands ≡ true → (bytes_at tree stands ≡ header ++ content → false ≡ true) → bytes ≡ header ++ content
+    → (other : Bytes) × (file_at tree place ≡ Some other) × (other ≢ bytes)
+taken_by_other tree stands place header content bytes same is_file differs is =
+    (bytes_at tree stands, ap (file_at tree) (sym same) ∙ file_of (file_at tree stands) is_file, λ equal. absurd (cc (differs (equal ∙ is))))
+  where
+    file_of : (o : Option Bytes) → is_some o ≡ true → o ≡ Some (unwrap_or o [])
+    file_of (Some b) h = refl
+    file_of None h = cc

@@ -1,0 +1,9 @@
+use Rattle.history_store.proofs.News.{new_parts}
+use Rattle.history_store.proofs.creation.create.Goals as goal
+
+pub returns-clause-made : goal.returns-clause-made
+returns-clause-made g c = λ honest_objects honest_names.
+    new_parts (g.F.Files.history c.args.objects.now).tree (g.F.Files.history c.args.names.now).tree _ _
+    (c.in_ok-refuse_others.ensures.clear honest_objects) (c.in_ok-refuse_others-2.ensures.clear honest_names)
+    (c.in_ok-remove_leftover.ensures.cleared honest_objects) (c.in_ok-remove_leftover.ensures.folders honest_objects)
+    (c.in_ok-write_head.ensures.written honest_names) (c.in_ok-write_head.ensures.folders honest_names)

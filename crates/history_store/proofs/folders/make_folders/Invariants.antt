@@ -1,0 +1,13 @@
+use Rattle.gix_ref_file.specs.History.{Adds}
+use Rattle.history_store.specs.Stores.{SameFiles, FoldersAbove}
+use Rattle.history_store.proofs.folders.make_folders.Given as goal
+
+-- folders alone were made
+abbrev pub invariant-loop-end : goal.invariant-loop-end
+invariant-loop-end g l =
+    let history = g.F.Files.history in
+    record {
+      honest : g.F.Files.is_honest l.fn.files → g.F.Files.is_honest l.files;
+      moments : g.F.Files.is_honest l.fn.files → Adds (SameFiles (history l.fn.files).tree) (history l.fn.files) (history l.files);
+      folders : g.F.Files.is_honest l.fn.files → Adds (FoldersAbove l.fn.path (history l.fn.files).tree) (history l.fn.files) (history l.files);
+    }

@@ -1,0 +1,18 @@
+use Rattle.std.proofs.lemmas.Result.{on_ok_weaker}
+use Rattle.history_store.proofs.Moves.{moved}
+use Rattle.history_store.proofs.Above.{name_folders}
+use Rattle.history_store.proofs.names.Names.move_name.Goals as goal
+
+pub returns-clause-moved : goal.returns-clause-moved
+returns-clause-moved g c = λ honest.
+    on_ok_weaker c.write_name.result
+    (λ puts. moved c.args.name.now c.args.entry.now (g.F.Files.history c.args.self.now.files).tree (g.F.Files.history c.append_to_log.new.self.files).tree (g.F.Files.history c.write_name.new.self.files).tree
+    (c.in_ok-append_to_log.ensures.logged honest) puts)
+    (c.write_name.ensures.written (c.append_to_log.ensures.honest honest))
+
+pub returns-clause-folders : goal.returns-clause-folders
+returns-clause-folders g c = λ honest.
+    on_ok_weaker c.write_name.result
+    (name_folders c.args.name.now (g.F.Files.history c.args.self.now.files).tree (g.F.Files.history c.append_to_log.new.self.files).tree (g.F.Files.history c.write_name.new.self.files).tree
+    (c.in_ok-append_to_log.ensures.folders honest))
+    (c.write_name.ensures.folders (c.append_to_log.ensures.honest honest))

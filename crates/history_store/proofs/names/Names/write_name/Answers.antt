@@ -1,0 +1,24 @@
+use Rattle.std.proofs.Common.{◌∙◌, subst}
+use Rattle.std.proofs.lemmas.Result.{on_ok_weaker}
+use Rattle.history_store.specs.Stores.{PutsFile}
+use Rattle.history_store.proofs.Stored.{on_ok_both}
+use Rattle.history_store.proofs.Moves.{written}
+use Rattle.history_store.proofs.Above.{now_above, put_above}
+use Rattle.history_store.proofs.names.Names.write_name.Goals as goal
+
+pub returns-clause-written : goal.returns-clause-written
+returns-clause-written g c = λ honest.
+    let made = c.make_folders.ensures.moments honest in
+    let change = c.write.ensures.change (c.make_folders.ensures.honest honest) in
+    let old = g.F.Files.history c.args.self.now.files in
+    let new = g.F.Files.history c.write.new.self in
+    on_ok_weaker c.write.result (λ puts. subst (λ bytes. PutsFile c.args.name.now bytes old.tree new.tree) (c.deref.ensures.value ∙ c.in_ok-text.ensures) puts)
+    (on_ok_both c.write.result (written c.args.name.now c.deref.result.now old (g.F.Files.history c.make_folders.new.files) new made) change.allowed change.made)
+
+pub returns-clause-folders : goal.returns-clause-folders
+returns-clause-folders g c = λ honest.
+    let old = g.F.Files.history c.args.self.now.files in
+    let made = g.F.Files.history c.make_folders.new.files in
+    let new = g.F.Files.history c.write.new.self in
+    let change = c.write.ensures.change (c.make_folders.ensures.honest honest) in
+    on_ok_weaker c.write.result (put_above c.args.name.now c.args.name.now c.deref.result.now old.tree made.tree new.tree (now_above _ old made (c.make_folders.ensures.folders honest))) change.made

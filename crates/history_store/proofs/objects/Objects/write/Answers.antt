@@ -1,0 +1,84 @@
+use Rattle.history_store.proofs.Stored.{may_from_same, may_from_write, may_from_append, may_from_rename, stored, on_ok_both}
+use Rattle.std.proofs.lemmas.Result.{on_ok_weaker}
+use Rattle.history_store.proofs.Above.{gone, object_folders}
+use Rattle.history_store.proofs.objects.Objects.write.Goals as goal
+
+pub returns-in_err-make_folders-clause-moments : goal.returns-in_err-make_folders-clause-moments
+returns-in_err-make_folders-clause-moments g c = λ honest.
+    let old = g.F.Files.history c.args.self.now.files in
+    may_from_same c.args.place.now c.args.header.now c.args.content.now old (g.F.Files.history c.make_folders.new.files) old old old (c.make_folders.ensures.moments honest)
+
+pub returns-in_err-write-clause-moments : goal.returns-in_err-write-clause-moments
+returns-in_err-write-clause-moments g c = λ honest.
+    let old = g.F.Files.history c.args.self.now.files in
+    let made_1 = g.F.Files.history c.make_folders.new.files in
+    let written_1 = g.F.Files.history c.write.new.self in
+    let made = c.make_folders.ensures.moments honest in
+    let written = c.write.ensures.change (c.make_folders.ensures.honest honest) in
+    may_from_write c.args.place.now c.args.header.now c.args.content.now old made_1 written_1 old old made written.moments
+
+pub returns-in_err-append-clause-moments : goal.returns-in_err-append-clause-moments
+returns-in_err-append-clause-moments g c = λ honest.
+    let old = g.F.Files.history c.args.self.now.files in
+    let made_1 = g.F.Files.history c.make_folders.new.files in
+    let written_1 = g.F.Files.history c.write.new.self in
+    let appended_1 = g.F.Files.history c.append.new.self in
+    let made = c.make_folders.ensures.moments honest in
+    let honest_1 = c.make_folders.ensures.honest honest in
+    let written = c.in_ok-write.ensures.change honest_1 in
+    let appended = c.append.ensures.change (c.write.ensures.honest honest_1) in
+    may_from_append c.args.place.now c.args.header.now c.args.content.now old made_1 written_1 appended_1 old made written.moments written.made appended.moments
+
+pub returns-clause-stored : goal.returns-clause-stored
+returns-clause-stored g c = λ honest.
+    let old = g.F.Files.history c.args.self.now.files in
+    let made_1 = g.F.Files.history c.make_folders.new.files in
+    let written_1 = g.F.Files.history c.write.new.self in
+    let appended_1 = g.F.Files.history c.append.new.self in
+    let new = g.F.Files.history c.rename.new.self in
+    let made = c.make_folders.ensures.moments honest in
+    let honest_1 = c.make_folders.ensures.honest honest in
+    let written = c.in_ok-write.ensures.change honest_1 in
+    let honest_2 = c.write.ensures.honest honest_1 in
+    let appended = c.in_ok-append.ensures.change honest_2 in
+    let renamed = c.rename.ensures.change (c.append.ensures.honest honest_2) in
+    on_ok_both c.rename.result (stored c.args.place.now c.args.header.now c.args.content.now old made_1 written_1 appended_1 new made written.made appended.made) renamed.allowed renamed.made
+
+pub returns-clause-moments : goal.returns-clause-moments
+returns-clause-moments g c = λ honest.
+    let old = g.F.Files.history c.args.self.now.files in
+    let made_1 = g.F.Files.history c.make_folders.new.files in
+    let written_1 = g.F.Files.history c.write.new.self in
+    let appended_1 = g.F.Files.history c.append.new.self in
+    let new = g.F.Files.history c.rename.new.self in
+    let made = c.make_folders.ensures.moments honest in
+    let honest_1 = c.make_folders.ensures.honest honest in
+    let written = c.in_ok-write.ensures.change honest_1 in
+    let honest_2 = c.write.ensures.honest honest_1 in
+    let appended = c.in_ok-append.ensures.change honest_2 in
+    let renamed = c.rename.ensures.change (c.append.ensures.honest honest_2) in
+    may_from_rename c.args.place.now c.args.header.now c.args.content.now old made_1 written_1 appended_1 new made written.moments written.made appended.moments appended.made renamed.moments
+
+pub returns-clause-unfinished : goal.returns-clause-unfinished
+returns-clause-unfinished g c = λ honest apart.
+    let appended_1 = g.F.Files.history c.append.new.self in
+    let new = g.F.Files.history c.rename.new.self in
+    let honest_2 = c.write.ensures.honest (c.make_folders.ensures.honest honest) in
+    let renamed = c.rename.ensures.change (c.append.ensures.honest honest_2) in
+    on_ok_weaker c.rename.result (gone c.args.place.now appended_1.tree new.tree apart) renamed.made
+
+pub returns-clause-folders : goal.returns-clause-folders
+returns-clause-folders g c = λ honest.
+    let old = g.F.Files.history c.args.self.now.files in
+    let made_1 = g.F.Files.history c.make_folders.new.files in
+    let written_1 = g.F.Files.history c.write.new.self in
+    let appended_1 = g.F.Files.history c.append.new.self in
+    let new = g.F.Files.history c.rename.new.self in
+    let honest_1 = c.make_folders.ensures.honest honest in
+    let written = c.in_ok-write.ensures.change honest_1 in
+    let honest_2 = c.write.ensures.honest honest_1 in
+    let appended = c.in_ok-append.ensures.change honest_2 in
+    let renamed = c.rename.ensures.change (c.append.ensures.honest honest_2) in
+    on_ok_weaker c.rename.result
+    (object_folders c.args.place.now c.args.header.now c.args.content.now old made_1 written_1 appended_1 new (c.make_folders.ensures.folders honest) written.made appended.made)
+    renamed.made

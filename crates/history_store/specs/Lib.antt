@@ -1,0 +1,6 @@
+pub mod Creation
+pub mod Formats
+pub mod Parts
+pub mod References
+pub mod Stores
+pub mod Trees

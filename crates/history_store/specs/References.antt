@@ -1,0 +1,48 @@
+-- What the files of names and logs say (gitrepository-layout(5), git-update-ref(1)), and what a move does to them.
+use Rattle.std.specs.Prelude.{◌≡◌, ◌≢◌, ◌⊎◌, ◌++◌, Option, Some, None, MatchOption, codes}
+use Rattle.std.specs.FinMap.{get}
+use Rattle.gix_ref_file.specs.Tree.{Tree, folder, bytes_at}
+use Rattle.history_model.specs.Bytes.{Bytes, line}
+use Rattle.history_model.specs.Objects.{hex}
+use Rattle.history_model.specs.Places.{file_at, head_place, log_place}
+use Rattle.history_model.specs.PackedNames.{id_from_hex}
+use Rattle.history_model.specs.declared.Kind.{Kind}
+use Rattle.history_store.specs.Formats.{id_bytes, entry_line}
+use Rattle.history_store.specs.Stores.{IsAbove}
+use Rattle.history_store.specs.declared.id.ObjectId.{ObjectId}
+use Rattle.history_store.specs.declared.log_entry.LogEntry.{LogEntry}
+
+-- the text is `ref: <branch>` and a line feed, or is of no branch
+abbrev pub SpellsBranch : Bytes → Option Bytes → Type 0
+SpellsBranch text (Some branch) = text ≡ line (codes "ref: " ++ branch)
+SpellsBranch text None = (branch : Bytes) → text ≢ line (codes "ref: " ++ branch)
+
+-- HEAD names this branch, or none
+abbrev pub HeadNames : Tree → Option Bytes → Type 0
+HeadNames tree branch = MatchOption (file_at tree head_place) (branch ≡ None) (λ text. SpellsBranch text branch)
+
+-- the text is an id's hex digits, of either letter case, and a line feed, or is no id's
+abbrev pub SpellsId : Kind → Bytes → Option ObjectId → Type 0
+SpellsId kind text (Some id) = (digits : Bytes) × (text ≡ line digits) × (id_from_hex kind digits ≡ Some (id_bytes id))
+SpellsId kind text None = (digits : Bytes) → text ≡ line digits → id_from_hex kind digits ≡ None
+
+-- the name's own file holds this id, or none
+abbrev pub NameHolds : Kind → Tree → Bytes → Option ObjectId → Type 0
+NameHolds kind tree name id = MatchOption (file_at tree name) (id ≡ None) (λ text. SpellsId kind text id)
+
+-- the name's log has the entry's line more, unless the entry's two ids are one, and each other file is as before
+pub record Logs (name : Bytes) (entry : LogEntry) (old new : Tree) : Type 0 where
+  pub appended : id_bytes entry.before ≢ id_bytes entry.after → file_at new (log_place name) ≡ Some (bytes_at old (log_place name) ++ entry_line entry)
+  pub unmoved : id_bytes entry.before ≡ id_bytes entry.after → file_at new (log_place name) ≡ file_at old (log_place name)
+  pub others : (path : Bytes) → path ≢ log_place name → file_at new path ≡ file_at old path
+
+-- the same, and the name's file holds the id after
+pub record HasMoved (name : Bytes) (entry : LogEntry) (old new : Tree) : Type 0 where
+  pub here : file_at new name ≡ Some (line (hex (id_bytes entry.after)))
+  pub appended : id_bytes entry.before ≢ id_bytes entry.after → file_at new (log_place name) ≡ Some (bytes_at old (log_place name) ++ entry_line entry)
+  pub unmoved : id_bytes entry.before ≡ id_bytes entry.after → file_at new (log_place name) ≡ file_at old (log_place name)
+  pub others : (path : Bytes) → path ≢ name → path ≢ log_place name → file_at new path ≡ file_at old path
+
+-- each folder that stands stood before, or is one that the name's file or its log stands in
+abbrev pub FoldersOfName : Bytes → Tree → Tree → Type 0
+FoldersOfName name old new = (place : Bytes) → get new place ≡ Some folder → (get old place ≡ Some folder) ⊎ IsAbove place name ⊎ IsAbove place (log_place name)

@@ -1,0 +1,77 @@
+-- What the store of objects does to the files of its part.
+use Rattle.std.specs.Prelude.{◌≡◌, ◌≢◌, ◌⊎◌, Bool, true, false, ◌&&◌, ◌||◌, not, [], ◌∷◌, ◌++◌, Some, bytes_eq}
+use Rattle.std.specs.FinMap.{get}
+use Rattle.gix_ref_file.specs.Tree.{Tree, folder}
+use Rattle.history_model.specs.Bytes.{Bytes}
+use Rattle.gix_ref_file.specs.declared.files.FileError.{FileError}
+use Rattle.gix_ref_file.specs.declared.files.FileError.TheVariants as files
+use Rattle.history_model.specs.Objects.{Id, digest, object_text, null_id, empty_tree_id}
+use Rattle.history_model.specs.declared.Kind.{Kind}
+use Rattle.history_store.specs.Formats.{type_word}
+use Rattle.history_store.specs.declared.object.ObjectKind.{ObjectKind}
+use Rattle.history_store.specs.declared.object.ObjectKind.TheVariants as kinds
+use Rattle.history_store.specs.declared.objects.PutError.{PutError}
+use Rattle.history_store.specs.declared.objects.PutError.TheVariants as errors
+use Rattle.history_model.specs.Places.{file_at, object_place, unfinished_place}
+
+-- each file stands as before: at most folders differ
+abbrev pub SameFiles : Tree → Tree → Type 0
+SameFiles old new = (path : Bytes) → file_at new path ≡ file_at old path
+
+-- each file stands as before, but for `objects/unfinished`
+abbrev pub KeepsFiles : Tree → Tree → Type 0
+KeepsFiles old new = (path : Bytes) → path ≢ unfinished_place → file_at new path ≡ file_at old path
+
+-- the path stands below this one: a slash follows it there
+abbrev pub IsAbove : Bytes → Bytes → Type 0
+IsAbove place path = (rest : Bytes) × (path ≡ place ++ 47 ∷ rest)
+
+-- each folder that stands stood before, or is this one
+abbrev pub OneFolderMore : Bytes → Tree → Tree → Type 0
+OneFolderMore made old new = (place : Bytes) → get new place ≡ Some folder → (get old place ≡ Some folder) ⊎ (place ≡ made)
+
+-- each folder that stands stood before, or is one that the path stands in
+abbrev pub FoldersAbove : Bytes → Tree → Tree → Type 0
+FoldersAbove path old new = (place : Bytes) → get new place ≡ Some folder → (get old place ≡ Some folder) ⊎ IsAbove place path
+
+-- These bytes stand at the path, and each other file as before.
+pub record PutsFile (path bytes : Bytes) (old new : Tree) : Type 0 where
+  pub here : file_at new path ≡ Some bytes
+  pub others : (other : Bytes) → other ≢ path → file_at new other ≡ file_at old other
+
+-- The text stands at the place, and each other file as before, but for `objects/unfinished`.
+pub record HoldsFile (place text : Bytes) (old new : Tree) : Type 0 where
+  pub here : file_at new place ≡ Some text
+  pub others : (path : Bytes) → path ≢ unfinished_place → path ≢ place → file_at new path ≡ file_at old path
+
+-- what stands while a text is put in its place: all as before, or the text whole
+abbrev pub MayStand : Bytes → Bytes → Tree → Tree → Type 0
+MayStand place text old tree = KeepsFiles old tree ⊎ HoldsFile place text old tree
+
+-- ---- objects
+
+abbrev pub text_of : ObjectKind → Bytes → Bytes
+text_of object content = object_text (type_word object) content
+
+abbrev pub id_of : Kind → ObjectKind → Bytes → Id
+id_of kind object content = digest kind (text_of object content)
+
+abbrev pub is_empty_tree : ObjectKind → Bytes → Bool
+is_empty_tree kinds.Tree [] = true
+is_empty_tree kinds.Tree (b ∷ content) = false
+is_empty_tree kinds.Blob content = false
+is_empty_tree kinds.Commit content = false
+
+-- The null id is no object's, and the empty tree's id is its own alone.
+abbrev pub is_reserved : Kind → ObjectKind → Bytes → Id → Bool
+is_reserved kind object content id = bytes_eq id (null_id kind) || (bytes_eq id (empty_tree_id kind) && not (is_empty_tree object content))
+
+-- why an object can't have its id: it is reserved, or a file of other bytes stands at its place
+abbrev pub IsTaken : Kind → ObjectKind → Bytes → Tree → Type 0
+IsTaken kind object content tree =
+    (is_reserved kind object content (id_of kind object content) ≡ true)
+    ⊎ ((other : Bytes) × (file_at tree (object_place (id_of kind object content)) ≡ Some other) × (other ≢ text_of object content))
+
+abbrev pub put_fault : FileError → PutError
+put_fault files.Failed = errors.File
+put_fault files.Memory = errors.Memory

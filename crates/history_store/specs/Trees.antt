@@ -1,0 +1,89 @@
+-- A folder's tree: what stands under each name, and the content that spells it in Git's format of tree objects (git-mktree).
+use Rattle.std.specs.Prelude.{◌≡◌, ℕ, Bool, true, false, not, ◌&&◌, ◌==◌, List, T, map, ◌++◌, length, Vec, Option, Some, None, IsTrue, IsFalse, refl}
+use Rattle.std.specs.declared.alloc.Global.{Global}
+use Rattle.std.specs.List.{flat_map, list_all}
+use Rattle.std.specs.Coded.{Coded, code_by, coded×, coded_ℕ, coded_bool, coded_list, coded_option}
+use Rattle.std.specs.FinMap as finite
+use Rattle.std.specs.FinMap.{FinMap, entries, from_sorted, is_sorted}
+use Rattle.history_model.specs.declared.FileKind.{FileKind}
+use Rattle.history_model.specs.declared.FileKind.TheVariants.{File, Exec, Link}
+use Rattle.history_model.specs.Bytes.{Bytes, by_bytes, has_byte, is_empty}
+use Rattle.history_model.specs.Objects.{Id, mode_of, entry_text}
+use Rattle.history_store.specs.Formats.{id_bytes}
+use Rattle.history_store.specs.declared.tree.TreeEntry.{TreeEntry}
+
+-- what stands under each name; the names ascend by their bytes
+abbrev pub Folder : Type 0
+Folder = FinMap by_bytes TreeEntry
+
+-- a name with what stands under it
+abbrev pub Named : Type 0
+Named = Bytes × TreeEntry
+
+abbrev pub named : Vec ℕ Global × TreeEntry → Named
+named entry = (entry.0.items, entry.1)
+
+abbrev pub all_named : List (Vec ℕ Global × TreeEntry) → List Named
+all_named entries = map named entries
+
+-- the tree of entries in the order of their names
+abbrev pub folder_of : List (Vec ℕ Global × TreeEntry) → Folder
+folder_of entries = from_sorted (all_named entries)
+
+abbrev pub IsInOrder : List (Vec ℕ Global × TreeEntry) → Type 0
+IsInOrder entries = T (is_sorted by_bytes (all_named entries))
+
+abbrev pub named_text : Named → Bytes
+named_text entry = entry_text (mode_of entry.1.kind) entry.0 (id_bytes entry.1.id)
+
+-- a tree's content: its entries, one after another
+abbrev pub folder_content : Folder → Bytes
+folder_content folder = flat_map named_text (entries folder)
+
+-- an entry's name has a byte, and neither a slash nor a zero byte
+abbrev pub is_entry_name : Bytes → Bool
+is_entry_name name = not (is_empty name) && not (has_byte 47 name) && not (has_byte 0 name)
+
+-- an entry has such a name and an id of 20 bytes
+abbrev pub is_entry : Named → Bool
+is_entry entry = is_entry_name entry.0 && length (id_bytes entry.1.id) == 20
+
+-- the content is that of the tree of these entries
+pub record Spells (content : Bytes) (folder : Folder) : Type 0 where
+  pub text : content ≡ folder_content folder
+  pub entries_are : IsTrue (list_all is_entry (entries folder))
+
+abbrev pub SpellsNone : Bytes → Type 0
+SpellsNone content = (folder : Folder) → Spells content folder → ⊥
+
+-- the text begins with this entry's
+pub record BeginsWith (text : Bytes) (kind : FileKind) (name : Bytes) (id : Id) (rest : Bytes) : Type 0 where
+  pub spelled : text ≡ entry_text (mode_of kind) name id ++ rest
+  pub no_slash : IsFalse (has_byte 47 name)
+  pub no_zero : IsFalse (has_byte 0 name)
+  pub id_length : length id ≡ 20
+
+abbrev pub BeginsWithNone : Bytes → Type 0
+BeginsWithNone text = (kind : FileKind) (name : Bytes) (id : Id) (rest : Bytes) → BeginsWith text kind name id rest → ⊥
+
+-- a code for folders
+abbrev pub kind_number : FileKind → Option Bool
+kind_number File = None
+kind_number Exec = Some true
+kind_number Link = Some false
+
+abbrev pub kind_from : Option Bool → FileKind
+kind_from None = File
+kind_from (Some true) = Exec
+kind_from (Some false) = Link
+
+pub kind_from-kind_number : (kind : FileKind) → kind_from (kind_number kind) ≡ kind
+kind_from-kind_number File = refl
+kind_from-kind_number Exec = refl
+kind_from-kind_number Link = refl
+
+abbrev pub coded_entry : Coded TreeEntry
+coded_entry = code_by (Option Bool × List ℕ) (coded× (coded_option coded_bool) (coded_list coded_ℕ)) (λ e. (kind_number e.kind, e.id.bytes)) (λ p. record { kind = kind_from p.0; id = record { bytes = p.1 } }) (λ e. λ i. record { kind = kind_from-kind_number e.kind i; id = e.id })
+
+abbrev pub coded_folder : Coded Folder
+coded_folder = finite.code (coded_list coded_ℕ) coded_entry

@@ -1,0 +1,131 @@
+// A commit's content: lines on its tree, its parents, its author and its committer, an empty line, and the message.
+ghost use Rattle.std.specs.Prelude.{◌≡◌, ◌<◌, ◌++◌, length, codes, IfOk, IfSome, OnOk};
+ghost use Rattle.std.specs.List.{flat_map};
+ghost use Rattle.history_store.specs.Formats.{commit_text, id_line, actor_line};
+
+use crate::actor::Actor;
+use crate::bytes::{split_once, strip_prefix};
+use crate::id::ObjectId;
+use std::alloc::{AllocError, Global};
+
+/// What a commit says.
+#[derive(Drop, Debug)]
+pub struct Commit {
+    pub tree: ObjectId,
+    pub parents: Vec<ObjectId>,
+    pub author: Actor,
+    pub committer: Actor,
+    pub message: Vec<u8>,
+}
+
+impl Commit {
+    /// The commit's content.
+    pub fn to_bytes(&self, alloc: Global) -> Result<Vec<u8>, AllocError>
+        ensures { IfOk result (λ text. text.items ≡ commit_text self.now) }
+    {
+        let mut text = Vec::new(alloc);
+        write_id_line(&mut text, b"tree ", &self.tree)?;
+        for parent in &self.parents {
+            write_id_line(&mut text, b"parent ", parent)?;
+        }
+        write_actor_line(&mut text, b"author ", &self.author)?;
+        write_actor_line(&mut text, b"committer ", &self.committer)?;
+        text.push(b'\n')?;
+        text.extend_from_slice(&self.message)?;
+        Ok(text)
+    }
+
+    /// The commit that a content spells; `None` where it spells none. Ids are in lower-case hex, and there are no further lines.
+    pub fn parse(alloc: Global, content: &[u8]) -> Result<Option<Commit>, AllocError>
+        ensures { IfOk result (λ found. IfSome found (λ commit. content.now ≡ commit_text commit)) }
+    {
+        let Some((tree, rest)) = parse_id_line(content, b"tree ") else {
+            return Ok(None)
+        };
+        let (parents, rest) = parse_parents(alloc, rest)?;
+        let Some((author, rest)) = parse_actor_line(alloc, rest, b"author ")? else {
+            return Ok(None)
+        };
+        let Some((committer, rest)) = parse_actor_line(alloc, rest, b"committer ")? else {
+            return Ok(None)
+        };
+        let Some(message) = strip_prefix(rest, b"\n") else {
+            return Ok(None)
+        };
+        Ok(Some(Commit {
+            tree,
+            parents,
+            author,
+            committer,
+            message: Vec::from_slice(alloc, message)?,
+        }))
+    }
+}
+
+// A line of a word and an id.
+fn write_id_line(text: &mut Vec<u8>, word: &[u8], id: &ObjectId) -> Result<(), AllocError>
+    ensures { OnOk result (text.new.items ≡ text.old.items ++ id_line word.now id.now) }
+{
+    text.extend_from_slice(word)?;
+    text.extend_from_slice(&id.to_hex())?;
+    text.push(b'\n')?;
+    Ok(())
+}
+
+// A line of a word and an actor.
+fn write_actor_line(text: &mut Vec<u8>, word: &[u8], actor: &Actor) -> Result<(), AllocError>
+    ensures { OnOk result (text.new.items ≡ text.old.items ++ actor_line word.now actor.now) }
+{
+    text.extend_from_slice(word)?;
+    actor.write_to(text)?;
+    text.push(b'\n')?;
+    Ok(())
+}
+
+// The id of the line of this word that a text begins with, and the text behind it.
+fn parse_id_line<'a>(text: &'a [u8], word: &[u8]) -> Option<(ObjectId, &'a [u8])>
+    ensures spelled { IfSome result (λ r. text.now ≡ id_line word.now r.0 ++ r.1.now) }
+    ensures shorter { IfSome result (λ r. length r.1.now < length text.now) }
+{
+    let (line, rest) = split_once(text, b'\n')?;
+    let digits = strip_prefix(line, word)?;
+    let id = ObjectId::from_hex(digits)?;
+    if id.to_hex().as_slice() == digits {
+        Some((id, rest))
+    } else {
+        None
+    }
+}
+
+// The ids of the lines on parents that a text begins with, and the text behind them.
+fn parse_parents(alloc: Global, text: &[u8]) -> Result<(Vec<ObjectId>, &[u8]), AllocError>
+    ensures { IfOk result (λ r. text.now ≡ flat_map (λ parent. id_line (codes "parent ") parent) r.0.items ++ r.1.now) }
+{
+    let mut parents = Vec::new(alloc);
+    let mut rest = text;
+    while let Some((parent, after)) = parse_id_line(rest, b"parent ") {
+        parents.push(parent)?;
+        rest = after;
+    }
+    Ok((parents, rest))
+}
+
+// The actor of the line of this word that a text begins with, and the text behind it.
+fn parse_actor_line<'a>(
+    alloc: Global,
+    text: &'a [u8],
+    word: &[u8],
+) -> Result<Option<(Actor, &'a [u8])>, AllocError>
+    ensures { IfOk result (λ found. IfSome found (λ r. text.now ≡ actor_line word.now r.0 ++ r.1.now)) }
+{
+    let Some((line, rest)) = split_once(text, b'\n') else {
+        return Ok(None);
+    };
+    let Some(text) = strip_prefix(line, word) else {
+        return Ok(None);
+    };
+    match Actor::parse(alloc, text)? {
+        Some(actor) => Ok(Some((actor, rest))),
+        None => Ok(None),
+    }
+}

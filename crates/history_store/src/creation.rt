@@ -1,0 +1,106 @@
+// Makes a new repository.
+ghost use Rattle.std.specs.Prelude.{◌≡◌, ◌⊎◌, OnOk, IsErrOf, Vec, ℕ};
+ghost use Rattle.std.specs.declared.alloc.Global.{Global};
+ghost use Rattle.history_store.specs.Creation.{HasHead, IsCleared, IsNew, SameFolders, create_fault, head_lock};
+ghost use Rattle.history_store.specs.Parts.{IsClear, IsStrayAt};
+ghost use Rattle.history_store.specs.declared.parts.Part.TheVariants.{Objects, Names};
+ghost use Rattle.history_model.specs.Places.{unfinished_place};
+ghost use Rattle.history_store.specs.declared.creation.CreateError.TheVariants.{NotEmpty};
+
+use crate::names::HEAD;
+use crate::objects::UNFINISHED;
+use crate::parts::{Part, Stray, survey};
+use gix_ref_file::{FileError, Files, Place};
+use history_model::Kind;
+use std::alloc::Global;
+
+const HEAD_LOCK: &[u8] = b"HEAD.lock";
+
+/// Why no repository is made.
+#[derive(Drop, PartialEq, Eq, Debug)]
+pub enum CreateError {
+    /// A part holds this, which isn't a leftover of an earlier call nor a folder that a new repository may have. Nothing is changed.
+    NotEmpty(Vec<u8>),
+    /// A call of the files failed.
+    File,
+    /// A growth was refused.
+    Memory,
+}
+
+impl From<FileError> for CreateError {
+    ghost from_gives = { λ error e. e ≡ create_fault error };
+
+    fn from(error: FileError) -> Self {
+        match error {
+            FileError::Failed => CreateError::File,
+            FileError::Memory => CreateError::Memory,
+        }
+    }
+}
+
+/// Makes a repository without names and objects, whose HEAD names `refs/heads/main`.
+///
+/// Neither part may hold anything but empty folders of a repository and what a stopped call left, `objects/unfinished` and `HEAD.lock`,
+/// which are removed. HEAD comes last, and whole. A call that was stopped or failed is made again; where HEAD stands already,
+/// that call answers `NotEmpty(HEAD)`, and the repository is made.
+pub fn create<F: Files>(
+    alloc: Global,
+    objects: &mut F,
+    names: &mut F,
+    kind: Kind,
+) -> Result<(), CreateError>
+    ensures objects_honest { F.is_honest objects.old → F.is_honest objects.new }
+    ensures names_honest { F.is_honest names.old → F.is_honest names.new }
+    ensures objects { F.is_honest objects.old → OnOk result (IsCleared (F.history objects.old).tree (F.history objects.new).tree) }
+    ensures names { F.is_honest names.old → OnOk result (HasHead (F.history names.old).tree (F.history names.new).tree) }
+    ensures made { F.is_honest objects.old → F.is_honest names.old → OnOk result (IsNew (F.history objects.new).tree (F.history names.new).tree) }
+    ensures stray { F.is_honest objects.old → F.is_honest names.old → (path : Vec ℕ Global) → IsErrOf result (NotEmpty path) → IsStrayAt Objects unfinished_place path.items (F.history objects.old).tree ⊎ IsStrayAt Names head_lock path.items (F.history names.old).tree }
+    ensures refused { (path : Vec ℕ Global) → IsErrOf result (NotEmpty path) → (objects.new ≡ objects.old) × (names.new ≡ names.old) }
+{
+    match kind {
+        Kind::Sha1 => {}
+    }
+    refuse_others(alloc, objects, Part::Objects, UNFINISHED)?;
+    refuse_others(alloc, names, Part::Names, HEAD_LOCK)?;
+    remove_leftover(alloc, objects)?;
+    write_head(alloc, names)?;
+    Ok(())
+}
+
+// Refuses a part that holds anything but permitted folders and a leftover.
+fn refuse_others<F: Files>(
+    alloc: Global,
+    files: &F,
+    part: Part,
+    leftover: &[u8],
+) -> Result<(), CreateError>
+    ensures clear { F.is_honest files.now → OnOk result (IsClear part leftover.now (F.history files.now).tree) }
+    ensures stray { F.is_honest files.now → (path : Vec ℕ Global) → IsErrOf result (NotEmpty path) → IsStrayAt part leftover.now path.items (F.history files.now).tree }
+{
+    match survey(alloc, files, part, leftover)? {
+        Some(Stray::File(path) | Stray::Folder(path)) => Err(CreateError::NotEmpty(path)),
+        None => Ok(()),
+    }
+}
+
+// Removes what a stopped put left.
+fn remove_leftover<F: Files>(alloc: Global, objects: &mut F) -> Result<(), FileError>
+    ensures honest { F.is_honest objects.old → F.is_honest objects.new }
+    ensures cleared { F.is_honest objects.old → OnOk result (IsCleared (F.history objects.old).tree (F.history objects.new).tree) }
+    ensures folders { F.is_honest objects.old → OnOk result (SameFolders (F.history objects.old).tree (F.history objects.new).tree) }
+{
+    match objects.kind_of(UNFINISHED)? {
+        Place::Absent => Ok(()),
+        Place::File(_) | Place::Folder => objects.remove_file(alloc, UNFINISHED),
+    }
+}
+
+// Writes HEAD beside and gives it its place.
+fn write_head<F: Files>(alloc: Global, names: &mut F) -> Result<(), FileError>
+    ensures honest { F.is_honest names.old → F.is_honest names.new }
+    ensures written { F.is_honest names.old → OnOk result (HasHead (F.history names.old).tree (F.history names.new).tree) }
+    ensures folders { F.is_honest names.old → OnOk result (SameFolders (F.history names.old).tree (F.history names.new).tree) }
+{
+    names.write(alloc, HEAD_LOCK, b"ref: refs/heads/main\n")?;
+    names.rename(alloc, HEAD_LOCK, HEAD)
+}

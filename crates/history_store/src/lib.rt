@@ -1,0 +1,28 @@
+//! Objects and names as files: Git's formats, and the two parts of a stored repository.
+#![tactic(auto)]
+
+mod actor;
+mod bytes;
+mod commit;
+mod creation;
+mod folders;
+mod id;
+mod log_entry;
+mod names;
+mod object;
+mod objects;
+mod parts;
+#[cfg(test)]
+mod tests;
+mod tree;
+
+pub use actor::Actor;
+pub use commit::Commit;
+pub use creation::{CreateError, create};
+pub use id::ObjectId;
+pub use log_entry::LogEntry;
+pub use names::Names;
+pub use object::{ObjectKind, object_id};
+pub use objects::{Object, Objects, PutError};
+pub use parts::{Part, Stray, survey};
+pub use tree::{Tree, TreeEntry};

@@ -1,0 +1,163 @@
+// The names of a repository: each is a file of its id, and its moves are a log.
+ghost use Rattle.std.specs.Prelude.{◌≡◌, ◌≢◌, ◌++◌, IfOk, OnOk, option_map, option_copied};
+ghost use Rattle.gix_ref_file.specs.Tree.{bytes_at};
+ghost use Rattle.history_model.specs.Bytes.{line};
+ghost use Rattle.history_model.specs.Objects.{hex};
+ghost use Rattle.history_model.specs.Places.{file_at, head_place, log_place};
+ghost use Rattle.history_model.specs.declared.Kind.{Kind};
+ghost use Rattle.history_store.specs.Formats.{id_bytes, entry_line};
+ghost use Rattle.history_store.specs.Stores.{PutsFile, FoldersAbove};
+ghost use Rattle.history_store.specs.References.{SpellsBranch, SpellsId, HeadNames, NameHolds, HasMoved, Logs, FoldersOfName};
+
+use crate::bytes::{strip_prefix, strip_suffix};
+use crate::folders::make_folders;
+use crate::id::ObjectId;
+use crate::log_entry::LogEntry;
+use gix_ref_file::{FileError, Files};
+use history_model::Kind;
+use std::alloc::{AllocError, Global};
+
+/// Where the branch stands that is worked on.
+pub const HEAD: &[u8] = b"HEAD";
+
+/// The names of a repository, in its names part.
+#[derive(Drop)]
+pub struct Names<F: Files> {
+    files: F,
+    kind: Kind,
+}
+
+impl<F: Files> Names<F> {
+    pub fn new(files: F, kind: Kind) -> Self
+        ensures files { result.files ≡ files }
+        ensures kind { result.kind ≡ kind }
+    {
+        Names { files, kind }
+    }
+
+    pub fn into_files(self) -> F
+        ensures { result ≡ self.files }
+    {
+        let Names { files, kind: _ } = self;
+        files
+    }
+
+    pub fn files(&self) -> &F
+        ensures { result.now ≡ self.now.files }
+    {
+        &self.files
+    }
+
+    pub fn kind(&self) -> Kind
+        ensures { result ≡ self.now.kind }
+    {
+        self.kind
+    }
+
+    /// HEAD's branch; `None` where HEAD isn't `ref: <name>` and a line feed.
+    pub fn head(&self, alloc: Global) -> Result<Option<Vec<u8>>, FileError>
+        ensures { F.is_honest self.now.files → IfOk result (λ found. HeadNames (F.history self.now.files).tree (option_map (λ branch. branch.items) found)) }
+    {
+        let mut text = Vec::new(alloc);
+        if self.files.read(HEAD, &mut text)?.is_none() {
+            return Ok(None);
+        }
+        match branch_of(&text) {
+            Some(branch) => Ok(Some(Vec::from_slice(alloc, branch)?)),
+            None => Ok(None),
+        }
+    }
+
+    /// The id that a name holds; `None` where its file doesn't stand or isn't an id's hex digits and a line feed.
+    pub fn read(&self, alloc: Global, name: &[u8]) -> Result<Option<ObjectId>, FileError>
+        ensures { F.is_honest self.now.files → (kind : Kind) → IfOk result (λ found. NameHolds kind (F.history self.now.files).tree name.now found) }
+    {
+        let mut text = Vec::new(alloc);
+        if self.files.read(name, &mut text)?.is_none() {
+            return Ok(None);
+        }
+        Ok(id_of(&text))
+    }
+
+    /// Moves a name to the id after: appends the entry's line to the name's log, unless the two ids are one, and then writes the
+    /// name's file. After an error the line may stand without the move, and of the line or the file a beginning alone.
+    pub fn move_name(
+        &mut self,
+        alloc: Global,
+        name: &[u8],
+        entry: &LogEntry,
+    ) -> Result<(), FileError>
+        ensures honest { F.is_honest self.old.files → F.is_honest self.new.files }
+        ensures kind { self.new.kind ≡ self.old.kind }
+        ensures moved { F.is_honest self.old.files → OnOk result (HasMoved name.now entry.now (F.history self.old.files).tree (F.history self.new.files).tree) }
+        ensures folders { F.is_honest self.old.files → OnOk result (FoldersOfName name.now (F.history self.old.files).tree (F.history self.new.files).tree) }
+    {
+        self.append_to_log(alloc, name, entry)?;
+        self.write_name(alloc, name, &entry.after)
+    }
+
+    fn append_to_log(
+        &mut self,
+        alloc: Global,
+        name: &[u8],
+        entry: &LogEntry,
+    ) -> Result<(), FileError>
+        ensures honest { F.is_honest self.old.files → F.is_honest self.new.files }
+        ensures kind { self.new.kind ≡ self.old.kind }
+        ensures logged { F.is_honest self.old.files → OnOk result (Logs name.now entry.now (F.history self.old.files).tree (F.history self.new.files).tree) }
+        ensures folders { F.is_honest self.old.files → OnOk result (FoldersAbove (log_place name.now) (F.history self.old.files).tree (F.history self.new.files).tree) }
+    {
+        if entry.before.as_bytes() == entry.after.as_bytes() {
+            return Ok(());
+        }
+        let line = entry.to_bytes(alloc)?;
+        let log = log_place(alloc, name)?;
+        make_folders(alloc, &mut self.files, &log)?;
+        self.files.append(alloc, &log, &line)
+    }
+
+    fn write_name(&mut self, alloc: Global, name: &[u8], id: &ObjectId) -> Result<(), FileError>
+        ensures honest { F.is_honest self.old.files → F.is_honest self.new.files }
+        ensures kind { self.new.kind ≡ self.old.kind }
+        ensures written { F.is_honest self.old.files → OnOk result (PutsFile name.now (line (hex (id_bytes id.now))) (F.history self.old.files).tree (F.history self.new.files).tree) }
+        ensures folders { F.is_honest self.old.files → OnOk result (FoldersAbove name.now (F.history self.old.files).tree (F.history self.new.files).tree) }
+    {
+        let text = name_text(alloc, id)?;
+        make_folders(alloc, &mut self.files, name)?;
+        self.files.write(alloc, name, &text)
+    }
+}
+
+// The name in `ref: <name>` and a line feed.
+fn branch_of(text: &[u8]) -> Option<&[u8]>
+    ensures { SpellsBranch text.now (option_copied result) }
+{
+    let rest = strip_prefix(text, b"ref: ")?;
+    strip_suffix(rest, b"\n")
+}
+
+// The id in `<hex>` and a line feed.
+fn id_of(text: &[u8]) -> Option<ObjectId>
+    ensures { (kind : Kind) → SpellsId kind text.now result }
+{
+    let digits = strip_suffix(text, b"\n")?;
+    ObjectId::from_hex(digits)
+}
+
+// What the file of a name that holds this id has in it.
+fn name_text(alloc: Global, id: &ObjectId) -> Result<Vec<u8>, AllocError>
+    ensures { IfOk result (λ text. text.items ≡ line (hex (id_bytes id.now))) }
+{
+    let mut text = Vec::from_slice(alloc, &id.to_hex())?;
+    text.push(b'\n')?;
+    Ok(text)
+}
+
+// The path of a name's log.
+fn log_place(alloc: Global, name: &[u8]) -> Result<Vec<u8>, AllocError>
+    ensures { IfOk result (λ place. place.items ≡ log_place name.now) }
+{
+    let mut place = Vec::from_slice(alloc, b"logs/")?;
+    place.extend_from_slice(name)?;
+    Ok(place)
+}

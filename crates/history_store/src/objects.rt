@@ -1,0 +1,245 @@
+// The store of objects: each is one file, `objects/xx/rest` of its id's hex digits, which holds its text.
+ghost use Rattle.std.specs.Prelude.{◌≡◌, ◌≢◌, ◌⊎◌, ◌≤◌, ◌++◌, ◌↔◌, drop, vec_len, true, IfOk, IfSome, OnOk, IsErrOf};
+ghost use Rattle.history_model.specs.Places.{file_at, object_place, unfinished_place};
+ghost use Rattle.history_store.specs.Formats.{id_bytes};
+ghost use Rattle.history_store.specs.declared.objects.PutError.TheVariants.{Memory, IdTaken};
+ghost use Rattle.history_store.specs.declared.id.ObjectId.{ObjectId};
+ghost use Rattle.gix_ref_file.specs.declared.files.FileError.TheVariants.{Failed};
+ghost use Rattle.gix_ref_file.specs.Tree.{bytes_at};
+ghost use Rattle.gix_ref_file.specs.Changes.{is_file_at};
+ghost use Rattle.gix_ref_file.specs.History.{Adds};
+ghost use Rattle.history_store.specs.Stores.{HoldsFile, MayStand, FoldersAbove, IsTaken, id_of, text_of, is_reserved, put_fault};
+
+use crate::bytes::strip_prefix;
+use crate::folders::make_folders;
+use crate::id::ObjectId;
+use crate::object::{ObjectKind, header, object_id, parse_header};
+use gix_ref_file::{FileError, Files, Place};
+use history_model::Kind;
+use std::alloc::{AllocError, Global};
+
+/// Where an object is written before it is given its place.
+pub const UNFINISHED: &[u8] = b"objects/unfinished";
+
+/// An object as it was stored.
+#[derive(Drop, Debug)]
+pub struct Object {
+    pub kind: ObjectKind,
+    pub content: Vec<u8>,
+}
+
+/// Why an object isn't stored.
+#[derive(Clone, Copy, PartialEq, Eq, Debug)]
+pub enum PutError {
+    /// The id is null, is the empty tree's and the object isn't, or names other bytes. Nothing is written.
+    IdTaken(ObjectId),
+    /// A call of the files failed.
+    File,
+    /// A growth was refused.
+    Memory,
+}
+
+impl From<AllocError> for PutError {
+    ghost from_gives = { λ _ e. e ≡ Memory };
+
+    fn from(_: AllocError) -> Self {
+        PutError::Memory
+    }
+}
+
+impl From<FileError> for PutError {
+    ghost from_gives = { λ error e. e ≡ put_fault error };
+
+    fn from(error: FileError) -> Self {
+        match error {
+            FileError::Failed => PutError::File,
+            FileError::Memory => PutError::Memory,
+        }
+    }
+}
+
+/// The objects of a repository, in its objects part.
+#[derive(Drop)]
+pub struct Objects<F: Files> {
+    files: F,
+    kind: Kind,
+}
+
+impl<F: Files> Objects<F> {
+    pub fn new(files: F, kind: Kind) -> Self
+        ensures files { result.files ≡ files }
+        ensures kind { result.kind ≡ kind }
+    {
+        Objects { files, kind }
+    }
+
+    pub fn into_files(self) -> F
+        ensures { result ≡ self.files }
+    {
+        let Objects { files, kind: _ } = self;
+        files
+    }
+
+    pub fn files(&self) -> &F
+        ensures { result.now ≡ self.now.files }
+    {
+        &self.files
+    }
+
+    pub fn kind(&self) -> Kind
+        ensures { result ≡ self.now.kind }
+    {
+        self.kind
+    }
+
+    /// Stores an object and answers its id. Nothing is written where it stands already.
+    pub fn put(
+        &mut self,
+        alloc: Global,
+        object: ObjectKind,
+        content: &[u8],
+    ) -> Result<ObjectId, PutError>
+        ensures honest { F.is_honest self.old.files → F.is_honest self.new.files }
+        ensures kind { self.new.kind ≡ self.old.kind }
+        ensures id { IfOk result (λ id. id_bytes id ≡ id_of self.old.kind object content.now) }
+
+        // The object's file is there, and each other file as before.
+        ensures stored { F.is_honest self.old.files → OnOk result (HoldsFile (object_place (id_of self.old.kind object content.now)) (text_of object content.now) (F.history self.old.files).tree (F.history self.new.files).tree) }
+
+        // No file is left where it was written, and no folders are made but those that the object's file stands in.
+        ensures unfinished { F.is_honest self.old.files → OnOk result ((file_at (F.history self.new.files).tree unfinished_place ≡ None) ⊎ (self.new.files ≡ self.old.files)) }
+        ensures folders { F.is_honest self.old.files → OnOk result (FoldersAbove (object_place (id_of self.old.kind object content.now)) (F.history self.old.files).tree (F.history self.new.files).tree) }
+
+        // At each moment the object's file is as before, or there whole.
+        ensures moments { F.is_honest self.old.files → Adds (MayStand (object_place (id_of self.old.kind object content.now)) (text_of object content.now) (F.history self.old.files).tree) (F.history self.old.files) (F.history self.new.files) }
+
+        // Where the object stands already, nothing is written.
+        ensures once { F.is_honest self.old.files → file_at (F.history self.old.files).tree (object_place (id_of self.old.kind object content.now)) ≡ Some (text_of object content.now) → self.new.files ≡ self.old.files }
+
+        ensures taken { (id : ObjectId) → IsErrOf result (IdTaken id) → (id_bytes id ≡ id_of self.old.kind object content.now) × (self.new.files ≡ self.old.files)
+            × (F.is_honest self.old.files → IsTaken self.old.kind object content.now (F.history self.old.files).tree) }
+    {
+        let id = object_id(self.kind, object, content);
+        if is_reserved(self.kind, &id, object, content) {
+            return Err(PutError::IdTaken(id));
+        }
+        let place = object_place(alloc, &id)?;
+        let header = header(alloc, object, content.len())?;
+        if self.is_file(&place)? {
+            if !self.holds(alloc, &place, &header, content)? {
+                return Err(PutError::IdTaken(id));
+            }
+            return Ok(id);
+        }
+        self.write(alloc, &place, &header, content)?;
+        Ok(id)
+    }
+
+    fn is_file(&self, place: &[u8]) -> Result<bool, FileError>
+        ensures { F.is_honest self.now.files → IfOk result (λ is_file. is_file ≡ is_file_at (F.history self.now.files).tree place.now) }
+    {
+        match self.files.kind_of(place)? {
+            Place::File(_) => Ok(true),
+            Place::Absent | Place::Folder => Ok(false),
+        }
+    }
+
+    // Whether the file at this place holds just these bytes: a header and a content.
+    fn holds(
+        &self,
+        alloc: Global,
+        place: &[u8],
+        header: &[u8],
+        content: &[u8],
+    ) -> Result<bool, FileError>
+        ensures same { F.is_honest self.now.files → IfOk result (λ same. (same ≡ true) ↔ (bytes_at (F.history self.now.files).tree place.now ≡ header.now ++ content.now)) }
+        ensures failed { IsErrOf result Failed → F.reading_may_fail }
+    {
+        let mut text = Vec::new(alloc);
+        self.files.read(place, &mut text)?;
+        match strip_prefix(&text, header) {
+            Some(rest) => Ok(rest == content),
+            None => Ok(false),
+        }
+    }
+
+    // Makes the folders that are missing, writes the text beside, and gives it its place.
+    fn write(
+        &mut self,
+        alloc: Global,
+        place: &[u8],
+        header: &[u8],
+        content: &[u8],
+    ) -> Result<(), FileError>
+        ensures honest { F.is_honest self.old.files → F.is_honest self.new.files }
+        ensures kind { self.new.kind ≡ self.old.kind }
+        ensures stored { F.is_honest self.old.files → OnOk result (HoldsFile place.now (header.now ++ content.now) (F.history self.old.files).tree (F.history self.new.files).tree) }
+        ensures unfinished { F.is_honest self.old.files → place.now ≢ unfinished_place → OnOk result (file_at (F.history self.new.files).tree unfinished_place ≡ None) }
+        ensures folders { F.is_honest self.old.files → OnOk result (FoldersAbove place.now (F.history self.old.files).tree (F.history self.new.files).tree) }
+        ensures moments { F.is_honest self.old.files → Adds (MayStand place.now (header.now ++ content.now) (F.history self.old.files).tree) (F.history self.old.files) (F.history self.new.files) }
+    {
+        make_folders(alloc, &mut self.files, place)?;
+        self.files.write(alloc, UNFINISHED, header)?;
+        self.files.append(alloc, UNFINISHED, content)?;
+        self.files.rename(alloc, UNFINISHED, place)
+    }
+
+    /// The object of this id; `None` where none stands or its file holds no object's text.
+    pub fn read(&self, alloc: Global, id: &ObjectId) -> Result<Option<Object>, FileError>
+        ensures { F.is_honest self.now.files → IfOk result (λ found. IfSome found (λ object. bytes_at (F.history self.now.files).tree (object_place (id_bytes id.now)) ≡ text_of object.kind object.content.items)) }
+    {
+        let place = object_place(alloc, id)?;
+        let mut text = Vec::new(alloc);
+        if self.files.read(&place, &mut text)?.is_none() {
+            return Ok(None);
+        }
+        match parse_header(&text) {
+            Some((kind, start)) => Ok(Some(Object {
+                kind,
+                content: without_front(text, start),
+            })),
+            None => Ok(None),
+        }
+    }
+
+    /// Whether a file stands at this id's place.
+    pub fn contains(&self, alloc: Global, id: &ObjectId) -> Result<bool, FileError>
+        ensures { F.is_honest self.now.files → IfOk result (λ is_file. is_file ≡ is_file_at (F.history self.now.files).tree (object_place (id_bytes id.now))) }
+    {
+        let place = object_place(alloc, id)?;
+        self.is_file(&place)
+    }
+}
+
+// Whether no object, or none but the empty tree, has this id.
+fn is_reserved(kind: Kind, id: &ObjectId, object: ObjectKind, content: &[u8]) -> bool
+    ensures { result ≡ is_reserved kind object content.now (id_bytes id.now) }
+{
+    let is_empty_tree = matches!(object, ObjectKind::Tree) && content.is_empty();
+    let empty_tree = object_id(kind, ObjectKind::Tree, b"");
+    id.as_bytes() == ObjectId::null(kind).as_bytes()
+        || (id.as_bytes() == empty_tree.as_bytes() && !is_empty_tree)
+}
+
+/// The path of an object's file.
+pub fn object_place(alloc: Global, id: &ObjectId) -> Result<Vec<u8>, AllocError>
+    ensures { IfOk result (λ place. place.items ≡ object_place (id_bytes id.now)) }
+{
+    let digits = id.to_hex();
+    let mut place = Vec::from_slice(alloc, b"objects/")?;
+    place.extend_from_slice(&digits[..2])?;
+    place.push(b'/')?;
+    place.extend_from_slice(&digits[2..])?;
+    Ok(place)
+}
+
+// A text without so many bytes at its front.
+fn without_front(mut text: Vec<u8>, front: usize) -> Vec<u8>
+    requires { front ≤ vec_len text }
+    ensures { result.items ≡ drop front text.items }
+{
+    let length = text.len();
+    text.rotate_left(front);
+    text.truncate(length - front);
+    text
+}
