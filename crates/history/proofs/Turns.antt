@@ -1,0 +1,58 @@
+-- What was taken through a buffer, and how many readings that took.
+use Rattle.std.proofs.Common.{refl, ◌≡◌, ℕ, ◌+◌, ◌-◌, ◌^◌, ◌<◌, ◌≤◌, min, Option, List, [], ◌∷◌, ◌++◌, length, subst, sym, arith}
+use Rattle.std.proofs.lemmas.List.{length-append}
+use Rattle.history_word.specs.declared.buffer.Buffer.{Buffer}
+use Rattle.history_word.specs.Buffer.{readings_made, work}
+use Rattle.history_word.specs.Taking.{Took, Came}
+use Rattle.std.specs.List.{join_with_byte}
+use Rattle.history_model.specs.Commands.{Command, Commit, Tag, Move, Rename, Delete, Switch, Pack, Index, Names, Files, Past, Log, Show}
+use Rattle.history_model.specs.Spelling.{Part, Line, parts_of, parts_text, spelling}
+use Rattle.history_model.specs.Grammar.{Spells}
+use Rattle.history.specs.Runs.{MadeReadings, MadeLastReading}
+
+pub made_by_taking : {S : Type 0} (left : S → Option (List ℕ)) (readings : S → ℕ) (s : S) (b : Buffer) (t : S) (c : Buffer) (taken : List ℕ) → Took left readings s b t c taken → MadeReadings (readings s) b (readings t) c
+made_by_taking left readings s b t c taken h = record { made = h.made; made_through = h.made_through; counted = h.counted }
+
+pub made_by_coming : {S : Type 0} (left : S → Option (List ℕ)) (readings : S → ℕ) (s : S) (b : Buffer) (t : S) (c : Buffer) (bytes : List ℕ) → Came left readings s b t c bytes → MadeReadings (readings s) b (readings t) c
+made_by_coming left readings s b t c bytes h = record { made = h.made; made_through = h.made_through; counted = h.counted }
+
+pub made_none : (n : ℕ) (b : Buffer) → MadeReadings n b n b
+made_none n b = record { made = 0; made_through = omega arith; counted = omega arith }
+
+pub made_then : (l m n : ℕ) (b c d : Buffer) → MadeReadings l b m c → MadeReadings m c n d → MadeReadings l b n d
+made_then l m n b c d h k = record { made = h.made + k.made; made_through = omega (arith, h.made_through, k.made_through); counted = omega (arith, h.counted, k.counted) }
+
+pub made_last : (m n : ℕ) (b c : Buffer) → readings_made b ≡ 0 → MadeReadings m b n c → readings_made c ≡ 2 ^ 64 - 1 → MadeLastReading m n
+made_last m n b c fresh h last = record { made = h.made; all = omega (arith, h.made_through, fresh, last); counted = h.counted }
+
+line_first : (parts : List Part) (words : List (List ℕ)) (more : List Part) → parts ≡ Line words ∷ more → 0 < length (parts_text parts)
+line_first parts words more e =
+    let text = join_with_byte 32 words in
+    let h : 0 < length (parts_text (Line words ∷ more)) = omega (arith, length-append (text ++ 10 ∷ []) (parts_text more), length-append text (10 ∷ [])) in
+    let P : List Part → Type 0 = λ ps. 0 < length (parts_text ps) in
+    subst P (sym e) h
+
+-- a command's text is not empty
+pub spelling_some : (command : Command) → 0 < length (spelling command)
+spelling_some (Commit c) = line_first (parts_of (Commit c)) _ _ refl
+spelling_some (Tag c) = line_first (parts_of (Tag c)) _ _ refl
+spelling_some (Move c) = line_first (parts_of (Move c)) _ _ refl
+spelling_some (Rename from to) = line_first (parts_of (Rename from to)) _ _ refl
+spelling_some (Delete name at) = line_first (parts_of (Delete name at)) _ _ refl
+spelling_some (Switch name) = line_first (parts_of (Switch name)) _ _ refl
+spelling_some Pack = line_first (parts_of Pack) _ _ refl
+spelling_some Index = line_first (parts_of Index) _ _ refl
+spelling_some (Names folder) = line_first (parts_of (Names folder)) _ _ refl
+spelling_some (Files word) = line_first (parts_of (Files word)) _ _ refl
+spelling_some (Past name) = line_first (parts_of (Past name)) _ _ refl
+spelling_some (Log c) = line_first (parts_of (Log c)) _ _ refl
+spelling_some (Show word path) = line_first (parts_of (Show word path)) _ _ refl
+
+-- a whole command was taken, so less is left to take
+pub less_by_command : {S : Type 0} (left : S → Option (List ℕ)) (readings : S → ℕ) (s : S) (b : Buffer) (t : S) (c : Buffer) (taken : List ℕ) (command : Command) → Took left readings s b t c taken → Spells taken command → work c < work b
+less_by_command left readings s b t c taken command h k =
+    let some : 0 < length taken = let P : List ℕ → Type 0 = λ xs. 0 < length xs in subst P (sym k.1) (spelling_some command) in
+    omega (arith, h.less_work, some)
+
+pub no_more_by_nothing : {S : Type 0} (left : S → Option (List ℕ)) (readings : S → ℕ) (s : S) (b : Buffer) (t : S) (c : Buffer) → Took left readings s b t c [] → work c ≤ work b
+no_more_by_nothing left readings s b t c h = omega (arith, h.less_work)

@@ -1,0 +1,27 @@
+-- What callers see of a repository.
+use Rattle.std.specs.Prelude.{◌≡◌, Bool}
+use Rattle.history.specs.declared.repository.Repository.{Repository}
+
+-- the files of the part that holds the objects
+abbrev pub objects_part : {F : Type 0} → Repository F → F
+objects_part repository = repository.objects.files
+
+-- the files of the part that holds HEAD, the names and their logs
+abbrev pub names_part : {F : Type 0} → Repository F → F
+names_part repository = repository.names.files
+
+-- whether a command that changes files met a fault
+abbrev pub has_failed : {F : Type 0} → Repository F → Bool
+has_failed repository = repository.has_failed
+
+-- A part of a command left all but the objects as it was.
+pub record KeepsAllButObjects {F : Type 0} (old new : Repository F) : Type 0 where
+  pub names : new.names ≡ old.names
+  pub branch : new.branch ≡ old.branch
+  pub failed : new.has_failed ≡ old.has_failed
+
+-- A part of a command left all but the names as it was.
+pub record KeepsAllButNames {F : Type 0} (old new : Repository F) : Type 0 where
+  pub objects : new.objects ≡ old.objects
+  pub branch : new.branch ≡ old.branch
+  pub failed : new.has_failed ≡ old.has_failed

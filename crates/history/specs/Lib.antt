@@ -1,0 +1,4 @@
+pub mod Face
+pub mod Faults
+pub mod Replies
+pub mod Runs

@@ -1,0 +1,34 @@
+//! A version store with Git's ids, names and logs: a repository, and a run of commands over it.
+//!
+//! [`create`] makes a repository of two file trees, [`Repository::open`] opens one, and [`run`] reads commands, acts on
+//! each and writes its reply.
+#![tactic(auto)]
+
+mod act;
+mod actors;
+mod commit;
+mod fields;
+mod listing;
+mod open;
+mod reply;
+mod repository;
+mod running;
+mod showing;
+mod stopped;
+mod stored;
+mod words;
+
+/// The file trees that a repository stands on.
+pub mod files {
+    pub use gix_ref_file::{FileError, Files, Fuse, MemoryFiles, Place};
+}
+
+pub use history_model::{Cause, End, Fault, Kind};
+pub use history_store::{CreateError, create};
+pub use history_word::{Broken, Bytes, Collected, Sink, Source, Stream};
+pub use open::{OpenError, OpenRefusal};
+pub use repository::Repository;
+pub use running::{RunError, run};
+
+#[cfg(test)]
+mod tests;

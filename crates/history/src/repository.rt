@@ -1,0 +1,36 @@
+//! A repository over two file trees.
+
+ghost use Rattle.std.specs.Prelude.{◌≡◌};
+
+use gix_ref_file::Files;
+use history_store::{Names, Objects};
+
+/// A repository over two file trees: one holds the objects, the other HEAD, the names and their logs.
+#[derive(Drop)]
+pub struct Repository<F: Files> {
+    pub(crate) objects: Objects<F>,
+    pub(crate) names: Names<F>,
+    /// The name that HEAD stands for.
+    pub(crate) branch: Vec<u8>,
+    pub(crate) has_failed: bool,
+}
+
+impl<F: Files> Repository<F> {
+    ghost use Rattle.history.specs.Face.{objects_part, names_part, has_failed};
+
+    /// Gives back the objects part and the names part, as they stand.
+    pub fn into_parts(self) -> (F, F)
+        ensures objects { result.0 ≡ objects_part self }
+        ensures names { result.1 ≡ names_part self }
+    {
+        (self.objects.into_files(), self.names.into_files())
+    }
+
+    /// Whether a command that changes files met a fault. The files then hold what a stop may leave, and [`run`](crate::run)
+    /// acts on no further command: the parts are to be recovered and opened again.
+    pub fn has_failed(&self) -> bool
+        ensures { result ≡ has_failed self.now }
+    {
+        self.has_failed
+    }
+}

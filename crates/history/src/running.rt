@@ -1,0 +1,102 @@
+//! A run: commands are read, acted on and answered, one after another.
+
+ghost use Rattle.std.specs.Prelude.{◌≡◌, ◌<◌, ◌⊎◌, true, false, Ok, Err, Some, IfOk, IfNone, OnErr};
+ghost use Rattle.std.specs.Io.KnownBytes.{IsAtEnd};
+ghost use Rattle.history_word.specs.Buffer.{work, readings_made};
+ghost use Rattle.history_word.specs.Taking.{IsLast};
+ghost use Rattle.history_model.specs.declared.End.TheVariants.{Input};
+ghost use Rattle.history.specs.declared.running.RunError.TheVariants.{Read, Write};
+ghost use Rattle.history.specs.Face.{has_failed};
+ghost use Rattle.history.specs.Runs.{is_fault_end, is_last_fault, MadeReadings, MadeLastReading};
+
+use crate::reply::Reply;
+use crate::repository::Repository;
+use gix_ref_file::Files;
+use history_model::End;
+use history_word::{Broken, Buffer, Sink, Source, Stop, read_command, write_all};
+use std::alloc::Global;
+use thiserror::Error;
+
+/// Which side of a run has failed.
+#[derive(Clone, Copy, Debug, PartialEq, Eq, Error)]
+pub enum RunError {
+    /// The reader has failed, or gave as many readings as a `u64` counts. No further command was acted on.
+    #[error("the reader has failed")]
+    Read,
+    /// The writer has failed. The last command was acted on, and its reply, or the answer to a rest, stands in part.
+    #[error("the writer has failed")]
+    Write,
+}
+
+/// Writes a whole reply.
+fn send<W: Sink>(writer: &mut W, reply: &Reply) -> Result<(), RunError>
+    ensures { OnErr result ((result ≡ Err Write) × (W.has_failed writer.new ≡ true)) }
+{
+    write_all(writer, reply.text()).map_err(|_| RunError::Write)
+}
+
+/// Reads a command, acts on it and answers it; tells the end of the run, where this is it.
+fn turn<R: Source, W: Sink, F: Files>(
+    alloc: Global,
+    buffer: &mut Buffer,
+    reader: &mut R,
+    writer: &mut W,
+    repository: &mut Repository<F>,
+) -> Result<Option<End>, RunError>
+    ensures work { IfOk result (λ end. IfNone end (work buffer.new < work buffer.old)) }
+    ensures readings { MadeReadings (R.readings reader.old) buffer.old (R.readings reader.new) buffer.new }
+    ensures input { result ≡ Ok (Some Input) → IsAtEnd (R.left reader.new) }
+    ensures read { result ≡ Err Read → (R.has_failed reader.new ≡ true) ⊎ IsLast buffer.new }
+    ensures write { result ≡ Err Write → W.has_failed writer.new ≡ true }
+    ensures failed { has_failed repository.old ≡ false → IfOk result (λ end. has_failed repository.new ≡ is_last_fault end) }
+{
+    if !buffer.has_more(reader).map_err(|_| RunError::Read)? {
+        return Ok(Some(End::Input));
+    }
+    match read_command(alloc, buffer, reader) {
+        Ok(reading) => {
+            let reply = repository.answer(alloc, reading);
+            send(writer, &reply)?;
+            Ok(if repository.has_failed() {
+                Some(End::Fault)
+            } else {
+                None
+            })
+        }
+        Err(Stop::Refused(cause)) => {
+            send(writer, &Reply::Refused(cause))?;
+            Ok(Some(End::Refused))
+        }
+        Err(Stop::Broken) => Err(RunError::Read),
+    }
+}
+
+/// Reads commands to the end of the input, acts on each and writes its reply.
+///
+/// A command is read whole and acted on, and its whole reply is made, before a byte of it is written. The run ends with
+/// `Input` where the input ends between two commands, with `Refused` where the rest of it is no command, and with
+/// `Fault` after a fault in a command that changes files, which makes the repository failed: then a later run reads and
+/// writes nothing, and ends with `Fault`.
+pub fn run<R: Source, W: Sink, F: Files>(
+    alloc: Global,
+    reader: &mut R,
+    writer: &mut W,
+    repository: &mut Repository<F>,
+) -> Result<End, RunError>
+    ensures input { result ≡ Ok Input → IsAtEnd (R.left reader.new) }
+    ensures read { result ≡ Err Read → (R.has_failed reader.new ≡ true) ⊎ MadeLastReading (R.readings reader.old) (R.readings reader.new) }
+    ensures write { result ≡ Err Write → W.has_failed writer.new ≡ true }
+    ensures fault { IfOk result (λ end. has_failed repository.new ≡ is_fault_end end) }
+    ensures failed { has_failed repository.old ≡ true
+        → (result ≡ Ok End.Fault) × (reader.new ≡ reader.old) × (writer.new ≡ writer.old) × (repository.new ≡ repository.old) }
+{
+    if repository.has_failed() {
+        return Ok(End::Fault);
+    }
+    let mut buffer = Buffer::new();
+    loop {
+        if let Some(end) = turn(alloc, &mut buffer, reader, writer, repository)? {
+            return Ok(end);
+        }
+    }
+}

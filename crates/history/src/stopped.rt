@@ -1,0 +1,73 @@
+//! Why a command has no result.
+
+ghost use Rattle.std.specs.Prelude.{◌≡◌};
+ghost use Rattle.history_model.specs.declared.Fault.TheVariants.{Memory};
+ghost use Rattle.history.specs.declared.stopped.Stopped.TheVariants.{Refused, Fault as ByFault};
+ghost use Rattle.history.specs.Faults.{file_fault, put_fault};
+
+use gix_ref_file::FileError;
+use history_model::{Cause, Fault};
+use history_store::PutError;
+use std::alloc::{AllocError, AllocFailed};
+
+/// Why a command isn't done.
+#[derive(Clone, Copy, Debug, PartialEq, Eq)]
+pub(crate) enum Stopped {
+    Refused(Cause),
+    Fault(Fault),
+}
+
+impl From<Cause> for Stopped {
+    ghost from_gives = { λ cause stopped. stopped ≡ Refused cause };
+
+    fn from(cause: Cause) -> Stopped {
+        Stopped::Refused(cause)
+    }
+}
+
+impl From<Fault> for Stopped {
+    ghost from_gives = { λ fault stopped. stopped ≡ ByFault fault };
+
+    fn from(fault: Fault) -> Stopped {
+        Stopped::Fault(fault)
+    }
+}
+
+impl From<AllocError> for Stopped {
+    ghost from_gives = { λ _ stopped. stopped ≡ ByFault Memory };
+
+    fn from(_: AllocError) -> Stopped {
+        Stopped::Fault(Fault::Memory)
+    }
+}
+
+impl<T: Drop> From<AllocFailed<T>> for Stopped {
+    ghost from_gives = { λ _ stopped. stopped ≡ ByFault Memory };
+
+    fn from(_: AllocFailed<T>) -> Stopped {
+        Stopped::Fault(Fault::Memory)
+    }
+}
+
+impl From<FileError> for Stopped {
+    ghost from_gives = { λ error stopped. stopped ≡ ByFault (file_fault error) };
+
+    fn from(error: FileError) -> Stopped {
+        Stopped::Fault(match error {
+            FileError::Failed => Fault::File,
+            FileError::Memory => Fault::Memory,
+        })
+    }
+}
+
+impl From<PutError> for Stopped {
+    ghost from_gives = { λ error stopped. stopped ≡ ByFault (put_fault error) };
+
+    fn from(error: PutError) -> Stopped {
+        Stopped::Fault(match error {
+            PutError::IdTaken(_) => Fault::IdTaken,
+            PutError::File => Fault::File,
+            PutError::Memory => Fault::Memory,
+        })
+    }
+}
