@@ -1,0 +1,12 @@
+pub mod EmptyObjects
+pub mod ByteLists
+pub mod Texts
+pub mod Reading
+pub mod Padding
+pub mod Compared
+pub mod PrefixLemmas
+pub mod Edges
+pub mod PieceLemmas
+pub mod KindLemmas
+pub mod PaddedOrder
+pub mod LawLemmas

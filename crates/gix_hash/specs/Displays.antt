@@ -1,0 +1,14 @@
+-- What the displays of the crate print.
+use Rattle.std.specs.Prelude.{ℕ, List, take}
+use Rattle.gix_hash.specs.declared.display.HexDisplay.{HexDisplay}
+use Rattle.gix_hash.specs.declared.display.ReverseHexDisplay.{ReverseHexDisplay}
+use Rattle.gix_hash.specs.Views.{viewed_id}
+use Rattle.gix_hash.specs.Spelling.{hex_text, reverse_hex_text}
+
+-- the digits that are asked for, all if there are fewer
+abbrev pub shown_hex : HexDisplay → List ℕ
+shown_hex d = take d.hex_len (hex_text (viewed_id d.inner).digits)
+
+-- the same in reverse hexadecimal
+abbrev pub shown_reverse_hex : ReverseHexDisplay → List ℕ
+shown_reverse_hex d = take d.hex_len (reverse_hex_text (viewed_id d.inner).digits)

@@ -1,0 +1,17 @@
+pub mod Kind
+pub mod Id
+pub mod Order
+pub mod Prefix
+pub mod Spelling
+pub mod Hasher
+pub mod Views
+pub mod Displays
+pub mod Fed
+pub mod Run
+pub mod Pieces
+pub mod Packed
+pub mod PrefixInside
+pub mod SameWrites
+pub mod Faults
+pub mod OrderLaws
+pub mod ChangeIdInside

@@ -1,0 +1,66 @@
+-- How the code keeps an id and the beginning of one: digits two to a byte, and zeros after a
+-- beginning's last digit. No contract speaks of it.
+use Rattle.std.specs.Prelude.{ℕ, ◌≡◌, ◌+◌, ◌-◌, ◌*◌, ◌/◌, ◌%◌, ◌≤◌, List, [], ◌∷◌, ◌++◌, length, take, drop, replicate}
+use Rattle.std.proofs.Common.{refl, ap, ◌∙◌, arith, sym, length-take}
+use Rattle.std.proofs.lemmas.List.{take-append-drop}
+use Rattle.gix_hash.specs.declared.kind.Kind.{Kind}
+use Rattle.gix_hash.specs.declared.kind.Kind.TheVariants as kinds
+use Rattle.gix_hash.specs.declared.object_id.ObjectId.{ObjectId}
+use Rattle.gix_hash.specs.declared.object_id.ObjectId.TheVariants.{Sha1, Sha256}
+use Rattle.gix_hash.specs.Kind.{hex_len}
+use Rattle.gix_hash.specs.Id.{Id, id_of, digits_of}
+
+-- the bytes of an even number of digits
+abbrev pub bytes_from : List ℕ → List ℕ
+bytes_from [] = []
+bytes_from (a ∷ []) = []
+bytes_from (a ∷ b ∷ rest) = (a * 16 + b) ∷ bytes_from rest
+
+-- the value of a kind with these digits
+abbrev pub packed : Kind → List ℕ → ObjectId
+packed kinds.Sha1 digits = Sha1 (bytes_from digits)
+packed kinds.Sha256 digits = Sha256 (bytes_from digits)
+
+-- the value that is an id
+abbrev pub object_id_of : Id → ObjectId
+object_id_of id = packed id.kind id.digits
+
+-- the first n digits of a value
+abbrev pub beginning_of : ObjectId → ℕ → Id
+beginning_of id n = record { kind = (id_of id).kind; digits = take n (id_of id).digits }
+
+-- the value that is a beginning, with zeros after it
+abbrev pub padded_id_of : Id → ObjectId
+padded_id_of v = packed v.kind (v.digits ++ replicate (hex_len v.kind - length v.digits) 0)
+
+-- a value is zero from its digit n on
+pub record IsZeroFrom (id : ObjectId) (n : ℕ) : Type 0 where
+  pub whole : length (id_of id).digits ≡ hex_len (id_of id).kind
+  pub fits : n ≤ hex_len (id_of id).kind
+  pub zeros : drop n (id_of id).digits ≡ replicate (hex_len (id_of id).kind - n) 0
+
+-- the bytes of bytes' digits are those bytes
+pub bytes_from-digits_of : (xs : List ℕ) → bytes_from (digits_of xs) ≡ xs
+bytes_from-digits_of [] = refl
+bytes_from-digits_of (x ∷ xs) =
+    let same : x / 16 * 16 + x % 16 ≡ x = omega arith in
+    let rest = bytes_from-digits_of xs in
+    cc
+
+-- a value is found by its id
+pub object_id_of-id_of : (id : ObjectId) → object_id_of (id_of id) ≡ id
+object_id_of-id_of (Sha1 bytes) = ap (λ (xs : List ℕ). Sha1 xs) (bytes_from-digits_of bytes)
+object_id_of-id_of (Sha256 bytes) = ap (λ (xs : List ℕ). Sha256 xs) (bytes_from-digits_of bytes)
+
+-- the number of digits of a beginning
+pub length-beginning_of : (id : ObjectId) (n : ℕ) → IsZeroFrom id n → length (beginning_of id n).digits ≡ n
+length-beginning_of id n h = let len = length-take n (id_of id).digits in omega (arith, len, h.whole, h.fits)
+
+-- a value that is zero after a beginning is found by it
+pub padded_id_of-beginning_of : (id : ObjectId) (n : ℕ) → IsZeroFrom id n → padded_id_of (beginning_of id n) ≡ id
+padded_id_of-beginning_of id n h =
+    let ds = (id_of id).digits in
+    let whole : take n ds ++ replicate (hex_len (id_of id).kind - length (take n ds)) 0 ≡ ds =
+    ap (λ (k : ℕ). take n ds ++ replicate (hex_len (id_of id).kind - k) 0) (length-beginning_of id n h)
+    ∙ ap (λ (zeros : List ℕ). take n ds ++ zeros) (sym h.zeros) ∙ take-append-drop n ds in
+    ap (λ (digits : List ℕ). packed (id_of id).kind digits) whole ∙ object_id_of-id_of id

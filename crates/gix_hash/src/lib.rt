@@ -1,0 +1,27 @@
+//! Git's object ids, prefixes of ids, digests and hashing of streams, after the crate `gix-hash` 0.26.
+#![tactic(auto)]
+
+mod borrowed;
+mod change_id;
+mod display;
+pub mod hasher;
+pub mod io;
+mod kind;
+pub mod laws;
+mod object_id;
+pub mod prefix;
+mod run;
+mod spelling;
+#[cfg(test)]
+mod tests;
+pub mod verify;
+
+pub use crate::borrowed::{Error, oid};
+pub use crate::change_id::ChangeId;
+pub use crate::display::{HexDisplay, ReverseHexDisplay};
+pub use crate::hasher::Hasher;
+pub use crate::io::{bytes, bytes_of_file, bytes_with_hasher};
+pub use crate::kind::Kind;
+pub use crate::object_id::{ObjectId, decode};
+pub use crate::prefix::Prefix;
+pub use crate::run::{Run, can_run, prefix_run};
