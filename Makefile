@@ -19,6 +19,8 @@ bench: program
 install: program
 	install -D -m 755 $(PROGRAM) $(DESTDIR)$(PREFIX)/bin/history
 
-# Proves, compiles and links the program; its first run is on the stream that is kept beside it.
+# Proves, compiles and links the program: minutes the first time, seconds afterwards. Its own run is on the stream kept beside it.
 program:
-	cd crates/history_program && rt run > /dev/null
+	@echo 'building the program'
+	@cd crates/history_program && log=$$(mktemp) && \
+	if rt run < stdin > /dev/null 2> "$$log"; then rm "$$log"; else cat "$$log"; rm "$$log"; exit 1; fi

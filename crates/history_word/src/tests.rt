@@ -142,36 +142,36 @@ fn words_and_paths(rt: HostRuntime) {
     );
 }
 
+/// What the commit that was read expects: `any`, `new`, or the word behind `at`.
+fn expected(reading: &Result<Reading, Stop>) -> Option<&[u8]> {
+    match reading {
+        Ok(Reading::Command(Command::Commit(commit))) => match &commit.expect {
+            Expect::Any => Some(b"any".as_slice()),
+            Expect::New => Some(b"new".as_slice()),
+            Expect::At(word) => Some(word.as_slice()),
+        },
+        _ => None,
+    }
+}
+
 #[test]
 fn expectations(rt: HostRuntime) {
-    let rest = b"author 0 0 s o\n\n\ncommitter 0 0 s o\n\n\nmessage 0\n\nend\n";
-    for (expect, kind) in [
-        (b"any".as_slice(), 0),
-        (b"new".as_slice(), 1),
-        (b"at main".as_slice(), 2),
+    for (input, wanted) in [
+        (
+            b"commit HEAD any\nauthor 0 0 s o\n\n\ncommitter 0 0 s o\n\n\nmessage 0\n\nend\n".as_slice(),
+            b"any".as_slice(),
+        ),
+        (
+            b"commit HEAD new\nauthor 0 0 s o\n\n\ncommitter 0 0 s o\n\n\nmessage 0\n\nend\n".as_slice(),
+            b"new".as_slice(),
+        ),
+        (
+            b"commit HEAD at main\nauthor 0 0 s o\n\n\ncommitter 0 0 s o\n\n\nmessage 0\n\nend\n".as_slice(),
+            b"main".as_slice(),
+        ),
     ] {
-        let mut input = Vec::new(rt.alloc());
-        let made = input.extend_from_slice(b"commit HEAD ").is_ok()
-            && input.extend_from_slice(expect).is_ok()
-            && input.push(b'\n').is_ok()
-            && input.extend_from_slice(rest).is_ok();
-        assert!(&rt; made);
-        let Ok(Reading::Command(Command::Commit(commit))) = read(&rt, &input) else {
-            assert!(&rt; false);
-            return;
-        };
-        let found = match commit.expect {
-            Expect::Any => 0,
-            Expect::New => 1,
-            Expect::At(word) => {
-                if word.as_slice() == b"main".as_slice() {
-                    2
-                } else {
-                    3
-                }
-            }
-        };
-        assert!(&rt; found == kind);
+        let reading = read(&rt, input);
+        assert!(&rt; matches!(expected(&reading), Some(word) if word == wanted));
     }
 }
 
