@@ -1,8 +1,9 @@
 # On a fresh machine with `rt` on the path each of these works alone.
 PREFIX ?= /usr/local
 PROGRAM := crates/history_program/out/history_program
+HASHING := crates/gix_hash_bench/out/gix_hash_bench
 
-.PHONY: test demo bench install program
+.PHONY: test demo bench faults install program hashing
 
 # The merge gate: every proof from nothing, the must-fail edits, the tests and the program.
 test:
@@ -12,9 +13,14 @@ test:
 demo: program
 	$(PROGRAM) < demo/first.stream
 
-# A report, no test: commits per second as the history grows, and one large content.
-bench: program
+# A report, no test: commits per second as the history grows, one large content, the hashing of a stream and look-ups of prefixes.
+bench: program hashing
 	bench/report $(PROGRAM)
+	bench/hashing $(HASHING)
+
+# Refuses each growth of memory of the program's own run in turn; it needs a C compiler.
+faults: program
+	faults/report $(PROGRAM)
 
 install: program
 	install -D -m 755 $(PROGRAM) $(DESTDIR)$(PREFIX)/bin/history
@@ -23,4 +29,10 @@ install: program
 program:
 	@echo 'building the program'
 	@cd crates/history_program && log=$$(mktemp) && \
+	if rt run < stdin > /dev/null 2> "$$log"; then rm "$$log"; else cat "$$log"; rm "$$log"; exit 1; fi
+
+# Proves, compiles and links what bench/hashing times.
+hashing:
+	@echo 'building what bench/hashing times'
+	@cd crates/gix_hash_bench && log=$$(mktemp) && \
 	if rt run < stdin > /dev/null 2> "$$log"; then rm "$$log"; else cat "$$log"; rm "$$log"; exit 1; fi

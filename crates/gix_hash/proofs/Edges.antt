@@ -12,8 +12,9 @@ use Rattle.gix_hash.specs.declared.run.Edge.{Edge}
 use Rattle.gix_hash.specs.declared.run.Edge.TheVariants.{First, Past}
 use Rattle.gix_hash.specs.Order.{digits_cmp, IsBeginningOf}
 use Rattle.gix_hash.specs.declared.object_id.ObjectId.{ObjectId}
-use Rattle.gix_hash.specs.Id.{Id, id_of}
+use Rattle.gix_hash.specs.Id.{Id, id_of, digits_of}
 use Rattle.gix_hash.specs.Run.{comes_before, against, IsAscending, HasEnoughDigits, IsMatchingRun}
+use Rattle.gix_hash.proofs.ByteLists.{length-digits_of}
 use Rattle.gix_hash.proofs.Compared.{cmp_less, cmp_equal, cmp_greater}
 
 -- the second answer is no later than the first
@@ -246,3 +247,12 @@ neighbour_test ids n a b d r some room e h =
     opposite_of : (t : Bool) → not t ≡ true → t ≡ false
     opposite_of true e = cc
     opposite_of false e = refl
+
+-- an id with fewer digits than the prefix, whatever the default
+pub too_few_digits : (ids : List ObjectId) (prefix : Id) (n : ℕ) (d : ObjectId) (bytes : List ℕ) → HasEnoughDigits ids prefix → n < length ids
+    → digits_of bytes ≡ (id_of (get_or ids n d)).digits → 2 * length bytes < length prefix.digits → ⊥
+too_few_digits ids prefix n d bytes enough room is few =
+    let here : length prefix.digits ≤ length (id_of (get_or ids n d)).digits = enough n d room in
+    let same = ap (λ (ds : List ℕ). length ds) is in
+    let count = length-digits_of bytes in
+    omega arith

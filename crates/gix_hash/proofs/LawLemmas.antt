@@ -1,18 +1,22 @@
 -- The laws of spellings.
-use Rattle.std.proofs.Common.{◌≡◌, ℕ, zero, suc, ◌+◌, ◌-◌, ◌<◌, List, [], ◌∷◌, ◌++◌, length, map, get_or, Some, refl, ap, ◌∙◌, arith, inl, inr, ◌⊎◌, min, subst}
-use Rattle.gix_hash.specs.declared.kind.Kind.{Kind}
-use Rattle.gix_hash.specs.Kind.{hex_len}
-use Rattle.gix_hash.specs.Views.{IsBytesOf}
-use Rattle.gix_hash.proofs.KindLemmas.{hex_len-injective}
-use Rattle.std.specs.Prelude.{sum}
-use Rattle.std.proofs.lemmas.Bool.{cases_lt}
+use Rattle.std.proofs.Common.{◌≡◌, ℕ, zero, suc, ◌+◌, ◌-◌, ◌<◌, List, [], ◌∷◌, ◌++◌, ◌≤◌, length, length-append, map, get_or, Some, refl, sym, ap, ◌∙◌, arith, inl, inr, ◌⊎◌, min, subst, Bool}
+use Rattle.std.specs.Prelude.{sum, IsTrue, ◌↔◌}
+use Rattle.std.proofs.lemmas.Bool.{cases_eq, cases_lt}
 use Rattle.std.proofs.lemmas.List.Sums.{sum_by-cons}
 use Rattle.std.proofs.lemmas.Bool.Decides.{nat_tests}
+use Rattle.hex.specs.Hex.{hex_digit_value}
 use Rattle.hex.proofs.HexLemmas.{IsDigits-lower_digits}
+use Rattle.gix_hash.specs.declared.kind.Kind.{Kind}
+use Rattle.gix_hash.specs.Kind.{hex_len, kind_of_byte_len}
+use Rattle.gix_hash.specs.Views.{IsBytesOf}
 use Rattle.gix_hash.specs.Id.{Id, digits_of}
-use Rattle.gix_hash.specs.Order.{digits_cmp, IsBeginningOf}
+use Rattle.gix_hash.specs.Order.{digits_cmp, id_eq, IsBeginningOf, BeginsAllOf, BeginNoneTogether}
+use Rattle.gix_hash.specs.OrderLaws.{id_eq-same, id_eq-itself}
 use Rattle.gix_hash.specs.Spelling.{hex_text, reverse_hex_text, reverse_digit_value, reverse_character, IsHexOf, IsReverseHexOf}
-use Rattle.gix_hash.specs.Pieces.{piece_lengths, bytes_in_pieces}
+use Rattle.gix_hash.specs.Pieces.{piece_lengths, bytes_in_pieces, IsPieceCount}
+use Rattle.gix_hash.proofs.KindLemmas.{hex_len-injective, hex_len-byte_len}
+use Rattle.gix_hash.proofs.ByteLists.{id-digits_len}
+use Rattle.gix_hash.proofs.PrefixLemmas.{hex_len-small}
 use Rattle.gix_hash.proofs.Compared.{cmp_less, cmp_equal, cmp_greater}
 
 -- digits are below 16
@@ -68,21 +72,39 @@ reverse_cmp (x ∷ xs) (y ∷ ys) e (more lx hx) (more ly hy) =
       ]
     ]
 
--- of two beginnings of one list one begins the other
-pub beginnings_nest : (xs ys ds : List ℕ) → IsBeginningOf xs ds → IsBeginningOf ys ds → IsBeginningOf xs ys ⊎ IsBeginningOf ys xs
-beginnings_nest [] ys ds h g = inl (ys, refl)
-beginnings_nest (x ∷ xs) [] ds h g = inr ((x ∷ xs), refl)
-beginnings_nest (x ∷ xs) (y ∷ ys) [] h g = cc
-beginnings_nest (x ∷ xs) (y ∷ ys) (d ∷ ds) h g =
-    let he = h.1 in
-    let ge = g.1 in
-    let first : y ≡ x = cc in
-    let left : ds ≡ xs ++ h.0 = cc in
-    let right : ds ≡ ys ++ g.0 = cc in
-    elim (beginnings_nest xs ys ds (h.0, left) (g.0, right)) [
-      | inl a ↦ inl (a.0, let e = a.1 in cc)
-      | inr b ↦ inr (b.0, let e = b.1 in cc)
+-- the first character of what two lists begin
+first_same : (x y : ℕ) (xs ys ds : List ℕ) → IsBeginningOf (x ∷ xs) ds → IsBeginningOf (y ∷ ys) ds → x ≡ y
+first_same x y xs ys ds h g = let he = h.1 in let ge = g.1 in cc
+
+-- one digit before both
+begins_all_more : (x : ℕ) (xs ys : List ℕ) → BeginsAllOf xs ys → BeginsAllOf (x ∷ xs) (x ∷ ys)
+begins_all_more x xs ys h ds g =
+    let rest = h (ys ++ g.0) (g.0, refl) in
+    let all = g.1 in
+    let here = rest.1 in
+    (rest.0, all ∙ ap (λ (zs : List ℕ). x ∷ zs) here)
+
+begin_none_more : (x : ℕ) (xs ys : List ℕ) → BeginNoneTogether xs ys → BeginNoneTogether (x ∷ xs) (x ∷ ys)
+begin_none_more x xs ys h ds f g =
+    let left = f.1 in
+    let right = g.1 in
+    let same : xs ++ f.0 ≡ ys ++ g.0 = cc in
+    h (xs ++ f.0) (f.0, refl) (g.0, same)
+
+-- of two lists one begins all that the other begins, or they begin nothing in common
+pub nest_or_apart : (xs ys : List ℕ) → BeginsAllOf xs ys ⊎ (BeginsAllOf ys xs ⊎ BeginNoneTogether xs ys)
+nest_or_apart [] ys = inl (λ ds h. (ds, refl))
+nest_or_apart (x ∷ xs) [] = inr (inl (λ ds h. (ds, refl)))
+nest_or_apart (x ∷ xs) (y ∷ ys) = elim (cases_eq x y) [
+  | inl same ↦ rw (← same) (elim (nest_or_apart xs ys) [
+    | inl a ↦ inl (begins_all_more x xs ys a)
+    | inr rest ↦ elim rest [
+      | inl b ↦ inr (inl (begins_all_more x ys xs b))
+      | inr c ↦ inr (inr (begin_none_more x xs ys c))
     ]
+  ])
+  | inr differ ↦ inr (inr (λ ds f g. differ (first_same x y xs ys ds f g)))
+]
 
 -- the lengths of pieces add up
 pub sum-piece_lengths : (n k : ℕ) → sum (piece_lengths n k) ≡ bytes_in_pieces n k
@@ -103,3 +125,61 @@ one_reading a b len e =
 -- an id's digits are below 16 where its bytes fit
 pub id-AreDigits : (id : Id) (bytes : List ℕ) → IsBytesOf bytes id → ((i : ℕ) → get_or bytes i 0 < 256) → AreDigits id.digits
 id-AreDigits id bytes h fits = subst (λ (ds : List ℕ). AreDigits ds) h.digits (digits_of-AreDigits bytes fits)
+
+-- so all pieces' lengths add up to all bytes
+pub sum-all_pieces : (n k : ℕ) → IsPieceCount n k → sum (piece_lengths n k) ≡ n
+sum-all_pieces n k h = let e = sum-piece_lengths n k in let all = h.all in omega arith
+
+-- the digits of a front
+pub AreDigits-front : (xs ys : List ℕ) → AreDigits (xs ++ ys) → AreDigits xs
+AreDigits-front [] ys h = none
+AreDigits-front (x ∷ xs) ys (more low h) = more low (AreDigits-front xs ys h)
+
+-- those of bytes that fit
+pub bytes-AreDigits : (digits bytes : List ℕ) → digits_of bytes ≡ digits → ((i : ℕ) → get_or bytes i 0 < 256) → AreDigits digits
+bytes-AreDigits digits bytes is fits = subst (λ (ds : List ℕ). AreDigits ds) is (digits_of-AreDigits bytes fits)
+
+-- those of a prefix, whose bytes have zeros after them
+pub front-AreDigits : (front digits zeros bytes : List ℕ) → digits ≡ front ++ zeros → digits_of bytes ≡ digits → ((i : ℕ) → get_or bytes i 0 < 256) → AreDigits front
+front-AreDigits front digits zeros bytes e is fits = AreDigits-front front zeros (bytes-AreDigits (front ++ zeros) bytes (is ∙ e) fits)
+
+-- and how many these are at most
+pub front_fits : (front zeros : List ℕ) (id : Id) (bytes : List ℕ) → id.digits ≡ front ++ zeros → IsBytesOf bytes id → length front ≤ 64
+front_fits front zeros id bytes e h =
+    let all = id-digits_len id bytes h in
+    let parts = ap (λ (ds : List ℕ). length ds) e ∙ length-append front zeros in
+    let most = hex_len-small id.kind in
+    let same = hex_len-byte_len id.kind in
+    omega arith
+
+-- one list of bytes shows one id
+pub same_view : (xs ys : List ℕ) → xs ≡ ys
+    → ◌≡◌ {A = Id} (record { kind = kind_of_byte_len (length xs); digits = digits_of xs }) (record { kind = kind_of_byte_len (length ys); digits = digits_of ys })
+same_view xs ys e = rw e refl
+
+-- digits are found by their text
+pub same_text : (xs ys : List ℕ) → AreDigits xs → AreDigits ys → hex_text xs ≡ hex_text ys → xs ≡ ys
+same_text xs ys hx hy e =
+    same_values xs ys (sym (hex_text-IsHexOf xs hx) ∙ (ap (λ (t : List ℕ). map hex_digit_value t) e ∙ hex_text-IsHexOf ys hy))
+
+-- ids are found by kind and text
+pub same_id : (a b : Id) → a.kind ≡ b.kind → a.digits ≡ b.digits → a ≡ b
+same_id a b kinds digits =
+    let make : Kind → List ℕ → Id = λ kind ds. record { kind = kind; digits = ds } in
+    ap (λ (k : Kind). make k a.digits) kinds ∙ ap (λ (ds : List ℕ). make b.kind ds) digits
+
+-- a test of equality is one of kinds and texts
+pub texts_decide : (a b : Id) (r : Bool) → r ≡ id_eq a b → AreDigits a.digits → AreDigits b.digits
+    → IsTrue r ↔ ((a.kind ≡ b.kind) × (hex_text a.digits ≡ hex_text b.digits))
+texts_decide a b r e ha hb = (
+  λ h.
+      let one = id_eq-same a b (sym e ∙ h) in
+      (ap (λ (c : Id). c.kind) one, ap (λ (c : Id). hex_text c.digits) one),
+  λ h. e ∙ subst (λ (c : Id). IsTrue (id_eq a c)) (same_id a b h.0 (same_text a.digits b.digits ha hb h.1)) (id_eq-itself a),
+)
+
+-- whole ids with one text have one kind
+pub kind_of_text : (a b : Id) → length a.digits ≡ hex_len a.kind → length b.digits ≡ hex_len b.kind
+    → AreDigits a.digits → AreDigits b.digits → hex_text a.digits ≡ hex_text b.digits → a.kind ≡ b.kind
+kind_of_text a b la lb ha hb e =
+    hex_len-injective a.kind b.kind (sym la ∙ (ap (λ (ds : List ℕ). length ds) (same_text a.digits b.digits ha hb e) ∙ lb))

@@ -10,3 +10,5 @@ pub mod PieceLemmas
 pub mod KindLemmas
 pub mod PaddedOrder
 pub mod LawLemmas
+pub mod TextOrder
+pub mod ReadBack

@@ -1,9 +1,10 @@
 -- One piece more of a stream.
 use Rattle.std.proofs.Common.{◌≡◌, ℕ, zero, suc, ◌*◌, ◌-◌, ◌<◌, List, [], ◌∷◌, ◌++◌, length, length-append, replicate, min, Option, Some, None, Bool, false, refl, ap, sym, ◌∙◌, arith, subst}
+use Rattle.std.specs.Prelude.{Result, Ok, Err, OnErr, IfErr}
 use Rattle.std.specs.List.{FoldsTo}
 use Rattle.std.specs.Io.KnownBytes.{Consumes}
 use Rattle.std.proofs.lemmas.List.{append_assoc}
-use Rattle.gix_hash.specs.Pieces.{piece_lengths, ReadsPieces}
+use Rattle.gix_hash.specs.Pieces.{piece_lengths, ReadsPieces, StopsAfterPieces}
 
 -- one more length
 pub piece_lengths-more : (n k : ℕ) → piece_lengths n (suc k) ≡ piece_lengths n k ++ min 65535 (n - 65535 * k) ∷ []
@@ -46,9 +47,36 @@ pieces_more remaining told answered r0 r1 r2 p0 p1 p2 i0 i1 i2 n k len answer by
     record {
       count = omega arith;
       read = consumes_more (remaining r0) (remaining r1) (remaining r2) bytes more h.read taken;
-      progressed =
-          let lengths : piece_lengths n k ++ len ∷ [] ≡ piece_lengths n (suc k) =
-          ap (λ (m : ℕ). piece_lengths n k ++ m ∷ []) is ∙ sym (piece_lengths-more n k) in
-          subst (λ (ms : List ℕ). FoldsTo told p0 ms p2) lengths (folds_more told p0 (piece_lengths n k) p1 p2 len h.progressed progress);
-      asked = folds_more answered i0 (replicate k false) i1 i2 answer h.asked interrupt;
+      tells = record {
+        progressed =
+            let lengths : piece_lengths n k ++ len ∷ [] ≡ piece_lengths n (suc k) =
+            ap (λ (m : ℕ). piece_lengths n k ++ m ∷ []) is ∙ sym (piece_lengths-more n k) in
+            subst (λ (ms : List ℕ). FoldsTo told p0 ms p2) lengths (folds_more told p0 (piece_lengths n k) p1 p2 len h.tells.progressed progress);
+        asked = folds_more answered i0 (replicate k false) i1 i2 answer h.tells.asked interrupt;
+      };
     }
+
+-- a piece that was not given whole
+pub pieces_stop : {R P I : Type 0} (remaining : R → Option (List ℕ)) (told : P → ℕ → P → Type 0) (answered : I → Bool → I → Type 0)
+    (r0 r1 r2 : R) (p0 p1 : P) (i0 i1 : I) (n k len : ℕ) (bytes more : List ℕ)
+    → ReadsPieces remaining told answered r0 r1 p0 p1 i0 i1 n k (replicate k false) bytes → 65535 * k < n → len ≡ min 65535 (n - 65535 * k)
+    → length more < len → Consumes (remaining r1) (remaining r2) more
+    → StopsAfterPieces remaining told answered r0 r2 p0 p1 i0 i1 n k (bytes ++ more)
+pieces_stop remaining told answered r0 r1 r2 p0 p1 i0 i1 n k len bytes more h begins is few taken =
+    let sum = length-append bytes more in
+    let old = h.count in
+    record {
+      whole = omega arith;
+      missing = omega arith;
+      read = consumes_more (remaining r0) (remaining r1) (remaining r2) bytes more h.read taken;
+      tells = h.tells;
+    }
+
+-- what holds anyway holds on an error
+pub on_err : {T E P : Type 0} (r : Result T E) → P → OnErr r P
+on_err (Ok x) h = tt
+on_err (Err e) h = h
+
+pub if_err : {T E P : Type 0} (Q : E → Type 0) (r : Result T E) → P → IfErr r (λ e. Q e → P)
+if_err Q (Ok x) h = tt
+if_err Q (Err e) h = λ q. h

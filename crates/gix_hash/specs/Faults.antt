@@ -7,3 +7,8 @@ use Rattle.gix_hash.specs.declared.io.Error.TheVariants.{Io, Interrupted}
 abbrev pub IsInterrupted : Error → Type 0
 IsInterrupted (Io error) = ⊥
 IsInterrupted Interrupted = ⊤
+
+-- the fault is the reader's, or of opening a file
+abbrev pub IsIo : Error → Type 0
+IsIo (Io error) = ⊤
+IsIo Interrupted = ⊥

@@ -15,3 +15,4 @@ pub mod SameWrites
 pub mod Faults
 pub mod OrderLaws
 pub mod ChangeIdInside
+pub mod Lending

@@ -1,5 +1,5 @@
 -- Reading a stream in pieces: every piece but the last has 65,535 bytes.
-use Rattle.std.specs.Prelude.{ℕ, zero, suc, ◌≡◌, ◌+◌, ◌-◌, ◌*◌, ◌<◌, ◌≤◌, List, [], ◌∷◌, length, min, Bool, Option}
+use Rattle.std.specs.Prelude.{ℕ, zero, suc, ◌≡◌, ◌+◌, ◌-◌, ◌*◌, ◌<◌, ◌≤◌, List, [], ◌∷◌, length, replicate, min, Bool, false, Option}
 use Rattle.std.specs.List.{FoldsTo}
 use Rattle.std.specs.Io.KnownBytes.{Consumes}
 
@@ -12,15 +12,33 @@ piece_lengths n (suc k) = min 65535 n ∷ piece_lengths (n - 65535) k
 abbrev pub bytes_in_pieces : ℕ → ℕ → ℕ
 bytes_in_pieces n k = min n (65535 * k)
 
--- a reader gave the first k pieces of n bytes, which are these bytes; the progress was told the length
--- of each, and the interruption was asked after each and gave these answers
+-- the progress was told the length of each of the first k pieces of n bytes, and the interruption was
+-- asked after each and gave these answers
+pub record TellsPieces {P I : Type 0} (told : P → ℕ → P → Type 0) (answered : I → Bool → I → Type 0)
+    (progress progress_after : P) (interrupt interrupt_after : I) (n k : ℕ) (answers : List Bool) : Type 0 where
+  pub progressed : FoldsTo told progress (piece_lengths n k) progress_after
+  pub asked : FoldsTo answered interrupt answers interrupt_after
+
+-- a reader gave the first k pieces of n bytes, which are these bytes, and each was told and asked about
 pub record ReadsPieces {R P I : Type 0} (remaining : R → Option (List ℕ)) (told : P → ℕ → P → Type 0) (answered : I → Bool → I → Type 0)
     (reader reader_after : R) (progress progress_after : P) (interrupt interrupt_after : I)
     (n k : ℕ) (answers : List Bool) (bytes : List ℕ) : Type 0 where
   pub count : length bytes ≡ bytes_in_pieces n k
   pub read : Consumes (remaining reader) (remaining reader_after) bytes
-  pub progressed : FoldsTo told progress (piece_lengths n k) progress_after
-  pub asked : FoldsTo answered interrupt answers interrupt_after
+  pub tells : TellsPieces told answered progress progress_after interrupt interrupt_after n k answers
+
+-- a reader gave fewer than n bytes
+abbrev pub GivesFewer : Option (List ℕ) → Option (List ℕ) → ℕ → Type 0
+GivesFewer old new n = (bytes : List ℕ) × (length bytes < n) × Consumes old new bytes
+
+-- a reader gave the first k pieces of n bytes, and some of the next piece but not all: these bytes. The
+-- pieces that it gave whole were told and asked about, and each answer was no
+pub record StopsAfterPieces {R P I : Type 0} (remaining : R → Option (List ℕ)) (told : P → ℕ → P → Type 0) (answered : I → Bool → I → Type 0)
+    (reader reader_after : R) (progress progress_after : P) (interrupt interrupt_after : I) (n k : ℕ) (bytes : List ℕ) : Type 0 where
+  pub whole : bytes_in_pieces n k ≤ length bytes
+  pub missing : length bytes < bytes_in_pieces n (suc k)
+  pub read : Consumes (remaining reader) (remaining reader_after) bytes
+  pub tells : TellsPieces told answered progress progress_after interrupt interrupt_after n k (replicate k false)
 
 -- k pieces, and not fewer, have all n bytes
 pub record IsPieceCount (n k : ℕ) : Type 0 where

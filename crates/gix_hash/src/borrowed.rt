@@ -2,6 +2,7 @@
 
 ghost use Rattle.std.specs.Prelude.{◌≡◌, ◌≢◌, ◌↔◌, ◌≤◌, ◌*◌, ℕ, List, [], ◌∷◌, ◌⊎◌, length, take, Some, IsTrue, MatchResult, OnOk, IsOk, IfErr};
 ghost use Rattle.std.specs.Io.KnownBytes.{Appends};
+ghost use Rattle.bstr.specs.BStr.{bstr_bytes};
 ghost use Rattle.gix_hash.specs.Id.{Id, id_of, null_id, digits_of};
 ghost use Rattle.gix_hash.specs.Kind.{kind_of_byte_len, hex_len};
 ghost use Rattle.gix_hash.specs.Hasher.{id_of_message, empty_blob_text, empty_tree_text};
@@ -14,6 +15,7 @@ mod view;
 use crate::display::HexDisplay;
 use crate::spelling::{hex_digits, written};
 use crate::{Kind, ObjectId, verify};
+use bstr::BStr;
 use std::convert::TryFrom;
 use std::hash::{Hash, Hasher};
 use std::{fmt, io};
@@ -151,12 +153,26 @@ impl<'a> oid<'a> {
         self.eq_bytes(text.as_bytes())
     }
 
+    /// Whether the bytes are the id in full, in lower-case hexadecimal.
+    pub fn eq_bstr(&self, text: BStr<'_>) -> bool
+        ensures { IsTrue result ↔ (hex_text (viewed_id self.now).digits ≡ bstr_bytes text.entry) }
+    {
+        self.eq_bytes(text.as_bytes())
+    }
+
     // Whether the bytes are the id in full, in lower-case hexadecimal.
-    pub(crate) fn eq_bytes(&self, text: &[u8]) -> bool
+    fn eq_bytes(&self, text: &[u8]) -> bool
         ensures { IsTrue result ↔ (hex_text (viewed_id self.now).digits ≡ text.now) }
     {
         let mut buffer = [0u8; 64];
         self.hex_to_buf(&mut buffer).as_bytes() == text
+    }
+
+    /// The id itself, of which this is a view.
+    pub fn to_owned(&self) -> ObjectId
+        ensures { id_of result ≡ viewed_id self.now }
+    {
+        ObjectId::from(*self)
     }
 
     /// Whether the id is the expected one: if not, the error has both.
@@ -169,8 +185,8 @@ impl<'a> oid<'a> {
             return Ok(());
         }
         Err(verify::Error {
-            actual: ObjectId::from(*self),
-            expected: ObjectId::from(expected),
+            actual: self.to_owned(),
+            expected: expected.to_owned(),
         })
     }
 }
@@ -179,7 +195,7 @@ impl<'a> From<&'a [u8; 20]> for oid<'a> {
     ghost from_gives = { λ bytes view. IsBytesOf bytes.now (viewed_id view) };
 
     fn from(value: &'a [u8; 20]) -> oid<'a> {
-        oid { bytes: value }
+        oid::from_bytes_unchecked(value)
     }
 }
 
@@ -187,7 +203,7 @@ impl<'a> From<&'a [u8; 32]> for oid<'a> {
     ghost from_gives = { λ bytes view. IsBytesOf bytes.now (viewed_id view) };
 
     fn from(value: &'a [u8; 32]) -> oid<'a> {
-        oid { bytes: value }
+        oid::from_bytes_unchecked(value)
     }
 }
 
@@ -228,13 +244,9 @@ impl fmt::Debug for oid<'_> {
     ghost debug_output = { λ view. Some (debug_text (viewed_id view)) };
 
     fn fmt<W: fmt::Write>(&self, f: &mut fmt::Formatter<W>) -> fmt::Result {
-        let mut buffer = [0u8; 64];
-        let kind = match self.kind() {
-            Kind::Sha1 => "Sha1(",
-            Kind::Sha256 => "Sha256(",
-        };
-        f.write_str(kind)?;
-        f.write_str(self.hex_to_buf(&mut buffer))?;
-        f.write_str(")")
+        match self.kind() {
+            Kind::Sha1 => write!(f, "Sha1({self})"),
+            Kind::Sha256 => write!(f, "Sha256({self})"),
+        }
     }
 }

@@ -1,25 +1,29 @@
 //! Change ids, which are spelled in reverse hexadecimal.
 
 ghost use Rattle.std.specs.Prelude.{◌≡◌, ◌≢◌, ◌↔◌, ◌≤◌, ℕ, List, [], ◌∷◌, length, take, Some, IsTrue, MatchResult, OnOk};
+ghost use Rattle.std.specs.Io.KnownBytes.{Appends};
 ghost use Rattle.std.proofs.Common.{refl};
+ghost use Rattle.bstr.specs.BStr.{bstr_bytes};
 ghost use Rattle.gix_hash.specs.Kind.{hex_len};
-ghost use Rattle.gix_hash.specs.Id.{id_of};
+ghost use Rattle.gix_hash.specs.Id.{id_of, null_id, digits_of};
+ghost use Rattle.gix_hash.specs.Hasher.{id_of_message, empty_blob_text, empty_tree_text};
 ghost use Rattle.gix_hash.specs.Order.{id_eq, id_cmp};
 ghost use Rattle.gix_hash.specs.OrderLaws.{eq_laws, equivalence, total, id_tied, order_laws, same_feed};
 ghost use Rattle.gix_hash.specs.Packed.{bytes_from};
-ghost use Rattle.gix_hash.specs.Spelling.{reverse_hex_text, reverse_digit_value};
-ghost use Rattle.gix_hash.specs.Displays.{shown_reverse_hex};
-ghost use Rattle.gix_hash.specs.Views.{viewed_id, IsReverseHexOfId, IsFaultOf};
+ghost use Rattle.gix_hash.specs.Spelling.{hex_text, reverse_hex_text, reverse_digit_value};
+ghost use Rattle.gix_hash.specs.Displays.{shown_hex, shown_reverse_hex};
+ghost use Rattle.gix_hash.specs.Views.{viewed_id, IsBytesOf, IsReverseHexOfId, IsFaultOf};
 
-use crate::display::ReverseHexDisplay;
+use crate::display::{HexDisplay, ReverseHexDisplay};
 use crate::object_id::decode;
 use crate::spelling::hex_from_reverse;
-use crate::{Kind, ObjectId, oid};
+use crate::{Kind, ObjectId, oid, verify};
+use bstr::BStr;
 use std::cmp::Ordering;
-use std::fmt;
 use std::hash::{Hash, Hasher};
 use std::marker::Model;
 use std::str::FromStr;
+use std::{fmt, io};
 
 /// The id of a change: an object id's digits, spelled in reverse hexadecimal.
 #[derive(Debug, Clone, Copy)]
@@ -64,7 +68,7 @@ impl ChangeId {
     pub fn to_reverse_hex(&self) -> ReverseHexDisplay<'_>
         ensures { shown_reverse_hex result ≡ reverse_hex_text self.now.digits }
     {
-        self.to_reverse_hex_with_len(2 * self.0.as_slice().len())
+        self.to_reverse_hex_with_len(2 * self.as_bytes().len())
     }
 
     /// The id's first `len` digits in reverse hexadecimal, all if it has fewer.
@@ -72,7 +76,7 @@ impl ChangeId {
         ensures { shown_reverse_hex result ≡ take len (reverse_hex_text self.now.digits) }
     {
         ReverseHexDisplay {
-            inner: self.0.as_oid(),
+            inner: self.as_oid(),
             hex_len: len,
         }
     }
@@ -89,6 +93,100 @@ impl ChangeId {
         ensures { result ≡ self.now.kind }
     {
         self.0.kind()
+    }
+
+    /// The id's bytes, each of two digits.
+    pub fn as_bytes(&self) -> &[u8]
+        ensures { IsBytesOf result.now self.now }
+    {
+        self.0.as_slice()
+    }
+
+    /// The id's first byte, of its first two digits.
+    pub fn first_byte(&self) -> u8
+        ensures { digits_of (result ∷ []) ≡ take 2 self.now.digits }
+    {
+        self.0.first_byte()
+    }
+
+    /// The id in lower-case hexadecimal.
+    pub fn to_hex(&self) -> HexDisplay<'_>
+        ensures { shown_hex result ≡ hex_text self.now.digits }
+    {
+        self.0.to_hex()
+    }
+
+    /// The id's first `len` digits in lower-case hexadecimal, all if it has fewer.
+    pub fn to_hex_with_len(&self, len: usize) -> HexDisplay<'_>
+        ensures { shown_hex result ≡ take len (hex_text self.now.digits) }
+    {
+        self.0.to_hex_with_len(len)
+    }
+
+    /// Writes the id in lower-case hexadecimal to the start of `buf`, and returns it.
+    pub fn hex_to_buf<'b>(&self, buf: &'b mut [u8]) -> &'b str
+        requires { hex_len self.now.kind ≤ length buf.old }
+        ensures { result.now ≡ hex_text self.now.digits }
+    {
+        self.0.hex_to_buf(buf)
+    }
+
+    /// Writes the id in lower-case hexadecimal. An error is the writer's.
+    pub fn write_hex_to<W: io::Write>(&self, out: &mut W) -> io::Result<()>
+        ensures { OnOk result (Appends (W.contents out.old) (W.contents out.new) (hex_text self.now.digits)) }
+    {
+        self.0.write_hex_to(out)
+    }
+
+    /// Whether the id is its kind's null id.
+    pub fn is_null(&self) -> bool
+        ensures { IsTrue result ↔ (self.now ≡ null_id self.now.kind) }
+    {
+        self.0.is_null()
+    }
+
+    /// Whether the id is that of the blob without content.
+    pub fn is_empty_blob(&self) -> bool
+        ensures { IsTrue result ↔ (self.now ≡ id_of_message self.now.kind empty_blob_text) }
+    {
+        self.0.is_empty_blob()
+    }
+
+    /// Whether the id is that of the tree without entries.
+    pub fn is_empty_tree(&self) -> bool
+        ensures { IsTrue result ↔ (self.now ≡ id_of_message self.now.kind empty_tree_text) }
+    {
+        self.0.is_empty_tree()
+    }
+
+    /// Whether the two are one id.
+    pub fn eq_oid(&self, other: oid<'_>) -> bool
+        ensures { IsTrue result ↔ (self.now ≡ viewed_id other.entry) }
+    {
+        self.0.eq_oid(other)
+    }
+
+    /// Whether the text is what the change id prints as: the id in full, in reverse hexadecimal.
+    pub fn eq_str(&self, text: &str) -> bool
+        ensures { IsTrue result ↔ (reverse_hex_text self.now.digits ≡ text.now) }
+    {
+        self.to_reverse_hex().eq_str(text)
+    }
+
+    /// Whether the bytes are what the change id prints as: the id in full, in reverse hexadecimal.
+    pub fn eq_bstr(&self, text: BStr<'_>) -> bool
+        ensures { IsTrue result ↔ (reverse_hex_text self.now.digits ≡ bstr_bytes text.entry) }
+    {
+        self.to_reverse_hex().eq_bytes(text.as_bytes())
+    }
+
+    /// Whether the id is the expected one: if not, the error has both.
+    pub fn verify(&self, expected: oid<'_>) -> Result<(), verify::Error>
+        ensures { MatchResult result (λ _. self.now ≡ viewed_id expected.entry)
+            (λ e. (self.now ≢ viewed_id expected.entry) × (id_of e.actual ≡ self.now)
+            × (id_of e.expected ≡ viewed_id expected.entry)) }
+    {
+        self.0.verify(expected)
     }
 }
 

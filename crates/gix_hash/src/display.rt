@@ -55,8 +55,15 @@ impl ReverseHexDisplay<'_> {
     pub fn eq_str(&self, text: &str) -> bool
         ensures { IsTrue result ↔ (shown_reverse_hex self.now ≡ text.now) }
     {
+        self.eq_bytes(text.as_bytes())
+    }
+
+    // Whether it prints these bytes.
+    pub(crate) fn eq_bytes(&self, text: &[u8]) -> bool
+        ensures { IsTrue result ↔ (shown_reverse_hex self.now ≡ text.now) }
+    {
         let mut buffer = [0u8; 64];
-        self.shown(&mut buffer) == text
+        self.shown(&mut buffer).as_bytes() == text
     }
 
     fn shown<'b>(&self, buffer: &'b mut [u8; 64]) -> &'b str

@@ -1,15 +1,15 @@
 //! Hashing streams of bytes.
 
-ghost use Rattle.std.specs.Prelude.{◌≡◌, ◌<◌, ◌≤◌, ◌+◌, ◌*◌, ◌++◌, ℕ, List, [], ◌∷◌, suc, Bool, true, false, replicate, length, take, ⊤, MatchResult, OnOk, IfOk, IfErr};
-ghost use Rattle.std.specs.Io.KnownBytes.{Consumes, Keeps, WriteAppends};
-ghost use Rattle.std.specs.Io.{WritesAtMost};
+ghost use Rattle.std.specs.Prelude.{◌≡◌, ◌<◌, ◌≤◌, ◌+◌, ◌*◌, ◌++◌, ℕ, List, [], ◌∷◌, suc, Bool, true, false, replicate, length, take, ⊤, MatchResult, OnOk, OnErr, IfOk, IfErr};
+ghost use Rattle.std.specs.Io.KnownBytes.{Appends, Consumes, Keeps, ReadConsumes, WriteAppends};
+ghost use Rattle.std.specs.Io.{ReadsAtMost, WritesAtMost};
 ghost use Rattle.gix_hash.specs.declared.kind.Kind.{Kind};
 ghost use Rattle.gix_hash.specs.Id.{id_of};
 ghost use Rattle.gix_hash.specs.Hasher.{id_of_message};
 ghost use Rattle.gix_hash.specs.Fed.{HasFed, FedMore, IsDigestOf};
-ghost use Rattle.gix_hash.specs.Pieces.{ReadsPieces, IsPieceCount, HasPiece};
+ghost use Rattle.gix_hash.specs.Pieces.{ReadsPieces, TellsPieces, StopsAfterPieces, GivesFewer, IsPieceCount, HasPiece};
 ghost use Rattle.gix_hash.specs.declared.io.Error.TheVariants.{Io, Interrupted};
-ghost use Rattle.gix_hash.specs.Faults.{IsInterrupted};
+ghost use Rattle.gix_hash.specs.Faults.{IsInterrupted, IsIo};
 
 use crate::hasher::{Hasher, hasher};
 use crate::{Kind, ObjectId};
@@ -80,8 +80,16 @@ pub fn bytes_of_file<F: Files, L: AsPath, P: Progress, I: Interrupt>(
     progress: &mut P,
     should_interrupt: &mut I,
 ) -> Result<ObjectId, Error>
-    ensures { IfOk result (λ id. (bytes : List ℕ) × (length bytes ≡ num_bytes_from_start)
-        × (id_of id ≡ id_of_message kind bytes)) }
+    ensures ok { IfOk result (λ id. (k : ℕ) × (bytes : List ℕ) × IsPieceCount num_bytes_from_start k
+        × (length bytes ≡ num_bytes_from_start) × (id_of id ≡ id_of_message kind bytes)
+        × TellsPieces P.told I.answered progress.old progress.new should_interrupt.old should_interrupt.new
+        num_bytes_from_start k (replicate k false)) }
+    ensures interrupted { IfErr result (λ e. IsInterrupted e → (k : ℕ) × HasPiece num_bytes_from_start k
+        × TellsPieces P.told I.answered progress.old progress.new should_interrupt.old should_interrupt.new
+        num_bytes_from_start (suc k) (replicate k false ++ true ∷ [])) }
+    ensures io { IfErr result (λ e. IsIo e → (k : ℕ) × (65535 * k ≤ num_bytes_from_start)
+        × TellsPieces P.told I.answered progress.old progress.new should_interrupt.old should_interrupt.new
+        num_bytes_from_start k (replicate k false)) }
 {
     let mut file = fs::open(files, path)?;
     bytes(
@@ -109,6 +117,9 @@ pub fn bytes<R: io::Read, P: Progress, I: Interrupt>(
     ensures interrupted { IfErr result (λ e. IsInterrupted e → (k : ℕ) × (bytes : List ℕ) × HasPiece num_bytes_from_start k
         × ReadsPieces R.remaining P.told I.answered read.old read.new progress.old progress.new
         should_interrupt.old should_interrupt.new num_bytes_from_start (suc k) (replicate k false ++ true ∷ []) bytes) }
+    ensures io { IfErr result (λ e. IsIo e → (k : ℕ) × (bytes : List ℕ)
+        × StopsAfterPieces R.remaining P.told I.answered read.old read.new progress.old progress.new
+        should_interrupt.old should_interrupt.new num_bytes_from_start k bytes) }
 {
     bytes_with_hasher(
         read,
@@ -124,7 +135,8 @@ pub fn bytes<R: io::Read, P: Progress, I: Interrupt>(
 ///
 /// It reads pieces of 65,535 bytes, the last of which may be shorter. After each that it has hashed
 /// it tells the progress the piece's length, and asks the interruption, also after the last: on a
-/// yes it answers `Interrupted`. An error of the reader, or its early end, is `Io`.
+/// yes it answers `Interrupted`. An error of the reader, or its early end, is `Io`: the reader then
+/// gave fewer bytes, and of the piece that it stopped in nothing was told.
 pub fn bytes_with_hasher<R: io::Read, P: Progress, I: Interrupt>(
     read: &mut R,
     num_bytes_from_start: u64,
@@ -139,6 +151,9 @@ pub fn bytes_with_hasher<R: io::Read, P: Progress, I: Interrupt>(
     ensures interrupted { IfErr result (λ e. IsInterrupted e → (k : ℕ) × (bytes : List ℕ) × HasPiece num_bytes_from_start k
         × ReadsPieces R.remaining P.told I.answered read.old read.new progress.old progress.new
         should_interrupt.old should_interrupt.new num_bytes_from_start (suc k) (replicate k false ++ true ∷ []) bytes) }
+    ensures io { IfErr result (λ e. IsIo e → (k : ℕ) × (bytes : List ℕ)
+        × StopsAfterPieces R.remaining P.told I.answered read.old read.new progress.old progress.new
+        should_interrupt.old should_interrupt.new num_bytes_from_start k bytes) }
 {
     let mut buffer = piece_buffer();
     let mut bytes_left = num_bytes_from_start;
@@ -159,10 +174,44 @@ fn hash_piece<R: io::Read>(read: &mut R, piece: &mut [u8], hasher: &mut Hasher) 
     ensures ok { OnOk result ((bytes : List ℕ) × (length bytes ≡ length piece.old)
         × Consumes (R.remaining read.old) (R.remaining read.new) bytes × FedMore hasher.old hasher.new bytes) }
     ensures err { IfErr result (λ e. IsInterrupted e → ⊥) }
+    ensures stopped { OnErr result (GivesFewer (R.remaining read.old) (R.remaining read.new) (length piece.old)) }
 {
-    read.read_exact(piece)?;
+    fill(read, piece)?;
     hasher.update(piece);
     Ok(())
+}
+
+// Fills a piece from the reader, whose early end is an error.
+fn fill<R: io::Read>(read: &mut R, piece: &mut [u8]) -> io::Result<()>
+    ensures ok { OnOk result (Consumes (R.remaining read.old) (R.remaining read.new) piece.new) }
+    ensures err { OnErr result (GivesFewer (R.remaining read.old) (R.remaining read.new) (length piece.old)) }
+{
+    let mut filled = 0;
+    'reads: while filled < piece.len() {
+        match read_some(read, &mut piece[filled..])? {
+            0 => return Err(io::Error::from(io::ErrorKind::UnexpectedEof)),
+            count => filled += count,
+        }
+    }
+    Ok(())
+}
+
+// One read, which is tried again where a signal interrupted it.
+fn read_some<R: io::Read>(read: &mut R, buffer: &mut [u8]) -> io::Result<usize>
+    ensures bound { ReadsAtMost result buffer.new }
+    ensures bytes { ReadConsumes (R.remaining read.old) (R.remaining read.new) result buffer.new }
+{
+    'tries: for _ in 0..u64::MAX {
+        match read.read(buffer) {
+            Ok(count) => return Ok(count),
+            Err(error) => {
+                if error.kind() != io::ErrorKind::Interrupted {
+                    return Err(error);
+                }
+            }
+        }
+    }
+    Err(io::Error::from(io::ErrorKind::Interrupted))
 }
 
 /// A writer that hashes what another writer accepts.
@@ -187,6 +236,26 @@ impl<T> Write<T> {
     }
 }
 
+// One write, which is tried again where a signal interrupted it.
+fn write_some<T: io::Write>(writer: &mut Write<T>, buf: &[u8]) -> io::Result<usize>
+    ensures bound { WritesAtMost result buf.now }
+    ensures bytes { WriteAppends (T.contents writer.old.inner) (T.contents writer.new.inner) result buf.now }
+    ensures hashed { MatchResult result (λ n. FedMore writer.old.hash writer.new.hash (take n buf.now))
+        (λ _. writer.new.hash ≡ writer.old.hash) }
+{
+    'tries: for _ in 0..u64::MAX {
+        match io::Write::write(writer, buf) {
+            Ok(written) => return Ok(written),
+            Err(error) => {
+                if error.kind() != io::ErrorKind::Interrupted {
+                    return Err(error);
+                }
+            }
+        }
+    }
+    Err(io::Error::from(io::ErrorKind::Interrupted))
+}
+
 impl<T: io::Write> io::Write for Write<T> {
     ghost contents = { λ w. T.contents w.inner };
 
@@ -199,6 +268,23 @@ impl<T: io::Write> io::Write for Write<T> {
         let written = self.inner.write(buf)?;
         self.hash.update(&buf[..written]);
         Ok(written)
+    }
+
+    fn write_all(&mut self, buf: &[u8]) -> io::Result<()>
+        ensures bytes { OnOk result (Appends (T.contents self.old.inner) (T.contents self.new.inner) buf.now) }
+        ensures hashed { OnOk result (FedMore self.old.hash self.new.hash buf.now) }
+        ensures stopped { OnErr result ((count : ℕ) × (count < length buf.now)
+            × Appends (T.contents self.old.inner) (T.contents self.new.inner) (take count buf.now)
+            × FedMore self.old.hash self.new.hash (take count buf.now)) }
+    {
+        let mut count = 0;
+        'writes: while count < buf.len() {
+            match write_some(self, &buf[count..])? {
+                0 => return Err(io::Error::from(io::ErrorKind::WriteZero)),
+                written => count += written,
+            }
+        }
+        Ok(())
     }
 
     fn flush(&mut self) -> io::Result<()>

@@ -2,6 +2,7 @@
 
 ghost use Rattle.std.specs.Prelude.{◌≡◌, ◌↔◌, ◌≤◌, ◌≢◌, ℕ, List, [], ◌∷◌, ◌++◌, ◌⊎◌, length, take, codes, Some, IfOk, IfErr, IsOk, OnOk, MatchResult, IsTrue};
 ghost use Rattle.std.specs.Io.KnownBytes.{Appends};
+ghost use Rattle.std.specs.Borrow.{sem};
 ghost use Rattle.hex.specs.Hex.{hex_digit_value};
 ghost use Rattle.gix_hash.specs.declared.kind.Kind.TheVariants as kinds;
 ghost use Rattle.gix_hash.specs.Id.{Id, id_of, bytes_of, null_id, digits_of};
@@ -14,6 +15,7 @@ ghost use Rattle.gix_hash.specs.Spelling.{hex_text};
 ghost use Rattle.gix_hash.specs.Kind.{hex_len};
 ghost use Rattle.bstr.specs.BStr.{bstr_bytes};
 ghost use Rattle.gix_hash.specs.Displays.{shown_hex};
+ghost use Rattle.gix_hash.specs.Lending.{LendsBytes};
 ghost use Rattle.gix_hash.specs.Views.{IsBytesOf, IsHexOfId, IsFaultOf, IsWrongLength, viewed_id, debug_text};
 
 use crate::borrowed::{self, oid};
@@ -133,11 +135,14 @@ impl ObjectId {
 
     /// The id's bytes, each of two digits, for writing: the id is then that of the bytes left there.
     pub fn as_mut_slice(&mut self) -> &mut [u8]
-        ensures { IsBytesOf result.now (id_of self.old) }
+        ensures* writes_back { sem 𝓛 (LendsBytes self.entry result) }
+        ensures bytes { IsBytesOf result.now (id_of self.old) }
     {
+        // All of them: what is lent has the id's length.
+        let _all = self.as_slice();
         match self {
-            ObjectId::Sha1(bytes) => bytes,
-            ObjectId::Sha256(bytes) => bytes,
+            ObjectId::Sha1(bytes) => bytes.as_mut_slice(),
+            ObjectId::Sha256(bytes) => bytes.as_mut_slice(),
         }
     }
 
@@ -145,7 +150,7 @@ impl ObjectId {
     pub fn as_bytes(&self) -> &[u8]
         ensures { IsBytesOf result.now (id_of self.now) }
     {
-        self.as_slice()
+        self.as_oid().as_bytes()
     }
 
     /// A view of the id.
@@ -209,7 +214,7 @@ impl ObjectId {
     pub fn eq_bstr(&self, text: BStr<'_>) -> bool
         ensures { IsTrue result ↔ (hex_text (id_of self.now).digits ≡ bstr_bytes text.entry) }
     {
-        self.as_oid().eq_bytes(text.as_bytes())
+        self.as_oid().eq_bstr(text)
     }
 
     /// Whether the id is the expected one: if not, the error has both.

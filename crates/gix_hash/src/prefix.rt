@@ -1,6 +1,7 @@
 //! Prefixes: the first digits of object ids.
 
-ghost use Rattle.std.specs.Prelude.{◌≡◌, ◌≤◌, ◌*◌, ◌+◌, ◌-◌, ◌<◌, ◌++◌, ℕ, List, [], ◌∷◌, length, take, drop, replicate, map, Some, None, IfOk, MatchResult, MatchOption, OnOk, Any, Option};
+ghost use Rattle.std.specs.Prelude.{◌≡◌, ◌≤◌, ◌*◌, ◌+◌, ◌-◌, ◌<◌, ◌++◌, ℕ, List, [], ◌∷◌, length, take, drop, replicate, map, Some, None, IfOk, MatchResult, MatchOption, OnOk, Any, Option, IsTrue, ◌↔◌};
+ghost use Rattle.bstr.specs.BStr.{bstr_bytes};
 ghost use Rattle.std.specs.Io.KnownBytes.{Appends};
 ghost use Rattle.hex.specs.Hex.{hex_digit_value};
 ghost use Rattle.gix_hash.specs.Kind.{hex_len, hex_len as digits_in, kind_for_digits};
@@ -17,6 +18,7 @@ ghost use Rattle.gix_hash.specs.Prefix.{first_digits, IsPrefixLength, IsLengthFa
 use crate::display::ReverseHexDisplay;
 use crate::spelling::{hex_digits, hex_from_reverse, written};
 use crate::{ChangeId, Kind, ObjectId, oid};
+use bstr::BStr;
 use std::cmp::Ordering;
 use std::convert::TryFrom;
 use std::hash::{Hash, Hasher};
@@ -216,6 +218,29 @@ impl Prefix {
     {
         let digits = hex_digits(self.bytes.as_slice());
         out.write_all(&digits[..self.hex_len])
+    }
+
+    /// Whether the text is the prefix in lower-case hexadecimal.
+    pub fn eq_str(&self, text: &str) -> bool
+        ensures { IsTrue result ↔ (hex_text self.now.digits ≡ text.now) }
+    {
+        self.eq_bytes(text.as_bytes())
+    }
+
+    /// Whether the bytes are the prefix in lower-case hexadecimal.
+    pub fn eq_bstr(&self, text: BStr<'_>) -> bool
+        ensures { IsTrue result ↔ (hex_text self.now.digits ≡ bstr_bytes text.entry) }
+    {
+        self.eq_bytes(text.as_bytes())
+    }
+
+    // Whether the bytes are the prefix in lower-case hexadecimal.
+    fn eq_bytes(&self, text: &[u8]) -> bool
+        ensures { IsTrue result ↔ (hex_text self.now.digits ≡ text.now) }
+    {
+        let mut buffer = [0u8; 64];
+        let digits = &mut buffer[..self.hex_len];
+        self.hex_to_buf(digits).as_bytes() == text
     }
 
     /// A view of the prefix's digits with zeros after them, as many as an id of its kind has.

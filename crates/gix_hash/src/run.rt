@@ -1,6 +1,6 @@
 //! Looking a prefix up in a sorted list of ids.
 
-ghost use Rattle.std.specs.Prelude.{◌≡◌, ◌<◌, ◌≤◌, ◌+◌, ◌*◌, ◌^◌, ℕ, length, take, true, false, IsTrue, not};
+ghost use Rattle.std.specs.Prelude.{◌≡◌, ◌<◌, ◌≤◌, ◌+◌, ◌*◌, ◌^◌, ℕ, length, take, ◌↔◌, true, false, IsTrue, not};
 ghost use Rattle.std.specs.Ordering.{is_gt};
 ghost use Rattle.std.specs.List.{slice_index_or};
 ghost use Rattle.gix_hash.specs.Id.{id_of};
@@ -49,8 +49,7 @@ pub fn prefix_run(ids: &[ObjectId], prefix: &Prefix) -> Run
 /// Whether `prefix_run` may be called with these: the ids ascend by their digits, and have at least as
 /// many as the prefix.
 pub fn can_run(ids: &[ObjectId], prefix: &Prefix) -> bool
-    ensures ascending { IsTrue result → IsAscending ids.now }
-    ensures enough { IsTrue result → HasEnoughDigits ids.now prefix.now }
+    ensures { IsTrue result ↔ (IsAscending ids.now × HasEnoughDigits ids.now prefix.now) }
 {
     let hex_len = prefix.hex_len();
     'ids: for i in 0..ids.len() {

@@ -6,6 +6,7 @@ use super::*;
 use crate::hasher::hasher;
 use crate::io::{Interrupt, Progress, Write};
 use crate::prefix::from_hex;
+use bstr::BStr;
 use std::cmp::Ordering;
 use std::convert::TryFrom;
 use std::io::Write as _;
@@ -15,6 +16,8 @@ use std::test::Fail;
 const EMPTY_BLOB: &str = "e69de29bb2d1d6434b8b29ae775ad8c2e48c5391";
 
 const EMPTY_TREE: &str = "4b825dc642cb6eb9a060e54bf8d69288fbee4904";
+
+const EMPTY_BLOB_REVERSED: &str = "ltqmlxqooxmymtvwvoroxqplssupmrnxlvrnuwqy";
 
 const EMPTY_BLOB_SHA256: &str = "473a0f4c3be8a93681a267e3b1e9a7dcda1185436fe141f7749120a303721813";
 
@@ -203,10 +206,84 @@ fn prefixes(rt: HostRuntime) -> Result<(), Fail> {
     assert!(rt; Prefix::from(id).hex_len() == 40);
     assert!(rt; three < prefix);
     let change = ChangeId::from(id);
-    assert!(rt;
-        format!(in rt.alloc(); "{change}")?.as_str() == "ltqmlxqooxmymtvwvoroxqplssupmrnxlvrnuwqy"
-    );
+    assert!(rt; format!(in rt.alloc(); "{change}")?.as_str() == EMPTY_BLOB_REVERSED);
     assert!(rt; ObjectId::from(change) == id);
+    Ok(())
+}
+
+#[test]
+fn change_ids(rt: HostRuntime) -> Result<(), Fail> {
+    let id = ObjectId::empty_blob(Kind::Sha1);
+    let change = ChangeId::from(id);
+    assert!(rt; change.kind() == Kind::Sha1);
+    assert!(rt; change.eq_oid(id.as_oid()));
+    assert!(rt; change.eq_str(EMPTY_BLOB_REVERSED));
+    assert!(rt; change.eq_bstr(BStr::new(EMPTY_BLOB_REVERSED.as_bytes())));
+    assert!(rt; !change.eq_str(EMPTY_BLOB));
+    assert!(rt; EMPTY_BLOB_REVERSED.parse::<ChangeId>() == Ok(change));
+    assert!(rt; change.to_hex().eq_str(EMPTY_BLOB));
+    assert!(rt; change.to_hex_with_len(7).eq_str("e69de29"));
+    assert!(rt; change.first_byte() == 0xe6);
+    assert!(rt; change.as_bytes().len() == 20);
+    assert!(rt; change.is_empty_blob());
+    assert!(rt; !change.is_empty_tree());
+    assert!(rt; !change.is_null());
+    assert!(rt; change.verify(id.as_oid()).is_ok());
+    Ok(())
+}
+
+#[test]
+fn comparisons_with_text(rt: HostRuntime) -> Result<(), Fail> {
+    let id = ObjectId::empty_blob(Kind::Sha1);
+    assert!(rt; id.eq_bstr(BStr::new(EMPTY_BLOB.as_bytes())));
+    assert!(rt; id.as_oid().eq_bstr(BStr::new(EMPTY_BLOB.as_bytes())));
+    assert!(rt; id.as_oid().to_owned() == id);
+    let prefix = Prefix::new(id.as_oid(), 7).expect(&rt, "a prefix");
+    assert!(rt; prefix.eq_str("e69de29"));
+    assert!(rt; prefix.eq_bstr(BStr::new(b"e69de29")));
+    assert!(rt; !prefix.eq_str("e69de2"));
+    Ok(())
+}
+
+#[test]
+fn ids_out_of_order(rt: HostRuntime) -> Result<(), Fail> {
+    let ids = [
+        ObjectId::empty_blob(Kind::Sha1),
+        ObjectId::empty_tree(Kind::Sha1),
+    ];
+    let prefix = Prefix::from_hex("e69d").expect(&rt, "a prefix");
+    assert!(rt; checked_run(&ids, &prefix).is_none());
+    assert!(rt; checked_run(&ids[..1], &prefix).is_some());
+    assert!(rt; checked_run(&ids[..1], &Prefix::from(ObjectId::null(Kind::Sha256))).is_none());
+    Ok(())
+}
+
+#[test]
+fn texts_of_errors(rt: HostRuntime) -> Result<(), Fail> {
+    let alloc = rt.alloc();
+    let error = decode::Error::InvalidHexEncodingLength(3);
+    assert!(rt;
+        format!(in alloc; "{error}")?.as_str() == "A hash sized 3 hexadecimal characters is invalid"
+    );
+    let error = prefix::Error::TooLong {
+        object_kind: Kind::Sha1,
+        hex_len: 41,
+    };
+    assert!(rt;
+        format!(in alloc; "{error}")?.as_str()
+            == "An object of kind sha1 cannot be larger than 40 in hex, but 41 was requested"
+    );
+    let error = from_hex::Error::TooShort { hex_len: 3 };
+    assert!(rt;
+        format!(in alloc; "{error}")?.as_str()
+            == "The minimum hex length of a short object id is 4, got 3"
+    );
+    let error = borrowed::Error::InvalidByteSliceLength(5);
+    assert!(rt;
+        format!(in alloc; "{error}")?.as_str()
+            == "Cannot instantiate git hash from a digest of length 5"
+    );
+    assert!(rt; format!(in alloc; "{}", io::Error::Interrupted)?.as_str() == "Interrupted");
     Ok(())
 }
 

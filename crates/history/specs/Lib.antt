@@ -1,4 +1,14 @@
+pub mod Acts
+pub mod CommitCauses
 pub mod Face
 pub mod Faults
+pub mod Fields
+pub mod Files
+pub mod Halves
+pub mod Opening
+pub mod Plans
+pub mod Readings
 pub mod Replies
 pub mod Runs
+pub mod Shown
+pub mod Stands

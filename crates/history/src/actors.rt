@@ -1,5 +1,17 @@
 //! Who acted, and when, as a command's line tells it.
 
+ghost use Rattle.std.specs.Prelude.{◌≡◌, ◌&&◌, ◌≤◌, [], ◌∷◌, Bool, not, length, IsTrue, IsFalse, MatchOption};
+ghost use Rattle.std.specs.List.{list_any};
+ghost use Rattle.history_model.specs.Bytes.{Bytes, has_byte, is_empty, digits_value};
+ghost use Rattle.history_model.specs.Forms.{is_actor_part, is_seconds, is_offset};
+ghost use Rattle.history_model.specs.Causes.{is_bad_actor};
+ghost use Rattle.history_model.specs.Meaning.{read_actor};
+ghost use Rattle.history_model.specs.Commands.{ActorLine as ActorOrder};
+ghost use Rattle.history_word.specs.Commands.{IsActor, max_actor_part};
+ghost use Rattle.history_word.specs.Fields.{Keeps};
+ghost use Rattle.history_store.specs.Formats.{actor_of};
+ghost use Rattle.history.specs.CommitCauses.{IsTime, ReadsTime};
+
 use crate::fields::into_kept;
 use history_store::Actor;
 use history_word::{ActorLine, Field};
@@ -17,25 +29,39 @@ pub(crate) struct Time {
 }
 
 /// Whether a name or an email holds this byte nowhere.
-fn is_barred(byte: u8) -> bool {
+fn is_barred(byte: u8) -> bool
+    ensures { result ≡ has_byte byte (60 ∷ 62 ∷ 0 ∷ 9 ∷ 13 ∷ 10 ∷ []) }
+{
     matches!(byte, b'<' | b'>' | b'\0' | b'\t' | b'\r' | b'\n')
 }
 
-/// Whether the bytes may stand as a name or an email: no space at either end, and no byte that parts an actor's line.
-fn is_actor_part(bytes: &[u8]) -> bool {
-    bytes.first() != Some(&b' ')
-        && bytes.last() != Some(&b' ')
-        && !bytes.iter().any(|byte| is_barred(*byte))
+/// Whether the bytes hold one that no name and no email holds.
+fn holds_barred(bytes: &[u8]) -> bool
+    ensures { result ≡ list_any (λ byte. has_byte byte (60 ∷ 62 ∷ 0 ∷ 9 ∷ 13 ∷ 10 ∷ [])) bytes.now }
+{
+    bytes.iter().any(|byte| is_barred(*byte))
 }
 
-fn is_name(field: &Field) -> bool {
+/// Whether the bytes, within their limit, may stand as a name or an email: no byte that parts an actor's line, and no space at
+/// either end.
+fn is_actor_part(bytes: &[u8]) -> bool
+    ensures { length bytes.now ≤ max_actor_part → result ≡ is_actor_part bytes.now }
+{
+    !holds_barred(bytes) && !bytes.starts_with(b" ") && !bytes.ends_with(b" ")
+}
+
+fn is_name(field: &Field) -> bool
+    ensures { (name : Bytes) → Keeps max_actor_part field.now name → result ≡ (not (is_empty name) && is_actor_part name) }
+{
     match field {
         Field::Whole(name) => !name.is_empty() && is_actor_part(name),
         Field::TooLong(_) => false,
     }
 }
 
-fn is_email(field: &Field) -> bool {
+fn is_email(field: &Field) -> bool
+    ensures { (email : Bytes) → Keeps max_actor_part field.now email → result ≡ is_actor_part email }
+{
     match field {
         Field::Whole(email) => is_actor_part(email),
         Field::TooLong(_) => false,
@@ -43,12 +69,16 @@ fn is_email(field: &Field) -> bool {
 }
 
 /// Whether the name and the email can stand in an actor's line. The email may be empty.
-pub(crate) fn has_good_names(line: &ActorLine) -> bool {
+pub(crate) fn has_good_names(line: &ActorLine) -> bool
+    ensures { (order : ActorOrder) → IsActor line.now order → result ≡ not (is_bad_actor order) }
+{
     is_name(&line.name) && is_email(&line.email)
 }
 
 /// Digits without a leading zero, up to the greatest.
-fn seconds_of(word: &[u8]) -> Option<u64> {
+fn seconds_of(word: &[u8]) -> Option<u64>
+    ensures { MatchOption result (IsFalse (is_seconds word.now)) (λ seconds. IsTrue (is_seconds word.now) × (seconds ≡ digits_value word.now)) }
+{
     let seconds: u64 = str::from_utf8(word).ok()?.parse().ok()?;
     let mut digits = itoa::Buffer::new();
     if digits.format(seconds).as_bytes() == word && seconds <= MAX_SECONDS {
@@ -59,7 +89,9 @@ fn seconds_of(word: &[u8]) -> Option<u64> {
 }
 
 /// A sign and four digits, of which the minutes are below 60. `-0000` is none.
-fn offset_of(word: &[u8]) -> Option<[u8; 5]> {
+fn offset_of(word: &[u8]) -> Option<[u8; 5]>
+    ensures { MatchOption result (IsFalse (is_offset word.now)) (λ offset. IsTrue (is_offset word.now) × (offset ≡ word.now)) }
+{
     let [sign, hour_tens, hours, minute_tens, minutes] = *word else {
         return None;
     };
@@ -76,14 +108,18 @@ fn offset_of(word: &[u8]) -> Option<[u8; 5]> {
 }
 
 /// When the actor acted, where both words can stand in an actor's line.
-pub(crate) fn time_of(line: &ActorLine) -> Option<Time> {
+pub(crate) fn time_of(line: &ActorLine) -> Option<Time>
+    ensures { (order : ActorOrder) → IsActor line.now order → ReadsTime order result }
+{
     let seconds = seconds_of(&line.seconds)?;
     let offset = offset_of(&line.offset)?;
     Some(Time { seconds, offset })
 }
 
 /// The actor of a line, who acted at this time.
-pub(crate) fn actor_at(line: ActorLine, time: Time) -> Actor {
+pub(crate) fn actor_at(line: ActorLine, time: Time) -> Actor
+    ensures { (order : ActorOrder) → IsActor line order → IsFalse (is_bad_actor order) → IsTime order time → actor_of result ≡ read_actor order }
+{
     let Time { seconds, offset } = time;
     Actor {
         name: into_kept(line.name),

@@ -1,9 +1,18 @@
 //! The fields of a command, as far as they are kept.
 
+ghost use Rattle.std.specs.Prelude.{◌≡◌, ℕ, length, nat_lt};
+ghost use Rattle.history_model.specs.Bytes.{Bytes};
+ghost use Rattle.history_model.specs.Causes.{is_bad_path};
+ghost use Rattle.history_word.specs.Commands.{max_path};
+ghost use Rattle.history_word.specs.Fields.{Keeps};
+ghost use Rattle.history.specs.Fields.{kept_bytes};
+
 use history_word::Field;
 
 /// Whether the path is none of a file right in the root folder: empty, over the limit, or with a zero byte or a `/`.
-pub(crate) fn is_bad_path(path: &Field) -> bool {
+pub(crate) fn is_bad_path(path: &Field) -> bool
+    ensures { (bytes : Bytes) → Keeps max_path path.now bytes → result ≡ is_bad_path bytes }
+{
     match path {
         Field::Whole(path) => path.is_empty()
             || path.iter().any(|byte| matches!(byte, b'\0' | b'/')),
@@ -12,19 +21,25 @@ pub(crate) fn is_bad_path(path: &Field) -> bool {
 }
 
 /// Whether the field is over its limit.
-pub(crate) fn is_too_long(field: &Field) -> bool {
+pub(crate) fn is_too_long(field: &Field) -> bool
+    ensures { (limit : ℕ) (bytes : Bytes) → Keeps limit field.now bytes → result ≡ nat_lt limit (length bytes) }
+{
     matches!(field, Field::TooLong(_))
 }
 
 /// The bytes that are kept: all of a whole field, else the first 1,025.
-pub(crate) fn kept(field: &Field) -> &[u8] {
+pub(crate) fn kept(field: &Field) -> &[u8]
+    ensures { result.now ≡ kept_bytes field.now }
+{
     match field {
         Field::Whole(bytes) | Field::TooLong(bytes) => bytes,
     }
 }
 
 /// The bytes that are kept, as [`kept`].
-pub(crate) fn into_kept(field: Field) -> Vec<u8> {
+pub(crate) fn into_kept(field: Field) -> Vec<u8>
+    ensures { result.items ≡ kept_bytes field }
+{
     match field {
         Field::Whole(bytes) | Field::TooLong(bytes) => bytes,
     }

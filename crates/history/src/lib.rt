@@ -6,10 +6,12 @@
 
 mod act;
 mod actors;
+mod causes;
 mod commit;
 mod fields;
 mod listing;
 mod open;
+mod planning;
 mod reply;
 mod repository;
 mod running;

@@ -1,6 +1,13 @@
 //! Opening a repository.
 
-ghost use Rattle.std.specs.Prelude.{◌≡◌, false, IfOk, IfErr};
+ghost use Rattle.std.specs.Prelude.{◌≡◌, ◌&&◌, nat_lt, length, [], false, codes, IfOk, OnOk, IfErr};
+ghost use Rattle.history_model.specs.Bytes.{begins};
+ghost use Rattle.history_model.specs.Offered.{main_name};
+ghost use Rattle.history_model.specs.Places.{head_place};
+ghost use Rattle.history_store.specs.Creation.{IsNew};
+ghost use Rattle.history_store.specs.Parts.{IsClear};
+ghost use Rattle.history.specs.Opening.{open_fault, stray_error, HeadIs, IsWrongPart, IsWrongHead, IsNotNew};
+ghost use Rattle.history.specs.declared.open.OpenError.TheVariants.{Memory};
 
 use crate::repository::Repository;
 use gix_ref_file::{FileError, Files, Place};
@@ -29,6 +36,8 @@ pub enum OpenError {
 }
 
 impl From<FileError> for OpenError {
+    ghost from_gives = { λ error refusal. refusal ≡ open_fault error };
+
     fn from(error: FileError) -> OpenError {
         match error {
             FileError::Failed => OpenError::File,
@@ -38,6 +47,8 @@ impl From<FileError> for OpenError {
 }
 
 impl From<AllocError> for OpenError {
+    ghost from_gives = { λ _ refusal. refusal ≡ Memory };
+
     fn from(_: AllocError) -> OpenError {
         OpenError::Memory
     }
@@ -61,7 +72,9 @@ const BRANCHES: &[u8] = b"refs/heads/";
 const FIRST_BRANCH: &[u8] = b"refs/heads/main";
 
 /// What stands here and shouldn't.
-fn refusal_of(stray: Stray) -> OpenError {
+fn refusal_of(stray: Stray) -> OpenError
+    ensures { result ≡ stray_error stray }
+{
     match stray {
         Stray::File(path) => OpenError::NotYet(path),
         Stray::Folder(path) => OpenError::Stray(path),
@@ -74,16 +87,29 @@ fn refuse_others<F: Files>(
     files: &F,
     part: Part,
     permitted: &[u8],
-) -> Result<(), OpenError> {
+) -> Result<(), OpenError>
+    ensures clear { F.is_honest files.now → OnOk result (IsClear part permitted.now (F.history files.now).tree) }
+    ensures wrong { F.is_honest files.now → IfErr result (IsWrongPart F.reading_may_fail part permitted.now (F.history files.now).tree) }
+{
     match survey(alloc, files, part, permitted)? {
         Some(stray) => Err(refusal_of(stray)),
         None => Ok(()),
     }
 }
 
+/// Whether the name is a branch's: it lies below `refs/heads/`.
+fn is_branch(name: &[u8]) -> bool
+    ensures { result ≡ (nat_lt 11 (length name.now) && begins (codes "refs/heads/") name.now) }
+{
+    name.len() > BRANCHES.len() && name.starts_with(BRANCHES)
+}
+
 /// HEAD's branch, where that is a new repository's.
-fn first_branch<F: Files>(alloc: Global, names: &Names<F>) -> Result<Vec<u8>, OpenError> {
-    if names.files().kind_of(HEAD_PLACE)? == Place::Absent {
+fn first_branch<F: Files>(alloc: Global, names: &Names<F>) -> Result<Vec<u8>, OpenError>
+    ensures first { F.is_honest names.now.files → IfOk result (λ branch. (branch.items ≡ main_name) × HeadIs (F.history names.now.files).tree main_name) }
+    ensures wrong { F.is_honest names.now.files → IfErr result (IsWrongHead F.reading_may_fail (F.history names.now.files).tree) }
+{
+    if !matches!(names.files().kind_of(HEAD_PLACE)?, Place::File(_)) {
         return Err(OpenError::NoHead);
     }
     let Some(branch) = names.head(alloc)? else {
@@ -92,7 +118,7 @@ fn first_branch<F: Files>(alloc: Global, names: &Names<F>) -> Result<Vec<u8>, Op
     if branch.as_slice() == FIRST_BRANCH {
         return Ok(branch);
     }
-    if branch.len() > BRANCHES.len() && branch.starts_with(BRANCHES) {
+    if is_branch(&branch) {
         return Err(OpenError::NotYet(Vec::from_slice(alloc, HEAD_PLACE)?));
     }
     Err(OpenError::BadHead)
@@ -103,14 +129,21 @@ fn fresh_branch<F: Files>(
     alloc: Global,
     objects: &F,
     names: &Names<F>,
-) -> Result<Vec<u8>, OpenError> {
+) -> Result<Vec<u8>, OpenError>
+    ensures first { F.is_honest objects.now → F.is_honest names.now.files
+        → IfOk result (λ branch. (branch.items ≡ main_name) × IsNew (F.history objects.now).tree (F.history names.now.files).tree) }
+    ensures wrong { F.is_honest objects.now → F.is_honest names.now.files
+        → IfErr result (IsNotNew F.reading_may_fail (F.history objects.now).tree (F.history names.now.files).tree) }
+{
     refuse_others(alloc, objects, Part::Objects, b"")?;
     refuse_others(alloc, names.files(), Part::Names, HEAD_PLACE)?;
     first_branch(alloc, names)
 }
 
 impl<F: Files> Repository<F> {
+    ghost use Rattle.history_model.specs.Repository.{fresh};
     ghost use Rattle.history.specs.Face.{objects_part, names_part, has_failed};
+    ghost use Rattle.history.specs.Stands.{Stands};
 
     /// Opens a repository as [`create`](crate::create) leaves it. No file is changed.
     ///
@@ -124,6 +157,9 @@ impl<F: Files> Repository<F> {
         kind: Kind,
     ) -> Result<Repository<F>, OpenRefusal<F>>
         ensures ok { IfOk result (λ opened. (objects_part opened ≡ objects) × (names_part opened ≡ names) × (has_failed opened ≡ false)) }
+        ensures stands { F.is_honest objects → F.is_honest names → IfOk result (λ opened. Stands F.is_honest F.history opened (fresh kind)) }
+        ensures refused { F.is_honest objects → F.is_honest names
+            → IfErr result (λ refusal. IsNotNew F.reading_may_fail (F.history objects).tree (F.history names).tree refusal.error) }
         ensures handed_back { IfErr result (λ refusal. (refusal.objects ≡ objects) × (refusal.names ≡ names)) }
     {
         let names = Names::new(names, kind);

@@ -1,13 +1,19 @@
 //! A run: commands are read, acted on and answered, one after another.
 
-ghost use Rattle.std.specs.Prelude.{◌≡◌, ◌<◌, ◌⊎◌, true, false, Ok, Err, Some, IfOk, IfNone, OnErr};
-ghost use Rattle.std.specs.Io.KnownBytes.{IsAtEnd};
-ghost use Rattle.history_word.specs.Buffer.{work, readings_made};
-ghost use Rattle.history_word.specs.Taking.{IsLast};
+ghost use Rattle.std.specs.Prelude.{◌≡◌, ◌<◌, ◌⊎◌, true, false, Ok, Err, Some, IfOk, IfNone, OnOk, OnErr};
+ghost use Rattle.std.specs.Io.KnownBytes.{Consumes, Appends, IsAtEnd};
+ghost use Rattle.history_model.specs.Bytes.{Bytes};
+ghost use Rattle.history_model.specs.Repository as plain;
 ghost use Rattle.history_model.specs.declared.End.TheVariants.{Input};
+ghost use Rattle.history_word.specs.Buffer.{work, readings_made};
+ghost use Rattle.history_word.specs.Streams.{AppendsFront};
+ghost use Rattle.history_word.specs.Taking.{Took, Came, IsLast};
 ghost use Rattle.history.specs.declared.running.RunError.TheVariants.{Read, Write};
+ghost use Rattle.history.specs.Acts.{CountsRise, HasFailedCall};
 ghost use Rattle.history.specs.Face.{has_failed};
-ghost use Rattle.history.specs.Runs.{is_fault_end, is_last_fault, MadeReadings, MadeLastReading};
+ghost use Rattle.history.specs.Replies.{text_of};
+ghost use Rattle.history.specs.Runs.{is_fault_end, is_last_fault, MadeReadings, MadeLastReading, EndsRun, Turns};
+ghost use Rattle.history.specs.Stands.{Stands};
 
 use crate::reply::Reply;
 use crate::repository::Repository;
@@ -30,7 +36,8 @@ pub enum RunError {
 
 /// Writes a whole reply.
 fn send<W: Sink>(writer: &mut W, reply: &Reply) -> Result<(), RunError>
-    ensures { OnErr result ((result ≡ Err Write) × (W.has_failed writer.new ≡ true)) }
+    ensures ok { OnOk result (Appends (W.contents writer.old) (W.contents writer.new) (text_of reply.now)) }
+    ensures err { OnErr result ((result ≡ Err Write) × (W.has_failed writer.new ≡ true) × AppendsFront (W.contents writer.old) (W.contents writer.new) (text_of reply.now)) }
 {
     write_all(writer, reply.text()).map_err(|_| RunError::Write)
 }
@@ -49,6 +56,12 @@ fn turn<R: Source, W: Sink, F: Files>(
     ensures read { result ≡ Err Read → (R.has_failed reader.new ≡ true) ⊎ IsLast buffer.new }
     ensures write { result ≡ Err Write → W.has_failed writer.new ≡ true }
     ensures failed { has_failed repository.old ≡ false → IfOk result (λ end. has_failed repository.new ≡ is_last_fault end) }
+    ensures counts { CountsRise F.failures repository.old repository.new }
+    ensures turns { (r : plain.Repository) → has_failed repository.old ≡ false → Stands F.is_honest F.history repository.old r
+        → Turns (Took R.left R.readings reader.old buffer.old reader.new buffer.new) (Came R.left R.readings reader.old buffer.old reader.new buffer.new)
+        (Appends (W.contents writer.old) (W.contents writer.new)) (Stands F.is_honest F.history repository.new)
+        (IsAtEnd (R.left reader.new)) (IsLast buffer.new) (HasFailedCall F.failures F.reading_may_fail repository.old repository.new)
+        r result (has_failed repository.new) }
 {
     if !buffer.has_more(reader).map_err(|_| RunError::Read)? {
         return Ok(Some(End::Input));
@@ -89,6 +102,13 @@ pub fn run<R: Source, W: Sink, F: Files>(
     ensures fault { IfOk result (λ end. has_failed repository.new ≡ is_fault_end end) }
     ensures failed { has_failed repository.old ≡ true
         → (result ≡ Ok End.Fault) × (reader.new ≡ reader.old) × (writer.new ≡ writer.old) × (repository.new ≡ repository.old) }
+    // What was read, written and left, from each plain repository that this one stands for.
+    ensures runs { (r : plain.Repository) → has_failed repository.old ≡ false → Stands F.is_honest F.history repository.old r
+        → (read written : Bytes) × (new : plain.Repository)
+        × Consumes (R.left reader.old) (R.left reader.new) read × Appends (W.contents writer.old) (W.contents writer.new) written
+        × EndsRun (IsAtEnd (R.left reader.new)) (MadeLastReading (R.readings reader.old) (R.readings reader.new))
+        (HasFailedCall F.failures F.reading_may_fail repository.old repository.new) r read written result (has_failed repository.new) new
+        × (has_failed repository.new ≡ false → Stands F.is_honest F.history repository.new new) }
 {
     if repository.has_failed() {
         return Ok(End::Fault);

@@ -1,17 +1,37 @@
 //! The command `show`.
 
+ghost use Rattle.std.specs.Prelude.{◌≡◌, ◌++◌, map, IfOk, OnOk};
+ghost use Rattle.history_model.specs.Bytes.{Bytes};
+ghost use Rattle.history_model.specs.Objects.{hex};
+ghost use Rattle.history_model.specs.Spelling.{parts_text, parent_part, actor_parts};
+ghost use Rattle.history_model.specs.Replies.{reply_text, spelled_actor, ShowsCommit, ShowsContent};
+ghost use Rattle.history_store.specs.Formats.{id_bytes, actor_of};
+ghost use Rattle.history.specs.Shown.{shown_commit, shown_content};
+
 use crate::fields::{is_bad_path, kept};
 use crate::reply::{field, kind_word, line};
 use crate::repository::Repository;
 use crate::stopped::Stopped;
 use gix_ref_file::Files;
 use history_model::Cause;
-use history_store::{Actor, ObjectId, ObjectKind};
+use history_store::{Actor, Commit, ObjectId, ObjectKind, TreeEntry};
 use history_word::{Field, Show};
 use std::alloc::{AllocError, Global};
 
+/// Appends a line for each parent.
+fn parent_lines(text: &mut Vec<u8>, parents: &[ObjectId]) -> Result<(), AllocError>
+    ensures { OnOk result (text.new.items ≡ text.old.items ++ parts_text (map (λ id. parent_part (hex (id_bytes id))) parents.now)) }
+{
+    for parent in parents {
+        line(text, &[b"parent".as_slice(), parent.to_hex().as_slice()])?;
+    }
+    Ok(())
+}
+
 /// Appends an actor as a command spells it.
-fn actor(text: &mut Vec<u8>, role: &[u8], actor: &Actor) -> Result<(), AllocError> {
+fn actor(text: &mut Vec<u8>, role: &[u8], actor: &Actor) -> Result<(), AllocError>
+    ensures { OnOk result (text.new.items ≡ text.old.items ++ parts_text (actor_parts role.now (spelled_actor (actor_of actor.now)))) }
+{
     let mut name_len = itoa::Buffer::new();
     let mut email_len = itoa::Buffer::new();
     let mut seconds = itoa::Buffer::new();
@@ -29,54 +49,92 @@ fn actor(text: &mut Vec<u8>, role: &[u8], actor: &Actor) -> Result<(), AllocErro
     field(text, &actor.email)
 }
 
+/// The text that shows a commit of this id.
+fn commit_text(alloc: Global, id: &ObjectId, commit: &Commit) -> Result<Vec<u8>, AllocError>
+    ensures { IfOk result (λ text. text.items ≡ reply_text (ShowsCommit (shown_commit id.now commit.now))) }
+{
+    let mut text = Vec::new(alloc);
+    let mut count = itoa::Buffer::new();
+    line(
+        &mut text,
+        &[
+            b"ok".as_slice(),
+            b"show".as_slice(),
+            b"commit".as_slice(),
+            id.to_hex().as_slice(),
+        ],
+    )?;
+    line(
+        &mut text,
+        &[b"tree".as_slice(), commit.tree.to_hex().as_slice()],
+    )?;
+    line(
+        &mut text,
+        &[
+            b"parents".as_slice(),
+            count.format(commit.parents.len()).as_bytes(),
+        ],
+    )?;
+    parent_lines(&mut text, &commit.parents)?;
+    actor(&mut text, b"author", &commit.author)?;
+    actor(&mut text, b"committer", &commit.committer)?;
+    let mut size = itoa::Buffer::new();
+    line(
+        &mut text,
+        &[
+            b"message".as_slice(),
+            size.format(commit.message.len()).as_bytes(),
+        ],
+    )?;
+    field(&mut text, &commit.message)?;
+    Ok(text)
+}
+
+/// The text that shows an entry's file with this content.
+fn content_text(alloc: Global, entry: &TreeEntry, content: &[u8]) -> Result<Vec<u8>, AllocError>
+    ensures { IfOk result (λ text. text.items ≡ reply_text (ShowsContent (shown_content entry.now content.now))) }
+{
+    let mut text = Vec::new(alloc);
+    let mut size = itoa::Buffer::new();
+    line(
+        &mut text,
+        &[
+            b"ok".as_slice(),
+            b"show".as_slice(),
+            b"content".as_slice(),
+            kind_word(entry.kind),
+            entry.id.to_hex().as_slice(),
+            size.format(content.len()).as_bytes(),
+        ],
+    )?;
+    field(&mut text, content)?;
+    Ok(text)
+}
+
 impl<F: Files> Repository<F> {
+    ghost use Rattle.std.specs.Prelude.{Option, Some, None};
+    ghost use Rattle.history_model.specs.Repository as plain;
+    ghost use Rattle.history_model.specs.Words.{ReadsAs, word_reading};
+    ghost use Rattle.history_model.specs.Commands.{Show as ShowOf};
+    ghost use Rattle.history_word.specs.Commands.{IsPath, max_path};
+    ghost use Rattle.history_word.specs.Fields.{Keeps};
+    ghost use Rattle.history.specs.Stands.{Stands};
+    ghost use Rattle.history.specs.Acts.{AnswersReading};
+
     /// The reply to `show` of a commit.
-    fn show_commit(&self, alloc: Global, id: &ObjectId) -> Result<Vec<u8>, Stopped> {
+    fn show_commit(&self, alloc: Global, id: &ObjectId) -> Result<Vec<u8>, Stopped>
+        ensures { (r : plain.Repository) (word : Bytes) → Stands F.is_honest F.history self.now r → word_reading r word ≡ ReadsAs (id_bytes id.now)
+            → AnswersReading F.reading_may_fail r (ShowOf word None) result }
+    {
         let commit = self.read_commit(alloc, id)?;
-        let mut text = Vec::new(alloc);
-        let mut digits = itoa::Buffer::new();
-        line(
-            &mut text,
-            &[
-                b"ok".as_slice(),
-                b"show".as_slice(),
-                b"commit".as_slice(),
-                id.to_hex().as_slice(),
-            ],
-        )?;
-        line(
-            &mut text,
-            &[b"tree".as_slice(), commit.tree.to_hex().as_slice()],
-        )?;
-        line(
-            &mut text,
-            &[
-                b"parents".as_slice(),
-                digits.format(commit.parents.len()).as_bytes(),
-            ],
-        )?;
-        for parent in &commit.parents {
-            line(
-                &mut text,
-                &[b"parent".as_slice(), parent.to_hex().as_slice()],
-            )?;
-        }
-        actor(&mut text, b"author", &commit.author)?;
-        actor(&mut text, b"committer", &commit.committer)?;
-        let mut digits = itoa::Buffer::new();
-        line(
-            &mut text,
-            &[
-                b"message".as_slice(),
-                digits.format(commit.message.len()).as_bytes(),
-            ],
-        )?;
-        field(&mut text, &commit.message)?;
-        Ok(text)
+        Ok(commit_text(alloc, id, &commit)?)
     }
 
-    /// The reply to `show` of a file.
-    fn show_content(&self, alloc: Global, id: &ObjectId, path: &Field) -> Result<Vec<u8>, Stopped> {
+    /// The reply to `show` of what a commit has at a path.
+    fn show_content(&self, alloc: Global, id: &ObjectId, path: &Field) -> Result<Vec<u8>, Stopped>
+        ensures { (r : plain.Repository) (word bytes : Bytes) → Stands F.is_honest F.history self.now r → word_reading r word ≡ ReadsAs (id_bytes id.now) → Keeps max_path path.now bytes
+            → AnswersReading F.reading_may_fail r (ShowOf word (Some bytes)) result }
+    {
         if is_bad_path(path) {
             return Err(Stopped::Refused(Cause::BadPath));
         }
@@ -86,25 +144,14 @@ impl<F: Files> Repository<F> {
             return Err(Stopped::Refused(Cause::NoSuchPath));
         };
         let content = self.content(alloc, ObjectKind::Blob, &entry.id)?;
-        let mut text = Vec::new(alloc);
-        let mut digits = itoa::Buffer::new();
-        line(
-            &mut text,
-            &[
-                b"ok".as_slice(),
-                b"show".as_slice(),
-                b"content".as_slice(),
-                kind_word(entry.kind),
-                entry.id.to_hex().as_slice(),
-                digits.format(content.len()).as_bytes(),
-            ],
-        )?;
-        field(&mut text, &content)?;
-        Ok(text)
+        Ok(content_text(alloc, &entry, &content)?)
     }
 
     /// The reply to `show`: a commit, or what it has at a path.
-    pub(crate) fn show(&self, alloc: Global, command: &Show) -> Result<Vec<u8>, Stopped> {
+    pub(crate) fn show(&self, alloc: Global, command: &Show) -> Result<Vec<u8>, Stopped>
+        ensures { (r : plain.Repository) (path : Option Bytes) → Stands F.is_honest F.history self.now r → IsPath command.now.path path
+            → AnswersReading F.reading_may_fail r (ShowOf command.now.word.items path) result }
+    {
         let id = self.commit_of(alloc, &command.word)?;
         match &command.path {
             None => self.show_commit(alloc, &id),

@@ -1,5 +1,14 @@
 //! The objects that a repository reads.
 
+ghost use Rattle.std.specs.Prelude.{◌≡◌, Some};
+ghost use Rattle.std.specs.FinMap.{get};
+ghost use Rattle.history_model.specs.FileMap.{FileMap};
+ghost use Rattle.history_model.specs.Objects.{CommitValue, Value, StoredCommit, StoredFolder, content_of};
+ghost use Rattle.history_model.specs.Objects as model;
+ghost use Rattle.history_store.specs.Formats.{id_bytes, type_word};
+ghost use Rattle.history_store.specs.Commits.{IsCommitOf};
+ghost use Rattle.history_store.specs.Trees.{IsTreeOf};
+
 use crate::repository::Repository;
 use crate::stopped::Stopped;
 use gix_ref_file::Files;
@@ -9,13 +18,20 @@ use std::alloc::Global;
 
 // In a whole repository each id that is read names an object of its kind, so only a failed call leads to `fault File`.
 impl<F: Files> Repository<F> {
+    ghost use Rattle.history_model.specs.Repository as plain;
+    ghost use Rattle.history.specs.Stands.{Stands};
+    ghost use Rattle.history.specs.Acts.{Gives};
+
     /// The content of a stored object.
     pub(crate) fn content(
         &self,
         alloc: Global,
         kind: ObjectKind,
         id: &ObjectId,
-    ) -> Result<Vec<u8>, Stopped> {
+    ) -> Result<Vec<u8>, Stopped>
+        ensures { (r : plain.Repository) (value : Value) → Stands F.is_honest F.history self.now r → get r.objects (id_bytes id.now) ≡ Some value → model.type_word value ≡ type_word kind
+            → Gives F.reading_may_fail (λ content. content.items ≡ content_of r.kind value) result }
+    {
         match self.objects.read(alloc, id)? {
             Some(object) if object.kind == kind => Ok(object.content),
             _ => Err(Stopped::Fault(Fault::File)),
@@ -23,13 +39,19 @@ impl<F: Files> Repository<F> {
     }
 
     /// A stored commit.
-    pub(crate) fn read_commit(&self, alloc: Global, id: &ObjectId) -> Result<Commit, Stopped> {
+    pub(crate) fn read_commit(&self, alloc: Global, id: &ObjectId) -> Result<Commit, Stopped>
+        ensures { (r : plain.Repository) (value : CommitValue) → Stands F.is_honest F.history self.now r → get r.objects (id_bytes id.now) ≡ Some (StoredCommit value)
+            → Gives F.reading_may_fail (λ commit. IsCommitOf r.kind commit value) result }
+    {
         let content = self.content(alloc, ObjectKind::Commit, id)?;
         Ok(Commit::parse(alloc, &content)?.ok_or(Fault::File)?)
     }
 
     /// A stored tree.
-    pub(crate) fn read_tree(&self, alloc: Global, id: &ObjectId) -> Result<Tree, Stopped> {
+    pub(crate) fn read_tree(&self, alloc: Global, id: &ObjectId) -> Result<Tree, Stopped>
+        ensures { (r : plain.Repository) (files : FileMap) → Stands F.is_honest F.history self.now r → get r.objects (id_bytes id.now) ≡ Some (StoredFolder files)
+            → Gives F.reading_may_fail (λ tree. IsTreeOf r.kind tree files) result }
+    {
         let content = self.content(alloc, ObjectKind::Tree, id)?;
         Ok(Tree::parse(alloc, &content)?.ok_or(Fault::File)?)
     }

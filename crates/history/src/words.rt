@@ -1,5 +1,13 @@
 //! What a word of a command stands for.
 
+ghost use Rattle.std.specs.Prelude.{◌≡◌, ◌++◌, ◌&&◌, not, Some, IfOk, MatchResult, codes};
+ghost use Rattle.history_model.specs.Bytes.{begins};
+ghost use Rattle.history_model.specs.Forms.{is_private};
+ghost use Rattle.history_model.specs.Words.{word_reading, ReadsAs};
+ghost use Rattle.history_store.specs.Formats.{id_bytes};
+ghost use Rattle.history.specs.Acts.{word_cause};
+ghost use Rattle.history.specs.Readings.{reading_of};
+
 use crate::repository::Repository;
 use crate::stopped::Stopped;
 use gix_ref_file::Files;
@@ -31,29 +39,37 @@ const CANDIDATES: [(&[u8], &[u8]); 6] = [
     (b"refs/remotes/", b"/HEAD"),
 ];
 
-/// Names that belong to one working tree.
-const PRIVATE: [&[u8]; 3] = [b"refs/bisect/", b"refs/worktree/", b"refs/rewritten/"];
-
 /// The three texts, one behind the other.
-fn joined(alloc: Global, front: &[u8], word: &[u8], back: &[u8]) -> Result<Vec<u8>, AllocError> {
+fn joined(alloc: Global, front: &[u8], word: &[u8], back: &[u8]) -> Result<Vec<u8>, AllocError>
+    ensures { IfOk result (λ name. name.items ≡ front.now ++ word.now ++ back.now) }
+{
     let mut name = Vec::from_slice(alloc, front)?;
     name.extend_from_slice(word)?;
     name.extend_from_slice(back)?;
     Ok(name)
 }
 
-fn is_private(name: &[u8]) -> bool {
-    PRIVATE.iter().any(|front| name.starts_with(front))
+/// Whether the name belongs to one working tree.
+fn is_private(name: &[u8]) -> bool
+    ensures { result ≡ is_private name.now }
+{
+    name.starts_with(b"refs/bisect/")
+        || name.starts_with(b"refs/worktree/")
+        || name.starts_with(b"refs/rewritten/")
 }
 
 /// Whether a word may mean this name.
-fn is_candidate(name: &[u8]) -> bool {
+fn is_candidate(name: &[u8]) -> bool
+    ensures { result ≡ (begins (codes "refs/") name.now && not (is_private name.now)) }
+{
     name.starts_with(b"refs/") && !is_private(name)
 }
 
 impl WordReading {
     /// The commit, where there is one; else why there is none.
-    pub(crate) fn commit(self) -> Result<ObjectId, Cause> {
+    pub(crate) fn commit(self) -> Result<ObjectId, Cause>
+        ensures { MatchResult result (λ id. reading_of self ≡ ReadsAs (id_bytes id)) (λ cause. word_cause (reading_of self) ≡ Some cause) }
+    {
         match self {
             WordReading::Commit(id) => Ok(id),
             WordReading::Unborn => Err(Cause::UnbornHead),
@@ -63,11 +79,19 @@ impl WordReading {
 }
 
 impl<F: Files> Repository<F> {
+    ghost use Rattle.history_model.specs.Repository as plain;
+    ghost use Rattle.history.specs.Stands.{Stands};
+    ghost use Rattle.history.specs.Acts.{Gives, ReadsWord};
+
     /// What a word stands for: HEAD for its branch, else the first candidate that stands.
-    pub(crate) fn read_word(&self, alloc: Global, word: &[u8]) -> Result<WordReading, Stopped> {
+    pub(crate) fn read_word(&self, alloc: Global, word: &[u8]) -> Result<WordReading, Stopped>
+        ensures { (r : plain.Repository) → Stands F.is_honest F.history self.now r → Gives F.reading_may_fail (λ reading. reading_of reading ≡ word_reading r word.now) result }
+    {
         if word == HEAD {
-            let id = self.names.read(alloc, &self.branch)?;
-            return Ok(id.map_or(WordReading::Unborn, WordReading::Commit));
+            return Ok(match self.names.read(alloc, &self.branch)? {
+                Some(id) => WordReading::Commit(id),
+                None => WordReading::Unborn,
+            });
         }
         for (front, back) in CANDIDATES {
             let name = joined(alloc, front, word, back)?;
@@ -81,7 +105,9 @@ impl<F: Files> Repository<F> {
     }
 
     /// The commit that a word stands for.
-    pub(crate) fn commit_of(&self, alloc: Global, word: &[u8]) -> Result<ObjectId, Stopped> {
+    pub(crate) fn commit_of(&self, alloc: Global, word: &[u8]) -> Result<ObjectId, Stopped>
+        ensures { (r : plain.Repository) → Stands F.is_honest F.history self.now r → ReadsWord F.reading_may_fail r word.now result }
+    {
         Ok(self.read_word(alloc, word)?.commit()?)
     }
 }

@@ -6,9 +6,9 @@ mod NameLemmas
 mod RestRowLemmas
 mod RowLemmas
 mod FirstRowLemmas
-mod StepLemmas
+pub mod StepLemmas
 mod RecoveryLemmas
-mod FreshLemmas
+pub mod FreshLemmas
 mod RecoveredLemmas
 mod RoundLemmas
 mod ReadingLemmas
@@ -26,7 +26,7 @@ pub mod TableLaws
 mod AlikeLemmas
 mod OnePair
 mod OnePairLines
-mod OnePairTexts
+pub mod OnePairTexts
 mod PastLemmas
 mod WholeCommands
 mod WholeForms
@@ -37,10 +37,10 @@ mod WholeNames
 mod WholePaths
 mod WholeReads
 mod WholeRoots
-mod WholeSteps
+pub mod WholeSteps
 mod WholeStored
 mod WholeStores
-mod WholeTexts
+pub mod WholeTexts
 pub mod TreePlaces
 pub mod TreePuts
 pub mod TreeTexts

@@ -78,7 +78,7 @@ without d is (b ∷ part) h =
     go false e = refl
     go true e = clash (ap (λ n. has_byte n part_bytes) (same b d e) ∙ is) (or_none (has_byte b part_bytes) (list_any (λ b. has_byte b part_bytes) part) h).0
 
-part_plain : (d : ℕ) → has_byte d part_bytes ≡ true → (part : Bytes) → is_actor_part part ≡ true → has_byte d part ≡ false
+pub part_plain : (d : ℕ) → has_byte d part_bytes ≡ true → (part : Bytes) → is_actor_part part ≡ true → has_byte d part ≡ false
 part_plain d is part h =
     let outer = and_true (not (list_any (λ b. has_byte b part_bytes) part) && not (begins (32 ∷ []) part) && not (ends (32 ∷ []) part)) (nat_le (length part) max_actor_part) h in
     let mid = and_true (not (list_any (λ b. has_byte b part_bytes) part) && not (begins (32 ∷ []) part)) (not (ends (32 ∷ []) part)) outer.0 in

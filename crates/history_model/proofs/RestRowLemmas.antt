@@ -132,15 +132,18 @@ too_long_line = no_line 4096 (omega arith)
 
 refused : (stream : Bytes) (cause : Cause) → HasRestCause stream cause → Refuses stream (reply_text (RefusedFor cause))
 refused stream cause h = record {
-  commands = [];
-  replies = [];
   rest = stream;
   last = reply_text (RefusedFor cause);
-  splits = record { known = refl; split = refl };
-  steps = refl;
-  fails = refl;
+  ran = record {
+    commands = [];
+    replies = [];
+    splits = record { known = refl; split = refl };
+    steps = refl;
+    fails = refl;
+    written = refl;
+    file_faults = tt;
+  };
   ends = (cause, record { because = h; at_end = λ e. tt }, refl, refl);
-  written = refl;
 }
 
 pub hello_refused : Refuses (line (codes "hello")) (line (codes "refused Syntax"))
@@ -159,14 +162,17 @@ pub nothing_given : Gives [] []
 nothing_given = (
   fresh Sha1,
   record {
-    commands = [];
-    replies = [];
     rest = [];
     last = [];
-    splits = record { known = refl; split = refl };
-    steps = refl;
-    fails = refl;
+    ran = record {
+      commands = [];
+      replies = [];
+      splits = record { known = refl; split = refl };
+      steps = refl;
+      fails = refl;
+      written = refl;
+      file_faults = tt;
+    };
     ends = (refl, tt, refl, refl);
-    written = refl;
   },
 )

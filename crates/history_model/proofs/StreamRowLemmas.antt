@@ -1,6 +1,6 @@
 -- Streams on a fresh repository, and what a run over them writes.
 use Rattle.std.proofs.Common.{◌≡◌, Bool, true, false, not, ◌&&◌, List, [], ◌∷◌, ◌++◌, map, refl, sym, ◌∙◌, ap, inl, Some, None, codes, bytes_eq}
-use Rattle.std.specs.List.{flat_map}
+use Rattle.std.specs.List.{flat_map, list_any, AllByRecursion}
 use Rattle.std.specs.Fmt.{digits}
 use Rattle.std.specs.FinMap.{empty, get-empty}
 use Rattle.std.proofs.lemmas.Slice.Eq.{bytes_eq-Decides}
@@ -11,15 +11,25 @@ use Rattle.history_model.specs.FileMap.{Content}
 use Rattle.history_model.specs.Objects.{Id, Value, StoredCommit, StoredFolder, hex, digest, blob_id, empty_tree_id, tree_text, object_text, entry_text, value_text, folder_id}
 use Rattle.history_model.specs.Repository.{Repository}
 use Rattle.history_model.specs.Commands.{Commit, Files, Show}
-use Rattle.history_model.specs.Replies.{Reply, FileLine, Committed, FilesAre, ShowsCommit, ShowsContent, reply_text}
+use Rattle.history_model.specs.Replies.{Reply, Faulted, FileLine, Committed, FilesAre, ShowsCommit, ShowsContent, reply_text}
 use Rattle.history_model.specs.Answers.{file_line, files_shown}
+use Rattle.history_model.specs.Steps.{is_faulted}
 use Rattle.history_model.specs.Rows.{Gives, content, first_stream, first_output, empty_file_stream, empty_file_output, hello_stream, hello_output, sample_actor}
 use Rattle.history_model.specs.declared.Kind.TheVariants.{Sha1}
+use Rattle.history_model.specs.declared.Fault.TheVariants.{File as ByFile}
 use Rattle.history_model.specs.declared.FileKind.TheVariants.{File}
 use Rattle.history_model.proofs.RowLemmas.{entries-empty, root-empty, text_with, first_content, first_new_commit}
+use Rattle.history_model.proofs.PartLemmas.{either_false}
 use Rattle.history_model.proofs.FirstRowLemmas.{first_is_accepted, first_stored}
 use Rattle.history_model.proofs.AfterFirstLemmas.{command_with, commit_with, state, IsFirst, AllFree, get-with, commit_step, files_step, show_step, path_step}
 use Rattle.history_model.proofs.OneFileLemmas.{put_edits, one_file, objects, AreIds, is_first, entry_is, at_a, none_below, found_there}
+
+-- no reply is a fault
+none_faulted : (replies : List Reply) → list_any is_faulted replies ≡ false → AllByRecursion (λ reply. reply ≡ Faulted ByFile → ⊥) replies
+none_faulted [] e = tt
+none_faulted (reply ∷ replies) e =
+    let none = either_false (is_faulted reply) (list_any is_faulted replies) e in
+    (λ same. cc (ap is_faulted same, none.0), none_faulted replies none.1)
 
 -- ---- without files
 
@@ -96,26 +106,29 @@ unfolding none_replies none_state state digits
 first_gives = (
   none_state,
   record {
-    commands = Commit (command_with []) ∷ Files (codes "main") ∷ Show (codes "main") None ∷ [];
-    replies = none_replies (files_shown none_state empty) (folder_id Sha1 empty);
     rest = [];
     last = [];
-    splits = record { known = refl; split = refl };
-    steps = (
-      none_state,
-      commit_step [] empty none_commit none_objects none_is_first,
-      inl refl,
-      (
+    ran = record {
+      commands = Commit (command_with []) ∷ Files (codes "main") ∷ Show (codes "main") None ∷ [];
+      replies = none_replies (files_shown none_state empty) (folder_id Sha1 empty);
+      splits = record { known = refl; split = refl };
+      steps = (
         none_state,
-        files_step [] empty none_commit none_objects none_is_first,
+        commit_step [] empty none_commit none_objects none_is_first,
         inl refl,
-        (none_state, show_step [] empty none_commit none_objects none_is_first, inl refl, refl),
-      ),
-    );
-    fails = refl;
+        (
+          none_state,
+          files_step [] empty none_commit none_objects none_is_first,
+          inl refl,
+          (none_state, show_step [] empty none_commit none_objects none_is_first, inl refl, refl),
+        ),
+      );
+      fails = refl;
+      written = none_written ∙ ap (λ es. flat_map reply_text (none_replies (map (file_line none_state) es) none_tree) ++ []) (sym (entries-empty {X = Content}))
+          ∙ ap (λ t. flat_map reply_text (none_replies (files_shown none_state empty) t) ++ []) (sym none_folder_is);
+      file_faults = none_faulted (none_replies (files_shown none_state empty) (folder_id Sha1 empty)) refl;
+    };
     ends = (refl, tt, refl, refl);
-    written = none_written ∙ ap (λ es. flat_map reply_text (none_replies (map (file_line none_state) es) none_tree) ++ []) (sym (entries-empty {X = Content}))
-        ∙ ap (λ t. flat_map reply_text (none_replies (files_shown none_state empty) t) ++ []) (sym none_folder_is);
   },
 )
 
@@ -193,20 +206,23 @@ unfolding empty_replies empty_state state digits
 empty_file_gives = (
   empty_state,
   record {
-    commands = Commit (command_with (put_edits [])) ∷ Files (codes "main") ∷ [];
-    replies = empty_replies (files_shown empty_state (one_file []));
     rest = [];
     last = [];
-    splits = record { known = refl; split = refl };
-    steps = (
-      empty_state,
-      commit_step (put_edits []) (one_file []) empty_commit empty_objects empty_is_first,
-      inl refl,
-      (empty_state, files_step (put_edits []) (one_file []) empty_commit empty_objects empty_is_first, inl refl, refl),
-    );
-    fails = refl;
+    ran = record {
+      commands = Commit (command_with (put_edits [])) ∷ Files (codes "main") ∷ [];
+      replies = empty_replies (files_shown empty_state (one_file []));
+      splits = record { known = refl; split = refl };
+      steps = (
+        empty_state,
+        commit_step (put_edits []) (one_file []) empty_commit empty_objects empty_is_first,
+        inl refl,
+        (empty_state, files_step (put_edits []) (one_file []) empty_commit empty_objects empty_is_first, inl refl, refl),
+      );
+      fails = refl;
+      written = empty_written ∙ ap (λ files. flat_map reply_text (empty_replies files) ++ []) (sym empty_shown);
+      file_faults = none_faulted (empty_replies (files_shown empty_state (one_file []))) refl;
+    };
     ends = (refl, tt, refl, refl);
-    written = empty_written ∙ ap (λ files. flat_map reply_text (empty_replies files) ++ []) (sym empty_shown);
   },
 )
 
@@ -284,25 +300,28 @@ unfolding hello_replies hello_state state digits
 hello_gives = (
   hello_state,
   record {
-    commands = Commit (command_with (put_edits (codes "hello"))) ∷ Files (codes "main") ∷ Show (codes "main") (Some (codes "a")) ∷ [];
-    replies = hello_replies (files_shown hello_state (one_file (codes "hello"))) (blob_id Sha1 (codes "hello"));
     rest = [];
     last = [];
-    splits = record { known = refl; split = refl };
-    steps = (
-      hello_state,
-      commit_step (put_edits (codes "hello")) (one_file (codes "hello")) hello_commit hello_objects hello_is_first,
-      inl refl,
-      (
+    ran = record {
+      commands = Commit (command_with (put_edits (codes "hello"))) ∷ Files (codes "main") ∷ Show (codes "main") (Some (codes "a")) ∷ [];
+      replies = hello_replies (files_shown hello_state (one_file (codes "hello"))) (blob_id Sha1 (codes "hello"));
+      splits = record { known = refl; split = refl };
+      steps = (
         hello_state,
-        files_step (put_edits (codes "hello")) (one_file (codes "hello")) hello_commit hello_objects hello_is_first,
+        commit_step (put_edits (codes "hello")) (one_file (codes "hello")) hello_commit hello_objects hello_is_first,
         inl refl,
-        (hello_state, path_step (put_edits (codes "hello")) (one_file (codes "hello")) hello_commit hello_objects hello_is_first (content (codes "hello")) (at_a (codes "hello")) (none_below (codes "hello")), inl refl, refl),
-      ),
-    );
-    fails = refl;
+        (
+          hello_state,
+          files_step (put_edits (codes "hello")) (one_file (codes "hello")) hello_commit hello_objects hello_is_first,
+          inl refl,
+          (hello_state, path_step (put_edits (codes "hello")) (one_file (codes "hello")) hello_commit hello_objects hello_is_first (content (codes "hello")) (at_a (codes "hello")) (none_below (codes "hello")), inl refl, refl),
+        ),
+      );
+      fails = refl;
+      written = hello_written ∙ ap (λ files. flat_map reply_text (hello_replies files hello_blob) ++ []) (sym hello_shown)
+          ∙ ap (λ i. flat_map reply_text (hello_replies (files_shown hello_state (one_file (codes "hello"))) i) ++ []) (sym hello_blob_is);
+      file_faults = none_faulted (hello_replies (files_shown hello_state (one_file (codes "hello"))) (blob_id Sha1 (codes "hello"))) refl;
+    };
     ends = (refl, tt, refl, refl);
-    written = hello_written ∙ ap (λ files. flat_map reply_text (hello_replies files hello_blob) ++ []) (sym hello_shown)
-        ∙ ap (λ i. flat_map reply_text (hello_replies (files_shown hello_state (one_file (codes "hello"))) i) ++ []) (sym hello_blob_is);
   },
 )

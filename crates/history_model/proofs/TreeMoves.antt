@@ -46,7 +46,7 @@ no_ref (b ∷ id) h = first _ _ (no_r lower_digits refl (b / 16) (let less = h 0
     first true c e = cc
     first false c e = refl
 
-id_read : (kind : Kind) (id : Id) → is_id kind id ≡ true → id_from_hex kind (hex id) ≡ Some id
+pub id_read : (kind : Kind) (id : Id) → is_id kind id ≡ true → id_from_hex kind (hex id) ≡ Some id
 id_read kind id h = ap (λ b. cond b (result_ok (decode_of (hex id))) None) (sized (length (hex id)) (id_len kind) (length_hex id ∙ twice (id_length kind id h))) ∙ ap result_ok (decode_of-encode_lower id (id_bytes kind id h))
   where
     sized : (a n : ℕ) → a ≡ n + n → (a == 2 * n) ≡ true

@@ -14,13 +14,14 @@ use Rattle.history_model.specs.declared.End.TheVariants.{Input, Refused as ByRef
 
 -- ---- what a stream gives
 
--- A run over the whole stream, from a fresh repository, writes the output and ends at the end of the input.
+-- A run over the whole stream, from a fresh repository, writes the output and ends at the end of the input. No call of the
+-- files failed.
 abbrev pub Gives : Bytes → Bytes → Type 0
-Gives stream output = (new : Repository) × Runs (Unit {0}) (fresh Sha1) stream output Input false new
+Gives stream output = (new : Repository) × Runs (Unit {0}) ⊥ (fresh Sha1) stream output Input false new
 
 -- It is refused, and the repository is as it was.
 abbrev pub Refuses : Bytes → Bytes → Type 0
-Refuses stream output = Runs (Unit {0}) (fresh Sha1) stream output ByRefusal false (fresh Sha1)
+Refuses stream output = Runs (Unit {0}) ⊥ (fresh Sha1) stream output ByRefusal false (fresh Sha1)
 
 abbrev pub lines : List Bytes → Bytes
 lines texts = flat_map line texts

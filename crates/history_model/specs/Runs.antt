@@ -1,7 +1,7 @@
 -- Runs over a stream of commands: what is written, how they end, and where a reader or a writer cuts them off.
--- AtEnd says that the input is at its end: that nothing follows what was read.
+-- AtEnd says that the input is at its end: that nothing follows what was read. CallFailed says that a call of the files failed.
 use Rattle.std.specs.Prelude.{◌≡◌, ◌⊎◌, Bool, true, false, ◌||◌, List, [], ◌∷◌, ◌++◌, IsTrue}
-use Rattle.std.specs.List.{flat_map, list_all}
+use Rattle.std.specs.List.{flat_map, list_all, AllByRecursion}
 use Rattle.history_model.specs.Bytes.{Bytes, begins}
 use Rattle.history_model.specs.Repository.{Repository}
 use Rattle.history_model.specs.Commands.{Command}
@@ -11,7 +11,7 @@ use Rattle.history_model.specs.Replies.{Reply, RefusedFor, Faulted, reply_text}
 use Rattle.history_model.specs.Steps.{Step, Steps, some_failed}
 use Rattle.history_model.specs.declared.Cause.{Cause}
 use Rattle.history_model.specs.declared.Cause.TheVariants.{Truncated}
-use Rattle.history_model.specs.declared.Fault.TheVariants.{Memory}
+use Rattle.history_model.specs.declared.Fault.TheVariants.{Memory, File}
 use Rattle.history_model.specs.declared.End.{End}
 use Rattle.history_model.specs.declared.End.TheVariants.{Input, Refused as ByRefusal, Fault as ByFault}
 
@@ -25,6 +25,18 @@ pub record IsNoCommand (AtEnd : Type 0) (rest : Bytes) (cause : Cause) : Type 0 
   pub because : HasRestCause rest cause
   pub at_end : cause ≡ Truncated → AtEnd
 
+-- Commands were acted on in a row, and the reply to each is written; this rest of the input follows them, and this is written
+-- last. It has failed where a changing command had a fault.
+pub record Ran (CallFailed : Type 0) (old : Repository) (input output rest last : Bytes) (failed : Bool) (new : Repository) : Type 0 where
+  pub commands : List Command
+  pub replies : List Reply
+  pub splits : BeginsWith input commands rest
+  pub steps : Steps old commands replies new
+  pub fails : failed ≡ some_failed commands replies
+  pub written : output ≡ flat_map reply_text replies ++ last
+  -- `fault File` is told only where a call of the files failed
+  pub file_faults : AllByRecursion (λ reply. reply ≡ Faulted File → CallFailed) replies
+
 -- How a run ends over the rest of the input, what is written last, and whether the repository has failed.
 abbrev pub Ends : Type 0 → Bytes → Bytes → End → Bool → Type 0
 Ends AtEnd rest last Input failed = (rest ≡ []) × AtEnd × (last ≡ []) × (failed ≡ false)
@@ -34,47 +46,35 @@ Ends AtEnd rest last ByFault true = last ≡ []
 -- memory ran out while a rest that is no command was read: nothing changes
 Ends AtEnd rest last ByFault false = (cause : Cause) × IsNoCommand AtEnd rest cause × (last ≡ reply_text (Faulted Memory))
 
--- A run over the input writes the output, ends so, and leaves new. It has failed where a changing command had a fault.
-pub record Runs (AtEnd : Type 0) (old : Repository) (input output : Bytes) (end : End) (failed : Bool) (new : Repository) : Type 0 where
-  pub commands : List Command
-  pub replies : List Reply
+-- A run over the input writes the output, ends so, and leaves new.
+pub record Runs (AtEnd CallFailed : Type 0) (old : Repository) (input output : Bytes) (end : End) (failed : Bool) (new : Repository) : Type 0 where
   pub rest : Bytes
   pub last : Bytes
-  pub splits : BeginsWith input commands rest
-  pub steps : Steps old commands replies new
-  pub fails : failed ≡ some_failed commands replies
+  pub ran : Ran CallFailed old input output rest last failed new
   pub ends : Ends AtEnd rest last end failed
-  pub written : output ≡ flat_map reply_text replies ++ last
 
 -- ---- runs that a reader or a writer cuts off
 
--- The reader failed: these commands were acted on, and their replies are written.
-pub record EndsReading (old : Repository) (input output : Bytes) (new : Repository) : Type 0 where
-  pub commands : List Command
-  pub replies : List Reply
+-- The reader failed where nothing or the beginning of a command follows the last one; or the last reading was made.
+pub record EndsReading (LastReading CallFailed : Type 0) (old : Repository) (input output : Bytes) (failed : Bool) (new : Repository) : Type 0 where
   pub rest : Bytes
-  pub splits : BeginsWith input commands rest
-  pub steps : Steps old commands replies new
-  pub unfailed : some_failed commands replies ≡ false
-  pub written : output ≡ flat_map reply_text replies
+  pub ran : Ran CallFailed old input output rest [] failed new
+  pub unfailed : failed ≡ false
+  pub cut : (rest ≡ []) ⊎ HasRestCause rest Truncated ⊎ LastReading
 
--- The writer failed within the reply to one more command, or within the answer to the rest.
-abbrev pub CutsShort : Type 0 → Repository → Bytes → Bytes → Bool → Repository → Type 0
-CutsShort AtEnd old rest part failed new =
+-- The writer failed within the reply to one more command, which was acted on, or within the answer to a rest that is none.
+abbrev pub CutsShort : Type 0 → Type 0 → Repository → Bytes → Bytes → Bool → Repository → Type 0
+CutsShort AtEnd CallFailed old rest part failed new =
     ((command : Command) × (reply : Reply) × (more : Bytes) × IsTrue (is_command command) × (rest ≡ spelling command ++ more)
-    × Step old command reply new × (failed ≡ some_failed (command ∷ []) (reply ∷ [])) × IsTrue (begins part (reply_text reply)))
+    × Step old command reply new × (failed ≡ some_failed (command ∷ []) (reply ∷ [])) × (reply ≡ Faulted File → CallFailed)
+    × IsTrue (begins part (reply_text reply)))
     ⊎ ((cause : Cause) × IsNoCommand AtEnd rest cause × (new ≡ old) × (failed ≡ false)
     × IsTrue (begins part (reply_text (RefusedFor cause)) || begins part (reply_text (Faulted Memory))))
 
 -- The writer failed: all replies but the last are written whole.
-pub record EndsWriting (AtEnd : Type 0) (old : Repository) (input output : Bytes) (failed : Bool) (new : Repository) : Type 0 where
-  pub commands : List Command
-  pub replies : List Reply
+pub record EndsWriting (AtEnd CallFailed : Type 0) (old : Repository) (input output : Bytes) (failed : Bool) (new : Repository) : Type 0 where
   pub rest : Bytes
   pub part : Bytes
   pub mid : Repository
-  pub splits : BeginsWith input commands rest
-  pub steps : Steps old commands replies mid
-  pub unfailed : some_failed commands replies ≡ false
-  pub cut : CutsShort AtEnd mid rest part failed new
-  pub written : output ≡ flat_map reply_text replies ++ part
+  pub ran : Ran CallFailed old input output rest part false mid
+  pub cut : CutsShort AtEnd CallFailed mid rest part failed new

@@ -47,7 +47,7 @@ behind (f ∷ front) back (x ∷ place) rest clear is =
     behind_more f x front back place rest (sym (head_same f x (front ++ 47 ∷ back) (place ++ 47 ∷ rest) is))
     (behind front back place rest (neither (f == 47) (has_byte 47 front) clear).1 (tail_same f x (front ++ 47 ∷ back) (place ++ 47 ∷ rest) is))
 
-none_above : (path place rest : Bytes) → has_byte 47 path ≡ false → path ≢ place ++ 47 ∷ rest
+pub none_above : (path place rest : Bytes) → has_byte 47 path ≡ false → path ≢ place ++ 47 ∷ rest
 none_above [] [] rest clear is = cc
 none_above [] (x ∷ place) rest clear is = cc
 none_above (p ∷ path) [] rest clear is =
@@ -77,7 +77,7 @@ lower_digit (suc (suc (suc (suc (suc (suc (suc (suc (suc (suc (suc (suc (suc (su
 lower_digit (suc (suc (suc (suc (suc (suc (suc (suc (suc (suc (suc (suc (suc (suc (suc zero))))))))))))))) below = refl
 lower_digit (suc (suc (suc (suc (suc (suc (suc (suc (suc (suc (suc (suc (suc (suc (suc (suc d)))))))))))))))) below = absurd (omega (arith, below))
 
-hex_lower : (id : Id) → list_all (λ b. nat_lt b 256) id ≡ true → list_all is_lower_hex (hex id) ≡ true
+pub hex_lower : (id : Id) → list_all (λ b. nat_lt b 256) id ≡ true → list_all is_lower_hex (hex id) ≡ true
 unfolding encode_with
 hex_lower [] bytes = refl
 hex_lower (b ∷ id) bytes =
@@ -87,7 +87,7 @@ hex_lower (b ∷ id) bytes =
     let low : b % 16 < 16 = omega arith in
     (λ i. lower_digit (b / 16) high i && (lower_digit (b % 16) low i && hex_lower id parts.1 i))
 
-no_slash_lower : (h : Bytes) → list_all is_lower_hex h ≡ true → has_byte 47 h ≡ false
+pub no_slash_lower : (h : Bytes) → list_all is_lower_hex h ≡ true → has_byte 47 h ≡ false
 no_slash_lower [] lower = refl
 no_slash_lower (a ∷ h) lower =
     let parts = both (is_lower_hex a) (list_all is_lower_hex h) lower in
@@ -100,7 +100,7 @@ no_slash_lower (a ∷ h) lower =
         by_test true slash = let wrong : false ≡ true = ap is_lower_hex (sym ((Decides-eqb a 47).0 slash)) ∙ lower in absurd (cc wrong)
         by_test false other = other
 
-object_above : (h place : Bytes) → 2 ≤ length h → list_all is_lower_hex h ≡ true → IsAbove place (codes "objects/" ++ take 2 h ++ 47 ∷ drop 2 h) → is_object_folder place ≡ true
+pub object_above : (h place : Bytes) → 2 ≤ length h → list_all is_lower_hex h ≡ true → IsAbove place (codes "objects/" ++ take 2 h ++ 47 ∷ drop 2 h) → is_object_folder place ≡ true
 object_above [] place long lower above = absurd (omega (arith, long))
 object_above (a ∷ []) place long lower above = absurd (omega (arith, long))
 object_above (a ∷ b ∷ h) place long lower (rest, is) = from_first (behind (codes "objects") (a ∷ b ∷ 47 ∷ h) place rest refl is)

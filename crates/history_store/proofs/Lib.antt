@@ -1,11 +1,23 @@
 mod Above
+pub mod ActorTexts
+mod Cleared
+mod Clearings
+pub mod CommitTexts
 mod Cuts
 mod Entries
+pub mod FlatTrees
 pub mod FolderPlaces
+mod FoldersMade
+pub mod FreshParts
 mod Made
 mod Moves
 pub mod NameFolders
+pub mod NameMoves
 mod News
+mod ObjectFiles
+pub mod ObjectParts
+mod ObjectTexts
 mod Spelled
 mod Stored
 mod Surveys
+pub mod Ways

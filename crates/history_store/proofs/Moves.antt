@@ -8,9 +8,10 @@ use Rattle.gix_ref_file.specs.Changes.{to_write, to_append, allows, after, may_h
 use Rattle.gix_ref_file.specs.History.{History, Adds}
 use Rattle.gix_ref_file.proofs.Trees.{node_at_path, get_inserted}
 use Rattle.history_model.specs.Bytes.{Bytes, line}
+use Rattle.history_model.specs.Logs.{log_line}
 use Rattle.history_model.specs.Objects.{hex}
 use Rattle.history_model.specs.Places.{file_at, log_place}
-use Rattle.history_store.specs.Formats.{id_bytes, entry_line}
+use Rattle.history_store.specs.Formats.{id_bytes, entry_of}
 use Rattle.history_store.specs.Stores.{SameFiles, PutsFile}
 use Rattle.history_store.specs.References.{SpellsId, Logs, HasMoved}
 use Rattle.history_store.specs.declared.log_entry.LogEntry.{LogEntry}
@@ -39,13 +40,13 @@ written path bytes old made new first may is = record {
 same_bytes : (old new : Tree) (path : Bytes) → SameFiles old new → bytes_at new path ≡ bytes_at old path
 same_bytes old new path same = ap (λ o. unwrap_or o []) (same path)
 
-pub appended : (name : Bytes) (entry : LogEntry) (log text : Bytes) (old made new : History) → id_bytes entry.before ≢ id_bytes entry.after → log ≡ log_place name → text ≡ entry_line entry
+pub appended : (name : Bytes) (entry : LogEntry) (log text : Bytes) (old made new : History) → id_bytes entry.before ≢ id_bytes entry.after → log ≡ log_place name → text ≡ log_line (entry_of entry)
     → Adds (SameFiles old.tree) old made → IsTrue (allows made.tree (to_append log text)) → new.tree ≡ after (to_append log text) made.tree → Logs name entry old.tree new.tree
 appended name entry log text old made new moves is_log is_text first may is =
     let same = now_same old made first in
     record {
       appended = λ _. ap (file_at new.tree) (sym is_log) ∙ ap (λ t. file_at t log) is ∙ inserted_here made.tree log (bytes_at made.tree log ++ text) may
-          ∙ (λ i. Some (same_bytes old.tree made.tree log same i ++ is_text i)) ∙ ap (λ p. Some (bytes_at old.tree p ++ entry_line entry)) is_log;
+          ∙ (λ i. Some (same_bytes old.tree made.tree log same i ++ is_text i)) ∙ ap (λ p. Some (bytes_at old.tree p ++ log_line (entry_of entry))) is_log;
       unmoved = λ unmoved. absurd (moves unmoved);
       others = λ path apart. ap (λ t. file_at t path) is ∙ apart_from_inserted made.tree log (file (bytes_at made.tree log ++ text)) path (λ here. apart (here ∙ is_log)) ∙ same path;
     }

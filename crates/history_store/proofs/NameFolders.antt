@@ -14,7 +14,7 @@ use Rattle.history_store.specs.Stores.{IsAbove}
 use Rattle.history_store.specs.References.{FoldersOfName}
 use Rattle.history_store.proofs.FolderPlaces.{Behind, behind}
 
-both_true : (a b : Bool) → (a && b) ≡ true → (a ≡ true) × (b ≡ true)
+pub both_true : (a b : Bool) → (a && b) ≡ true → (a ≡ true) × (b ≡ true)
 both_true true b h = (refl, h)
 both_true false b h = cc
 
@@ -83,13 +83,13 @@ no_lock (part ∷ parts) h =
     turned true h = cc
     turned false h = refl
 
-and_first : (a b : Bool) → (a && b) ≡ true → a ≡ true
+pub and_first : (a b : Bool) → (a && b) ≡ true → a ≡ true
 and_first a b h = (both_true a b h).0
 
-partial_of : (name : Bytes) → is_name name ≡ true → is_partial_name name ≡ true
+pub partial_of : (name : Bytes) → is_name name ≡ true → is_partial_name name ≡ true
 partial_of name h = and_first _ _ (and_first _ _ (and_first _ _ h))
 
-components_of : (name : Bytes) → is_partial_name name ≡ true → list_all is_name_component (components name) ≡ true
+pub components_of : (name : Bytes) → is_partial_name name ≡ true → list_all is_name_component (components name) ≡ true
 components_of name h = and_first _ _ (and_first _ _ (and_first _ _ (and_first _ _ (and_first _ _ h))))
 
 no_lock_above : (name place rest : Bytes) → is_name name ≡ true → name ≡ place ++ 47 ∷ rest → ends (codes ".lock") place ≡ false
@@ -117,14 +117,14 @@ no_lock_log name place rest h is = go (ends (codes ".lock") place) refl
         absurd (cc wrong)
 
 -- what begins so is the front and the rest
-begins_parts : (front text : Bytes) → begins front text ≡ true → text ≡ front ++ drop (length front) text
+pub begins_parts : (front text : Bytes) → begins front text ≡ true → text ≡ front ++ drop (length front) text
 begins_parts [] text h = refl
 begins_parts (f ∷ front) [] h = cc
 begins_parts (f ∷ front) (b ∷ text) h =
     let parts = both_true (nat_eq f b) (begins front text) h in
     (λ i. sym ((Decides-eqb f b).0 parts.0) i ∷ begins_parts front text parts.1 i)
 
-refs_of : (name : Bytes) → is_name name ≡ true → name ≡ codes "refs" ++ 47 ∷ drop 5 name
+pub refs_of : (name : Bytes) → is_name name ≡ true → name ≡ codes "refs" ++ 47 ∷ drop 5 name
 refs_of name h = begins_parts (codes "refs/") name (both_true (is_partial_name name) (begins (codes "refs/") name) (and_first _ _ (and_first _ _ h))).1
 
 abbrev is_lock : Bytes → Bool

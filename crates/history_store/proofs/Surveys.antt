@@ -42,7 +42,7 @@ root_name path is root = by_len (length path - suffix_len inside path) refl
         not_first (b ∷ p) is first some = cc (is, begins_well b p first)
     by_len (suc (suc k)) e = absurd (omega (arith, e, ap length root, length-take-le (length path - suffix_len inside path - 1) path (omega arith)))
 
-in_folder : (path : Bytes) → IsTrue (is_path path) → path ≡ path_in (parent path) (after_last is_slash path)
+pub in_folder : (path : Bytes) → IsTrue (is_path path) → path ≡ path_in (parent path) (after_last is_slash path)
 in_folder path is = by_case (parent path) refl
   where
     by_case : (place : Bytes) → parent path ≡ place → path ≡ path_in place (after_last is_slash path)
@@ -73,7 +73,7 @@ listed place (k ∷ paths) i d below = by_case (same_path (parent k) place) refl
     by_case true same rest zero below = (k, ap (λ b. b || list_any (same_path k) paths) (same_path_itself k), one_path (parent k) place same, refl)
     by_case true same rest (suc i) below = let r = rest i (omega (arith, below)) in (r.0, ap (λ b. same_path r.0 k || b) r.1 ∙ or_true (same_path r.0 k), r.2, r.3)
 
-found : (place : Bytes) (paths : List Bytes) (path : Bytes) (d : Bytes) → list_any (same_path path) paths ≡ true → parent path ≡ place
+pub found : (place : Bytes) (paths : List Bytes) (path : Bytes) (d : Bytes) → list_any (same_path path) paths ≡ true → parent path ≡ place
     → (i : ℕ) × (i < length (names_in place paths)) × (get_or (names_in place paths) i d ≡ after_last is_slash path)
 found place [] path d there here = absurd (cc there)
 found place (k ∷ paths) path d there here = by_case (same_path path k) refl (λ more. found place paths path d more here)

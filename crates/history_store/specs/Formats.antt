@@ -1,10 +1,11 @@
 -- What the values of this crate stand for in the formats of objects and logs.
-use Rattle.std.specs.Prelude.{ℕ, List, [], ◌∷◌, ◌++◌, Vec, codes}
+use Rattle.std.specs.Prelude.{ℕ, List, [], ◌++◌, Vec, codes}
 use Rattle.std.specs.declared.alloc.Global.{Global}
 use Rattle.std.specs.List.{flat_map}
 use Rattle.history_model.specs.Bytes.{Bytes, line}
 use Rattle.history_model.specs.Objects.{Id, hex, actor_text, mode_of, entry_text}
 use Rattle.history_model.specs.Objects as model
+use Rattle.history_model.specs.Repository as repository
 use Rattle.history_store.specs.declared.id.ObjectId.{ObjectId}
 use Rattle.history_store.specs.declared.object.ObjectKind.{ObjectKind}
 use Rattle.history_store.specs.declared.object.ObjectKind.TheVariants.{Blob, Tree, Commit}
@@ -42,9 +43,9 @@ commit_text commit =
     ++ line []
     ++ commit.message.items
 
--- a line of a log
-abbrev pub entry_line : entries.LogEntry → Bytes
-entry_line entry = line (hex (id_bytes entry.before) ++ 32 ∷ hex (id_bytes entry.after) ++ 32 ∷ actor_text (actor_of entry.actor) ++ 9 ∷ entry.message.items)
+-- the move that an entry tells
+abbrev pub entry_of : entries.LogEntry → repository.LogEntry
+entry_of entry = record { before = id_bytes entry.before; after = id_bytes entry.after; actor = actor_of entry.actor; message = entry.message.items }
 
 -- a tree's content, as git-mktree writes it: its entries, one after another
 abbrev pub tree_entry_text : Vec ℕ Global × TreeEntry → Bytes

@@ -1,3 +1,5 @@
+pub mod Actors
+pub mod Commits
 pub mod Creation
 pub mod Formats
 pub mod Parts

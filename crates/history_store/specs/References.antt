@@ -5,10 +5,11 @@ use Rattle.gix_ref_file.specs.Tree.{Tree, folder, bytes_at}
 use Rattle.history_model.specs.Bytes.{Bytes, line}
 use Rattle.history_model.specs.Objects.{hex}
 use Rattle.history_model.specs.Places.{file_at, head_place, log_place}
+use Rattle.history_model.specs.Logs.{log_line}
 use Rattle.history_model.specs.PackedNames.{id_from_hex}
 use Rattle.history_model.specs.declared.Kind.{Kind}
-use Rattle.history_store.specs.Formats.{id_bytes, entry_line}
-use Rattle.history_store.specs.Stores.{IsAbove}
+use Rattle.history_store.specs.Formats.{id_bytes, entry_of}
+use Rattle.history_store.specs.Stores.{SameFiles, IsAbove, NoFileAbove}
 use Rattle.history_store.specs.declared.id.ObjectId.{ObjectId}
 use Rattle.history_store.specs.declared.log_entry.LogEntry.{LogEntry}
 
@@ -32,17 +33,34 @@ NameHolds kind tree name id = MatchOption (file_at tree name) (id ≡ None) (λ 
 
 -- the name's log has the entry's line more, unless the entry's two ids are one, and each other file is as before
 pub record Logs (name : Bytes) (entry : LogEntry) (old new : Tree) : Type 0 where
-  pub appended : id_bytes entry.before ≢ id_bytes entry.after → file_at new (log_place name) ≡ Some (bytes_at old (log_place name) ++ entry_line entry)
+  pub appended : id_bytes entry.before ≢ id_bytes entry.after → file_at new (log_place name) ≡ Some (bytes_at old (log_place name) ++ log_line (entry_of entry))
   pub unmoved : id_bytes entry.before ≡ id_bytes entry.after → file_at new (log_place name) ≡ file_at old (log_place name)
   pub others : (path : Bytes) → path ≢ log_place name → file_at new path ≡ file_at old path
 
 -- the same, and the name's file holds the id after
 pub record HasMoved (name : Bytes) (entry : LogEntry) (old new : Tree) : Type 0 where
   pub here : file_at new name ≡ Some (line (hex (id_bytes entry.after)))
-  pub appended : id_bytes entry.before ≢ id_bytes entry.after → file_at new (log_place name) ≡ Some (bytes_at old (log_place name) ++ entry_line entry)
+  pub appended : id_bytes entry.before ≢ id_bytes entry.after → file_at new (log_place name) ≡ Some (bytes_at old (log_place name) ++ log_line (entry_of entry))
   pub unmoved : id_bytes entry.before ≡ id_bytes entry.after → file_at new (log_place name) ≡ file_at old (log_place name)
   pub others : (path : Bytes) → path ≢ name → path ≢ log_place name → file_at new path ≡ file_at old path
 
 -- each folder that stands stood before, or is one that the name's file or its log stands in
 abbrev pub FoldersOfName : Bytes → Tree → Tree → Type 0
 FoldersOfName name old new = (place : Bytes) → get new place ≡ Some folder → (get old place ≡ Some folder) ⊎ IsAbove place name ⊎ IsAbove place (log_place name)
+
+-- ---- the way of a file
+
+-- no file stands below the path
+abbrev pub NoFileBelow : Bytes → Tree → Type 0
+NoFileBelow path tree = (other : Bytes) → IsAbove path other → file_at tree other ≡ None
+
+-- A file may come to stand at the path: no file stands above or below it, and folders in its way may go.
+pub record HasWay (path : Bytes) (tree : Tree) : Type 0 where
+  pub above : NoFileAbove path tree
+  pub below : NoFileBelow path tree
+
+-- Each file stands as before, no folder came, and none went but the one at this path and those below it.
+pub record ClearsWay (path : Bytes) (old new : Tree) : Type 0 where
+  pub files : SameFiles old new
+  pub folders : (place : Bytes) → get new place ≡ Some folder → get old place ≡ Some folder
+  pub others : (place : Bytes) → get old place ≡ Some folder → (get new place ≡ Some folder) ⊎ (place ≡ path) ⊎ IsAbove path place

@@ -1,7 +1,7 @@
 -- What the store of objects does to the files of its part.
-use Rattle.std.specs.Prelude.{◌≡◌, ◌≢◌, ◌⊎◌, Bool, true, false, ◌&&◌, ◌||◌, not, [], ◌∷◌, ◌++◌, Some, bytes_eq}
+use Rattle.std.specs.Prelude.{◌≡◌, ◌≢◌, ◌⊎◌, Bool, true, false, ◌&&◌, ◌||◌, not, [], ◌∷◌, ◌++◌, Some, None, bytes_eq, IsTrue}
 use Rattle.std.specs.FinMap.{get}
-use Rattle.gix_ref_file.specs.Tree.{Tree, folder}
+use Rattle.gix_ref_file.specs.Tree.{Tree, folder, node_at, is_folder}
 use Rattle.history_model.specs.Bytes.{Bytes}
 use Rattle.gix_ref_file.specs.declared.files.FileError.{FileError}
 use Rattle.gix_ref_file.specs.declared.files.FileError.TheVariants as files
@@ -12,7 +12,8 @@ use Rattle.history_store.specs.declared.object.ObjectKind.{ObjectKind}
 use Rattle.history_store.specs.declared.object.ObjectKind.TheVariants as kinds
 use Rattle.history_store.specs.declared.objects.PutError.{PutError}
 use Rattle.history_store.specs.declared.objects.PutError.TheVariants as errors
-use Rattle.history_model.specs.Places.{file_at, object_place, unfinished_place}
+use Rattle.history_model.specs.Forms.{is_id}
+use Rattle.history_model.specs.Places.{file_at, object_place, unfinished_place, is_object_folder}
 
 -- each file stands as before: at most folders differ
 abbrev pub SameFiles : Tree → Tree → Type 0
@@ -25,6 +26,18 @@ KeepsFiles old new = (path : Bytes) → path ≢ unfinished_place → file_at ne
 -- the path stands below this one: a slash follows it there
 abbrev pub IsAbove : Bytes → Bytes → Type 0
 IsAbove place path = (rest : Bytes) × (path ≡ place ++ 47 ∷ rest)
+
+-- no file stands where the path needs a folder
+abbrev pub NoFileAbove : Bytes → Tree → Type 0
+NoFileAbove path tree = (place : Bytes) → IsAbove place path → file_at tree place ≡ None
+
+-- each place that the path stands below is a folder
+abbrev pub HasFoldersAbove : Bytes → Tree → Type 0
+HasFoldersAbove path tree = (place : Bytes) → IsAbove place path → IsTrue (is_folder (node_at tree place))
+
+-- each folder that stood stands
+abbrev pub KeepsFolders : Tree → Tree → Type 0
+KeepsFolders old new = (place : Bytes) → IsTrue (is_folder (node_at old place)) → IsTrue (is_folder (node_at new place))
 
 -- each folder that stands stood before, or is this one
 abbrev pub OneFolderMore : Bytes → Tree → Tree → Type 0
@@ -50,8 +63,21 @@ MayStand place text old tree = KeepsFiles old tree ⊎ HoldsFile place text old 
 
 -- ---- objects
 
+-- the place of an object's file
+abbrev pub IsObjectPlace : Bytes → Type 0
+IsObjectPlace path = (kind : Kind) × (id : Id) × IsTrue (is_id kind id) × (path ≡ object_place id)
+
+-- Each file stands at an object's place or is the unfinished one, and each folder is one of objects.
+pub record IsObjectPart (tree : Tree) : Type 0 where
+  pub files : (path text : Bytes) → file_at tree path ≡ Some text → IsObjectPlace path ⊎ (path ≡ unfinished_place)
+  pub folders : (path : Bytes) → get tree path ≡ Some folder → IsTrue (is_object_folder path)
+
 abbrev pub text_of : ObjectKind → Bytes → Bytes
 text_of object content = object_text (type_word object) content
+
+-- a text that is no object's
+abbrev pub IsNoObject : Bytes → Type 0
+IsNoObject text = (object : ObjectKind) (content : Bytes) → text ≢ text_of object content
 
 abbrev pub id_of : Kind → ObjectKind → Bytes → Id
 id_of kind object content = digest kind (text_of object content)

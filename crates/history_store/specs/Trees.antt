@@ -8,7 +8,9 @@ use Rattle.std.specs.FinMap.{FinMap, entries, from_sorted, is_sorted}
 use Rattle.history_model.specs.declared.FileKind.{FileKind}
 use Rattle.history_model.specs.declared.FileKind.TheVariants.{File, Exec, Link}
 use Rattle.history_model.specs.Bytes.{Bytes, by_bytes, has_byte, is_empty}
-use Rattle.history_model.specs.Objects.{Id, mode_of, entry_text}
+use Rattle.history_model.specs.FileMap.{FileMap, Content}
+use Rattle.history_model.specs.Objects.{Id, mode_of, entry_text, blob_id}
+use Rattle.history_model.specs.declared.Kind.{Kind}
 use Rattle.history_store.specs.Formats.{id_bytes}
 use Rattle.history_store.specs.declared.tree.TreeEntry.{TreeEntry}
 
@@ -55,6 +57,24 @@ pub record Spells (content : Bytes) (folder : Folder) : Type 0 where
 
 abbrev pub SpellsNone : Bytes → Type 0
 SpellsNone content = (folder : Folder) → Spells content folder → ⊥
+
+-- ---- the files of a flat folder
+
+-- a path, the kind of the file there and the id of its bytes
+abbrev pub FileFacts : Type 0
+FileFacts = Bytes × FileKind × Id
+
+abbrev pub entry_facts : Named → FileFacts
+entry_facts entry = (entry.0, entry.1.kind, id_bytes entry.1.id)
+
+abbrev pub file_facts : Kind → Bytes × Content → FileFacts
+file_facts kind file = (file.0, (file.1).kind, blob_id kind (file.1).bytes)
+
+-- The tree has an entry for each of these files, with its kind and the id of its bytes, and no other.
+abbrev pub IsTreeOf : Kind → Folder → FileMap → Type 0
+IsTreeOf kind folder files = map entry_facts (entries folder) ≡ map (file_facts kind) (entries files)
+
+-- ---- readings
 
 -- the text begins with this entry's
 pub record BeginsWith (text : Bytes) (kind : FileKind) (name : Bytes) (id : Id) (rest : Bytes) : Type 0 where

@@ -1,9 +1,12 @@
 // Who made a change, and when: `Name <email> seconds offset`.
-ghost use Rattle.std.specs.Prelude.{◌≡◌, ◌≤◌, ◌++◌, ◌∷◌, [], codes, decimal, IfOk, IfSome, OnOk, IsTrue};
-ghost use Rattle.std.specs.List.{list_any};
+ghost use Rattle.std.specs.Prelude.{◌≡◌, ◌≢◌, ◌≤◌, ◌++◌, ◌∷◌, ℕ, [], decimal, IfOk, MatchOption, OnOk, IsTrue, IsFalse};
+ghost use Rattle.std.specs.Char.{is_ascii_digit};
+ghost use Rattle.std.specs.List.{list_all, list_any};
 ghost use Rattle.history_model.specs.Bytes.{has_byte};
 ghost use Rattle.history_model.specs.Forms.{is_actor, is_actor_part, is_offset, max_seconds};
 ghost use Rattle.history_model.specs.Objects.{actor_text};
+ghost use Rattle.history_model.specs.Objects as model;
+ghost use Rattle.history_store.specs.Actors.{IsCut, IsUncut};
 ghost use Rattle.history_store.specs.Formats.{actor_of};
 
 use crate::bytes::{split_once, strip_prefix, strip_suffix};
@@ -55,7 +58,9 @@ impl Actor {
     /// a space, has more than 512 bytes or holds `<`, `>`, a zero byte, a tab or an end of line. The seconds are a number in decimal
     /// without a leading zero, of 9,223,372,036,854,775,807 at most.
     pub fn parse(alloc: Global, text: &[u8]) -> Result<Option<Actor>, AllocError>
-        ensures { IfOk result (λ found. IfSome found (λ actor. (text.now ≡ actor_text (actor_of actor)) × IsTrue (is_actor (actor_of actor)))) }
+        ensures { IfOk result (λ found. MatchOption found
+            ((actor : model.Actor) → IsTrue (is_actor actor) → text.now ≢ actor_text actor)
+            (λ actor. (text.now ≡ actor_text (actor_of actor)) × IsTrue (is_actor (actor_of actor)))) }
     {
         let Some(parts) = split(text) else {
             return Ok(None);
@@ -87,9 +92,9 @@ struct Parts<'a> {
     offset: &'a [u8],
 }
 
-// Cuts a text at its marks.
+// Cuts a text at its marks; `None` where they aren't all there.
 fn split(text: &[u8]) -> Option<Parts<'_>>
-    ensures { IfSome result (λ parts. text.now ≡ parts.name.now ++ codes " <" ++ parts.email.now ++ codes "> " ++ parts.seconds.now ++ 32 ∷ parts.offset.now) }
+    ensures { MatchOption result (IsUncut text.now) (λ parts. IsCut text.now parts.name.now parts.email.now parts.seconds.now parts.offset.now) }
 {
     let (front, rest) = split_once(text, b'<')?;
     let name = strip_suffix(front, b" ")?;
@@ -136,7 +141,9 @@ fn is_barred(byte: u8) -> bool
 
 // A number in decimal without a leading zero, within the limit.
 fn parse_seconds(word: &[u8]) -> Option<u64>
-    ensures { IfSome result (λ seconds. (word.now ≡ decimal seconds) × (seconds ≤ max_seconds)) }
+    ensures { MatchOption result
+        ((seconds : ℕ) → seconds ≤ max_seconds → word.now ≢ decimal seconds)
+        (λ seconds. (word.now ≡ decimal seconds) × (seconds ≤ max_seconds)) }
 {
     let seconds = std::str::from_utf8(word).ok()?.parse::<u64>().ok()?;
     let mut digits = itoa::Buffer::new();
@@ -149,22 +156,35 @@ fn parse_seconds(word: &[u8]) -> Option<u64>
 
 // A sign and four digits, the last two below 60, but not `-0000`.
 fn parse_offset(word: &[u8]) -> Option<[u8; 5]>
-    ensures { IfSome result (λ offset. (offset ≡ word.now) × IsTrue (is_offset offset)) }
+    ensures { MatchOption result (IsFalse (is_offset word.now)) (λ offset. (offset ≡ word.now) × IsTrue (is_offset offset)) }
 {
-    let [sign, a, b, c, d] = *word.first_chunk::<5>()?;
-    let are_digits = a.is_ascii_digit()
-        && b.is_ascii_digit()
-        && c.is_ascii_digit()
-        && d.is_ascii_digit();
-    let is_negative_zero = sign == b'-' && a == b'0' && b == b'0' && c == b'0' && d == b'0';
-    if word.len() == 5
-        && (sign == b'+' || sign == b'-')
-        && are_digits
-        && c < b'6'
-        && !is_negative_zero
-    {
-        Some([sign, a, b, c, d])
+    let offset = *word.first_chunk::<5>()?;
+    if word.len() == 5 && is_time_ahead(offset) {
+        Some(offset)
     } else {
         None
     }
+}
+
+// Whether this is a sign and four digits, the last two below 60, but not `-0000`.
+fn is_time_ahead(offset: [u8; 5]) -> bool
+    ensures { result ≡ is_offset offset }
+{
+    let [sign, a, b, c, d] = offset;
+    if sign != b'+' && sign != b'-' {
+        return false;
+    }
+    if !are_digits([a, b, c, d]) {
+        return false;
+    }
+    if c >= b'6' {
+        return false;
+    }
+    offset != *b"-0000"
+}
+
+fn are_digits(bytes: [u8; 4]) -> bool
+    ensures { result ≡ list_all is_ascii_digit bytes }
+{
+    bytes.iter().all(|byte| byte.is_ascii_digit())
 }

@@ -1,7 +1,13 @@
 // A commit's content: lines on its tree, its parents, its author and its committer, an empty line, and the message.
-ghost use Rattle.std.specs.Prelude.{◌≡◌, ◌<◌, ◌++◌, length, codes, IfOk, IfSome, OnOk};
-ghost use Rattle.std.specs.List.{flat_map};
-ghost use Rattle.history_store.specs.Formats.{commit_text, id_line, actor_line};
+ghost use Rattle.std.specs.Prelude.{◌≡◌, ◌<◌, ◌++◌, List, length, map, codes, IfOk, IfSome, IsSomeAnd, MatchOption, OnOk, IsTrue, IsFalse};
+ghost use Rattle.std.specs.List.{flat_map, list_all};
+ghost use Rattle.history_model.specs.Bytes.{Bytes, has_byte, begins, line};
+ghost use Rattle.history_model.specs.Forms.{is_id, is_actor, is_commit_form};
+ghost use Rattle.history_model.specs.Objects.{Id, CommitValue, hex, actor_text, commit_content};
+ghost use Rattle.history_model.specs.Objects as model;
+ghost use Rattle.history_model.specs.declared.Kind.{Kind};
+ghost use Rattle.history_store.specs.Commits.{IsCommitOf};
+ghost use Rattle.history_store.specs.Formats.{id_bytes, actor_of, commit_text, id_line, actor_line};
 
 use crate::actor::Actor;
 use crate::bytes::{split_once, strip_prefix};
@@ -37,7 +43,9 @@ impl Commit {
 
     /// The commit that a content spells; `None` where it spells none. Ids are in lower-case hex, and there are no further lines.
     pub fn parse(alloc: Global, content: &[u8]) -> Result<Option<Commit>, AllocError>
-        ensures { IfOk result (λ found. IfSome found (λ commit. content.now ≡ commit_text commit)) }
+        ensures spelled { IfOk result (λ found. IfSome found (λ commit. content.now ≡ commit_text commit)) }
+        ensures read { IfOk result (λ found. (kind : Kind) (value : CommitValue) → IsTrue (is_commit_form kind value) → content.now ≡ commit_content kind value
+            → MatchOption found ⊥ (λ commit. IsCommitOf kind commit value)) }
     {
         let Some((tree, rest)) = parse_id_line(content, b"tree ") else {
             return Ok(None)
@@ -86,6 +94,8 @@ fn write_actor_line(text: &mut Vec<u8>, word: &[u8], actor: &Actor) -> Result<()
 fn parse_id_line<'a>(text: &'a [u8], word: &[u8]) -> Option<(ObjectId, &'a [u8])>
     ensures spelled { IfSome result (λ r. text.now ≡ id_line word.now r.0 ++ r.1.now) }
     ensures shorter { IfSome result (λ r. length r.1.now < length text.now) }
+    ensures read { (kind : Kind) (id : Id) (rest : Bytes) → IsTrue (is_id kind id) → IsFalse (has_byte 10 word.now) → text.now ≡ line (word.now ++ hex id) ++ rest
+        → IsSomeAnd result (λ r. (id_bytes r.0 ≡ id) × (r.1.now ≡ rest)) }
 {
     let (line, rest) = split_once(text, b'\n')?;
     let digits = strip_prefix(line, word)?;
@@ -99,7 +109,10 @@ fn parse_id_line<'a>(text: &'a [u8], word: &[u8]) -> Option<(ObjectId, &'a [u8])
 
 // The ids of the lines on parents that a text begins with, and the text behind them.
 fn parse_parents(alloc: Global, text: &[u8]) -> Result<(Vec<ObjectId>, &[u8]), AllocError>
-    ensures { IfOk result (λ r. text.now ≡ flat_map (λ parent. id_line (codes "parent ") parent) r.0.items ++ r.1.now) }
+    ensures spelled { IfOk result (λ r. text.now ≡ flat_map (λ parent. id_line (codes "parent ") parent) r.0.items ++ r.1.now) }
+    ensures read { (kind : Kind) (parents : List Id) (rest : Bytes) → IsTrue (list_all (is_id kind) parents) → IsFalse (begins (codes "parent ") rest)
+        → text.now ≡ flat_map (λ parent. line (codes "parent " ++ hex parent)) parents ++ rest
+        → IfOk result (λ r. (map id_bytes r.0.items ≡ parents) × (r.1.now ≡ rest)) }
 {
     let mut parents = Vec::new(alloc);
     let mut rest = text;
@@ -116,7 +129,9 @@ fn parse_actor_line<'a>(
     text: &'a [u8],
     word: &[u8],
 ) -> Result<Option<(Actor, &'a [u8])>, AllocError>
-    ensures { IfOk result (λ found. IfSome found (λ r. text.now ≡ actor_line word.now r.0 ++ r.1.now)) }
+    ensures spelled { IfOk result (λ found. IfSome found (λ r. text.now ≡ actor_line word.now r.0 ++ r.1.now)) }
+    ensures read { (actor : model.Actor) (rest : Bytes) → IsTrue (is_actor actor) → IsFalse (has_byte 10 word.now) → text.now ≡ line (word.now ++ actor_text actor) ++ rest
+        → IfOk result (λ found. IsSomeAnd found (λ r. (actor_of r.0 ≡ actor) × (r.1.now ≡ rest))) }
 {
     let Some((line, rest)) = split_once(text, b'\n') else {
         return Ok(None);

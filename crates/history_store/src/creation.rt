@@ -1,11 +1,15 @@
 // Makes a new repository.
-ghost use Rattle.std.specs.Prelude.{◌≡◌, ◌⊎◌, OnOk, IsErrOf, Vec, ℕ};
+ghost use Rattle.std.specs.Prelude.{◌≡◌, ◌⊎◌, ◌≤◌, OnOk, IsErrOf, Vec, ℕ};
 ghost use Rattle.std.specs.declared.alloc.Global.{Global};
 ghost use Rattle.history_store.specs.Creation.{HasHead, IsCleared, IsNew, SameFolders, create_fault, head_lock};
 ghost use Rattle.history_store.specs.Parts.{IsClear, IsStrayAt};
 ghost use Rattle.history_store.specs.declared.parts.Part.TheVariants.{Objects, Names};
+ghost use Rattle.gix_ref_file.specs.History.{HasRisen};
+ghost use Rattle.gix_ref_file.specs.declared.files.FileError.TheVariants.{Failed};
 ghost use Rattle.history_model.specs.Places.{unfinished_place};
-ghost use Rattle.history_store.specs.declared.creation.CreateError.TheVariants.{NotEmpty};
+ghost use Rattle.history_model.specs.Repository.{fresh};
+ghost use Rattle.history_model.specs.StandsFor.{StandsFor};
+ghost use Rattle.history_store.specs.declared.creation.CreateError.TheVariants.{NotEmpty, File};
 
 use crate::names::HEAD;
 use crate::objects::UNFINISHED;
@@ -56,6 +60,16 @@ pub fn create<F: Files>(
     ensures made { F.is_honest objects.old → F.is_honest names.old → OnOk result (IsNew (F.history objects.new).tree (F.history names.new).tree) }
     ensures stray { F.is_honest objects.old → F.is_honest names.old → (path : Vec ℕ Global) → IsErrOf result (NotEmpty path) → IsStrayAt Objects unfinished_place path.items (F.history objects.old).tree ⊎ IsStrayAt Names head_lock path.items (F.history names.old).tree }
     ensures refused { (path : Vec ℕ Global) → IsErrOf result (NotEmpty path) → (objects.new ≡ objects.old) × (names.new ≡ names.old) }
+
+    // The two parts are a repository without names and objects.
+    ensures stands { F.is_honest objects.old → F.is_honest names.old
+        → OnOk result (StandsFor kind (record { objects = (F.history objects.new).tree; names = (F.history names.new).tree }) (fresh kind)) }
+
+    // A call of the files fails only of itself.
+    ensures objects_later { F.failures objects.old ≤ F.failures objects.new }
+    ensures names_later { F.failures names.old ≤ F.failures names.new }
+    ensures failed { F.is_honest objects.old → F.is_honest names.old → IsErrOf result File
+        → HasRisen (F.failures objects.old) (F.failures objects.new) ⊎ HasRisen (F.failures names.old) (F.failures names.new) ⊎ F.reading_may_fail }
 {
     match kind {
         Kind::Sha1 => {}
@@ -76,6 +90,7 @@ fn refuse_others<F: Files>(
 ) -> Result<(), CreateError>
     ensures clear { F.is_honest files.now → OnOk result (IsClear part leftover.now (F.history files.now).tree) }
     ensures stray { F.is_honest files.now → (path : Vec ℕ Global) → IsErrOf result (NotEmpty path) → IsStrayAt part leftover.now path.items (F.history files.now).tree }
+    ensures failed { IsErrOf result File → F.reading_may_fail }
 {
     match survey(alloc, files, part, leftover)? {
         Some(Stray::File(path) | Stray::Folder(path)) => Err(CreateError::NotEmpty(path)),
@@ -88,6 +103,9 @@ fn remove_leftover<F: Files>(alloc: Global, objects: &mut F) -> Result<(), FileE
     ensures honest { F.is_honest objects.old → F.is_honest objects.new }
     ensures cleared { F.is_honest objects.old → OnOk result (IsCleared (F.history objects.old).tree (F.history objects.new).tree) }
     ensures folders { F.is_honest objects.old → OnOk result (SameFolders (F.history objects.old).tree (F.history objects.new).tree) }
+    ensures later { F.failures objects.old ≤ F.failures objects.new }
+    ensures failed { F.is_honest objects.old → IsClear Objects unfinished_place (F.history objects.old).tree
+        → IsErrOf result Failed → HasRisen (F.failures objects.old) (F.failures objects.new) ⊎ F.reading_may_fail }
 {
     match objects.kind_of(UNFINISHED)? {
         Place::Absent => Ok(()),
@@ -100,6 +118,9 @@ fn write_head<F: Files>(alloc: Global, names: &mut F) -> Result<(), FileError>
     ensures honest { F.is_honest names.old → F.is_honest names.new }
     ensures written { F.is_honest names.old → OnOk result (HasHead (F.history names.old).tree (F.history names.new).tree) }
     ensures folders { F.is_honest names.old → OnOk result (SameFolders (F.history names.old).tree (F.history names.new).tree) }
+    ensures later { F.failures names.old ≤ F.failures names.new }
+    ensures failed { F.is_honest names.old → IsClear Names head_lock (F.history names.old).tree
+        → IsErrOf result Failed → HasRisen (F.failures names.old) (F.failures names.new) }
 {
     names.write(alloc, HEAD_LOCK, b"ref: refs/heads/main\n")?;
     names.rename(alloc, HEAD_LOCK, HEAD)

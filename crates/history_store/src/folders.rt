@@ -1,6 +1,10 @@
 // The folders that a file stands in.
-ghost use Rattle.gix_ref_file.specs.History.{Adds};
-ghost use Rattle.history_store.specs.Stores.{SameFiles, OneFolderMore, FoldersAbove};
+ghost use Rattle.std.specs.Prelude.{◌≡◌, ◌⊎◌, ◌≤◌, OnOk, IsErrOf, IsTrue};
+ghost use Rattle.gix_ref_file.specs.History.{Adds, HasRisen};
+ghost use Rattle.gix_ref_file.specs.Tree.{is_path, parent, node_at, is_folder};
+ghost use Rattle.gix_ref_file.specs.declared.files.FileError.TheVariants.{Failed};
+ghost use Rattle.history_model.specs.Places.{file_at};
+ghost use Rattle.history_store.specs.Stores.{SameFiles, OneFolderMore, FoldersAbove, NoFileAbove, HasFoldersAbove, KeepsFolders};
 
 use gix_ref_file::{FileError, Files, Place};
 use std::alloc::Global;
@@ -10,6 +14,10 @@ pub fn make_folders<F: Files>(alloc: Global, files: &mut F, path: &[u8]) -> Resu
     ensures honest { F.is_honest files.old → F.is_honest files.new }
     ensures moments { F.is_honest files.old → Adds (SameFiles (F.history files.old).tree) (F.history files.old) (F.history files.new) }
     ensures folders { F.is_honest files.old → Adds (FoldersAbove path.now (F.history files.old).tree) (F.history files.old) (F.history files.new) }
+    ensures later { F.failures files.old ≤ F.failures files.new }
+    ensures made { F.is_honest files.old → NoFileAbove path.now (F.history files.old).tree → OnOk result (HasFoldersAbove path.now (F.history files.new).tree) }
+    ensures failed { F.is_honest files.old → NoFileAbove path.now (F.history files.old).tree → IsTrue (is_path path.now)
+        → IsErrOf result Failed → HasRisen (F.failures files.old) (F.failures files.new) ⊎ F.reading_may_fail }
 {
     for (end, byte) in path.iter().enumerate() {
         if *byte == b'/' {
@@ -24,6 +32,11 @@ fn make_folder<F: Files>(alloc: Global, files: &mut F, folder: &[u8]) -> Result<
     ensures honest { F.is_honest files.old → F.is_honest files.new }
     ensures moments { F.is_honest files.old → Adds (SameFiles (F.history files.old).tree) (F.history files.old) (F.history files.new) }
     ensures folders { F.is_honest files.old → Adds (OneFolderMore folder.now (F.history files.old).tree) (F.history files.old) (F.history files.new) }
+    ensures later { F.failures files.old ≤ F.failures files.new }
+    ensures kept { F.is_honest files.old → OnOk result (KeepsFolders (F.history files.old).tree (F.history files.new).tree) }
+    ensures made { F.is_honest files.old → file_at (F.history files.old).tree folder.now ≡ None → OnOk result (IsTrue (is_folder (node_at (F.history files.new).tree folder.now))) }
+    ensures failed { F.is_honest files.old → IsTrue (is_path folder.now) → IsTrue (is_folder (node_at (F.history files.old).tree (parent folder.now)))
+        → IsErrOf result Failed → HasRisen (F.failures files.old) (F.failures files.new) ⊎ F.reading_may_fail }
 {
     match files.kind_of(folder)? {
         Place::Absent => files.make_folder(alloc, folder),

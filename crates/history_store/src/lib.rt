@@ -15,6 +15,7 @@ mod parts;
 #[cfg(test)]
 mod tests;
 mod tree;
+mod way;
 
 pub use actor::Actor;
 pub use commit::Commit;

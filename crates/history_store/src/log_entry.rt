@@ -1,6 +1,7 @@
 // A line of a name's log: `<old> <new> <actor>`, a tab, the message and a line feed.
 ghost use Rattle.std.specs.Prelude.{◌≡◌, IfOk};
-ghost use Rattle.history_store.specs.Formats.{entry_line};
+ghost use Rattle.history_model.specs.Logs.{log_line};
+ghost use Rattle.history_store.specs.Formats.{entry_of};
 
 use crate::actor::Actor;
 use crate::id::ObjectId;
@@ -19,7 +20,7 @@ pub struct LogEntry {
 impl LogEntry {
     /// The entry's line.
     pub fn to_bytes(&self, alloc: Global) -> Result<Vec<u8>, AllocError>
-        ensures { IfOk result (λ text. text.items ≡ entry_line self.now) }
+        ensures { IfOk result (λ text. text.items ≡ log_line (entry_of self.now)) }
     {
         let mut line = Vec::from_slice(alloc, &self.before.to_hex())?;
         line.push(b' ')?;

@@ -1,18 +1,21 @@
 // The names of a repository: each is a file of its id, and its moves are a log.
-ghost use Rattle.std.specs.Prelude.{◌≡◌, ◌≢◌, ◌++◌, IfOk, OnOk, option_map, option_copied};
+ghost use Rattle.std.specs.Prelude.{◌≡◌, ◌≢◌, ◌≤◌, ◌⊎◌, ◌++◌, IfOk, OnOk, IsErrOf, IsTrue, option_map, option_copied};
 ghost use Rattle.gix_ref_file.specs.Tree.{bytes_at};
+ghost use Rattle.gix_ref_file.specs.History.{HasRisen};
+ghost use Rattle.gix_ref_file.specs.declared.files.FileError.TheVariants.{Failed};
+ghost use Rattle.history_model.specs.Forms.{is_name};
 ghost use Rattle.history_model.specs.Bytes.{line};
 ghost use Rattle.history_model.specs.Objects.{hex};
 ghost use Rattle.history_model.specs.Places.{file_at, head_place, log_place};
 ghost use Rattle.history_model.specs.declared.Kind.{Kind};
-ghost use Rattle.history_store.specs.Formats.{id_bytes, entry_line};
+ghost use Rattle.history_store.specs.Formats.{id_bytes};
 ghost use Rattle.history_store.specs.Stores.{PutsFile, FoldersAbove};
-ghost use Rattle.history_store.specs.References.{SpellsBranch, SpellsId, HeadNames, NameHolds, HasMoved, Logs, FoldersOfName};
+ghost use Rattle.history_store.specs.References.{SpellsBranch, SpellsId, HeadNames, NameHolds, HasMoved, Logs, FoldersOfName, HasWay};
 
 use crate::bytes::{strip_prefix, strip_suffix};
-use crate::folders::make_folders;
 use crate::id::ObjectId;
 use crate::log_entry::LogEntry;
+use crate::way::make_way;
 use gix_ref_file::{FileError, Files};
 use history_model::Kind;
 use std::alloc::{AllocError, Global};
@@ -56,7 +59,8 @@ impl<F: Files> Names<F> {
 
     /// HEAD's branch; `None` where HEAD isn't `ref: <name>` and a line feed.
     pub fn head(&self, alloc: Global) -> Result<Option<Vec<u8>>, FileError>
-        ensures { F.is_honest self.now.files → IfOk result (λ found. HeadNames (F.history self.now.files).tree (option_map (λ branch. branch.items) found)) }
+        ensures found { F.is_honest self.now.files → IfOk result (λ found. HeadNames (F.history self.now.files).tree (option_map (λ branch. branch.items) found)) }
+        ensures failed { IsErrOf result Failed → F.reading_may_fail }
     {
         let mut text = Vec::new(alloc);
         if self.files.read(HEAD, &mut text)?.is_none() {
@@ -70,7 +74,8 @@ impl<F: Files> Names<F> {
 
     /// The id that a name holds; `None` where its file doesn't stand or isn't an id's hex digits and a line feed.
     pub fn read(&self, alloc: Global, name: &[u8]) -> Result<Option<ObjectId>, FileError>
-        ensures { F.is_honest self.now.files → (kind : Kind) → IfOk result (λ found. NameHolds kind (F.history self.now.files).tree name.now found) }
+        ensures found { F.is_honest self.now.files → (kind : Kind) → IfOk result (λ found. NameHolds kind (F.history self.now.files).tree name.now found) }
+        ensures failed { IsErrOf result Failed → F.reading_may_fail }
     {
         let mut text = Vec::new(alloc);
         if self.files.read(name, &mut text)?.is_none() {
@@ -80,7 +85,8 @@ impl<F: Files> Names<F> {
     }
 
     /// Moves a name to the id after: appends the entry's line to the name's log, unless the two ids are one, and then writes the
-    /// name's file. After an error the line may stand without the move, and of the line or the file a beginning alone.
+    /// name's file. Folders without files that stand in the place of either go. After an error the line may stand without the
+    /// move, and of the line or the file a beginning alone.
     pub fn move_name(
         &mut self,
         alloc: Global,
@@ -91,6 +97,9 @@ impl<F: Files> Names<F> {
         ensures kind { self.new.kind ≡ self.old.kind }
         ensures moved { F.is_honest self.old.files → OnOk result (HasMoved name.now entry.now (F.history self.old.files).tree (F.history self.new.files).tree) }
         ensures folders { F.is_honest self.old.files → OnOk result (FoldersOfName name.now (F.history self.old.files).tree (F.history self.new.files).tree) }
+        ensures later { F.failures self.old.files ≤ F.failures self.new.files }
+        ensures failed { F.is_honest self.old.files → IsTrue (is_name name.now) → HasWay name.now (F.history self.old.files).tree → HasWay (log_place name.now) (F.history self.old.files).tree
+            → IsErrOf result Failed → HasRisen (F.failures self.old.files) (F.failures self.new.files) ⊎ F.reading_may_fail }
     {
         self.append_to_log(alloc, name, entry)?;
         self.write_name(alloc, name, &entry.after)
@@ -106,13 +115,16 @@ impl<F: Files> Names<F> {
         ensures kind { self.new.kind ≡ self.old.kind }
         ensures logged { F.is_honest self.old.files → OnOk result (Logs name.now entry.now (F.history self.old.files).tree (F.history self.new.files).tree) }
         ensures folders { F.is_honest self.old.files → OnOk result (FoldersAbove (log_place name.now) (F.history self.old.files).tree (F.history self.new.files).tree) }
+        ensures later { F.failures self.old.files ≤ F.failures self.new.files }
+        ensures failed { F.is_honest self.old.files → IsTrue (is_name name.now) → HasWay (log_place name.now) (F.history self.old.files).tree
+            → IsErrOf result Failed → HasRisen (F.failures self.old.files) (F.failures self.new.files) ⊎ F.reading_may_fail }
     {
         if entry.before.as_bytes() == entry.after.as_bytes() {
             return Ok(());
         }
         let line = entry.to_bytes(alloc)?;
         let log = log_place(alloc, name)?;
-        make_folders(alloc, &mut self.files, &log)?;
+        make_way(alloc, &mut self.files, &log)?;
         self.files.append(alloc, &log, &line)
     }
 
@@ -121,9 +133,12 @@ impl<F: Files> Names<F> {
         ensures kind { self.new.kind ≡ self.old.kind }
         ensures written { F.is_honest self.old.files → OnOk result (PutsFile name.now (line (hex (id_bytes id.now))) (F.history self.old.files).tree (F.history self.new.files).tree) }
         ensures folders { F.is_honest self.old.files → OnOk result (FoldersAbove name.now (F.history self.old.files).tree (F.history self.new.files).tree) }
+        ensures later { F.failures self.old.files ≤ F.failures self.new.files }
+        ensures failed { F.is_honest self.old.files → IsTrue (is_name name.now) → HasWay name.now (F.history self.old.files).tree
+            → IsErrOf result Failed → HasRisen (F.failures self.old.files) (F.failures self.new.files) ⊎ F.reading_may_fail }
     {
         let text = name_text(alloc, id)?;
-        make_folders(alloc, &mut self.files, name)?;
+        make_way(alloc, &mut self.files, name)?;
         self.files.write(alloc, name, &text)
     }
 }

@@ -1,8 +1,9 @@
 // The text of an object: its kind, the length of its content, a zero byte, and the content.
-ghost use Rattle.std.specs.Prelude.{◌≡◌, ◌≤◌, ◌++◌, ◌∷◌, [], ◌↔◌, length, drop, decimal, IfOk, IfSome, IsTrue};
+ghost use Rattle.std.specs.Prelude.{◌≡◌, ◌≤◌, ◌++◌, ◌∷◌, [], ◌↔◌, length, drop, decimal, IfOk, IfSome, IfNone, IsTrue};
 ghost use Rattle.history_model.specs.Objects.{digest, object_text};
 ghost use Rattle.sha1.specs.Sha1.{sha1};
 ghost use Rattle.history_store.specs.Formats.{id_bytes, type_word};
+ghost use Rattle.history_store.specs.Stores.{IsNoObject};
 
 use crate::bytes::{split_once, strip_prefix};
 use crate::id::ObjectId;
@@ -70,6 +71,7 @@ pub fn header(alloc: Global, object: ObjectKind, length: usize) -> Result<Vec<u8
 pub fn parse_header(text: &[u8]) -> Option<(ObjectKind, usize)>
     ensures within { IfSome result (λ r. r.1 ≤ length text.now) }
     ensures text { IfSome result (λ r. text.now ≡ object_text (type_word r.0) (drop r.1 text.now)) }
+    ensures none { IfNone result (IsNoObject text.now) }
 {
     let (front, content) = split_once(text, 0)?;
     let kind = if is_header(front, ObjectKind::Blob, content.len()) {

@@ -1,14 +1,14 @@
 // The store of objects: each is one file, `objects/xx/rest` of its id's hex digits, which holds its text.
-ghost use Rattle.std.specs.Prelude.{◌≡◌, ◌≢◌, ◌⊎◌, ◌≤◌, ◌++◌, ◌↔◌, drop, vec_len, true, IfOk, IfSome, OnOk, IsErrOf};
+ghost use Rattle.std.specs.Prelude.{◌≡◌, ◌≢◌, ◌⊎◌, ◌≤◌, ◌++◌, ◌↔◌, drop, vec_len, true, IfOk, OnOk, IsErrOf, MatchOption};
 ghost use Rattle.history_model.specs.Places.{file_at, object_place, unfinished_place};
 ghost use Rattle.history_store.specs.Formats.{id_bytes};
-ghost use Rattle.history_store.specs.declared.objects.PutError.TheVariants.{Memory, IdTaken};
+ghost use Rattle.history_store.specs.declared.objects.PutError.TheVariants.{File, Memory, IdTaken};
 ghost use Rattle.history_store.specs.declared.id.ObjectId.{ObjectId};
 ghost use Rattle.gix_ref_file.specs.declared.files.FileError.TheVariants.{Failed};
 ghost use Rattle.gix_ref_file.specs.Tree.{bytes_at};
 ghost use Rattle.gix_ref_file.specs.Changes.{is_file_at};
-ghost use Rattle.gix_ref_file.specs.History.{Adds};
-ghost use Rattle.history_store.specs.Stores.{HoldsFile, MayStand, FoldersAbove, IsTaken, id_of, text_of, is_reserved, put_fault};
+ghost use Rattle.gix_ref_file.specs.History.{Adds, HasRisen};
+ghost use Rattle.history_store.specs.Stores.{HoldsFile, MayStand, FoldersAbove, IsObjectPlace, IsObjectPart, IsNoObject, IsTaken, id_of, text_of, is_reserved, put_fault};
 
 use crate::bytes::strip_prefix;
 use crate::folders::make_folders;
@@ -118,6 +118,14 @@ impl<F: Files> Objects<F> {
 
         ensures taken { (id : ObjectId) → IsErrOf result (IdTaken id) → (id_bytes id ≡ id_of self.old.kind object content.now) × (self.new.files ≡ self.old.files)
             × (F.is_honest self.old.files → IsTaken self.old.kind object content.now (F.history self.old.files).tree) }
+
+        // An object is stored only under an id that isn't taken.
+        ensures free { F.is_honest self.old.files → OnOk result (¬ IsTaken self.old.kind object content.now (F.history self.old.files).tree) }
+
+        // In a part of objects a call of the files fails only of itself.
+        ensures later { F.failures self.old.files ≤ F.failures self.new.files }
+        ensures failed { F.is_honest self.old.files → IsObjectPart (F.history self.old.files).tree
+            → IsErrOf result File → HasRisen (F.failures self.old.files) (F.failures self.new.files) ⊎ F.reading_may_fail }
     {
         let id = object_id(self.kind, object, content);
         if is_reserved(self.kind, &id, object, content) {
@@ -136,7 +144,8 @@ impl<F: Files> Objects<F> {
     }
 
     fn is_file(&self, place: &[u8]) -> Result<bool, FileError>
-        ensures { F.is_honest self.now.files → IfOk result (λ is_file. is_file ≡ is_file_at (F.history self.now.files).tree place.now) }
+        ensures told { F.is_honest self.now.files → IfOk result (λ is_file. is_file ≡ is_file_at (F.history self.now.files).tree place.now) }
+        ensures failed { IsErrOf result Failed → F.reading_may_fail }
     {
         match self.files.kind_of(place)? {
             Place::File(_) => Ok(true),
@@ -177,6 +186,9 @@ impl<F: Files> Objects<F> {
         ensures unfinished { F.is_honest self.old.files → place.now ≢ unfinished_place → OnOk result (file_at (F.history self.new.files).tree unfinished_place ≡ None) }
         ensures folders { F.is_honest self.old.files → OnOk result (FoldersAbove place.now (F.history self.old.files).tree (F.history self.new.files).tree) }
         ensures moments { F.is_honest self.old.files → Adds (MayStand place.now (header.now ++ content.now) (F.history self.old.files).tree) (F.history self.old.files) (F.history self.new.files) }
+        ensures later { F.failures self.old.files ≤ F.failures self.new.files }
+        ensures failed { F.is_honest self.old.files → IsObjectPart (F.history self.old.files).tree → IsObjectPlace place.now
+            → IsErrOf result Failed → HasRisen (F.failures self.old.files) (F.failures self.new.files) ⊎ F.reading_may_fail }
     {
         make_folders(alloc, &mut self.files, place)?;
         self.files.write(alloc, UNFINISHED, header)?;
@@ -186,7 +198,10 @@ impl<F: Files> Objects<F> {
 
     /// The object of this id; `None` where none stands or its file holds no object's text.
     pub fn read(&self, alloc: Global, id: &ObjectId) -> Result<Option<Object>, FileError>
-        ensures { F.is_honest self.now.files → IfOk result (λ found. IfSome found (λ object. bytes_at (F.history self.now.files).tree (object_place (id_bytes id.now)) ≡ text_of object.kind object.content.items)) }
+        ensures found { F.is_honest self.now.files → IfOk result (λ found. MatchOption found
+            ((file_at (F.history self.now.files).tree (object_place (id_bytes id.now)) ≡ None) ⊎ IsNoObject (bytes_at (F.history self.now.files).tree (object_place (id_bytes id.now))))
+            (λ object. file_at (F.history self.now.files).tree (object_place (id_bytes id.now)) ≡ Some (text_of object.kind object.content.items))) }
+        ensures failed { IsErrOf result Failed → F.reading_may_fail }
     {
         let place = object_place(alloc, id)?;
         let mut text = Vec::new(alloc);
@@ -204,7 +219,8 @@ impl<F: Files> Objects<F> {
 
     /// Whether a file stands at this id's place.
     pub fn contains(&self, alloc: Global, id: &ObjectId) -> Result<bool, FileError>
-        ensures { F.is_honest self.now.files → IfOk result (λ is_file. is_file ≡ is_file_at (F.history self.now.files).tree (object_place (id_bytes id.now))) }
+        ensures told { F.is_honest self.now.files → IfOk result (λ is_file. is_file ≡ is_file_at (F.history self.now.files).tree (object_place (id_bytes id.now))) }
+        ensures failed { IsErrOf result Failed → F.reading_may_fail }
     {
         let place = object_place(alloc, id)?;
         self.is_file(&place)

@@ -83,15 +83,15 @@ fn survey_folder<F: Files>(
     Ok(None)
 }
 
-// Whether the path is longer than the folder's, and within the limit.
-fn is_deeper(path: &[u8], folder: &[u8]) -> bool
+/// Whether the path is longer than the folder's, and within the limit.
+pub fn is_deeper(path: &[u8], folder: &[u8]) -> bool
     ensures { result ≡ nat_lt (length folder.now) (length path.now) && nat_le (length path.now) 4096 }
 {
     folder.len() < path.len() && path.len() <= MAX_PATH
 }
 
-// The path of what stands in a folder under this name.
-fn joined(alloc: Global, folder: &[u8], name: &[u8]) -> Result<Vec<u8>, AllocError>
+/// The path of what stands in a folder under this name.
+pub fn joined(alloc: Global, folder: &[u8], name: &[u8]) -> Result<Vec<u8>, AllocError>
     ensures { IfOk result (λ path. path.items ≡ path_in folder.now name.now) }
 {
     let mut path = Vec::from_slice(alloc, folder)?;

@@ -1,7 +1,8 @@
 //! Folders that aren't opened, each for its cause.
 
+use super::{SIGNED, answered, joined};
 use crate::files::{FileError, Files, MemoryFiles};
-use crate::{Kind, OpenError, Repository};
+use crate::{End, Kind, OpenError, Repository};
 use std::alloc::Global;
 
 const HEAD: &[u8] = b"ref: refs/heads/main\n";
@@ -67,5 +68,38 @@ fn a_history(rt: HostRuntime) -> Result<(), FileError> {
     names.write(alloc, b"packed-refs", b"")?;
     let cause = OpenError::NotYet(Vec::from_slice(alloc, b"packed-refs")?);
     assert!(rt; is_refused(alloc, names, cause));
+    Ok(())
+}
+
+// Empty folders may stand where the branch and its log are to be; the first commit removes them.
+#[test]
+fn folders_in_the_way(rt: HostRuntime) -> Result<(), FileError> {
+    let alloc = rt.alloc();
+    let mut names = headed(alloc, HEAD)?;
+    for folder in [
+        b"refs".as_slice(),
+        b"refs/heads",
+        b"refs/heads/main",
+        b"refs/heads/main/x",
+        b"refs/heads/main/x/y",
+        b"refs/heads/main/z",
+        b"logs",
+        b"logs/refs",
+        b"logs/refs/heads",
+        b"logs/refs/heads/main",
+        b"logs/refs/heads/main/x",
+    ] {
+        names.make_folder(alloc, folder)?;
+    }
+    let Ok(mut repository) = Repository::open(alloc, MemoryFiles::new(alloc), names, Kind::Sha1)
+    else {
+        panic!(rt; "not opened");
+    };
+    let input = joined(alloc, &[b"commit refs/heads/main new\n".as_slice(), SIGNED])?;
+    let (writer, ended) = answered(alloc, &mut repository, &input);
+    assert!(rt; ended == Ok(End::Input));
+    assert!(rt;
+        writer.as_slice() == b"ok commit d39b036c797dcd9c0210b66a094ee846a3bc4fd9\n".as_slice()
+    );
     Ok(())
 }

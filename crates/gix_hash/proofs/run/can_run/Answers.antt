@@ -1,12 +1,12 @@
-use Rattle.std.proofs.Common.{◌≡◌, ◌<◌, ◌≤◌, ◌-◌, ℕ, List, length, ap, subst, false, inl, inr, arith}
+use Rattle.std.proofs.Common.{◌≡◌, ◌<◌, ◌≤◌, ◌-◌, ◌*◌, ℕ, List, length, ap, subst, false, inl, inr, arith}
 use Rattle.std.specs.List.{slice_index_or}
 use Rattle.std.specs.Ordering.{is_gt}
-use Rattle.std.proofs.lemmas.Bool.{cases_lt}
+use Rattle.std.proofs.lemmas.Bool.{cases_lt, false≢true}
 use Rattle.gix_hash.specs.Id.{id_of, digits_of}
 use Rattle.gix_hash.specs.Order.{digits_cmp}
 use Rattle.gix_hash.specs.declared.object_id.ObjectId.{ObjectId}
 use Rattle.gix_hash.proofs.ByteLists.{length-digits_of}
-use Rattle.gix_hash.proofs.Edges.{ascending_more, neighbour_test, at_default}
+use Rattle.gix_hash.proofs.Edges.{ascending_more, neighbour_test, at_default, too_few_digits}
 use Rattle.gix_hash.proofs.run.can_run.Goals as goal
 use Rattle.gix_hash.proofs.run.can_run.Goals.{else-i-gt0-via-then-i-gt0+else-not-comes_no_later, else-i-gt0-via-else-i-gt0}
 
@@ -37,3 +37,13 @@ ids-preserved c =
             (at_default ids n _ d (λ x. c.hex_len-hex_len.result ≤ length (id_of x).digits) room here_enough)
       ];
     }
+
+pub returns-then-as_slice-hex_len : goal.returns-then-as_slice-hex_len
+returns-then-as_slice-hex_len c =
+    let ids = c.args.ids.now in
+    let n : ℕ = c.ids.i in
+    let room : n < length ids = omega arith in
+    let few : 2 * length c.as_slice.result.now < length c.args.prefix.now.digits = omega arith in (
+      λ no. absurd (false≢true no),
+      λ both. absurd (too_few_digits ids c.args.prefix.now n _ c.as_slice.result.now both.1 room c.as_slice.ensures.digits few),
+    )

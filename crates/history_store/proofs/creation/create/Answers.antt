@@ -1,3 +1,4 @@
+use Rattle.history_store.proofs.FreshParts.{new_stands}
 use Rattle.history_store.proofs.News.{new_parts}
 use Rattle.history_store.proofs.creation.create.Goals as goal
 
@@ -7,3 +8,6 @@ returns-clause-made g c = λ honest_objects honest_names.
     (c.in_ok-refuse_others.ensures.clear honest_objects) (c.in_ok-refuse_others-2.ensures.clear honest_names)
     (c.in_ok-remove_leftover.ensures.cleared honest_objects) (c.in_ok-remove_leftover.ensures.folders honest_objects)
     (c.in_ok-write_head.ensures.written honest_names) (c.in_ok-write_head.ensures.folders honest_names)
+
+pub returns-clause-stands : goal.returns-clause-stands
+returns-clause-stands g c = λ honest_objects honest_names. new_stands c.args.kind _ _ (returns-clause-made g c honest_objects honest_names)

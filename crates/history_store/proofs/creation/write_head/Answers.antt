@@ -1,7 +1,10 @@
-use Rattle.std.proofs.Common.{refl}
-use Rattle.std.proofs.lemmas.Result.{on_ok_weaker}
+use Rattle.std.proofs.Common.{◌≡◌, refl, ⊎_elim, Err, arith}
+use Rattle.std.proofs.lemmas.Result.{on_ok_weaker, err_from_is_err_and}
+use Rattle.gix_ref_file.specs.declared.files.FileError.TheVariants.{Failed}
 use Rattle.history_model.specs.Places.{head_place}
 use Rattle.history_store.specs.Creation.{head_lock}
+use Rattle.history_store.proofs.Cleared.{head_may_follow, lock_fits}
+use Rattle.history_store.proofs.FoldersMade.{caused}
 use Rattle.history_store.proofs.Made.{head_written}
 use Rattle.history_store.proofs.News.{renamed_ok}
 use Rattle.history_store.proofs.creation.write_head.Goals as goal
@@ -16,3 +19,17 @@ pub returns-clause-folders : goal.returns-clause-folders
 returns-clause-folders g c = λ honest.
     let written = c.in_ok-write.ensures.change honest in
     renamed_ok head_lock _ head_place (g.F.Files.history c.args.names.now).tree (g.F.Files.history c.write.new.self) (g.F.Files.history c.rename.new.self) c.rename.result written.allowed written.made (c.rename.ensures.change (c.write.ensures.honest honest))
+
+pub returns-in_err-write-clause-failed : goal.returns-in_err-write-clause-failed
+returns-in_err-write-clause-failed g c = λ honest clear failed.
+    let error = err_from_is_err_and c.from_residual.result c.from_residual.ensures.1 in
+    let same : c.write.result ≡ Err Failed = cc (error.1, error.2) in
+    ⊎_elim (λ risen. risen) (λ (never : ⊥). absurd never)
+    (caused _ _ _ _ c.write.result (c.write.ensures.cause honest) (lock_fits (g.F.Files.history c.args.names.now).tree clear) same (omega arith))
+
+pub returns-clause-failed : goal.returns-clause-failed
+returns-clause-failed g c = λ honest clear failed.
+    let written = c.in_ok-write.ensures.change honest in
+    ⊎_elim (λ risen. risen) (λ (never : ⊥). absurd never)
+    (caused _ _ _ _ c.rename.result (c.rename.ensures.cause (c.write.ensures.honest honest))
+    (head_may_follow _ (g.F.Files.history c.args.names.now).tree (g.F.Files.history c.write.new.self).tree clear written.made) failed c.write.ensures.later)

@@ -3,6 +3,7 @@ use Rattle.std.specs.Prelude.{decimal}
 use Rattle.history_model.specs.Bytes.{Bytes}
 use Rattle.history_model.specs.Objects.{object_text}
 use Rattle.history_store.proofs.Cuts.{content_behind}
+use Rattle.history_store.proofs.ObjectTexts.{no_object, of_each}
 use Rattle.history_store.specs.Formats.{type_word}
 use Rattle.history_store.specs.declared.object.ObjectKind.{ObjectKind}
 use Rattle.history_store.proofs.object.parse_header.Goals as goal
@@ -23,3 +24,13 @@ returns-clause-text c =
       | else-is_header+then-is_header-2 w ↦ join _ w.kind-is (w.is_header-else-is_header.ensures.0 w.if-is_header-2.true)
       | else-is_header+else-is_header-2+then-is_header-3 w ↦ join _ w.kind-is (w.is_header-else-is_header-2.ensures.0 w.if-is_header-3.true)
     ]
+
+pub returns-else-is_header-3-clause-none : goal.returns-else-is_header-3-clause-none
+returns-else-is_header-3-clause-none c =
+    let front = c.in_ok-front.front.now in
+    let content = c.in_ok-front.content.now in
+    no_object c.args.text.now front content c.in_ok-front.ensures.0 c.in_ok-front.ensures.1
+    (of_each (λ kind. front ≡ type_word kind ++ 32 ∷ decimal (length content) → ⊥)
+    (λ is. cc (c.is_header.ensures.1 is, c.if-is_header.false))
+    (λ is. cc (c.is_header-else-is_header.ensures.1 is, c.if-is_header-2.false))
+    (λ is. cc (c.is_header-else-is_header-2.ensures.1 is, c.if-is_header-3.false)))

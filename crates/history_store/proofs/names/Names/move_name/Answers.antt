@@ -1,6 +1,8 @@
 use Rattle.std.proofs.lemmas.Result.{on_ok_weaker}
 use Rattle.history_store.proofs.Moves.{moved}
 use Rattle.history_store.proofs.Above.{name_folders}
+use Rattle.history_store.proofs.Clearings.{later_risen}
+use Rattle.history_store.proofs.Ways.{way_after_log}
 use Rattle.history_store.proofs.names.Names.move_name.Goals as goal
 
 pub returns-clause-moved : goal.returns-clause-moved
@@ -16,3 +18,9 @@ returns-clause-folders g c = λ honest.
     (name_folders c.args.name.now (g.F.Files.history c.args.self.now.files).tree (g.F.Files.history c.append_to_log.new.self.files).tree (g.F.Files.history c.write_name.new.self.files).tree
     (c.in_ok-append_to_log.ensures.folders honest))
     (c.write_name.ensures.folders (c.append_to_log.ensures.honest honest))
+
+pub returns-clause-failed : goal.returns-clause-failed
+returns-clause-failed g c = λ honest named way log_way failed.
+    let way_then = way_after_log c.args.name.now c.args.entry.now (g.F.Files.history c.args.self.now.files).tree (g.F.Files.history c.append_to_log.new.self.files).tree named
+    (c.in_ok-append_to_log.ensures.logged honest) way in
+    later_risen _ _ _ c.append_to_log.ensures.later (c.write_name.ensures.failed (c.append_to_log.ensures.honest honest) named way_then failed)

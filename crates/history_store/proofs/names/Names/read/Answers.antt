@@ -4,8 +4,8 @@ use Rattle.history_model.specs.Places.{file_at}
 use Rattle.history_store.proofs.Moves.{holds_id}
 use Rattle.history_store.proofs.names.Names.read.Goals as goal
 
-pub returns : goal.returns
-returns g c = λ honest kind.
+pub returns-clause-found : goal.returns-clause-found
+returns-clause-found g c = λ honest kind.
     let tree = (g.F.Files.history c.args.self.now.files).tree in
     let name = c.args.name.now in
     holds_id kind (file_at tree name) c.deref.result.now c.in_ok-read.field-0 c.id_of.result

@@ -1,24 +1,37 @@
-use Rattle.std.proofs.Common.{◌∙◌, subst}
+use Rattle.std.proofs.Common.{◌∙◌, subst, rules}
 use Rattle.std.proofs.lemmas.Result.{on_ok_weaker}
 use Rattle.history_store.specs.Stores.{PutsFile}
 use Rattle.history_store.proofs.Stored.{on_ok_both}
 use Rattle.history_store.proofs.Moves.{written}
 use Rattle.history_store.proofs.Above.{now_above, put_above}
+use Rattle.history_store.proofs.Clearings.{caused, later_risen}
+use Rattle.history_store.proofs.Ways.{name_path}
 use Rattle.history_store.proofs.names.Names.write_name.Goals as goal
 
 pub returns-clause-written : goal.returns-clause-written
 returns-clause-written g c = λ honest.
-    let made = c.make_folders.ensures.moments honest in
-    let change = c.write.ensures.change (c.make_folders.ensures.honest honest) in
+    let made = c.make_way.ensures.moments honest in
+    let change = c.write.ensures.change (c.make_way.ensures.honest honest) in
     let old = g.F.Files.history c.args.self.now.files in
     let new = g.F.Files.history c.write.new.self in
     on_ok_weaker c.write.result (λ puts. subst (λ bytes. PutsFile c.args.name.now bytes old.tree new.tree) (c.deref.ensures.value ∙ c.in_ok-text.ensures) puts)
-    (on_ok_both c.write.result (written c.args.name.now c.deref.result.now old (g.F.Files.history c.make_folders.new.files) new made) change.allowed change.made)
+    (on_ok_both c.write.result (written c.args.name.now c.deref.result.now old (g.F.Files.history c.make_way.new.files) new made) change.allowed change.made)
 
 pub returns-clause-folders : goal.returns-clause-folders
 returns-clause-folders g c = λ honest.
     let old = g.F.Files.history c.args.self.now.files in
-    let made = g.F.Files.history c.make_folders.new.files in
+    let made = g.F.Files.history c.make_way.new.files in
     let new = g.F.Files.history c.write.new.self in
-    let change = c.write.ensures.change (c.make_folders.ensures.honest honest) in
-    on_ok_weaker c.write.result (put_above c.args.name.now c.args.name.now c.deref.result.now old.tree made.tree new.tree (now_above _ old made (c.make_folders.ensures.folders honest))) change.made
+    let change = c.write.ensures.change (c.make_way.ensures.honest honest) in
+    on_ok_weaker c.write.result (put_above c.args.name.now c.args.name.now c.deref.result.now old.tree made.tree new.tree (now_above _ old made (c.make_way.ensures.folders honest))) change.made
+
+pub returns-in_err-make_way-clause-failed : goal.returns-in_err-make_way-clause-failed
+returns-in_err-make_way-clause-failed g c = λ honest named way failed.
+    let inner = c.in_err-make_way.ensures.failed honest (name_path c.args.name.now named) way in
+    let residual = c.from_residual-in_err-make_way.ensures in
+    inner (search rules)
+
+pub returns-clause-failed : goal.returns-clause-failed
+returns-clause-failed g c = λ honest named way failed.
+    let room = c.in_ok-make_way.ensures.room honest (name_path c.args.name.now named) way in
+    later_risen _ _ _ c.make_way.ensures.later (caused _ _ _ _ room (c.write.ensures.cause (c.make_way.ensures.honest honest)) failed)

@@ -1,3 +1,10 @@
+use Rattle.std.proofs.Common.{◌≡◌, Err, arith}
+use Rattle.std.proofs.lemmas.Result.{err_from_is_err_and}
+use Rattle.gix_ref_file.specs.declared.files.FileError.TheVariants.{Failed}
+use Rattle.history_model.specs.Places.{unfinished_place}
+use Rattle.history_store.proofs.FoldersMade.{caused}
+use Rattle.history_store.proofs.ObjectFiles.{fits_when_written, may_rename, unfinished_fits}
+use Rattle.history_store.proofs.ObjectParts.{no_file_above, object_place_is_path}
 use Rattle.history_store.proofs.Stored.{may_from_same, may_from_write, may_from_append, may_from_rename, stored, on_ok_both}
 use Rattle.std.proofs.lemmas.Result.{on_ok_weaker}
 use Rattle.history_store.proofs.Above.{gone, object_folders}
@@ -82,3 +89,51 @@ returns-clause-folders g c = λ honest.
     on_ok_weaker c.rename.result
     (object_folders c.args.place.now c.args.header.now c.args.content.now old made_1 written_1 appended_1 new (c.make_folders.ensures.folders honest) written.made appended.made)
     renamed.made
+
+pub returns-in_err-make_folders-clause-failed : goal.returns-in_err-make_folders-clause-failed
+returns-in_err-make_folders-clause-failed g c = λ honest part placed failed.
+    let error = err_from_is_err_and c.from_residual.result c.from_residual.ensures.1 in
+    let same : c.make_folders.result ≡ Err Failed = cc (error.1, error.2) in
+    c.make_folders.ensures.failed honest (no_file_above _ c.args.place.now part placed) (object_place_is_path c.args.place.now placed) same
+
+pub returns-in_err-write-clause-failed : goal.returns-in_err-write-clause-failed
+returns-in_err-write-clause-failed g c = λ honest part placed failed.
+    let place = c.args.place.now in
+    let old = g.F.Files.history c.args.self.now.files in
+    let made = g.F.Files.history c.make_folders.new.files in
+    let error = err_from_is_err_and c.from_residual-in_err-write.result c.from_residual-in_err-write.ensures.1 in
+    let same : c.write.result ≡ Err Failed = cc (error.1, error.2) in
+    let folders = c.in_ok-make_folders.ensures.made honest (no_file_above old.tree place part placed) in
+    caused _ _ _ _ c.write.result (c.write.ensures.cause (c.make_folders.ensures.honest honest))
+    (unfinished_fits place old made part placed (c.make_folders.ensures.folders honest) folders) same c.make_folders.ensures.later
+
+pub returns-in_err-append-clause-failed : goal.returns-in_err-append-clause-failed
+returns-in_err-append-clause-failed g c = λ honest part placed failed.
+    let place = c.args.place.now in
+    let old = g.F.Files.history c.args.self.now.files in
+    let made = g.F.Files.history c.make_folders.new.files in
+    let written = g.F.Files.history c.write.new.self in
+    let honest_1 = c.make_folders.ensures.honest honest in
+    let error = err_from_is_err_and c.from_residual-in_err-append.result c.from_residual-in_err-append.ensures.1 in
+    let same : c.append.result ≡ Err Failed = cc (error.1, error.2) in
+    let above = c.make_folders.ensures.folders honest in
+    let folders = c.in_ok-make_folders.ensures.made honest (no_file_above old.tree place part placed) in
+    let room = fits_when_written place old made part placed above folders c.args.header.now written.tree (c.in_ok-write.ensures.change honest_1).made unfinished_place
+    (unfinished_fits place old made part placed above folders) in
+    caused _ _ _ _ c.append.result (c.append.ensures.cause (c.write.ensures.honest honest_1)) room same (omega (arith, c.make_folders.ensures.later, c.write.ensures.later))
+
+pub returns-clause-failed : goal.returns-clause-failed
+returns-clause-failed g c = λ honest part placed failed.
+    let place = c.args.place.now in
+    let old = g.F.Files.history c.args.self.now.files in
+    let made = g.F.Files.history c.make_folders.new.files in
+    let written = g.F.Files.history c.write.new.self in
+    let appended = g.F.Files.history c.append.new.self in
+    let honest_1 = c.make_folders.ensures.honest honest in
+    let honest_2 = c.write.ensures.honest honest_1 in
+    let above = c.make_folders.ensures.folders honest in
+    let folders = c.in_ok-make_folders.ensures.made honest (no_file_above old.tree place part placed) in
+    let may = may_rename place old made part placed above folders c.args.header.now written.tree (c.in_ok-write.ensures.change honest_1).made
+    c.args.content.now appended.tree (c.in_ok-append.ensures.change honest_2).made in
+    caused _ _ _ _ c.rename.result (c.rename.ensures.cause (c.append.ensures.honest honest_2)) may failed
+    (omega (arith, c.make_folders.ensures.later, c.write.ensures.later, c.append.ensures.later))

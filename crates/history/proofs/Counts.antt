@@ -1,0 +1,28 @@
+-- The counts of failed calls, over one step after another.
+use Rattle.std.proofs.Common.{◌≡◌, ◌⊎◌, inl, inr, ℕ, ◌+◌, ◌-◌, ◌^◌, ◌≤◌, min, arith}
+use Rattle.gix_ref_file.specs.History.{HasRisen}
+use Rattle.history.specs.Acts.{HasFailedCall, CountsRise}
+use Rattle.history.specs.declared.repository.Repository.{Repository}
+
+pub risen_later : (a b c : ℕ) → HasRisen a b → b ≤ c → HasRisen a c
+risen_later a b c h k = omega arith
+
+pub risen_before : (a b c : ℕ) → a ≤ b → HasRisen b c → HasRisen a c
+risen_before a b c h k = omega arith
+
+module _ {F : Type 0} (failures : F → ℕ) where
+  pub counts_same : (a : Repository F) → CountsRise failures a a
+  counts_same a = record { objects = omega arith; names = omega arith }
+
+  pub counts_joined : (a b c : Repository F) → CountsRise failures a b → CountsRise failures b c → CountsRise failures a c
+  counts_joined a b c h k = record { objects = omega arith; names = omega arith }
+
+  pub failed_later : (MayFail : Type 0) (a b c : Repository F) → HasFailedCall failures MayFail a b → CountsRise failures b c → HasFailedCall failures MayFail a c
+  failed_later MayFail a b c (inl h) k = inl (risen_later _ _ _ h k.objects)
+  failed_later MayFail a b c (inr (inl h)) k = inr (inl (risen_later _ _ _ h k.names))
+  failed_later MayFail a b c (inr (inr h)) k = inr (inr h)
+
+  pub failed_before : (MayFail : Type 0) (a b c : Repository F) → CountsRise failures a b → HasFailedCall failures MayFail b c → HasFailedCall failures MayFail a c
+  failed_before MayFail a b c k (inl h) = inl (risen_before _ _ _ k.objects h)
+  failed_before MayFail a b c k (inr (inl h)) = inr (inl (risen_before _ _ _ k.names h))
+  failed_before MayFail a b c k (inr (inr h)) = inr (inr h)

@@ -1,0 +1,106 @@
+-- The edits of a commit, one after another, on its files and on their tree.
+use Rattle.std.proofs.Common.{◌≡◌, refl, sym, ◌∙◌, ap, subst, ℕ, Bool, true, false, not, ◌&&◌, ◌||◌, List, [], ◌∷◌, ◌++◌, map, length, nat_lt, Vec}
+use Rattle.std.specs.Prelude.{IsTrue, IsFalse}
+use Rattle.std.specs.declared.alloc.Global.{Global}
+use Rattle.std.specs.FinMap.{insert}
+use Rattle.std.specs.List.{list_any, flat_map, AllZip}
+use Rattle.std.proofs.lemmas.Grind.{flat_map-append}
+use Rattle.std.proofs.lemmas.List.{map-append}
+use Rattle.std.proofs.lemmas.List.Folds.{list_any-append}
+use Rattle.history_model.specs.Bytes.{Bytes}
+use Rattle.history_model.specs.FileMap.{FileMap, Content, Edit, Put, edited, edited_by, is_path}
+use Rattle.history_model.specs.Stage.{is_offered_path}
+use Rattle.history_model.specs.Objects.{blob_id}
+use Rattle.history_model.specs.Repository as plain
+use Rattle.history_model.specs.Forms.{max_content, max_path}
+use Rattle.history_model.specs.Commands.{EditLine, PutLine, RemoveLine, RemoveFileLine}
+use Rattle.history_model.specs.CommandParts.{edit_paths, put_contents}
+use Rattle.history_model.specs.Meaning.{read_edit}
+use Rattle.history_model.specs.Causes.{is_bad_path}
+use Rattle.history_model.specs.Offered.{is_flat}
+use Rattle.history_model.specs.declared.Kind.{Kind}
+use Rattle.history_model.proofs.OfferedFiles.{edits_flat, flat_puts}
+use Rattle.history_word.specs.Commands.{IsEdit}
+use Rattle.history_word.specs.declared.command.Edit.TheVariants as sent
+use Rattle.history_word.specs.declared.command.Put as sent_put
+use Rattle.history_store.specs.Formats.{id_bytes}
+use Rattle.history_store.specs.Trees.{Folder, IsTreeOf}
+use Rattle.history_store.specs.declared.tree.TreeEntry.{TreeEntry}
+use Rattle.history_store.proofs.FlatTrees.{flat_insert}
+use Rattle.history.specs.CommitCauses.{is_long}
+use Rattle.history.specs.Fields.{kept_bytes}
+use Rattle.history.specs.Files.{AreWithin, HasEdited}
+use Rattle.history.proofs.FieldLemmas.{either_false, both_true, turned, whole_path, whole_content}
+
+-- a path that isn't bad is one that is offered
+path_offered : (path : Bytes) → is_bad_path path ≡ false → is_offered_path path ≡ true
+path_offered path good =
+    (both_true (is_path path) (is_offered_path path) (turned (is_path path && is_offered_path path) (either_false (not (is_path path && is_offered_path path)) (nat_lt max_path (length path)) good).0)).1
+
+-- ---- one edit
+
+module _ (r : plain.Repository) (kind : Kind) (files : FileMap) (old new : Folder) (put : sent_put.Put) (blob : Vec ℕ Global) (entry : TreeEntry) (flat : IsTrue (is_flat files)) (tree : IsTreeOf kind old files)
+    (whole : blob.items ≡ kept_bytes put.content) (is_kind : entry.kind ≡ put.kind) (is_id : id_bytes entry.id ≡ blob_id kind blob.items) (is_new : new ≡ insert old (kept_bytes put.path) entry) where
+  pub file_put : (line : EditLine) → IsEdit (sent.Put put) line → AreWithin (line ∷ []) → HasEdited r kind files (line ∷ []) (blob ∷ []) new
+  file_put (RemoveLine path) is within = absurd is
+  file_put (RemoveFileLine path) is within = absurd is
+  file_put (PutLine its_kind path bytes) is within =
+      let good = (either_false (is_bad_path path) false within.paths).0 in
+      let path_is = whole_path put.path path is.1 good in
+      let bytes_are : blob.items ≡ bytes = whole ∙ whole_content max_content put.content bytes is.2 (either_false (is_long bytes) false within.contents).0 in
+      let content : Content = record { kind = its_kind; bytes = bytes } in
+      let there : IsTreeOf kind (insert old path entry) (insert files path content) = flat_insert kind old files path entry content tree (is_kind ∙ is.0) (is_id ∙ ap (blob_id kind) bytes_are) in
+      record {
+        blobs_are = ap (λ b. b ∷ []) bytes_are;
+        tree = subst (λ those. IsTreeOf kind new those) (sym (flat_puts files path content flat (path_offered path good)))
+            (subst (λ this. IsTreeOf kind this (insert files path content)) (sym (is_new ∙ ap (λ p. insert old p entry) path_is)) there);
+        flat = edits_flat files (Put its_kind path bytes ∷ []) (ap (λ b. b && true) (path_offered path good)) flat;
+      }
+
+-- ---- one after another
+
+edited_by-append : (files : FileMap) (a b : List Edit) → edited_by files (a ++ b) ≡ edited_by (edited_by files a) b
+edited_by-append files [] b = refl
+edited_by-append files (edit ∷ a) b = edited_by-append (edited files edit) a b
+
+abbrev pub files_after : plain.Repository → FileMap → List EditLine → FileMap
+files_after r files lines = edited_by files (map (read_edit r) lines)
+
+files_after-append : (r : plain.Repository) (files : FileMap) (a b : List EditLine) → files_after r files (a ++ b) ≡ files_after r (files_after r files a) b
+files_after-append r files a b = ap (edited_by files) (map-append (read_edit r) a b) ∙ edited_by-append files (map (read_edit r) a) (map (read_edit r) b)
+
+pub edited_none : (r : plain.Repository) (kind : Kind) (files : FileMap) (blobs : List (Vec ℕ Global)) (tree : Folder) → blobs ≡ [] → IsTrue (is_flat files) → IsTreeOf kind tree files → HasEdited r kind files [] blobs tree
+edited_none r kind files blobs tree none flat is = record { blobs_are = ap (map (λ (blob : Vec ℕ Global). blob.items)) none; tree = is; flat = flat }
+
+pub edited_then : (r : plain.Repository) (kind : Kind) (files : FileMap) (a b : List EditLine) (blobs more : List (Vec ℕ Global)) (mid new : Folder) → HasEdited r kind files a blobs mid
+    → HasEdited r kind (files_after r files a) b more new → HasEdited r kind files (a ++ b) (blobs ++ more) new
+edited_then r kind files a b blobs more mid new first second = record {
+  blobs_are = map-append (λ (blob : Vec ℕ Global). blob.items) blobs more ∙ (λ i. first.blobs_are i ++ second.blobs_are i) ∙ sym (flat_map-append put_contents a b);
+  tree = subst (λ those. IsTreeOf kind new those) (sym (files_after-append r files a b)) second.tree;
+  flat = ap is_flat (files_after-append r files a b) ∙ second.flat;
+}
+
+-- ---- the lines that the edits came in
+
+any_parts : (p : Bytes → Bool) (f : EditLine → List Bytes) (a b : List EditLine) → list_any p (flat_map f (a ++ b)) ≡ false → (list_any p (flat_map f a) ≡ false) × (list_any p (flat_map f b) ≡ false)
+any_parts p f a b none = either_false _ _ (sym (ap (list_any p) (flat_map-append f a b) ∙ list_any-append p (flat_map f a) (flat_map f b)) ∙ none)
+
+pub within_parts : (a b : List EditLine) → AreWithin (a ++ b) → AreWithin a × AreWithin b
+within_parts a b h =
+    let paths = any_parts is_bad_path edit_paths a b h.paths in
+    let contents = any_parts is_long put_contents a b h.contents in
+    (record { paths = paths.0; contents = contents.0 }, record { paths = paths.1; contents = contents.1 })
+
+pub none_zipped : {A B : Type 0} (R : A → B → Type 0) (ys : List B) → AllZip R [] ys → ys ≡ []
+none_zipped R [] h = refl
+none_zipped R (y ∷ ys) h = absurd h
+
+pub last_zipped : {A B : Type 0} (R : A → B → Type 0) (xs : List A) (x : A) (ys : List B) → AllZip R (xs ++ x ∷ []) ys
+    → (front : List B) × (last : B) × (ys ≡ front ++ last ∷ []) × AllZip R xs front × R x last
+last_zipped R [] x [] h = absurd h
+last_zipped R [] x (y ∷ []) h = ([], y, refl, tt, h.0)
+last_zipped R [] x (y ∷ z ∷ ys) h = absurd h.1
+last_zipped R (w ∷ xs) x [] h = absurd h
+last_zipped R (w ∷ xs) x (y ∷ ys) h =
+    let rest = last_zipped R xs x ys h.1 in
+    (y ∷ rest.0, rest.1, ap (λ more. y ∷ more) rest.2, (h.0, rest.3), rest.4)

@@ -1,0 +1,160 @@
+-- What the fields that are kept tell of those that were sent.
+use Rattle.std.proofs.Common.{◌≡◌, ℕ, ◌<◌, ◌≤◌, Bool, true, false, cond, not, ◌&&◌, ◌||◌, [], ◌∷◌, length, refl, sym, ◌∙◌, ap, nat_lt, nat_le, ◌==◌, arith}
+use Rattle.std.specs.List.{list_any, onto_first}
+use Rattle.std.proofs.lemmas.Bool.Decides.{nat_tests}
+use Rattle.history_model.specs.Bytes.{Bytes, begins, ends, has_byte, is_empty}
+use Rattle.history_model.specs.FileMap.{components, is_path}
+use Rattle.history_model.specs.Stage.{is_offered_path}
+use Rattle.history_model.specs.Causes.{is_bad_path, is_bad_actor}
+use Rattle.history_model.specs.Forms.{is_actor_part}
+use Rattle.history_model.specs.Commands.{ActorLine as ActorOrder}
+use Rattle.history_word.specs.Commands.{IsActor}
+use Rattle.history_word.specs.declared.command.ActorLine.{ActorLine}
+use Rattle.history_word.specs.Fields.{Keeps}
+use Rattle.history_word.specs.declared.command.Field.{Field}
+use Rattle.history_word.specs.declared.command.Field.TheVariants.{Whole, TooLong}
+use Rattle.history.specs.Fields.{kept_bytes}
+
+-- ---- tests
+
+pub either_false : (a b : Bool) → (a || b) ≡ false → (a ≡ false) × (b ≡ false)
+either_false true b h = cc
+either_false false b h = (refl, h)
+
+pub both_true : (a b : Bool) → (a && b) ≡ true → (a ≡ true) × (b ≡ true)
+both_true true b h = (refl, h)
+both_true false b h = cc
+
+-- ---- limits
+
+pub within : (limit n : ℕ) → n ≤ limit → nat_lt limit n ≡ false
+within limit n small = grind (arith, nat_tests)
+
+pub beyond : (limit n : ℕ) → limit < n → nat_lt limit n ≡ true
+beyond limit n large = grind (arith, nat_tests)
+
+pub not_beyond : (limit n : ℕ) → nat_lt limit n ≡ false → n ≤ limit
+not_beyond limit n e = grind (arith, nat_tests)
+
+pub over : (limit n : ℕ) → nat_lt limit n ≡ true → limit < n
+over limit n e = grind (arith, nat_tests)
+
+-- all of a field within its limit is kept
+pub kept_whole : (limit : ℕ) (field : Field) (bytes : Bytes) → Keeps limit field bytes → length bytes ≤ limit → kept_bytes field ≡ bytes
+kept_whole limit (Whole kept) bytes h small = h.1
+kept_whole limit (TooLong kept) bytes h small = absurd (omega (arith, h.0))
+
+-- ---- paths
+
+-- a path without slashes is its one component
+alone : (path : Bytes) → has_byte 47 path ≡ false → components path ≡ path ∷ []
+alone [] h = refl
+alone (b ∷ path) h =
+    let parts = either_false (b == 47) (has_byte 47 path) h in
+    ap (λ t. cond t ([] ∷ components path) (onto_first b (components path))) parts.0 ∙ ap (onto_first b) (alone path parts.1)
+
+either_place : (a b c d : Bool) → ((a || b) || (c || d)) ≡ ((a || c) || (b || d))
+either_place true b c d = refl
+either_place false true true d = refl
+either_place false true false d = refl
+either_place false false c d = refl
+
+zero_or_slash : (path : Bytes) → list_any (λ b. b == 0 || b == 47) path ≡ (has_byte 0 path || has_byte 47 path)
+zero_or_slash [] = refl
+zero_or_slash (b ∷ path) = ap (λ t. (b == 0 || b == 47) || t) (zero_or_slash path) ∙ either_place (b == 0) (b == 47) (has_byte 0 path) (has_byte 47 path)
+
+-- a component is empty, a zero byte stands there, or a slash
+formless : (c e z s : Bool) → (s ≡ false → c ≡ (e || false)) → not ((not c && not z) && not s) ≡ (e || (z || s))
+formless true true z s h = refl
+formless true false true s h = refl
+formless true false false true h = refl
+formless true false false false h = h refl
+formless false true true s h = refl
+formless false false true s h = refl
+formless false true false true h = refl
+formless false false false true h = refl
+formless false true false false h = h refl
+formless false false false false h = refl
+
+no_file : (path : Bytes) → not (is_path path && is_offered_path path) ≡ (is_empty path || list_any (λ b. b == 0 || b == 47) path)
+no_file path =
+    formless (list_any is_empty (components path)) (is_empty path) (has_byte 0 path) (has_byte 47 path) (λ e. ap (list_any is_empty) (alone path e))
+    ∙ ap (λ t. is_empty path || t) (sym (zero_or_slash path))
+
+-- of a path within the limit
+pub bad_within : (path : Bytes) → length path ≤ 4096 → is_bad_path path ≡ (is_empty path || list_any (λ b. b == 0 || b == 47) path)
+bad_within path small = ap (λ over. not (is_path path && is_offered_path path) || over) (within 4096 (length path) small) ∙ neither_more (not (is_path path && is_offered_path path)) ∙ no_file path
+  where
+    neither_more : (a : Bool) → (a || false) ≡ a
+    neither_more true = refl
+    neither_more false = refl
+
+pub bad_beyond : (path : Bytes) → 4096 < length path → is_bad_path path ≡ true
+bad_beyond path large = ap (λ over. not (is_path path && is_offered_path path) || over) (beyond 4096 (length path) large) ∙ either_true (not (is_path path && is_offered_path path))
+  where
+    either_true : (a : Bool) → (a || true) ≡ true
+    either_true true = refl
+    either_true false = refl
+
+-- a text of some length is not empty
+pub not_empty : (text : Bytes) → (length text == 0) ≡ false → is_empty text ≡ false
+not_empty [] e = cc
+not_empty (b ∷ text) e = refl
+
+-- ---- actors
+
+pub never_both : (a : Bool) → (a && false) ≡ false
+never_both true = refl
+never_both false = refl
+
+-- what is over the limit is no name and no email
+pub no_part : (part : Bytes) → 512 < length part → is_actor_part part ≡ false
+no_part part large =
+    ap (λ fits. not (list_any (λ b. has_byte b (60 ∷ 62 ∷ 0 ∷ 9 ∷ 13 ∷ 10 ∷ [])) part) && not (begins (32 ∷ []) part) && not (ends (32 ∷ []) part) && fits) over
+    ∙ never_both (not (list_any (λ b. has_byte b (60 ∷ 62 ∷ 0 ∷ 9 ∷ 13 ∷ 10 ∷ [])) part) && not (begins (32 ∷ []) part) && not (ends (32 ∷ []) part))
+  where
+    over : nat_le (length part) 512 ≡ false
+    over = grind (arith, nat_tests)
+
+-- a name or an email is within its limit
+pub part_fits : (part : Bytes) → is_actor_part part ≡ true → length part ≤ 512
+part_fits part good =
+    let fits = (both_true (not (list_any (λ b. has_byte b (60 ∷ 62 ∷ 0 ∷ 9 ∷ 13 ∷ 10 ∷ [])) part) && not (begins (32 ∷ []) part) && not (ends (32 ∷ []) part)) (nat_le (length part) 512) good).1 in
+    grind (arith, nat_tests)
+
+pub turned : (b : Bool) → not b ≡ false → b ≡ true
+turned true e = refl
+turned false e = cc
+
+-- of a good actor the name and the email are whole
+pub whole_actor : (actor : ActorLine) (order : ActorOrder) → IsActor actor order → is_bad_actor order ≡ false → (kept_bytes actor.name ≡ order.name) × (kept_bytes actor.email ≡ order.email)
+whole_actor actor order is good =
+    let parts = either_false (is_empty order.name || not (is_actor_part order.name)) (not (is_actor_part order.email)) good in
+    let names = either_false (is_empty order.name) (not (is_actor_part order.name)) parts.0 in (
+      kept_whole 512 actor.name order.name is.name (part_fits order.name (turned (is_actor_part order.name) names.1)),
+      kept_whole 512 actor.email order.email is.email (part_fits order.email (turned (is_actor_part order.email) parts.1)),
+    )
+
+-- a part within its limit is good where it passes the other tests
+pub part_within : (part : Bytes) → length part ≤ 512 → list_any (λ b. has_byte b (60 ∷ 62 ∷ 0 ∷ 9 ∷ 13 ∷ 10 ∷ [])) part ≡ false → begins (32 ∷ []) part ≡ false → not (ends (32 ∷ []) part) ≡ is_actor_part part
+part_within part small clean front = sym (
+    ap (λ barred. not barred && not (begins (32 ∷ []) part) && not (ends (32 ∷ []) part) && nat_le (length part) 512) clean
+    ∙ ap (λ spaced. not spaced && not (ends (32 ∷ []) part) && nat_le (length part) 512) front
+    ∙ ap (λ fits. not (ends (32 ∷ []) part) && fits) fits ∙ also (not (ends (32 ∷ []) part)))
+  where
+    fits : nat_le (length part) 512 ≡ true
+    fits = grind (arith, nat_tests)
+
+    also : (a : Bool) → (a && true) ≡ a
+    also true = refl
+    also false = refl
+
+-- ---- fields that are kept whole
+
+-- a path that isn't bad is kept whole
+pub whole_path : (field : Field) (path : Bytes) → Keeps 4096 field path → is_bad_path path ≡ false → kept_bytes field ≡ path
+whole_path field path keeps good = kept_whole 4096 field path keeps (not_beyond 4096 (length path) (either_false (not (is_path path && is_offered_path path)) (nat_lt 4096 (length path)) good).1)
+
+-- and so is a content within its limit
+pub whole_content : (limit : ℕ) (field : Field) (content : Bytes) → Keeps limit field content → nat_lt limit (length content) ≡ false → kept_bytes field ≡ content
+whole_content limit field content keeps small = kept_whole limit field content keeps (not_beyond limit (length content) small)

@@ -1,0 +1,149 @@
+-- What the files of names tell of the ids that they hold.
+use Rattle.std.proofs.Common.{◌≡◌, ◌≢◌, ◌-◌, Bool, true, false, cond, ◌&&◌, ◌||◌, [], ◌∷◌, ◌++◌, length, take, drop, refl, sym, ◌∙◌, ap, arith, tests, take-append-drop, length-append, nat_eq, Option, Some, None, option_map, is_some, unwrap_or, bytes_eq, codes}
+use Rattle.std.specs.Prelude.{MatchOption}
+use Rattle.std.specs.FinMap.{get}
+use Rattle.std.proofs.Math.Seq.{take-append_seam, drop-append_seam}
+use Rattle.gix_ref_file.specs.History.{History}
+use Rattle.history_model.specs.Bytes.{Bytes, begins, ends, line}
+use Rattle.history_model.specs.Objects.{Id}
+use Rattle.history_model.specs.Repository.{Repository, Reference, id_at, stands}
+use Rattle.history_model.specs.Forms.{is_name}
+use Rattle.history_model.specs.PackedNames.{id_from_hex, line_text}
+use Rattle.history_model.specs.Places.{Pair, file_at, packed_place, head_place, is_log_place}
+use Rattle.history_model.specs.Readings.{Reading, Holds, Symbolic, Absent, Faulty, reading, loose_reading, loose_line, packed_text_reading}
+use Rattle.history_model.specs.StandsFor.{StandsFor}
+use Rattle.history_model.specs.declared.Kind.{Kind}
+use Rattle.history_model.proofs.TreePlaces.{one_text, texts_apart}
+use Rattle.history_store.specs.Formats.{id_bytes}
+use Rattle.history_store.specs.References.{SpellsId, NameHolds}
+use Rattle.history_store.specs.declared.id.ObjectId.{ObjectId}
+use Rattle.history.specs.Stands.{Stands, pair_of}
+use Rattle.history.specs.Face.{names_part}
+use Rattle.history.specs.declared.repository.Repository as own
+
+-- ---- lines
+
+ends_so : (text : Bytes) → ends (10 ∷ []) text ≡ true → text ≡ line (take (length text - 1) text)
+ends_so text e =
+    sym (take-append-drop (length text - 1) text)
+    ∙ ap (λ back. take (length text - 1) text ++ back) (sym (one_text (10 ∷ []) (drop (length text - 1) text) e))
+
+line_read : (text : Bytes) → line_text (line text) ≡ Some text
+line_read text = ap (λ b. cond b (Some (take (length (line text) - 1) (line text))) None) ended ∙ ap Some (ap (λ n. take n (line text)) shorter ∙ take-append_seam text (10 ∷ []))
+  where
+    shorter : length (line text) - 1 ≡ length text
+    shorter = let sum = length-append text (10 ∷ []) in omega arith
+
+    ended : ends (10 ∷ []) (line text) ≡ true
+    ended = ap (λ n. bytes_eq (10 ∷ []) (drop n (line text))) shorter ∙ ap (bytes_eq (10 ∷ [])) (drop-append_seam text (10 ∷ []))
+
+holds_same : {a b : Id} → Holds a ≡ Holds b → a ≡ b
+holds_same e = cc
+
+-- ---- one file
+
+module _ (kind : Kind) where
+  -- a text that spells an id reads as it, where it reads as an id
+  spelled : (text digits : Bytes) (id found : Id) → text ≡ line digits → id_from_hex kind digits ≡ Some id → loose_reading kind text ≡ Holds found → id ≡ found
+  spelled text digits id found is spells reads =
+      by_symbol (begins (codes "ref: ") digits && is_name (drop 5 digits))
+      (ap (λ o. cond (begins (codes "ref: ") digits && is_name (drop 5 digits)) (Symbolic (drop 5 digits)) (unwrap_or (option_map Holds o) Faulty)) (sym spells)
+      ∙ sym (ap (λ o. unwrap_or (option_map (loose_line kind) o) Faulty) (ap line_text is ∙ line_read digits)) ∙ reads)
+    where
+      by_symbol : (b : Bool) → cond b (Symbolic (drop 5 digits)) (Holds id) ≡ Holds found → id ≡ found
+      by_symbol true e = absurd cc
+      by_symbol false e = holds_same e
+
+  -- a text that spells none reads as none
+  unspelled : (text : Bytes) (found : Id) → ((digits : Bytes) → text ≡ line digits → id_from_hex kind digits ≡ None) → loose_reading kind text ≢ Holds found
+  unspelled text found none reads = by_end (ends (10 ∷ []) text) refl reads
+    where
+      by_symbol : (digits : Bytes) (b : Bool) → cond b (Symbolic (drop 5 digits)) Faulty ≡ Holds found → ⊥
+      by_symbol digits true e = absurd cc
+      by_symbol digits false e = absurd cc
+
+      by_end : (b : Bool) → ends (10 ∷ []) text ≡ b → unwrap_or (option_map (loose_line kind) (cond b (Some (take (length text - 1) text)) None)) Faulty ≡ Holds found → ⊥
+      by_end true e f =
+          let digits = take (length text - 1) text in
+          by_symbol digits (begins (codes "ref: ") digits && is_name (drop 5 digits))
+          (ap (λ o. cond (begins (codes "ref: ") digits && is_name (drop 5 digits)) (Symbolic (drop 5 digits)) (unwrap_or (option_map Holds o) Faulty)) (sym (none digits (ends_so text e))) ∙ f)
+      by_end false e f = absurd cc
+
+-- ---- one name
+
+-- a name is not the path of a log
+no_log : (name : Bytes) → begins (codes "refs/") name ≡ true → is_log_place name ≡ false
+no_log [] h = cc
+no_log (b ∷ name) h = first (nat_eq 114 b) (nat_eq 108 b) _ _ (grind (arith, tests)) h
+  where
+    first : (m n x y : Bool) → (m ≡ true → n ≡ false) → (m && x) ≡ true → (n && y) ≡ false
+    first true true x y apart e = cc (apart refl)
+    first true false x y apart e = refl
+    first false n x y apart e = cc
+
+module _ (pair : Pair) (r : Repository) (stand : StandsFor r.kind pair r) (unpacked : file_at pair.names packed_place ≡ None) (name : Bytes) where
+  -- where no names are packed
+  abbrev loose : Option Bytes → Reading
+  loose found = cond (is_name name) (unwrap_or (option_map (loose_reading r.kind) found) Absent) Absent
+
+  read_loose : reading r.kind pair.names name ≡ loose (file_at pair.names name)
+  read_loose = ap (λ found. cond (is_name name) (unwrap_or (option_map (loose_reading r.kind) (file_at pair.names name)) (unwrap_or (option_map (packed_text_reading r.kind name) found) Absent)) Absent) unpacked
+
+  -- what a name that holds an id reads as
+  reads : (id : Id) → id_at r name ≡ Some id → loose (file_at pair.names name) ≡ Holds id
+  reads id at = sym read_loose ∙ (stand.names name id).1 at
+
+  none_held : ((id : Id) → id_at r name ≡ Some id → ⊥) → None ≡ id_at r name
+  none_held never = by_id (id_at r name) refl
+    where
+      by_id : (o : Option Id) → id_at r name ≡ o → None ≡ o
+      by_id None e = refl
+      by_id (Some id) e = absurd (never id e)
+
+  no_file : (b : Bool) (id : Id) → cond b Absent Absent ≡ Holds id → ⊥
+  no_file true id e = absurd cc
+  no_file false id e = absurd cc
+
+  of_name : {C : Type 0} (b : Bool) (text : Bytes) (id : Id) → cond b (loose_reading r.kind text) Absent ≡ Holds id → (loose_reading r.kind text ≡ Holds id → C) → C
+  of_name true text id e f = f e
+  of_name false text id e f = absurd cc
+
+  -- a file at a name's place is one of a name that stands
+  name_stands : (text : Bytes) → begins (codes "refs/") name ≡ true → file_at pair.names name ≡ Some text → stands r name ≡ true
+  name_stands text front e = one_left (bytes_eq name head_place) (bytes_eq name packed_place) (stands r name) (is_log_place name) _ (other head_place refl) (other packed_place refl) (no_log name front) (stand.places name text e)
+    where
+      other : (place : Bytes) → begins (codes "refs/") place ≡ false → bytes_eq name place ≡ false
+      other place apart = texts_apart name place (λ same. absurd (cc (sym front, ap (begins (codes "refs/")) same, apart)))
+
+      one_left : (h p s l m : Bool) → h ≡ false → p ≡ false → l ≡ false → (((h || p) || s) || (l && m)) ≡ true → s ≡ true
+      one_left true p s l m a b c e = cc
+      one_left false true s l m a b c e = cc
+      one_left false false true l m a b c e = refl
+      one_left false false false true m a b c e = cc
+      one_left false false false false m a b c e = cc
+
+  id_held : (id : Id) → stands r name ≡ true → ((found : Id) → id_at r name ≡ Some found → id ≡ found) → Some id ≡ id_at r name
+  id_held id there same = by_ref (get r.names name) refl there
+    where
+      by_ref : (o : Option Reference) → get r.names name ≡ o → is_some o ≡ true → Some id ≡ id_at r name
+      by_ref None e h = cc
+      by_ref (Some ref) e h = let at = ap (option_map (λ (ref : Reference). ref.id)) e in ap Some (same ref.id at) ∙ sym at
+
+  name_tells : begins (codes "refs/") name ≡ true → (found : Option ObjectId) → NameHolds r.kind pair.names name found → option_map id_bytes found ≡ id_at r name
+  name_tells front found holds = by_file (file_at pair.names name) refl found holds
+    where
+      by_file : (o : Option Bytes) → file_at pair.names name ≡ o → (found : Option ObjectId) → MatchOption o (found ≡ None) (λ text. SpellsId r.kind text found) → option_map id_bytes found ≡ id_at r name
+      by_file None e found none = ap (option_map id_bytes) none ∙ none_held (λ id at. no_file (is_name name) id (ap loose (sym e) ∙ reads id at))
+      by_file (Some text) e None spells = none_held (λ id at. of_name (is_name name) text id (ap loose (sym e) ∙ reads id at) (unspelled r.kind text id spells))
+      by_file (Some text) e (Some id) spells =
+          id_held (id_bytes id) (name_stands text front e) (λ found at. of_name (is_name name) text found (ap loose (sym e) ∙ reads found at) (spelled r.kind text spells.0 (id_bytes id) found spells.1 spells.2))
+
+-- ---- a repository with its files
+
+module _ {F : Type 0} (IsHonest : F → Type 0) (history : F → History) (repository : own.Repository F) (r : Repository) (stand : Stands IsHonest history repository r) where
+  -- what the file of a name tells is what the name holds
+  pub held : (name : Bytes) → begins (codes "refs/") name ≡ true → (found : Option ObjectId) → NameHolds r.kind (history (names_part repository)).tree name found → option_map id_bytes found ≡ id_at r name
+  held name front found holds = name_tells (pair_of history repository) r stand.whole.stands stand.unpacked name front found holds
+
+  pub branch_is_name : begins (codes "refs/") repository.branch.items ≡ true
+  branch_is_name = ap (begins (codes "refs/")) (stand.branch ∙ stand.offered.branch)

@@ -1,0 +1,167 @@
+-- What a commit is to store, and how its name is to move, read from its command.
+use Rattle.std.proofs.Common.{◌≡◌, ℕ, ◌<◌, ◌≤◌, refl, sym, ◌∙◌, ap, subst, Bool, true, false, ◌&&◌, ◌||◌, List, [], ◌∷◌, ◌++◌, map, length, nat_lt, cond, append_assoc, Vec, codes}
+use Rattle.std.specs.Prelude.{Option, Some, None, option_map, option_to_list, unwrap_or, Result, Ok, Err, IsTrue}
+use Rattle.std.specs.declared.alloc.Global.{Global}
+use Rattle.std.specs.List.{list_any, flat_map}
+use Rattle.std.proofs.lemmas.List.{map-append}
+use Rattle.std.proofs.lemmas.List.Folds.{list_any-append}
+use Rattle.history_model.specs.Bytes.{Bytes}
+use Rattle.history_model.specs.FileMap.{FileMap, edited_by}
+use Rattle.history_model.specs.Objects.{Id, Actor, Value, StoredBytes, StoredFolder, StoredCommit, digest, object_text, null_id, content_of, root, folder_id, commit_content, id_of}
+use Rattle.history_model.specs.Repository as plain
+use Rattle.history_model.specs.Repository.{HasWholeNames, id_at}
+use Rattle.history_model.specs.Forms.{title, max_content}
+use Rattle.history_model.specs.Commands.{CommitCommand, Commit}
+use Rattle.history_model.specs.CommandParts.{paths_in, contents_in, put_contents}
+use Rattle.history_model.specs.Meaning.{branch_or_name, first_files, parents_of, edits_of, new_commit, read_actor, stored_by}
+use Rattle.history_model.specs.Causes.{first_cause, is_bad_path, is_too_large}
+use Rattle.history_model.specs.Stage.{is_offered}
+use Rattle.history_model.specs.Offered.{IsOffered, is_flat, main_name}
+use Rattle.history_model.specs.TreeSteps.{move_entry}
+use Rattle.history_model.specs.declared.Cause.{Cause}
+use Rattle.history_model.specs.declared.Cause.TheVariants.{TooLarge}
+use Rattle.history_model.specs.declared.Kind.{Kind}
+use Rattle.history_model.proofs.OfferedReads.{commits_follow_main, commits_name_main, commits_store_flat}
+use Rattle.history_model.proofs.OfferedSteps.{first_flat}
+use Rattle.history_store.specs.Formats.{id_bytes, actor_of, entry_of, commit_text}
+use Rattle.history_store.specs.Commits.{IsCommitOf}
+use Rattle.history_store.specs.Trees.{Folder, IsTreeOf, folder_content}
+use Rattle.history_store.specs.declared.commit.Commit as stored
+use Rattle.history_store.specs.declared.id.ObjectId.{ObjectId}
+use Rattle.history_store.specs.declared.log_entry.LogEntry.{LogEntry}
+use Rattle.history_store.proofs.CommitTexts.{text_of_commit}
+use Rattle.history_store.proofs.FlatTrees.{flat_content}
+use Rattle.history.specs.Acts.{IsReadingFault, Gives}
+use Rattle.history.specs.CommitCauses.{first_among, name_causes, form_causes, is_long, IsParent, HasTimes, AreTimes}
+use Rattle.history.specs.Files.{files_of_main, AreWithin, HasEdited}
+use Rattle.history.specs.Plans.{Plans}
+use Rattle.history.specs.declared.causes.Times.{Times}
+use Rattle.history.specs.declared.planning.Plan.{Plan}
+use Rattle.history.specs.declared.stopped.Stopped.{Stopped}
+use Rattle.history.specs.declared.stopped.Stopped.TheVariants.{Refused, Fault}
+use Rattle.history.proofs.Edits.{files_after}
+use Rattle.history.proofs.FieldLemmas.{within, beyond}
+use Rattle.history.proofs.FirstCauses.{passed, here, refused_by_name, refused_by_form, refused_by_size, good_paths}
+use Rattle.history.proofs.Storing.{bytes_put}
+
+-- ---- sizes
+
+contents_back : (kind : Kind) (contents : List Bytes) → map (content_of kind) (map StoredBytes contents) ≡ contents
+contents_back kind [] = refl
+contents_back kind (content ∷ contents) = ap (λ rest. content ∷ rest) (contents_back kind contents)
+
+-- what a commit stores is its contents, the bytes of its tree, and its own
+stored_contents : (r : plain.Repository) (order : CommitCommand) → IsOffered r → list_any is_bad_path (paths_in (Commit order)) ≡ false
+    → map (content_of r.kind) (stored_by r (Commit order)) ≡ contents_in (Commit order) ++ root r.kind (new_commit r order).files ∷ commit_content r.kind (new_commit r order) ∷ []
+stored_contents r order o good =
+    let last = StoredFolder (new_commit r order).files ∷ StoredCommit (new_commit r order) ∷ [] in
+    ap (map (content_of r.kind)) (commits_store_flat r order o good ∙ ap (λ values. values ++ last) (bytes_put r order.edits))
+    ∙ map-append (content_of r.kind) (map StoredBytes (contents_in (Commit order))) last
+    ∙ ap (λ contents. contents ++ root r.kind (new_commit r order).files ∷ commit_content r.kind (new_commit r order) ∷ []) (contents_back r.kind (contents_in (Commit order)))
+
+sizes_told : (contents : List Bytes) (tree commit : Bytes) → list_any is_long contents ≡ false → list_any is_long (contents ++ (contents ++ tree ∷ commit ∷ [])) ≡ (is_long tree || (is_long commit || false))
+sizes_told contents tree commit short =
+    list_any-append is_long contents (contents ++ tree ∷ commit ∷ []) ∙ ap (λ b. b || list_any is_long (contents ++ tree ∷ commit ∷ [])) short
+    ∙ list_any-append is_long contents (tree ∷ commit ∷ []) ∙ ap (λ b. b || (is_long tree || (is_long commit || false))) short
+
+-- ---- refusals and faults
+
+-- a fault of reading is one of planning
+pub fault_planned : {A : Type 0} (MayFail : Type 0) (P : A → Type 0) (r : plain.Repository) (order : CommitCommand) (result : Result A Stopped) (ends : Result Plan Stopped) (stopped : Stopped) → result ≡ Err stopped → ends ≡ Err stopped
+    → Gives MayFail P result → Plans MayFail r order ends
+fault_planned {A} MayFail P r order result ends stopped was is_end gives =
+    subst (Plans MayFail r order) (sym is_end) (by_case stopped (subst (λ (r : Result A Stopped). Gives MayFail P r) was gives))
+  where
+    by_case : (stopped : Stopped) → IsReadingFault MayFail stopped → Plans MayFail r order (Err stopped)
+    by_case (Refused cause) h = absurd h
+    by_case (Fault fault) h = h
+
+pub refusal_planned : (MayFail : Type 0) (r : plain.Repository) (order : CommitCommand) (cause : Cause) (ends : Result Plan Stopped) → ends ≡ Err (Refused cause) → first_cause r (Commit order) ≡ Some cause → Plans MayFail r order ends
+refusal_planned MayFail r order cause ends is_end is = subst (Plans MayFail r order) (sym is_end) is
+
+module _ (r : plain.Repository) (order : CommitCommand) (o : IsOffered r) (w : HasWholeNames r) (offered : is_offered (Commit order) ≡ true) where
+  pub parent_planned : (MayFail : Type 0) (result : Result (Option ObjectId) Stopped) (ends : Result Plan Stopped) (stopped : Stopped) → result ≡ Err stopped → ends ≡ Err stopped
+      → IsParent MayFail r order result → Plans MayFail r order ends
+  parent_planned MayFail result ends stopped was is_end parent =
+      subst (Plans MayFail r order) (sym is_end) (by_case stopped (subst (IsParent MayFail r order) was parent))
+    where
+      by_case : (stopped : Stopped) → IsParent MayFail r order (Err stopped) → Plans MayFail r order (Err stopped)
+      by_case (Refused cause) h = refused_by_name r order o w offered cause h
+      by_case (Fault fault) h = h
+
+  -- the new files are those of the parent after the edits
+  new_files : (new_commit r order).files ≡ files_after r (files_of_main r) order.edits
+  new_files = ap (λ ids. edited_by (first_files r ids) (edits_of r order)) (commits_follow_main r order o w offered)
+
+  pub main_flat : is_flat (files_of_main r) ≡ true
+  main_flat = first_flat r o (option_to_list (id_at r main_name))
+
+  -- so the tree's bytes are those of their folder
+  pub tree_content : (kind : Kind) (blobs : List (Vec ℕ Global)) (tree : Folder) → kind ≡ r.kind → HasEdited r kind (files_of_main r) order.edits blobs tree
+      → folder_content tree ≡ root r.kind (new_commit r order).files
+  tree_content kind blobs tree same h =
+      let there : IsTreeOf r.kind tree (new_commit r order).files =
+      subst (λ k. IsTreeOf k tree (new_commit r order).files) same (subst (λ (files : FileMap). IsTreeOf kind tree files) (sym new_files) h.tree) in
+      flat_content r.kind tree (new_commit r order).files there (ap is_flat new_files ∙ h.flat)
+
+  module _ (times : Times) (h : HasTimes r order times) (none : first_among name_causes r (Commit order) ≡ None) where
+    sizes : is_too_large r (Commit order) ≡ (is_long (root r.kind (new_commit r order).files) || (is_long (commit_content r.kind (new_commit r order)) || false))
+    sizes =
+        ap (λ contents. list_any is_long (contents_in (Commit order) ++ contents)) (stored_contents r order o (good_paths r order times h))
+        ∙ sizes_told (contents_in (Commit order)) (root r.kind (new_commit r order).files) (commit_content r.kind (new_commit r order)) h.contents
+
+    or_true : (a : Bool) → (a || true) ≡ true
+    or_true true = refl
+    or_true false = refl
+
+    pub tree_refused : max_content < length (root r.kind (new_commit r order).files) → first_cause r (Commit order) ≡ Some TooLarge
+    tree_refused large =
+        refused_by_size r order o w offered none h.formed
+        ∙ here (is_too_large r (Commit order)) TooLarge None (sizes ∙ ap (λ b. b || (is_long (commit_content r.kind (new_commit r order)) || false)) (beyond max_content _ large))
+
+    pub commit_refused : max_content < length (commit_content r.kind (new_commit r order)) → first_cause r (Commit order) ≡ Some TooLarge
+    commit_refused large =
+        refused_by_size r order o w offered none h.formed
+        ∙ here (is_too_large r (Commit order)) TooLarge None (sizes ∙ ap (λ b. is_long (root r.kind (new_commit r order).files) || (b || false)) (beyond max_content _ large) ∙ or_true _)
+
+    pub none_refused : length (root r.kind (new_commit r order).files) ≤ max_content → length (commit_content r.kind (new_commit r order)) ≤ max_content → first_cause r (Commit order) ≡ None
+    none_refused tree_fits commit_fits =
+        refused_by_size r order o w offered none h.formed
+        ∙ passed (is_too_large r (Commit order)) TooLarge None None (sizes ∙ (λ i. within max_content (length (root r.kind (new_commit r order).files)) tree_fits i || (within max_content (length (commit_content r.kind (new_commit r order))) commit_fits i || false))) refl
+
+  -- ---- the commit and its move
+
+  parents_told : (parent : Option ObjectId) → map id_bytes (option_to_list parent) ≡ option_to_list (option_map id_bytes parent)
+  parents_told None = refl
+  parents_told (Some id) = refl
+
+  pub parents_are : (parent : Option ObjectId) (parents : List ObjectId) → option_map id_bytes parent ≡ id_at r main_name → parents ≡ option_to_list parent → map id_bytes parents ≡ parents_of r order
+  parents_are parent parents at are = ap (map id_bytes) are ∙ parents_told parent ∙ ap option_to_list at ∙ sym (commits_follow_main r order o w offered)
+
+  before_told : (parent : Option ObjectId) (null : ObjectId) → id_bytes (unwrap_or parent null) ≡ unwrap_or (option_map id_bytes parent) (id_bytes null)
+  before_told None null = refl
+  before_told (Some id) null = refl
+
+  pub before_is : (parent : Option ObjectId) (null : ObjectId) → option_map id_bytes parent ≡ id_at r main_name → id_bytes null ≡ null_id r.kind
+      → id_bytes (unwrap_or parent null) ≡ unwrap_or (id_at r (branch_or_name r order.name)) (null_id r.kind)
+  before_is parent null at is_null =
+      before_told parent null
+      ∙ (λ i. unwrap_or (at i) (is_null i)) ∙ ap (λ name. unwrap_or (id_at r name) (null_id r.kind)) (sym (commits_name_main r order o offered))
+
+  pub commit_is : (commit : stored.Commit) (kind : Kind) (tree : Bytes) → kind ≡ r.kind → id_bytes commit.tree ≡ digest kind (object_text (codes "tree") tree) → tree ≡ root r.kind (new_commit r order).files
+      → map id_bytes commit.parents.items ≡ parents_of r order → actor_of commit.author ≡ read_actor order.author → actor_of commit.committer ≡ read_actor order.committer → commit.message.items ≡ order.message
+      → IsCommitOf r.kind commit (new_commit r order)
+  commit_is commit kind tree same id is_tree parents author committer message = record {
+    tree = id ∙ (λ i. digest (same i) (object_text (codes "tree") (is_tree i)));
+    parents = parents;
+    author = author;
+    committer = committer;
+    message = message;
+  }
+
+  pub entry_is : (entry : LogEntry) (kind : Kind) (commit : Bytes) → kind ≡ r.kind → id_bytes entry.before ≡ unwrap_or (id_at r (branch_or_name r order.name)) (null_id r.kind)
+      → id_bytes entry.after ≡ digest kind (object_text (codes "commit") commit) → commit ≡ commit_content r.kind (new_commit r order) → actor_of entry.actor ≡ read_actor order.committer → entry.message.items ≡ title order.message
+      → entry_of entry ≡ move_entry r (branch_or_name r order.name) (id_of r.kind (StoredCommit (new_commit r order))) (read_actor order.committer) (title order.message)
+  entry_is entry kind commit same before after is_commit actor message =
+      let after_is = after ∙ (λ i. digest (same i) (object_text (codes "commit") (is_commit i))) in
+      λ i. record { before = before i; after = after_is i; actor = actor i; message = message i }

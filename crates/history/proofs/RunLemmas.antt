@@ -1,0 +1,448 @@
+-- Runs one after another.
+use Rattle.std.proofs.Common.{◌≡◌, ℕ, ◌⊎◌, Bool, true, false, not, ◌&&◌, ◌||◌, ◌==◌, ◌≢◌, ◌<◌, ◌≤◌, length, List, [], ◌∷◌, ◌++◌, Option, Some, None, Result, Ok, Err, IfOk, MatchResult, MatchBool, is_ok, refl, sym, ap, subst, ◌∙◌, inl, inr, append_assoc, IsTrue, arith}
+use Rattle.std.proofs.lemmas.List.{append-nil, length-append}
+use Rattle.std.proofs.lemmas.List.Folds.{list_all-append}
+use Rattle.std.proofs.lemmas.Bool.Decides.{nat_tests}
+use Rattle.std.proofs.lemmas.Grind.{flat_map-append}
+use Rattle.std.specs.Io.KnownBytes.{Consumes, Appends}
+use Rattle.std.specs.List.{flat_map, list_all, AllByRecursion}
+use Rattle.history_model.specs.Bytes.{Bytes, begins}
+use Rattle.history_model.specs.Repository.{Repository}
+use Rattle.history_model.specs.Commands.{Command}
+use Rattle.history_model.specs.Spelling.{spelling, has_spelling}
+use Rattle.history_model.specs.Grammar.{is_command, Spells, HasRestCause}
+use Rattle.history_model.specs.Stage.{is_offered}
+use Rattle.history_model.specs.Replies.{Reply, RefusedFor, Faulted, reply_text}
+use Rattle.history_model.specs.Steps.{Step, Steps, some_failed, goes_on}
+use Rattle.history_model.specs.Runs.{Ran, Ends, CutsShort, IsNoCommand}
+use Rattle.history_model.specs.declared.Fault.TheVariants.{File}
+use Rattle.history_model.specs.declared.Cause.{Cause}
+use Rattle.history_model.specs.declared.Cause.TheVariants.{Truncated}
+use Rattle.history_model.specs.declared.End.{End}
+use Rattle.history_model.specs.declared.End.TheVariants.{Input, Refused as ByRefusal, Fault as ByFault}
+use Rattle.history_word.specs.declared.buffer.Buffer.{Buffer}
+use Rattle.history_word.specs.Buffer.{unread}
+use Rattle.history_word.specs.Taking.{Came}
+use Rattle.history_word.specs.Progress.{IsCauseOf}
+use Rattle.history.specs.declared.running.RunError.{RunError}
+use Rattle.history.specs.declared.running.RunError.TheVariants.{Read, Write}
+use Rattle.history.specs.declared.reply.Reply.{Reply as Answer}
+use Rattle.history.specs.declared.repository.Repository.{Repository as Store}
+use Rattle.gix_ref_file.specs.History.{HasRisen}
+use Rattle.history.specs.Acts.{IsAnswer, CountsRise, HasFailedCall}
+use Rattle.history.specs.Replies.{text_of}
+use Rattle.history.specs.Runs.{EndsRun, EndsHere, GoesOn, Turns}
+
+-- ---- steps
+
+both_false : (a b : Bool) → (a || b) ≡ false → (a ≡ false) × (b ≡ false)
+both_false true b e = cc
+both_false false b e = (refl, e)
+
+not_false : (b : Bool) → not b ≡ false → b ≡ true
+not_false true e = refl
+not_false false e = cc
+
+pub steps_then : (old mid new : Repository) (commands more : List Command) (replies others : List Reply) → Steps old commands replies mid → some_failed commands replies ≡ false
+    → Steps mid more others new → Steps old (commands ++ more) (replies ++ others) new
+steps_then old mid new [] more [] others h f k = subst (λ r. Steps r more others new) h k
+steps_then old mid new [] more (reply ∷ replies) others h f k = absurd h
+steps_then old mid new (command ∷ commands) more [] others h f k = absurd h
+steps_then old mid new (command ∷ commands) more (reply ∷ replies) others h f k =
+    let unfailed = both_false (not (goes_on command reply)) (some_failed commands replies) f in
+    (h.0, h.1, inl (not_false (goes_on command reply) unfailed.0), steps_then h.0 mid new commands more replies others h.3 unfailed.1 k)
+
+-- whether a command failed is told by the later ones, where none of the first did
+pub fails_then : (old mid : Repository) (commands more : List Command) (replies others : List Reply) → Steps old commands replies mid → some_failed commands replies ≡ false
+    → some_failed (commands ++ more) (replies ++ others) ≡ some_failed more others
+fails_then old mid [] more [] others h f = refl
+fails_then old mid [] more (reply ∷ replies) others h f = absurd h
+fails_then old mid (command ∷ commands) more [] others h f = absurd h
+fails_then old mid (command ∷ commands) more (reply ∷ replies) others h f =
+    let unfailed = both_false (not (goes_on command reply)) (some_failed commands replies) f in
+    ap (λ b. b || some_failed (commands ++ more) (replies ++ others)) unfailed.0 ∙ fails_then h.0 mid commands more replies others h.3 unfailed.1
+
+-- ---- texts
+
+texts_then : {X : Type 0} (text : X → Bytes) (xs ys : List X) (a b rest : Bytes) → a ≡ flat_map text xs ++ [] → b ≡ flat_map text ys ++ rest → a ++ b ≡ flat_map text (xs ++ ys) ++ rest
+texts_then text xs ys a b rest e f =
+    ap (λ zs. zs ++ b) (e ∙ append-nil (flat_map text xs)) ∙ ap (λ zs. flat_map text xs ++ zs) f ∙ sym (append_assoc (flat_map text xs) (flat_map text ys) rest)
+    ∙ ap (λ zs. zs ++ rest) (sym (flat_map-append text xs ys))
+
+known_then : (commands more : List Command) → IsTrue (list_all is_command commands) → IsTrue (list_all is_command more) → IsTrue (list_all is_command (commands ++ more))
+known_then commands more h k = list_all-append is_command commands more ∙ ap (λ b. b && list_all is_command more) h ∙ k
+
+faults_then : {C D E : Type 0} → (C → E) → (D → E) → (replies others : List Reply) → AllByRecursion (λ reply. reply ≡ Faulted File → C) replies
+    → AllByRecursion (λ reply. reply ≡ Faulted File → D) others → AllByRecursion (λ reply. reply ≡ Faulted File → E) (replies ++ others)
+faults_then c d [] [] h k = tt
+faults_then c d [] (reply ∷ others) h k = (λ e. d (k.0 e), faults_then c d [] others tt k.1)
+faults_then c d (reply ∷ replies) others h k = (λ e. c (h.0 e), faults_then c d replies others h.1 k)
+
+-- ---- commands in a row
+
+pub ran_none : (C : Type 0) (old : Repository) (rest last : Bytes) → Ran C old rest last rest last false old
+ran_none C old rest last = record {
+  commands = [];
+  replies = [];
+  splits = record { known = refl; split = refl };
+  steps = refl;
+  fails = refl;
+  written = refl;
+  file_faults = tt;
+}
+
+pub ran_one : (C : Type 0) (old new : Repository) (read written : Bytes) (command : Command) (reply : Reply) (rest : Bytes) (failed : Bool)
+    → read ≡ spelling command ++ rest → written ≡ reply_text reply → IsTrue (is_command command) → Step old command reply new
+    → failed ≡ some_failed (command ∷ []) (reply ∷ []) → (reply ≡ Faulted File → C) → Ran C old read written rest [] failed new
+ran_one C old new read written command reply rest failed e f known step fails file = record {
+  commands = command ∷ [];
+  replies = reply ∷ [];
+  splits = record { known = ap (λ b. b && true) known; split = e ∙ ap (λ zs. zs ++ rest) (sym (append-nil (spelling command))) };
+  steps = (new, step, inr refl, refl);
+  fails = fails;
+  written = f ∙ sym (append-nil (reply_text reply)) ∙ sym (append-nil (reply_text reply ++ []));
+  file_faults = (file, tt);
+}
+
+pub ran_then : (C D E : Type 0) (old mid new : Repository) (read more written others rest last : Bytes) (failed : Bool) → (C → E) → (D → E)
+    → Ran C old read written [] [] false mid → Ran D mid more others rest last failed new → Ran E old (read ++ more) (written ++ others) rest last failed new
+ran_then C D E old mid new read more written others rest last failed c d h k = record {
+  commands = h.commands ++ k.commands;
+  replies = h.replies ++ k.replies;
+  splits = record {
+    known = known_then h.commands k.commands (h.splits).known (k.splits).known;
+    split = texts_then spelling h.commands k.commands read more rest (h.splits).split (k.splits).split;
+  };
+  steps = steps_then old mid new h.commands k.commands h.replies k.replies h.steps (sym h.fails) k.steps;
+  fails = k.fails ∙ sym (fails_then old mid h.commands k.commands h.replies k.replies h.steps (sym h.fails));
+  written = texts_then reply_text h.replies k.replies written others last h.written k.written;
+  file_faults = faults_then c d h.replies k.replies h.file_faults k.file_faults;
+}
+
+-- ---- ends
+
+cut_then : (L M : Type 0) (Empty Short : Type 0) → (L → M) → Empty ⊎ Short ⊎ L → Empty ⊎ Short ⊎ M
+cut_then L M Empty Short m (inl e) = inl e
+cut_then L M Empty Short m (inr (inl s)) = inr (inl s)
+cut_then L M Empty Short m (inr (inr l)) = inr (inr (m l))
+
+short_then : (AtEnd D E : Type 0) (old : Repository) (rest part : Bytes) (failed : Bool) (new : Repository) → (D → E) → CutsShort AtEnd D old rest part failed new → CutsShort AtEnd E old rest part failed new
+short_then AtEnd D E old rest part failed new d (inl h) = inl (h.0, h.1, h.2, h.3, h.4, h.5, h.6, λ e. d (h.7 e), h.8)
+short_then AtEnd D E old rest part failed new d (inr h) = inr h
+
+-- what ends after commands in a row ends after all of them
+pub ends_then : (AtEnd L M C D E : Type 0) (old mid new : Repository) (read more written others : Bytes) (result : Result End RunError) (failed : Bool) → (L → M) → (C → E) → (D → E)
+    → Ran C old read written [] [] false mid → EndsRun AtEnd L D mid more others result failed new → EndsRun AtEnd M E old (read ++ more) (written ++ others) result failed new
+ends_then AtEnd L M C D E old mid new read more written others (Ok end) failed m c d h k = record {
+  rest = k.rest;
+  last = k.last;
+  ran = ran_then C D E old mid new read more written others k.rest k.last failed c d h k.ran;
+  ends = k.ends;
+}
+ends_then AtEnd L M C D E old mid new read more written others (Err Read) failed m c d h k = record {
+  rest = k.rest;
+  ran = ran_then C D E old mid new read more written others k.rest [] failed c d h k.ran;
+  unfailed = k.unfailed;
+  cut = cut_then L M _ _ m k.cut;
+}
+ends_then AtEnd L M C D E old mid new read more written others (Err Write) failed m c d h k = record {
+  rest = k.rest;
+  part = k.part;
+  mid = k.mid;
+  ran = ran_then C D E old mid k.mid read more written others k.rest k.part false c d h k.ran;
+  cut = short_then AtEnd D E k.mid k.rest k.part failed new d k.cut;
+}
+
+-- ---- one turn
+
+and_second : (a b : Bool) → IsTrue (a && b) → IsTrue b
+and_second true b h = h
+and_second false b h = absurd cc
+
+pub known_offered : (order : Command) → IsTrue (is_command order) → IsTrue (is_offered order)
+known_offered order h = and_second (has_spelling order) (is_offered order) h
+
+goes : (failed : Bool) (on : Bool) → failed ≡ not on → failed ≡ false → IsTrue on
+goes failed on e f = not_false on (sym e ∙ f)
+
+same_byte : (b : ℕ) → (b == b) ≡ true
+same_byte b = grind (arith, nat_tests)
+
+begins_front : (front back : Bytes) → IsTrue (begins front (front ++ back))
+begins_front [] back = refl
+begins_front (b ∷ front) back = ap (λ t. t && begins front (front ++ back)) (same_byte b) ∙ begins_front front back
+
+only_fails : (on : Bool) → not on ≡ (not on || false)
+only_fails true = refl
+only_fails false = refl
+
+answer_ran : (C : Type 0) (StandsNow : Repository → Type 0) (r : Repository) (order : Command) (answer : Answer) (failed : Bool) (taken rest : Bytes)
+    → Spells taken order → (a : IsAnswer C StandsNow failed r order answer) → Ran C r (taken ++ rest) (text_of answer) rest [] failed a.left
+answer_ran C StandsNow r order answer failed taken rest k a =
+    ran_one C r a.left (taken ++ rest) (text_of answer) order a.reply rest failed (ap (λ xs. xs ++ rest) k.1) a.text k.0 a.step (a.fails ∙ only_fails (goes_on order a.reply)) a.call_failed
+
+-- a command was answered, and the run goes on
+pub turn_goes_on : (Takes Writes : Bytes → Type 0) (StandsNow : Repository → Type 0) (C : Type 0) (r : Repository) (order : Command) (answer : Answer) (failed : Bool) (taken : Bytes)
+    → Spells taken order → IsAnswer C StandsNow failed r order answer → failed ≡ false → Takes taken → Writes (text_of answer) → GoesOn Takes Writes StandsNow C r
+turn_goes_on Takes Writes StandsNow C r order answer failed taken k a unfailed takes writes = record {
+  taken = taken;
+  written = text_of answer;
+  new = a.left;
+  takes = takes;
+  writes = writes;
+  ran = subst (λ b. Ran C r taken (text_of answer) [] [] b a.left) unfailed
+      (subst (λ xs. Ran C r xs (text_of answer) [] [] failed a.left) (append-nil taken) (answer_ran C StandsNow r order answer failed taken [] k a));
+  stands = a.stands (goes failed (goes_on order a.reply) a.fails unfailed);
+}
+
+-- a changing command had a fault
+pub turn_fails : (Comes Writes : Bytes → Type 0) (StandsNow : Repository → Type 0) (AtEnd L C : Type 0) (r : Repository) (order : Command) (answer : Answer) (failed : Bool) (taken rest : Bytes)
+    → Spells taken order → IsAnswer C StandsNow failed r order answer → failed ≡ true → Comes (taken ++ rest) → Writes (text_of answer)
+    → EndsHere Comes Writes StandsNow AtEnd L C r (Ok ByFault) failed
+turn_fails Comes Writes StandsNow AtEnd L C r order answer failed taken rest k a e comes writes = record {
+  read = taken ++ rest;
+  written = text_of answer;
+  new = a.left;
+  reads = comes;
+  writes = writes;
+  ends = record {
+    rest = rest;
+    last = [];
+    ran = answer_ran C StandsNow r order answer failed taken rest k a;
+    ends = subst (λ b. Ends AtEnd rest [] ByFault b) (sym e) refl;
+  };
+  stands = λ unfailed. a.stands (goes failed (goes_on order a.reply) a.fails unfailed);
+}
+
+-- the writer failed within the reply
+pub turn_cut : (Comes Writes : Bytes → Type 0) (StandsNow : Repository → Type 0) (AtEnd L C : Type 0) (r : Repository) (order : Command) (answer : Answer) (failed : Bool)
+    (taken rest front back : Bytes) → Spells taken order → IsAnswer C StandsNow failed r order answer → Comes (taken ++ rest) → text_of answer ≡ front ++ back → Writes front
+    → EndsHere Comes Writes StandsNow AtEnd L C r (Err Write) failed
+turn_cut Comes Writes StandsNow AtEnd L C r order answer failed taken rest front back k a comes e writes = record {
+  read = taken ++ rest;
+  written = front;
+  new = a.left;
+  reads = comes;
+  writes = writes;
+  ends = record {
+    rest = taken ++ rest;
+    part = front;
+    mid = r;
+    ran = ran_none C r (taken ++ rest) front;
+    cut = inl (
+      order,
+      a.reply,
+      rest,
+      k.0,
+      ap (λ xs. xs ++ rest) k.1,
+      a.step,
+      a.fails ∙ only_fails (goes_on order a.reply),
+      a.call_failed,
+      subst (λ xs. IsTrue (begins front xs)) (sym e ∙ a.text) (begins_front front back),
+    );
+  };
+  stands = λ unfailed. a.stands (goes failed (goes_on order a.reply) a.fails unfailed);
+}
+
+some_cause : (bytes : Bytes) (cause : Cause) → bytes ≢ [] → IsCauseOf bytes cause → HasRestCause bytes cause
+some_cause [] cause some h = absurd (some refl)
+some_cause (b ∷ bytes) cause some h = h
+
+no_command : (AtEnd : Type 0) (bytes : Bytes) (cause : Cause) → bytes ≢ [] → IsCauseOf bytes cause → (cause ≡ Truncated → AtEnd) → IsNoCommand AtEnd bytes cause
+no_command AtEnd bytes cause some h end = record { because = some_cause bytes cause some h; at_end = end }
+
+-- a rest that is no command was refused
+pub turn_refused : (Comes Writes : Bytes → Type 0) (StandsNow : Repository → Type 0) (AtEnd L C : Type 0) (r : Repository) (failed : Bool) (bytes : Bytes) (cause : Cause)
+    → failed ≡ false → StandsNow r → bytes ≢ [] → IsCauseOf bytes cause → (cause ≡ Truncated → AtEnd) → Comes bytes → Writes (reply_text (RefusedFor cause))
+    → EndsHere Comes Writes StandsNow AtEnd L C r (Ok ByRefusal) failed
+turn_refused Comes Writes StandsNow AtEnd L C r failed bytes cause unfailed stands some h end comes writes = record {
+  read = bytes;
+  written = reply_text (RefusedFor cause);
+  new = r;
+  reads = comes;
+  writes = writes;
+  ends = record {
+    rest = bytes;
+    last = reply_text (RefusedFor cause);
+    ran = subst (λ b. Ran C r bytes (reply_text (RefusedFor cause)) bytes (reply_text (RefusedFor cause)) b r) (sym unfailed) (ran_none C r bytes (reply_text (RefusedFor cause)));
+    ends = (cause, no_command AtEnd bytes cause some h end, refl, unfailed);
+  };
+  stands = λ _. stands;
+}
+
+or_first : (a b : Bool) → a ≡ true → (a || b) ≡ true
+or_first a b e = ap (λ t. t || b) e
+
+-- the writer failed within the answer to it
+pub turn_refusal_cut : (Comes Writes : Bytes → Type 0) (StandsNow : Repository → Type 0) (AtEnd L C : Type 0) (r : Repository) (failed : Bool) (bytes : Bytes) (cause : Cause) (front back : Bytes)
+    → failed ≡ false → StandsNow r → bytes ≢ [] → IsCauseOf bytes cause → (cause ≡ Truncated → AtEnd) → Comes bytes → reply_text (RefusedFor cause) ≡ front ++ back → Writes front
+    → EndsHere Comes Writes StandsNow AtEnd L C r (Err Write) failed
+turn_refusal_cut Comes Writes StandsNow AtEnd L C r failed bytes cause front back unfailed stands some h end comes e writes = record {
+  read = bytes;
+  written = front;
+  new = r;
+  reads = comes;
+  writes = writes;
+  ends = record {
+    rest = bytes;
+    part = front;
+    mid = r;
+    ran = ran_none C r bytes front;
+    cut = inr (cause, no_command AtEnd bytes cause some h end, refl, unfailed, or_first _ _ (subst (λ xs. IsTrue (begins front xs)) (sym e) (begins_front front back)));
+  };
+  stands = λ _. stands;
+}
+
+-- the reader failed, or the last reading was made
+short_rest : (Failed L : Type 0) (bytes : Bytes) → (Failed × IsCauseOf bytes Truncated) ⊎ L → (bytes ≡ []) ⊎ HasRestCause bytes Truncated ⊎ L
+short_rest Failed L [] (inl h) = inl refl
+short_rest Failed L (b ∷ bytes) (inl h) = inr (inl h.1)
+short_rest Failed L bytes (inr l) = inr (inr l)
+
+-- nothing at all is cut short
+pub nothing_short : (Failed L : Type 0) (bytes : Bytes) → (Failed × (bytes ≡ [])) ⊎ L → (Failed × IsCauseOf bytes Truncated) ⊎ L
+nothing_short Failed L bytes (inl h) = inl (h.0, subst (λ xs. IsCauseOf xs Truncated) (sym h.1) refl)
+nothing_short Failed L bytes (inr l) = inr l
+
+pub turn_broken : (Comes Writes : Bytes → Type 0) (StandsNow : Repository → Type 0) (AtEnd Failed L C : Type 0) (r : Repository) (failed : Bool) (bytes : Bytes)
+    → failed ≡ false → StandsNow r → (Failed × IsCauseOf bytes Truncated) ⊎ L → Comes bytes → Writes [] → EndsHere Comes Writes StandsNow AtEnd L C r (Err Read) failed
+turn_broken Comes Writes StandsNow AtEnd Failed L C r failed bytes unfailed stands why comes writes = record {
+  read = bytes;
+  written = [];
+  new = r;
+  reads = comes;
+  writes = writes;
+  ends = record {
+    rest = bytes;
+    ran = subst (λ b. Ran C r bytes [] bytes [] b r) (sym unfailed) (ran_none C r bytes []);
+    unfailed = unfailed;
+    cut = short_rest Failed L bytes why;
+  };
+  stands = λ _. stands;
+}
+
+-- the input ended
+pub turn_ends : (Comes Writes : Bytes → Type 0) (StandsNow : Repository → Type 0) (AtEnd L C : Type 0) (r : Repository) (failed : Bool)
+    → failed ≡ false → StandsNow r → AtEnd → Comes [] → Writes [] → EndsHere Comes Writes StandsNow AtEnd L C r (Ok Input) failed
+turn_ends Comes Writes StandsNow AtEnd L C r failed unfailed stands end comes writes = record {
+  read = [];
+  written = [];
+  new = r;
+  reads = comes;
+  writes = writes;
+  ends = record {
+    rest = [];
+    last = [];
+    ran = subst (λ b. Ran C r [] [] [] [] b r) (sym unfailed) (ran_none C r [] []);
+    ends = (refl, end, refl, unfailed);
+  };
+  stands = λ _. stands;
+}
+
+-- what a turn tells where a command was answered
+pub turn_told : (Takes Comes Writes : Bytes → Type 0) (StandsNow : Repository → Type 0) (AtEnd L C : Type 0) (r : Repository) (end : Option End) (failed : Bool)
+    → ((end ≡ None) × GoesOn Takes Writes StandsNow C r) ⊎ ((end ≡ Some ByFault) × EndsHere Comes Writes StandsNow AtEnd L C r (Ok ByFault) failed)
+    → Turns Takes Comes Writes StandsNow AtEnd L C r (Ok end) failed
+turn_told Takes Comes Writes StandsNow AtEnd L C r end failed (inl h) = subst (λ e. Turns Takes Comes Writes StandsNow AtEnd L C r (Ok e) failed) (sym h.0) h.1
+turn_told Takes Comes Writes StandsNow AtEnd L C r end failed (inr h) = subst (λ e. Turns Takes Comes Writes StandsNow AtEnd L C r (Ok e) failed) (sym h.0) h.1
+
+-- ---- turns in a row
+
+pub goes_none : (Takes Writes : Bytes → Type 0) (StandsNow : Repository → Type 0) (C : Type 0) (r : Repository) → Takes [] → Writes [] → StandsNow r → GoesOn Takes Writes StandsNow C r
+goes_none Takes Writes StandsNow C r takes writes stands = record {
+  taken = [];
+  written = [];
+  new = r;
+  takes = takes;
+  writes = writes;
+  ran = ran_none C r [] [];
+  stands = stands;
+}
+
+pub goes_then : (Took Takes Taking Wrote Writes Writing : Bytes → Type 0) (Stood StandsNow : Repository → Type 0) (C D E : Type 0) (r : Repository)
+    → ((xs ys : Bytes) → Took xs → Takes ys → Taking (xs ++ ys)) → ((xs ys : Bytes) → Wrote xs → Writes ys → Writing (xs ++ ys)) → (C → E) → (D → E)
+    → (h : GoesOn Took Wrote Stood C r) → GoesOn Takes Writes StandsNow D h.new → GoesOn Taking Writing StandsNow E r
+goes_then Took Takes Taking Wrote Writes Writing Stood StandsNow C D E r t w c d h k = record {
+  taken = h.taken ++ k.taken;
+  written = h.written ++ k.written;
+  new = k.new;
+  takes = t h.taken k.taken h.takes k.takes;
+  writes = w h.written k.written h.writes k.writes;
+  ran = ran_then C D E r h.new k.new h.taken k.taken h.written k.written [] [] false c d h.ran k.ran;
+  stands = k.stands;
+}
+
+pub run_then : (Took Comes Reads Wrote Writes Writing : Bytes → Type 0) (Stood StandsNow : Repository → Type 0) (AtEnd L M C D E : Type 0) (r : Repository) (result : Result End RunError) (failed : Bool)
+    → ((xs ys : Bytes) → Took xs → Comes ys → Reads (xs ++ ys)) → ((xs ys : Bytes) → Wrote xs → Writes ys → Writing (xs ++ ys)) → (L → M) → (C → E) → (D → E)
+    → (h : GoesOn Took Wrote Stood C r) → EndsHere Comes Writes StandsNow AtEnd L D h.new result failed → EndsHere Reads Writing StandsNow AtEnd M E r result failed
+run_then Took Comes Reads Wrote Writes Writing Stood StandsNow AtEnd L M C D E r result failed t w m c d h k = record {
+  read = h.taken ++ k.read;
+  written = h.written ++ k.written;
+  new = k.new;
+  reads = t h.taken k.read h.takes k.reads;
+  writes = w h.written k.written h.writes k.writes;
+  ends = ends_then AtEnd L M C D E r h.new k.new h.taken k.read h.written k.written result failed m c d h.ran k.ends;
+  stands = k.stands;
+}
+
+-- what was read, written and left, where this is told
+pub run_told : (Reads Writes : Bytes → Type 0) (StandsNow : Repository → Type 0) (AtEnd L C : Type 0) (r : Repository) (told result : Result End RunError) (failed : Bool)
+    → told ≡ result → EndsHere Reads Writes StandsNow AtEnd L C r result failed
+    → (read written : Bytes) × (new : Repository) × Reads read × Writes written × EndsRun AtEnd L C r read written told failed new × (failed ≡ false → StandsNow new)
+run_told Reads Writes StandsNow AtEnd L C r told result failed e h =
+    (h.read, h.written, h.new, h.reads, h.writes, subst (λ x. EndsRun AtEnd L C r h.read h.written x failed h.new) (sym e) h.ends, h.stands)
+
+-- ---- failed calls
+
+pub counts_none : {F : Type 0} (failures : F → ℕ) (old : Store F) → CountsRise failures old old
+counts_none failures old = record { objects = omega arith; names = omega arith }
+
+pub counts_then : {F : Type 0} (failures : F → ℕ) (old mid new : Store F) → CountsRise failures old mid → CountsRise failures mid new → CountsRise failures old new
+counts_then failures old mid new h k = record { objects = omega (arith, h.objects, k.objects); names = omega (arith, h.names, k.names) }
+
+risen_later : (a b c : ℕ) → HasRisen a b → b ≤ c → HasRisen a c
+risen_later a b c h k = omega (arith, h, k)
+
+risen_before : (a b c : ℕ) → a ≤ b → HasRisen b c → HasRisen a c
+risen_before a b c h k = omega (arith, h, k)
+
+-- a call that failed first has failed
+pub failed_first : {F : Type 0} (failures : F → ℕ) (MayFail : Type 0) (old mid new : Store F) → CountsRise failures mid new → HasFailedCall failures MayFail old mid → HasFailedCall failures MayFail old new
+failed_first failures MayFail old mid new k (inl h) = inl (risen_later _ _ _ h k.objects)
+failed_first failures MayFail old mid new k (inr (inl h)) = inr (inl (risen_later _ _ _ h k.names))
+failed_first failures MayFail old mid new k (inr (inr h)) = inr (inr h)
+
+-- and one that failed then
+pub failed_then : {F : Type 0} (failures : F → ℕ) (MayFail : Type 0) (old mid new : Store F) → CountsRise failures old mid → HasFailedCall failures MayFail mid new → HasFailedCall failures MayFail old new
+failed_then failures MayFail old mid new k (inl h) = inl (risen_before _ _ _ k.objects h)
+failed_then failures MayFail old mid new k (inr (inl h)) = inr (inl (risen_before _ _ _ k.names h))
+failed_then failures MayFail old mid new k (inr (inr h)) = inr (inr h)
+
+-- ---- streams
+
+-- a byte follows, where a reading said so, whatever its error was made to
+pub more_from : {E D : Type 0} (result : Result Bool E) (told : Result Bool D) (P Q : Type 0) (Else : E → Type 0) → told ≡ Ok true → is_ok told ≡ is_ok result
+    → MatchResult result (λ x. told ≡ Ok x) Else → IfOk result (λ is_more. MatchBool is_more P Q) → P
+more_from (Ok true) told P Q Else e v k h = h
+more_from (Ok false) told P Q Else e v k h = absurd cc
+more_from (Err x) told P Q Else e v k h = absurd (cc (ap is_ok e, v))
+
+pub appends_same : (a : Option (List ℕ)) → Appends a a []
+appends_same None = tt
+appends_same (Some xs) = sym (append-nil xs)
+
+pub appends_then : (a b c : Option (List ℕ)) (xs ys : List ℕ) → Appends a b xs → Appends b c ys → Appends a c (xs ++ ys)
+appends_then None b c xs ys h k = tt
+appends_then (Some ks) None c xs ys h k = absurd h
+appends_then (Some ks) (Some ls) None xs ys h k = k
+appends_then (Some ks) (Some ls) (Some ms) xs ys h k = k ∙ ap (λ zs. zs ++ ys) h ∙ append_assoc ks xs ys
+
+-- what came is what the source gave, where the buffer was empty
+pub consumed : {S : Type 0} (left : S → Option (List ℕ)) (readings : S → ℕ) (s : S) (b : Buffer) (t : S) (c : Buffer) (bytes : List ℕ)
+    → unread b ≡ [] → Came left readings s b t c bytes → Consumes (left s) (left t) bytes
+consumed left readings s b t c bytes e h = subst (Consumes (left s) (left t)) (ap (λ xs. xs ++ h.more) (sym e) ∙ h.same) h.came
+
+-- what came after the buffer had bytes is not nothing
+pub some_came : {S : Type 0} (left : S → Option (List ℕ)) (readings : S → ℕ) (s : S) (b : Buffer) (t : S) (c : Buffer) (bytes : List ℕ)
+    → 0 < length (unread b) → Came left readings s b t c bytes → bytes ≢ []
+some_came left readings s b t c bytes h k e = omega (arith, ap length (k.same ∙ e), length-append (unread b) k.more)

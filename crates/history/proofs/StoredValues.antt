@@ -1,0 +1,97 @@
+-- What a repository that stands has stored: its form, and the text at its place.
+use Rattle.std.proofs.Common.{◌≡◌, ◌∙◌, ◌⊎◌, inl, inr, ap, refl, sym, subst, false, cond, []}
+use Rattle.std.specs.Prelude.{Option, Some, None, Result, Ok, Err, MatchOption, IsErrAnd, IsTrue, option_map, unwrap_or, bytes_eq, codes}
+use Rattle.std.specs.FinMap.{get}
+use Rattle.gix_ref_file.specs.History.{History}
+use Rattle.gix_ref_file.specs.declared.files.FileError.{FileError}
+use Rattle.gix_ref_file.specs.declared.files.FileError.TheVariants.{Failed, Memory}
+use Rattle.history_model.specs.Bytes.{Bytes, has_byte}
+use Rattle.history_model.specs.FileMap.{FileMap, IsFileMap}
+use Rattle.history_model.specs.Forms.{is_commit_form}
+use Rattle.history_model.specs.Objects.{Id, CommitValue, Value, StoredCommit, StoredFolder, type_word, content_of, value_text, object_text}
+use Rattle.history_model.specs.Offered.{is_flat}
+use Rattle.history_model.specs.Places.{file_at, object_place}
+use Rattle.history_model.specs.Repository as plain
+use Rattle.history_model.specs.TreeHalves.{HoldsValues, HaveOwnIds}
+use Rattle.history_model.specs.declared.Kind.{Kind}
+use Rattle.history_model.proofs.TreePlaces.{values_have_ids}
+use Rattle.history_model.proofs.TreePuts.{halves_stand, places_tell_values}
+use Rattle.history_model.proofs.WholeTexts.{object_same}
+use Rattle.history_store.specs.Formats as store
+use Rattle.history_store.specs.Stores.{text_of, IsNoObject}
+use Rattle.history_store.specs.declared.object.ObjectKind.{ObjectKind}
+use Rattle.history_store.specs.declared.object.ObjectKind.TheVariants.{Blob, Tree, Commit}
+use Rattle.history_store.specs.declared.objects.Object.{Object}
+use Rattle.history.specs.Acts.{Gives, IsReadingFault}
+use Rattle.history.specs.Face.{objects_part}
+use Rattle.history.specs.Faults.{file_fault}
+use Rattle.history.specs.Stands.{Stands, pair_of}
+use Rattle.history.specs.declared.repository.Repository.{Repository}
+use Rattle.history.specs.declared.stopped.Stopped.{Stopped}
+use Rattle.history.specs.declared.stopped.Stopped.TheVariants.{Fault}
+
+module _ {F : Type 0} (IsHonest : F → Type 0) (history : F → History) (repository : Repository F) (r : plain.Repository) (stands : Stands IsHonest history repository r) where
+  pub holds_values : HoldsValues r.kind (history (objects_part repository)).tree r.objects
+  holds_values = ((halves_stand r.kind (pair_of history repository) r).0 stands.whole.stands).1
+
+  pub have_own_ids : HaveOwnIds r.kind r.objects
+  have_own_ids = stands.whole.whole.store.own_ids
+
+  module _ (id : Id) where
+    pub text_stands : (value : Value) → get r.objects id ≡ Some value → file_at (history (objects_part repository)).tree (object_place id) ≡ Some (value_text r.kind value)
+    text_stands value at =
+        places_tell_values r.kind (history (objects_part repository)).tree r.objects holds_values have_own_ids id (values_have_ids r.kind r.objects have_own_ids id value at)
+        ∙ ap (option_map (value_text r.kind)) at
+
+    pub commit_formed : (value : CommitValue) → get r.objects id ≡ Some (StoredCommit value) → IsTrue (is_commit_form r.kind value)
+    commit_formed value at = ((stands.whole.written.values id (StoredCommit value) at).0).0
+
+    pub folder_paths : (files : FileMap) → get r.objects id ≡ Some (StoredFolder files) → IsFileMap files
+    folder_paths files at = ((stands.whole.written.values id (StoredFolder files) at).0).map
+
+    pub folder_flat : (files : FileMap) → get r.objects id ≡ Some (StoredFolder files) → IsTrue (is_flat files)
+    folder_flat files at = stands.offered.values id (StoredFolder files) at
+
+-- ---- an object that is read
+
+module _ (kind : Kind) (value : Value) (object : ObjectKind) (word : type_word value ≡ store.type_word object) (stored : Option Bytes) (stands : stored ≡ Some (value_text kind value)) where
+  plain_word : (other : ObjectKind) → has_byte 32 (store.type_word other) ≡ false
+  plain_word Blob = refl
+  plain_word Tree = refl
+  plain_word Commit = refl
+
+  -- the object of a word
+  of_word : Bytes → ObjectKind
+  of_word text = cond (bytes_eq text (codes "tree")) Tree (cond (bytes_eq text (codes "commit")) Commit Blob)
+
+  of_word-type_word : (other : ObjectKind) → of_word (store.type_word other) ≡ other
+  unfolding of_word
+  of_word-type_word Blob = refl
+  of_word-type_word Tree = refl
+  of_word-type_word Commit = refl
+
+  told : (other : ObjectKind) (content : Bytes) → stored ≡ Some (text_of other content) → (other ≡ object) × (content ≡ content_of kind value)
+  told other content is =
+      let text : text_of other content ≡ value_text kind value = cc in
+      let same = object_same (store.type_word other) (type_word value) content (content_of kind value) (plain_word other) (ap (has_byte 32) word ∙ plain_word object) text in
+      (sym (of_word-type_word other) ∙ ap of_word (same.0 ∙ word) ∙ of_word-type_word object, same.1)
+
+  abbrev Read : Option Object → Type 0
+  Read found = MatchOption found ((stored ≡ None) ⊎ IsNoObject (unwrap_or stored [])) (λ other. stored ≡ Some (text_of other.kind other.content.items))
+
+  -- it has the value's type and content
+  pub object_told : (found : Option Object) (other : Object) → found ≡ Some other → Read found → (other.kind ≡ object) × (other.content.items ≡ content_of kind value)
+  object_told found other is read = told other.kind other.content.items (subst Read is read)
+
+  -- and it is found
+  pub object_found : (found : Option Object) → found ≡ None → Read found → ⊥
+  object_found found is read = elim (subst Read is read) [
+    | inl none ↦ cc
+    | inr other ↦ other object (content_of kind value) (ap (λ text. unwrap_or text []) stands ∙ ap (λ w. object_text w (content_of kind value)) word)
+  ]
+
+-- a call of the files that failed is a fault of reading
+pub error_told : {T : Type 0} (MayFail : Type 0) (IsMeant : T → Type 0) (result : Result T Stopped) (error : FileError) → IsErrAnd result (λ stopped. stopped ≡ Fault (file_fault error)) → (error ≡ Failed → MayFail) → Gives MayFail IsMeant result
+error_told MayFail IsMeant (Ok value) error is fails = absurd is
+error_told MayFail IsMeant (Err stopped) Failed is fails = subst (IsReadingFault MayFail) (sym is) (fails refl)
+error_told MayFail IsMeant (Err stopped) Memory is fails = subst (IsReadingFault MayFail) (sym is) tt

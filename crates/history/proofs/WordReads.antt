@@ -1,0 +1,125 @@
+-- What the names that a word may mean tell of it, read one after another.
+use Rattle.std.proofs.Common.{◌≡◌, ℕ, suc, ◌+◌, ◌<◌, length, drop, get_or, drop-cons, subst, ◌≤◌, arith, Bool, true, false, cond, not, ◌&&◌, List, [], ◌∷◌, ◌++◌, map, filter, find, refl, sym, ◌∙◌, ap, Option, Some, None, is_some, option_map, unwrap_or, bytes_eq, codes, Bor}
+use Rattle.std.specs.FinMap.{get}
+use Rattle.std.proofs.lemmas.List.{append-nil, drop_all}
+use Rattle.history_model.specs.Bytes.{Bytes, begins}
+use Rattle.history_model.specs.Forms.{is_private}
+use Rattle.history_model.specs.Repository.{Repository, Reference, id_at, stands}
+use Rattle.history_model.specs.Words.{ReadsAs, Unknown, word_reading, name_reading, id_reading, candidates, head_word}
+use Rattle.gix_ref_file.specs.History.{History}
+use Rattle.history_store.specs.Formats.{id_bytes}
+use Rattle.history_store.specs.References.{NameHolds}
+use Rattle.history_store.specs.declared.id.ObjectId.{ObjectId}
+use Rattle.history.specs.Stands.{Stands}
+use Rattle.history.specs.Face.{names_part}
+use Rattle.history.specs.declared.repository.Repository as own
+use Rattle.history.proofs.FieldLemmas.{both_true}
+use Rattle.history.proofs.NameReads.{held, branch_is_name}
+
+-- what stands before and behind a word
+abbrev pub Ends : Type 0
+Ends = Bor Bytes × Bor Bytes
+
+abbrev pub whole_name : Bytes → Ends → Bytes
+whole_name word ends = (ends.0.now ++ word) ++ ends.1.now
+
+abbrev pub may_mean : Bytes → Bool
+may_mean name = begins (codes "refs/") name && not (is_private name)
+
+-- the first that stands of the names that a word may mean, and of those that are still to be read
+pub first_meant : Repository → Bytes → Option Bytes
+first_meant r word = find (stands r) (candidates word)
+
+pub first_left : Repository → Bytes → List Ends → Option Bytes
+first_left r word ends = find (stands r) (filter may_mean (map (whole_name word) ends))
+
+abbrev six : Bytes → List Bytes
+six word = (([] ++ word) ++ []) ∷ ((codes "refs/" ++ word) ++ []) ∷ ((codes "refs/tags/" ++ word) ++ []) ∷ ((codes "refs/heads/" ++ word) ++ [])
+    ∷ ((codes "refs/remotes/" ++ word) ++ []) ∷ ((codes "refs/remotes/" ++ word) ++ codes "/HEAD") ∷ []
+
+six_names : (word : Bytes) → candidates word ≡ filter may_mean (six word)
+six_names word = λ i. filter may_mean
+    (sym (append-nil word) i ∷ sym (append-nil (codes "refs/" ++ word)) i ∷ sym (append-nil (codes "refs/tags/" ++ word)) i ∷ sym (append-nil (codes "refs/heads/" ++ word)) i
+    ∷ sym (append-nil (codes "refs/remotes/" ++ word)) i ∷ (codes "refs/remotes/" ++ word ++ codes "/HEAD") ∷ [])
+
+module _ (r : Repository) (word : Bytes) where
+  -- before the first is read, all are left
+  pub all_left : (ends : List Ends) → map (whole_name word) ends ≡ six word → first_meant r word ≡ first_left r word ends
+  unfolding first_meant first_left
+  all_left ends e = ap (find (stands r)) (six_names word ∙ ap (filter may_mean) (sym e))
+
+  pub none_left : first_left r word [] ≡ None
+  unfolding first_left
+  none_left = refl
+
+  pub passed_over : (ends : Ends) (rest : List Ends) → may_mean (whole_name word ends) ≡ false → first_left r word (ends ∷ rest) ≡ first_left r word rest
+  unfolding first_left
+  passed_over ends rest e = ap (λ b. find (stands r) (cond b (whole_name word ends ∷ filter may_mean (map (whole_name word) rest)) (filter may_mean (map (whole_name word) rest)))) e
+
+  pub none_there : (ends : Ends) (rest : List Ends) → stands r (whole_name word ends) ≡ false → first_left r word (ends ∷ rest) ≡ first_left r word rest
+  unfolding first_left
+  none_there ends rest e = by_test (may_mean (whole_name word ends))
+    where
+      by_test : (b : Bool) → find (stands r) (cond b (whole_name word ends ∷ filter may_mean (map (whole_name word) rest)) (filter may_mean (map (whole_name word) rest))) ≡ first_left r word rest
+      by_test true = ap (λ s. cond s (Some (whole_name word ends)) (first_left r word rest)) e
+      by_test false = refl
+
+  pub found_here : (ends : Ends) (rest : List Ends) → may_mean (whole_name word ends) ≡ true → stands r (whole_name word ends) ≡ true → first_left r word (ends ∷ rest) ≡ Some (whole_name word ends)
+  unfolding first_left
+  found_here ends rest e there =
+      ap (λ b. find (stands r) (cond b (whole_name word ends ∷ filter may_mean (map (whole_name word) rest)) (filter may_mean (map (whole_name word) rest)))) e
+      ∙ ap (λ s. cond s (Some (whole_name word ends)) (first_left r word rest)) there
+
+  -- ---- by index
+
+  module _ (items : List Ends) (i : ℕ) (d : Ends) (within : i < length items) (name : Bytes) (is : name ≡ whole_name word (get_or items i d)) where
+    next : first_left r word (drop i items) ≡ first_left r word (get_or items i d ∷ drop (i + 1) items)
+    next = ap (first_left r word) (drop-cons items i d within) ∙ ap (λ n. first_left r word (get_or items i d ∷ drop n items)) (let e : suc i ≡ i + 1 = omega arith in e)
+
+    pub next_passed : may_mean name ≡ false → first_left r word (drop i items) ≡ first_left r word (drop (i + 1) items)
+    next_passed e = next ∙ passed_over (get_or items i d) (drop (i + 1) items) (ap may_mean (sym is) ∙ e)
+
+    pub next_absent : stands r name ≡ false → first_left r word (drop i items) ≡ first_left r word (drop (i + 1) items)
+    next_absent e = next ∙ none_there (get_or items i d) (drop (i + 1) items) (ap (stands r) (sym is) ∙ e)
+
+    pub next_found : may_mean name ≡ true → stands r name ≡ true → first_left r word (drop i items) ≡ Some name
+    next_found e there = next ∙ found_here (get_or items i d) (drop (i + 1) items) (ap may_mean (sym is) ∙ e) (ap (stands r) (sym is) ∙ there) ∙ ap Some (sym is)
+
+  -- a word but HEAD reads as the first of its names that stands, or as none
+  pub reads_found : bytes_eq word head_word ≡ false → (found : Option Bytes) → first_meant r word ≡ found → word_reading r word ≡ unwrap_or (option_map (λ name. name_reading (id_at r name)) found) Unknown
+  unfolding first_meant
+  reads_found other found e =
+      ap (λ b. cond b (name_reading (id_at r r.branch)) (unwrap_or (option_map (λ name. name_reading (id_at r name)) (find (stands r) (candidates word))) (id_reading r word))) other
+      ∙ ap (λ o. unwrap_or (option_map (λ name. name_reading (id_at r name)) o) Unknown) e
+
+  pub reads_branch : bytes_eq word head_word ≡ true → word_reading r word ≡ name_reading (id_at r r.branch)
+  reads_branch is = ap (λ b. cond b (name_reading (id_at r r.branch)) (unwrap_or (option_map (λ name. name_reading (id_at r name)) (find (stands r) (candidates word))) (id_reading r word))) is
+
+  pub found_reads : bytes_eq word head_word ≡ false → (name id : Bytes) → first_meant r word ≡ Some name → id_at r name ≡ Some id → ReadsAs id ≡ word_reading r word
+  found_reads other name id e at = sym (reads_found other (Some name) e ∙ ap name_reading at)
+
+  pub none_reads : bytes_eq word head_word ≡ false → (items : List Ends) (i : ℕ) → length items ≤ i → first_meant r word ≡ first_left r word (drop i items) → Unknown ≡ word_reading r word
+  none_reads other items i past e = sym (reads_found other None (e ∙ ap (first_left r word) (drop_all i items past) ∙ none_left))
+
+-- a name that holds an id stands, and one that holds none doesn't
+pub stands_so : (r : Repository) (name : Bytes) (held : Option Bytes) → id_at r name ≡ held → stands r name ≡ is_some held
+stands_so r name held e = by_ref (get r.names name) ∙ ap is_some e
+  where
+    by_ref : (o : Option Reference) → is_some o ≡ is_some (option_map (λ (ref : Reference). ref.id) o)
+    by_ref None = refl
+    by_ref (Some ref) = refl
+
+-- ---- a repository with its files
+
+module _ {F : Type 0} (IsHonest : F → Type 0) (history : F → History) (repository : own.Repository F) (r : Repository) (stand : Stands IsHonest history repository r) where
+  -- what the file of a candidate tells is what the candidate holds
+  pub candidate_held : (place name : Bytes) → place ≡ name → may_mean name ≡ true → (found : Option ObjectId) → NameHolds r.kind (history (names_part repository)).tree place found → id_at r name ≡ option_map id_bytes found
+  candidate_held place name same e found holds =
+      sym (held IsHonest history repository r stand name (both_true (begins (codes "refs/") name) (not (is_private name)) e).0 found (subst (λ p. NameHolds r.kind (history (names_part repository)).tree p found) same holds))
+
+  -- HEAD reads as what its branch's file tells
+  pub branch_reads : (word place : Bytes) → bytes_eq word head_word ≡ true → place ≡ repository.branch.items → (found : Option ObjectId) → NameHolds r.kind (history (names_part repository)).tree place found
+      → name_reading (option_map id_bytes found) ≡ word_reading r word
+  branch_reads word place is same found holds =
+      ap name_reading (held IsHonest history repository r stand place (ap (begins (codes "refs/")) same ∙ branch_is_name IsHonest history repository r stand) found holds)
+      ∙ ap (λ n. name_reading (id_at r n)) (same ∙ stand.branch) ∙ sym (reads_branch r word is)

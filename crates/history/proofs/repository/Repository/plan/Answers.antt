@@ -1,0 +1,133 @@
+use Rattle.std.proofs.Common.{◌≡◌, ◌<◌, ◌≤◌, refl, sym, ◌∙◌, ap, subst, length, Err}
+use Rattle.std.proofs.lemmas.Result.{err_from_is_err_and}
+use Rattle.history_model.specs.Bytes.{Bytes}
+use Rattle.history_model.specs.Forms.{title, max_content}
+use Rattle.history_model.specs.Meaning.{branch_or_name, new_commit}
+use Rattle.history_model.specs.Objects.{null_id}
+use Rattle.history_model.specs.declared.Cause.TheVariants.{TooLarge}
+use Rattle.history_model.specs.declared.Kind.{Kind}
+use Rattle.history_store.specs.Formats.{id_bytes}
+use Rattle.history_store.specs.Trees.{IsTreeOf}
+use Rattle.history_store.specs.declared.commit.Commit.{Commit}
+use Rattle.history_store.specs.declared.log_entry.LogEntry.{LogEntry}
+use Rattle.history_store.proofs.CommitTexts.{text_of_commit}
+use Rattle.history.specs.Files.{files_of_main}
+use Rattle.history.specs.declared.stopped.Stopped.TheVariants.{Refused}
+use Rattle.history.proofs.FieldLemmas.{kept_whole}
+use Rattle.history.proofs.FirstCauses.{refused_by_form, good_paths, good_actors}
+use Rattle.history.proofs.Planned.{fault_planned, refusal_planned, parent_planned, main_flat, tree_content, tree_refused, commit_refused, none_refused, parents_are, before_is, commit_is, entry_is}
+use Rattle.history.proofs.repository.Repository.plan.Goals as goal
+
+pub returns-in_err-parent : goal.returns-in_err-parent
+returns-in_err-parent g c = λ r order h is ours.
+    let w = ((h.whole).whole).names in
+    let name_is : c.in_ok-name.name.items ≡ branch_or_name r order.name = c.in_ok-name.ensures r h ∙ ap (branch_or_name r) (c.deref.ensures.value ∙ is.name) in
+    let stopped = err_from_is_err_and c.from_residual-in_err-parent.result c.from_residual-in_err-parent.ensures.1 in
+    parent_planned r order h.offered w ours g.F.Files.reading_may_fail c.parent_of.result c.from_residual-in_err-parent.result c.in_err-parent.field-0.0 c.in_err-parent.was (stopped.1 ∙ ap Err stopped.2)
+    (c.parent_of.ensures r order h ours (c.deref-2.ensures.value ∙ name_is) is.expect)
+
+pub returns-in_err-times : goal.returns-in_err-times
+returns-in_err-times g c = λ r order h is ours.
+    let w = ((h.whole).whole).names in
+    let name_is : c.in_ok-name.name.items ≡ branch_or_name r order.name = c.in_ok-name.ensures r h ∙ ap (branch_or_name r) (c.deref.ensures.value ∙ is.name) in
+    let parent = c.in_ok-parent.ensures r order h ours (c.deref-2.ensures.value ∙ name_is) is.expect in
+    let stopped = err_from_is_err_and c.from_residual-in_err-times.result c.from_residual-in_err-times.ensures.1 in
+    refusal_planned g.F.Files.reading_may_fail r order c.in_err-times.field-0.0 c.from_residual-in_err-times.result (stopped.1 ∙ ap Err stopped.2)
+    (refused_by_form r order h.offered w ours c.in_err-times.field-0.0 parent.1 (c.in_err-times.ensures r order is))
+
+pub returns-in_err-tree : goal.returns-in_err-tree
+returns-in_err-tree g c = λ r order h is ours.
+    let w = ((h.whole).whole).names in
+    let name_is : c.in_ok-name.name.items ≡ branch_or_name r order.name = c.in_ok-name.ensures r h ∙ ap (branch_or_name r) (c.deref.ensures.value ∙ is.name) in
+    let parent = c.in_ok-parent.ensures r order h ours (c.deref-2.ensures.value ∙ name_is) is.expect in
+    let stopped = err_from_is_err_and c.from_residual-in_err-tree.result c.from_residual-in_err-tree.ensures.1 in
+    fault_planned g.F.Files.reading_may_fail (λ tree. IsTreeOf r.kind tree (files_of_main r)) r order c.files_before.result c.from_residual-in_err-tree.result c.in_err-tree.field-0.0 c.in_err-tree.was (stopped.1 ∙ ap Err stopped.2)
+    (c.files_before.ensures r h parent.0)
+
+pub returns-in_err-tree-2 : goal.returns-in_err-tree-2
+returns-in_err-tree-2 g c = λ r order h is ours.
+    let w = ((h.whole).whole).names in
+    let name_is : c.in_ok-name.name.items ≡ branch_or_name r order.name = c.in_ok-name.ensures r h ∙ ap (branch_or_name r) (c.deref.ensures.value ∙ is.name) in
+    let parent = c.in_ok-parent.ensures r order h ours (c.deref-2.ensures.value ∙ name_is) is.expect in
+    let times = c.in_ok-times.ensures r order is in
+    let kind = c.args.self.now.objects.kind in
+    let files = subst (λ (k : Kind). IsTreeOf k c.in_ok-tree.tree (files_of_main r)) (sym h.objects_kind) (c.in_ok-tree.ensures r h parent.0) in
+    let edited = c.in_ok-blobs.ensures r (files_of_main r) order.edits is.edits (record { paths = good_paths r order c.in_ok-times.times times; contents = times.contents }) (main_flat r order h.offered w ours) files in
+    let tree_is = c.in_ok-to_bytes.ensures ∙ tree_content r order h.offered w ours kind c.in_ok-blobs.blobs.items c.edit.new.tree h.objects_kind edited in
+    let stopped = err_from_is_err_and c.from_residual-in_err-tree-2.result c.from_residual-in_err-tree-2.ensures.1 in
+    let large = c.in_err-tree-2.ensures in
+    refusal_planned g.F.Files.reading_may_fail r order TooLarge c.from_residual-in_err-tree-2.result (stopped.1 ∙ ap Err (stopped.2 ∙ ap Refused large.0))
+    (tree_refused r order h.offered w ours c.in_ok-times.times times parent.1 (subst (λ (bytes : Bytes). max_content < length bytes) tree_is large.1))
+
+pub returns-in_err-commit : goal.returns-in_err-commit
+returns-in_err-commit g c = λ r order h is ours.
+    let w = ((h.whole).whole).names in
+    let name_is : c.in_ok-name.name.items ≡ branch_or_name r order.name = c.in_ok-name.ensures r h ∙ ap (branch_or_name r) (c.deref.ensures.value ∙ is.name) in
+    let parent = c.in_ok-parent.ensures r order h ours (c.deref-2.ensures.value ∙ name_is) is.expect in
+    let times = c.in_ok-times.ensures r order is in
+    let kind = c.args.self.now.objects.kind in
+    let files = subst (λ (k : Kind). IsTreeOf k c.in_ok-tree.tree (files_of_main r)) (sym h.objects_kind) (c.in_ok-tree.ensures r h parent.0) in
+    let edited = c.in_ok-blobs.ensures r (files_of_main r) order.edits is.edits (record { paths = good_paths r order c.in_ok-times.times times; contents = times.contents }) (main_flat r order h.offered w ours) files in
+    let tree_is = c.in_ok-to_bytes.ensures ∙ tree_content r order h.offered w ours kind c.in_ok-blobs.blobs.items c.edit.new.tree h.objects_kind edited in
+    let kept_tree = c.in_ok-tree-2.ensures in
+    let actors = good_actors r order c.in_ok-times.times times in
+    let committer = c.actor_at-committer.ensures order.committer is.committer actors.1 times.committer in
+    let message = c.into_kept-message.ensures ∙ kept_whole max_content c.args.command.message order.message is.message times.message in
+    let commit : Commit = record {
+      tree = c.id_of.result;
+      parents = c.in_ok-parents.field-0;
+      author = c.actor_at.result;
+      committer = c.actor_at-committer.result;
+      message = c.into_kept-message.result;
+    } in
+    let commit_told = commit_is r order h.offered w ours commit kind c.deref-4.result.now h.objects_kind c.id_of.ensures (c.deref-4.ensures.value ∙ ap (λ bytes. bytes.items) kept_tree.0 ∙ tree_is)
+    (parents_are r order h.offered w ours c.in_ok-parent.parent c.in_ok-parents.field-0.items parent.0 c.in_ok-parents.ensures)
+    (c.actor_at.ensures order.author is.author actors.0 times.author) committer message in
+    let commit_text_is = c.in_ok-to_bytes-2.ensures ∙ text_of_commit r.kind commit (new_commit r order) commit_told in
+    let stopped = err_from_is_err_and c.from_residual-in_err-commit.result c.from_residual-in_err-commit.ensures.1 in
+    let large = c.in_err-commit.ensures in
+    refusal_planned g.F.Files.reading_may_fail r order TooLarge c.from_residual-in_err-commit.result (stopped.1 ∙ ap Err (stopped.2 ∙ ap Refused large.0))
+    (commit_refused r order h.offered w ours c.in_ok-times.times times parent.1 (subst (λ (bytes : Bytes). max_content < length bytes) commit_text_is large.1))
+
+pub returns : goal.returns
+returns g c = λ r order h is ours.
+    let w = ((h.whole).whole).names in
+    let name_is : c.in_ok-name.name.items ≡ branch_or_name r order.name = c.in_ok-name.ensures r h ∙ ap (branch_or_name r) (c.deref.ensures.value ∙ is.name) in
+    let parent = c.in_ok-parent.ensures r order h ours (c.deref-2.ensures.value ∙ name_is) is.expect in
+    let times = c.in_ok-times.ensures r order is in
+    let kind = c.args.self.now.objects.kind in
+    let files = subst (λ (k : Kind). IsTreeOf k c.in_ok-tree.tree (files_of_main r)) (sym h.objects_kind) (c.in_ok-tree.ensures r h parent.0) in
+    let edited = c.in_ok-blobs.ensures r (files_of_main r) order.edits is.edits (record { paths = good_paths r order c.in_ok-times.times times; contents = times.contents }) (main_flat r order h.offered w ours) files in
+    let tree_is = c.in_ok-to_bytes.ensures ∙ tree_content r order h.offered w ours kind c.in_ok-blobs.blobs.items c.edit.new.tree h.objects_kind edited in
+    let kept_tree = c.in_ok-tree-2.ensures in
+    let actors = good_actors r order c.in_ok-times.times times in
+    let committer = c.actor_at-committer.ensures order.committer is.committer actors.1 times.committer in
+    let message = c.into_kept-message.ensures ∙ kept_whole max_content c.args.command.message order.message is.message times.message in
+    let commit : Commit = record {
+      tree = c.id_of.result;
+      parents = c.in_ok-parents.field-0;
+      author = c.actor_at.result;
+      committer = c.actor_at-committer.result;
+      message = c.into_kept-message.result;
+    } in
+    let commit_told = commit_is r order h.offered w ours commit kind c.deref-4.result.now h.objects_kind c.id_of.ensures (c.deref-4.ensures.value ∙ ap (λ bytes. bytes.items) kept_tree.0 ∙ tree_is)
+    (parents_are r order h.offered w ours c.in_ok-parent.parent c.in_ok-parents.field-0.items parent.0 c.in_ok-parents.ensures)
+    (c.actor_at.ensures order.author is.author actors.0 times.author) committer message in
+    let commit_text_is = c.in_ok-to_bytes-2.ensures ∙ text_of_commit r.kind commit (new_commit r order) commit_told in
+    let kept_commit = c.in_ok-commit.ensures in
+    let commit_bytes = ap (λ bytes. bytes.items) kept_commit.0 ∙ commit_text_is in
+    let entry : LogEntry = record { before = c.unwrap_or.result; after = c.id_of-2.result; actor = c.in_ok-log_actor.log_actor; message = c.in_ok-title.title } in (
+      none_refused r order h.offered w ours c.in_ok-times.times times parent.1 (subst (λ (bytes : Bytes). length bytes ≤ max_content) tree_is kept_tree.1) (subst (λ (bytes : Bytes). length bytes ≤ max_content) commit_text_is kept_commit.1),
+      record {
+        blobs = edited.blobs_are;
+        tree = ap (λ bytes. bytes.items) kept_tree.0 ∙ tree_is;
+        commit = commit_bytes;
+        moves = record {
+          name = name_is;
+          entry = entry_is r order h.offered w ours entry kind c.deref-5.result.now h.objects_kind
+              (ap id_bytes c.unwrap_or.ensures ∙ before_is r order h.offered w ours c.in_ok-parent.parent c.null.result parent.0 (c.null.ensures ∙ ap null_id (c.kind.ensures ∙ h.objects_kind)))
+              c.id_of-2.ensures (c.deref-5.ensures.value ∙ commit_bytes) (c.in_ok-log_actor.ensures ∙ committer)
+              (c.in_ok-title.ensures.items ∙ c.title.ensures ∙ ap title (c.deref-3.ensures.value ∙ message));
+        };
+      },
+    )

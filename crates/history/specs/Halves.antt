@@ -1,0 +1,54 @@
+-- What stands in each of the two parts, and what the steps of a commit make of it.
+use Rattle.std.specs.Prelude.{◌≡◌, ⊤, List, None, Result, Ok, Err, IsTrue, IsFalse}
+use Rattle.gix_ref_file.specs.History.{History}
+use Rattle.gix_ref_file.specs.Tree.{Tree}
+use Rattle.history_model.specs.Objects.{Value}
+use Rattle.history_model.specs.Repository as plain
+use Rattle.history_model.specs.Commands.{CommitCommand}
+use Rattle.history_model.specs.Meaning.{some_taken}
+use Rattle.history_model.specs.Offered.{IsOffered}
+use Rattle.history_model.specs.Places.{file_at, packed_place}
+use Rattle.history_model.specs.TreeHalves.{Values, HoldsValues, HoldsNames, HaveOwnIds}
+use Rattle.history_model.specs.CommitSteps.{PutsAll, MovesToCommit}
+use Rattle.history_model.specs.declared.Kind.{Kind}
+use Rattle.history_model.specs.declared.Fault.TheVariants.{Memory, File, IdTaken}
+use Rattle.history.specs.Face.{objects_part, names_part}
+use Rattle.history.specs.declared.repository.Repository.{Repository}
+use Rattle.history.specs.declared.stopped.Stopped.{Stopped}
+use Rattle.history.specs.declared.stopped.Stopped.TheVariants.{Refused, Fault}
+
+-- the tree that stands in a part
+abbrev pub objects_tree : {F : Type 0} → (F → History) → Repository F → Tree
+objects_tree history repository = (history (objects_part repository)).tree
+
+abbrev pub names_tree : {F : Type 0} → (F → History) → Repository F → Tree
+names_tree history repository = (history (names_part repository)).tree
+
+-- The objects part is honest and holds these values, each under its own id.
+pub record ObjectsStand {F : Type 0} (IsHonest : F → Type 0) (history : F → History) (repository : Repository F) (values : Values) : Type 0 where
+  pub honest : IsHonest (objects_part repository)
+  pub holds : HoldsValues repository.objects.kind (objects_tree history repository) values
+  pub own_ids : HaveOwnIds repository.objects.kind values
+
+-- The names part is honest and holds the names of this repository, and no packed ones.
+pub record NamesStand {F : Type 0} (IsHonest : F → Type 0) (history : F → History) (repository : Repository F) (r : plain.Repository) : Type 0 where
+  pub honest : IsHonest (names_part repository)
+  pub holds : HoldsNames (names_tree history repository) r
+  pub offered : IsOffered r
+  pub unpacked : file_at (names_tree history repository) packed_place ≡ None
+
+-- No id is taken, and the values are put; or one is taken, or a fault was met.
+abbrev pub StoresValues : Type 0 → Kind → Values → List Value → Tree → Tree → Result (Unit {0}) Stopped → Type 0
+StoresValues CallFailed kind values more old new (Ok done) = IsFalse (some_taken kind values more) × PutsAll kind more old new
+StoresValues CallFailed kind values more old new (Err (Refused cause)) = ⊥
+StoresValues CallFailed kind values more old new (Err (Fault Memory)) = ⊤
+StoresValues CallFailed kind values more old new (Err (Fault File)) = CallFailed
+StoresValues CallFailed kind values more old new (Err (Fault IdTaken)) = IsTrue (some_taken kind values more)
+
+-- The name moves to the commit, or a fault was met.
+abbrev pub MovesNames : Type 0 → Tree → Tree → plain.Repository → CommitCommand → Result (Unit {0}) Stopped → Type 0
+MovesNames CallFailed old new r order (Ok done) = MovesToCommit r order old new
+MovesNames CallFailed old new r order (Err (Refused cause)) = ⊥
+MovesNames CallFailed old new r order (Err (Fault Memory)) = ⊤
+MovesNames CallFailed old new r order (Err (Fault File)) = CallFailed
+MovesNames CallFailed old new r order (Err (Fault IdTaken)) = ⊥

@@ -1,0 +1,49 @@
+-- Why a repository isn't opened.
+use Rattle.std.specs.Prelude.{◌≡◌, ◌≢◌, ◌⊎◌, ⊤, [], ◌++◌, Some, None, codes}
+use Rattle.gix_ref_file.specs.Tree.{Tree}
+use Rattle.gix_ref_file.specs.declared.files.FileError.{FileError}
+use Rattle.gix_ref_file.specs.declared.files.FileError.TheVariants as files
+use Rattle.history_model.specs.Bytes.{Bytes}
+use Rattle.history_model.specs.Places.{file_at, head_place}
+use Rattle.history_model.specs.StandsFor.{head_text}
+use Rattle.history_store.specs.Parts.{IsStray}
+use Rattle.history_store.specs.declared.parts.Part.{Part}
+use Rattle.history_store.specs.declared.parts.Part.TheVariants.{Objects, Names}
+use Rattle.history_store.specs.declared.parts.Stray.{Stray as AnyStray}
+use Rattle.history_store.specs.declared.parts.Stray.TheVariants as strays
+use Rattle.history.specs.declared.open.OpenError.{OpenError}
+use Rattle.history.specs.declared.open.OpenError.TheVariants.{NoHead, BadHead, Stray, NotYet, File, Memory}
+
+abbrev pub open_fault : FileError → OpenError
+open_fault files.Failed = File
+open_fault files.Memory = Memory
+
+abbrev pub stray_error : AnyStray → OpenError
+stray_error (strays.Folder path) = Stray path
+stray_error (strays.File path) = NotYet path
+
+-- what is wrong with a part that may hold this file and no other
+abbrev pub IsWrongPart : Type 0 → Part → Bytes → Tree → OpenError → Type 0
+IsWrongPart MayFail part permitted tree (Stray path) = IsStray part permitted tree (strays.Folder path)
+IsWrongPart MayFail part permitted tree (NotYet path) = IsStray part permitted tree (strays.File path)
+IsWrongPart MayFail part permitted tree File = MayFail
+IsWrongPart MayFail part permitted tree Memory = ⊤
+IsWrongPart MayFail part permitted tree NoHead = ⊥
+IsWrongPart MayFail part permitted tree BadHead = ⊥
+
+-- HEAD stands, and names this branch
+abbrev pub HeadIs : Tree → Bytes → Type 0
+HeadIs names branch = file_at names head_place ≡ Some (head_text branch)
+
+-- what is wrong with HEAD: it doesn't stand, it names no branch, or one that isn't a new repository's
+abbrev pub IsWrongHead : Type 0 → Tree → OpenError → Type 0
+IsWrongHead MayFail names NoHead = file_at names head_place ≡ None
+IsWrongHead MayFail names BadHead = (text : Bytes) × (file_at names head_place ≡ Some text) × ((rest : Bytes) → rest ≢ [] → text ≢ head_text (codes "refs/heads/" ++ rest))
+IsWrongHead MayFail names (NotYet path) = (path.items ≡ head_place) × ((rest : Bytes) × (rest ≢ []) × (rest ≢ codes "main") × HeadIs names (codes "refs/heads/" ++ rest))
+IsWrongHead MayFail names File = MayFail
+IsWrongHead MayFail names Memory = ⊤
+IsWrongHead MayFail names (Stray path) = ⊥
+
+-- the two parts aren't those of a new repository, for this cause
+abbrev pub IsNotNew : Type 0 → Tree → Tree → OpenError → Type 0
+IsNotNew MayFail objects names error = IsWrongPart MayFail Objects [] objects error ⊎ IsWrongPart MayFail Names head_place names error ⊎ IsWrongHead MayFail names error

@@ -1,0 +1,26 @@
+-- The plain repository that a repository with its files stands for.
+use Rattle.std.specs.Prelude.{◌≡◌, None}
+use Rattle.gix_ref_file.specs.History.{History}
+use Rattle.history_model.specs.Repository as plain
+use Rattle.history_model.specs.Places.{Pair, file_at, packed_place}
+use Rattle.history_model.specs.StandsFor.{StandsWhole}
+use Rattle.history_model.specs.Offered.{IsOffered}
+use Rattle.history.specs.declared.repository.Repository.{Repository}
+use Rattle.history.specs.Face.{objects_part, names_part}
+
+-- the two trees that stand
+abbrev pub pair_of : {F : Type 0} → (F → History) → Repository F → Pair
+pair_of history repository = record { objects = (history (objects_part repository)).tree; names = (history (names_part repository)).tree }
+
+-- Both parts are honest files, and the pair that stands is that of this plain repository, which is whole and in its written form;
+-- what is kept in memory is its own.
+pub record Stands {F : Type 0} (IsHonest : F → Type 0) (history : F → History) (repository : Repository F) (r : plain.Repository) : Type 0 where
+  pub honest_objects : IsHonest (objects_part repository)
+  pub honest_names : IsHonest (names_part repository)
+  pub whole : StandsWhole r.kind (pair_of history repository) r
+  pub objects_kind : repository.objects.kind ≡ r.kind
+  pub names_kind : repository.names.kind ≡ r.kind
+  pub branch : repository.branch.items ≡ r.branch
+  -- what the commands of this stage leave: they pack no names
+  pub offered : IsOffered r
+  pub unpacked : file_at (pair_of history repository).names packed_place ≡ None

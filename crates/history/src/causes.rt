@@ -1,0 +1,141 @@
+//! What a `commit` is refused for, by itself and by the name that it moves.
+
+ghost use Rattle.std.specs.Prelude.{◌≡◌, List, IfOk, IsTrue};
+ghost use Rattle.std.specs.List.{list_any, flat_map};
+ghost use Rattle.history_model.specs.Forms.{title};
+ghost use Rattle.history_model.specs.Causes.{is_bad_title, is_bad_path};
+ghost use Rattle.history_model.specs.CommandParts.{edit_paths, put_contents};
+ghost use Rattle.history_model.specs.Meaning.{branch_or_name};
+ghost use Rattle.history_model.specs.Repository as plain;
+ghost use Rattle.history_model.specs.Stage.{is_offered};
+ghost use Rattle.history_model.specs.Commands.{CommitCommand as CommitOrder, EditLine, Commit as CommitOf};
+ghost use Rattle.history_word.specs.Commands.{AreEdits, IsCommit, IsEdit, IsExpect};
+ghost use Rattle.history.specs.CommitCauses.{AreTimes, IsParent, is_long};
+ghost use Rattle.history.specs.Stands.{Stands};
+
+use crate::actors::{Time, has_good_names, time_of};
+use crate::fields::{is_bad_path, is_too_long, kept};
+use crate::repository::Repository;
+use crate::stopped::Stopped;
+use crate::words::HEAD;
+use gix_ref_file::Files;
+use history_model::Cause;
+use history_store::ObjectId;
+use history_word::{Commit, Edit, Expect};
+use std::alloc::{AllocError, Global};
+
+/// The most bytes of a title.
+const MAX_TITLE: usize = 1_024;
+
+/// When the two actors of a commit acted.
+#[derive(Clone, Copy)]
+pub(crate) struct Times {
+    pub(crate) author: Time,
+    pub(crate) committer: Time,
+}
+
+/// The message up to its first LF.
+pub(crate) fn title(message: &[u8]) -> &[u8]
+    ensures { result.now ≡ title message.now }
+{
+    match message.iter().position(|byte| *byte == b'\n') {
+        Some(end) => &message[..end],
+        None => message,
+    }
+}
+
+/// Whether a title is empty, over its limit, or holds a byte that can't stand in a log's line.
+fn is_bad_title(title: &[u8]) -> bool
+    ensures { result ≡ is_bad_title title.now }
+{
+    title.is_empty()
+        || title.len() > MAX_TITLE
+        || title
+            .iter()
+            .any(|byte| matches!(byte, b'\0' | b'\t' | b'\r'))
+}
+
+fn has_bad_path(edit: &Edit) -> bool
+    ensures { (line : EditLine) → IsEdit edit.now line → result ≡ list_any is_bad_path (edit_paths line) }
+{
+    let Edit::Put(put) = edit;
+    is_bad_path(&put.path)
+}
+
+fn has_long_content(edit: &Edit) -> bool
+    ensures { (line : EditLine) → IsEdit edit.now line → result ≡ list_any is_long (put_contents line) }
+{
+    let Edit::Put(put) = edit;
+    is_too_long(&put.content)
+}
+
+fn have_bad_path(edits: &[Edit]) -> bool
+    ensures { (lines : List EditLine) → AreEdits edits.now lines → result ≡ list_any is_bad_path (flat_map edit_paths lines) }
+{
+    edits.iter().any(|edit| has_bad_path(edit))
+}
+
+fn have_long_content(edits: &[Edit]) -> bool
+    ensures { (lines : List EditLine) → AreEdits edits.now lines → result ≡ list_any is_long (flat_map put_contents lines) }
+{
+    edits.iter().any(|edit| has_long_content(edit))
+}
+
+/// Tests what the command says by itself, in the order of the causes.
+pub(crate) fn read_times(command: &Commit) -> Result<Times, Cause>
+    ensures { (r : plain.Repository) (order : CommitOrder) → IsCommit command.now order → AreTimes r order result }
+{
+    if have_bad_path(&command.edits) {
+        return Err(Cause::BadPath);
+    }
+    if !has_good_names(&command.author) || !has_good_names(&command.committer) {
+        return Err(Cause::BadActor);
+    }
+    let author = time_of(&command.author).ok_or(Cause::BadTime)?;
+    let committer = time_of(&command.committer).ok_or(Cause::BadTime)?;
+    if is_bad_title(title(kept(&command.message))) {
+        return Err(Cause::BadMessage);
+    }
+    if is_too_long(&command.message) || have_long_content(&command.edits) {
+        return Err(Cause::TooLarge);
+    }
+    Ok(Times { author, committer })
+}
+
+impl<F: Files> Repository<F> {
+    /// The name that a `commit` moves: HEAD stands for its branch.
+    pub(crate) fn name_of(&self, alloc: Global, name: &[u8]) -> Result<Vec<u8>, AllocError>
+        ensures { (r : plain.Repository) → Stands F.is_honest F.history self.now r
+            → IfOk result (λ moved. moved.items ≡ branch_or_name r name.now) }
+    {
+        Vec::from_slice(alloc, if name == HEAD { &self.branch } else { name })
+    }
+
+    /// The commit that the name holds, where that is as expected.
+    pub(crate) fn parent_of(
+        &self,
+        alloc: Global,
+        name: &[u8],
+        expect: &Expect,
+    ) -> Result<Option<ObjectId>, Stopped>
+        ensures { (r : plain.Repository) (order : CommitOrder) → Stands F.is_honest F.history self.now r → IsTrue (is_offered (CommitOf order))
+            → name.now ≡ branch_or_name r order.name → IsExpect expect.now order.expect → IsParent F.reading_may_fail r order result }
+    {
+        match expect {
+            Expect::Any => Ok(self.names.read(alloc, name)?),
+            Expect::New => match self.names.read(alloc, name)? {
+                None => Ok(None),
+                Some(_) => Err(Stopped::Refused(Cause::Taken)),
+            },
+            Expect::At(word) => {
+                let wanted = self.commit_of(alloc, word)?;
+                let found = self.names.read(alloc, name)?.ok_or(Cause::NoSuchName)?;
+                if found == wanted {
+                    Ok(Some(found))
+                } else {
+                    Err(Stopped::Refused(Cause::NotExpected))
+                }
+            }
+        }
+    }
+}

@@ -1,0 +1,164 @@
+//! What a `commit` is to store, and how its name is to move.
+
+ghost use Rattle.std.specs.Prelude.{◌≡◌, ◌≤◌, ◌<◌, List, ◌∷◌, [], IfOk, IsTrue, MatchResult, option_map, option_to_list, length};
+ghost use Rattle.history_model.specs.Objects.{digest, object_text};
+ghost use Rattle.history_model.specs.FileMap.{FileMap};
+ghost use Rattle.history_model.specs.Forms.{max_content};
+ghost use Rattle.history_model.specs.Repository as plain;
+ghost use Rattle.history_model.specs.Repository.{id_at};
+ghost use Rattle.history_model.specs.Stage.{is_offered};
+ghost use Rattle.history_model.specs.Commands as orders;
+ghost use Rattle.history_model.specs.Commands.{Commit as CommitOf};
+ghost use Rattle.history_model.specs.Offered.{is_flat, main_name};
+ghost use Rattle.history_model.specs.declared.Cause.TheVariants.{TooLarge};
+ghost use Rattle.history_word.specs.Commands.{IsCommit, IsEdit, AreEdits};
+ghost use Rattle.history_word.specs.declared.command.Edit.TheVariants as edits;
+ghost use Rattle.history_store.specs.Formats.{id_bytes, type_word};
+ghost use Rattle.history_store.specs.Trees.{IsTreeOf};
+ghost use Rattle.history.specs.Acts.{Gives};
+ghost use Rattle.history.specs.Files.{files_of_main, AreWithin, HasEdited};
+ghost use Rattle.history.specs.Plans.{Plans};
+ghost use Rattle.history.specs.Stands.{Stands};
+
+use crate::actors::actor_at;
+use crate::causes::{read_times, title};
+use crate::fields::into_kept;
+use crate::repository::Repository;
+use crate::stopped::Stopped;
+use gix_ref_file::Files;
+use history_model::Cause;
+use history_store::{Commit, LogEntry, ObjectId, ObjectKind, Tree, TreeEntry, object_id};
+use history_word::{Commit as CommitCommand, Edit, Put};
+use std::alloc::{AllocError, Global};
+
+/// The most bytes of a file's content, and of any object's.
+const MAX_CONTENT: usize = 16_777_216;
+
+/// What a commit is to store, and how its name is to move.
+#[derive(Drop)]
+pub(crate) struct Plan {
+    /// The content of each `put`.
+    pub(crate) blobs: Vec<Vec<u8>>,
+    pub(crate) tree: Vec<u8>,
+    pub(crate) commit: Vec<u8>,
+    pub(crate) moves: Moves,
+}
+
+/// A name that is to hold another id, and the line of its log that tells so.
+#[derive(Drop)]
+pub(crate) struct Moves {
+    pub(crate) name: Vec<u8>,
+    pub(crate) entry: LogEntry,
+}
+
+/// The object's bytes, where they are within the limit.
+fn within_limit(bytes: Vec<u8>) -> Result<Vec<u8>, Cause>
+    ensures { MatchResult result (λ kept. (kept ≡ bytes) × (length bytes.items ≤ max_content)) (λ cause. (cause ≡ TooLarge) × (max_content < length bytes.items)) }
+{
+    if bytes.len() <= MAX_CONTENT {
+        Ok(bytes)
+    } else {
+        Err(Cause::TooLarge)
+    }
+}
+
+/// The parents of a commit: what its name holds.
+fn parents(alloc: Global, parent: Option<ObjectId>) -> Result<Vec<ObjectId>, AllocError>
+    ensures { IfOk result (λ parents. parents.items ≡ option_to_list parent) }
+{
+    let mut parents = Vec::new(alloc);
+    if let Some(id) = parent {
+        parents.push(id)?;
+    }
+    Ok(parents)
+}
+
+impl<F: Files> Repository<F> {
+    /// The id of this content.
+    fn id_of(&self, object: ObjectKind, content: &[u8]) -> ObjectId
+        ensures { id_bytes result ≡ digest self.now.objects.kind (object_text (type_word object) content.now) }
+    {
+        object_id(self.objects.kind(), object, content)
+    }
+
+    /// The files of a commit's parent, none without one.
+    fn files_before(&self, alloc: Global, parent: Option<ObjectId>) -> Result<Tree, Stopped>
+        ensures { (r : plain.Repository) → Stands F.is_honest F.history self.now r → option_map id_bytes parent ≡ id_at r main_name
+            → Gives F.reading_may_fail (λ tree. IsTreeOf r.kind tree (files_of_main r)) result }
+    {
+        match parent {
+            Some(id) => {
+                let commit = self.read_commit(alloc, &id)?;
+                self.read_tree(alloc, &commit.tree)
+            }
+            None => Ok(Tree::new(alloc)),
+        }
+    }
+
+    /// Puts a file, and gives the content to be stored.
+    fn put_file(&self, tree: &mut Tree, put: Put) -> Result<Vec<u8>, AllocError>
+        ensures { (r : plain.Repository) (files : FileMap) (line : orders.EditLine) → IsEdit (edits.Put put) line → AreWithin (line ∷ []) → IsTrue (is_flat files) → IsTreeOf self.now.objects.kind tree.old files
+            → IfOk result (λ blob. HasEdited r self.now.objects.kind files (line ∷ []) (blob ∷ []) tree.new) }
+    {
+        let content = into_kept(put.content);
+        let id = self.id_of(ObjectKind::Blob, &content);
+        tree.insert(into_kept(put.path), TreeEntry { kind: put.kind, id })?;
+        Ok(content)
+    }
+
+    /// Changes the files by the edits in order, and gives the contents to be stored.
+    fn edit(
+        &self,
+        alloc: Global,
+        tree: &mut Tree,
+        edits: Vec<Edit>,
+    ) -> Result<Vec<Vec<u8>>, AllocError>
+        ensures { (r : plain.Repository) (files : FileMap) (lines : List orders.EditLine) → AreEdits edits.items lines → AreWithin lines → IsTrue (is_flat files) → IsTreeOf self.now.objects.kind tree.old files
+            → IfOk result (λ blobs. HasEdited r self.now.objects.kind files lines blobs.items tree.new) }
+    {
+        let mut blobs = Vec::with_capacity(alloc, edits.len())?;
+        for edit in edits {
+            let Edit::Put(put) = edit;
+            blobs.push(self.put_file(tree, put)?)?;
+        }
+        Ok(blobs)
+    }
+
+    /// Tests every cause, and makes all that is to be stored. It changes nothing.
+    pub(crate) fn plan(&self, alloc: Global, command: CommitCommand) -> Result<Plan, Stopped>
+        ensures { (r : plain.Repository) (order : orders.CommitCommand) → Stands F.is_honest F.history self.now r → IsCommit command order → IsTrue (is_offered (CommitOf order))
+            → Plans F.reading_may_fail r order result }
+    {
+        let name = self.name_of(alloc, &command.name)?;
+        let parent = self.parent_of(alloc, &name, &command.expect)?;
+        let times = read_times(&command)?;
+        let mut tree = self.files_before(alloc, parent)?;
+        let blobs = self.edit(alloc, &mut tree, command.edits)?;
+        let tree = within_limit(tree.to_bytes(alloc)?)?;
+
+        let committer = actor_at(command.committer, times.committer);
+        let message = into_kept(command.message);
+        let title = Vec::from_slice(alloc, title(&message))?;
+        let log_actor = committer.try_clone()?;
+        let commit = Commit {
+            tree: self.id_of(ObjectKind::Tree, &tree),
+            parents: parents(alloc, parent)?,
+            author: actor_at(command.author, times.author),
+            committer,
+            message,
+        };
+        let commit = within_limit(commit.to_bytes(alloc)?)?;
+        let entry = LogEntry {
+            before: parent.unwrap_or(ObjectId::null(self.objects.kind())),
+            after: self.id_of(ObjectKind::Commit, &commit),
+            actor: log_actor,
+            message: title,
+        };
+        Ok(Plan {
+            blobs,
+            tree,
+            commit,
+            moves: Moves { name, entry },
+        })
+    }
+}

@@ -1,0 +1,154 @@
+-- The way of a name's file and of its log.
+use Rattle.std.proofs.Common.{◌≡◌, ◌⊎◌, inl, inr, refl, sym, ◌∙◌, ap, ℕ, ◌+◌, ◌≤◌, ◌==◌, Bool, true, false, cond, not, ◌&&◌, ◌||◌, List, [], ◌∷◌, ◌++◌, length, length-append, append_assoc, get_or, arith, codes, bytes_eq}
+use Rattle.std.specs.Prelude.{IsTrue, Option, Some, None, nat_lt, nat_le}
+use Rattle.std.specs.List.{list_any, list_all, slice_split, onto_first}
+use Rattle.std.proofs.lemmas.Bool.Decides.{Decides-eqb, nat_tests}
+use Rattle.std.proofs.lemmas.Slice.Eq.{bytes_eq-Decides}
+use Rattle.gix_ref_file.specs.Tree.{Tree, is_slash, is_component, is_path}
+use Rattle.history_model.specs.Bytes.{Bytes, begins}
+use Rattle.history_model.specs.FileMap.{components, is_below}
+use Rattle.history_model.specs.Forms.{is_name, is_name_component, is_barred, max_name}
+use Rattle.history_model.specs.Places.{file_at, head_place, packed_place, log_place, is_log_place, log_name}
+use Rattle.history_model.specs.Repository.{Repository, stands}
+use Rattle.history_model.specs.TreeHalves.{HoldsNames}
+use Rattle.history_model.specs.Offered.{IsOffered, main_name}
+use Rattle.history_store.specs.Stores.{IsAbove}
+use Rattle.history_store.specs.References.{HasWay, Logs}
+use Rattle.history_store.specs.declared.log_entry.LogEntry.{LogEntry}
+use Rattle.history_store.proofs.NameFolders.{both_true, and_first, partial_of, components_of, refs_of, begins_parts}
+
+-- ---- a name is a path, and so is its log's place
+split_free : (p : ℕ → Bool) (text : Bytes) → list_any p text ≡ false → list_all (λ part. not (list_any p part)) (slice_split is_slash text) ≡ true
+split_free p [] none = refl
+split_free p (b ∷ text) none = by_case (is_slash b) (slice_split is_slash text) (split_free p text (either (p b) (list_any p text) none).1)
+  where
+    either : (x y : Bool) → (x || y) ≡ false → (x ≡ false) × (y ≡ false)
+    either true y h = cc
+    either false y h = (refl, h)
+
+    by_case : (s : Bool) (parts : List Bytes) → list_all (λ part. not (list_any p part)) parts ≡ true → list_all (λ part. not (list_any p part)) (cond s ([] ∷ parts) (onto_first b parts)) ≡ true
+    by_case true parts free = free
+    by_case false [] free = ap (λ x. not (x || false) && true) (either (p b) (list_any p text) none).0
+    by_case false (part ∷ parts) free = ap (λ x. not (x || list_any p part) && list_all (λ part. not (list_any p part)) parts) (either (p b) (list_any p text) none).0 ∙ free
+
+no_zero : (text : Bytes) → list_any is_barred text ≡ false → list_any (λ b. b == 0) text ≡ false
+no_zero [] none = refl
+no_zero (b ∷ text) none = by_case (b == 0) refl (is_barred b) refl none (no_zero text)
+  where
+    by_case : (zero : Bool) → (b == 0) ≡ zero → (barred : Bool) → is_barred b ≡ barred → (barred || list_any is_barred text) ≡ false → (list_any is_barred text ≡ false → list_any (λ b. b == 0) text ≡ false) → (zero || list_any (λ b. b == 0) text) ≡ false
+    by_case false is barred was none rest = rest (after barred none)
+      where
+        after : (x : Bool) → (x || list_any is_barred text) ≡ false → list_any is_barred text ≡ false
+        after true h = cc
+        after false h = h
+    by_case true is true was none rest = cc
+    by_case true is false was none rest = let wrong : true ≡ false = ap is_barred (sym ((Decides-eqb b 0).0 is)) ∙ was in absurd (cc wrong)
+
+not_dots : (part dots : Bytes) → begins (codes ".") part ≡ false → begins (codes ".") dots ≡ true → not (bytes_eq part dots) ≡ true
+not_dots part dots plain dotted = by_test (bytes_eq part dots) refl
+  where
+    by_test : (b : Bool) → bytes_eq part dots ≡ b → not b ≡ true
+    by_test false apart = refl
+    by_test true same = let wrong : true ≡ false = sym dotted ∙ ap (begins (codes ".")) (sym ((bytes_eq-Decides part dots).0 same)) ∙ plain in absurd (cc wrong)
+
+not_false : (b : Bool) → not b ≡ true → b ≡ false
+not_false true h = cc
+not_false false h = refl
+
+one_part : (part : Bytes) → is_name_component part ≡ true → not (list_any (λ b. b == 0) part) ≡ true → is_component part ≡ true
+one_part [] is free = cc
+one_part (b ∷ part) is free =
+    let plain = not_false (begins (codes ".") (b ∷ part)) (both_true true (not (begins (codes ".") (b ∷ part))) (and_first _ _ is)).1 in
+    let some : nat_lt 0 (length (b ∷ part)) ≡ true = grind (arith, nat_tests) in
+    λ i. some i && not_dots (b ∷ part) (codes ".") plain refl i && not_dots (b ∷ part) (codes "..") plain refl i && free i
+
+all_parts : (parts : List Bytes) → list_all is_name_component parts ≡ true → list_all (λ part. not (list_any (λ b. b == 0) part)) parts ≡ true → list_all is_component parts ≡ true
+all_parts [] are free = refl
+all_parts (part ∷ parts) are free =
+    let here = both_true (is_name_component part) (list_all is_name_component parts) are in
+    let clean = both_true (not (list_any (λ b. b == 0) part)) (list_all (λ part. not (list_any (λ b. b == 0) part)) parts) free in
+    λ i. one_part part here.0 clean.0 i && all_parts parts here.1 clean.1 i
+
+name_parts : (name : Bytes) → is_name name ≡ true → list_all is_component (slice_split is_slash name) ≡ true
+name_parts name h =
+    let partial = partial_of name h in
+    let clean = not_false (list_any is_barred name) (both_true (list_all is_name_component (components name)) (not (list_any is_barred name)) (and_first _ _ (and_first _ _ (and_first _ _ (and_first _ _ partial))))).1 in
+    all_parts (slice_split is_slash name) (components_of name partial) (split_free (λ b. b == 0) name (no_zero name clean))
+
+within : (n m : ℕ) → nat_le n 1024 ≡ true → m ≤ n + 5 → nat_le m 4096 ≡ true
+within n m short few = grind (arith, nat_tests)
+
+name_short : (name : Bytes) → is_name name ≡ true → nat_le (length name) 1024 ≡ true
+name_short name h = (both_true _ (nat_le (length name) max_name) h).1
+
+pub name_path : (name : Bytes) → is_name name ≡ true → IsTrue (is_path name)
+name_path name h = λ i. within (length name) (length name) (name_short name h) (omega arith) i && name_parts name h i
+
+pub log_path : (name : Bytes) → is_name name ≡ true → IsTrue (is_path (log_place name))
+log_path name h = λ i. within (length name) (length (log_place name)) (name_short name h) (omega (arith, length-append (codes "logs/") name)) i && name_parts name h i
+
+-- ---- a log's line leaves the name its way
+pub way_after_log : (name : Bytes) (entry : LogEntry) (old new : Tree) → is_name name ≡ true → Logs name entry old new → HasWay name old → HasWay name new
+way_after_log name entry old new h logs way = record {
+  above = λ place above. logs.others place (λ same. too_long place same above) ∙ way.above place above;
+  below = λ other below. logs.others other (λ same. other_part other same below) ∙ way.below other below;
+}
+  where
+    too_long : (place : Bytes) → place ≡ log_place name → IsAbove place name → ⊥
+    too_long place same (rest, is) = omega (arith, ap length is, ap length same, length-append place (47 ∷ rest), length-append (codes "logs/") name)
+
+    other_part : (other : Bytes) → other ≡ log_place name → IsAbove name other → ⊥
+    other_part other same (rest, is) =
+        let byte : 108 ≡ 114 = ap (λ t. get_or t 0 0) (sym same ∙ is ∙ ap (λ n. n ++ 47 ∷ rest) (refs_of name h)) in
+        omega (arith, byte)
+
+-- ---- the branch main
+begins_itself : (front rest : Bytes) → begins front (front ++ rest) ≡ true
+begins_itself [] rest = refl
+begins_itself (b ∷ front) rest = λ i. (Decides-eqb b b).1 refl i && begins_itself front rest i
+
+is_below_it : (place path : Bytes) → IsAbove place path → is_below place path ≡ true
+is_below_it place path (rest, is) = ap (begins (place ++ 47 ∷ [])) (is ∙ sym (append_assoc place (47 ∷ []) rest)) ∙ begins_itself (place ++ 47 ∷ []) rest
+
+either_true : (a b : Bool) → (a || b) ≡ true → (a ≡ true) ⊎ (b ≡ true)
+either_true true b h = inl refl
+either_true false b h = inr h
+
+module _ (tree : Tree) (r : Repository) (holds : HoldsNames tree r) (offered : IsOffered r) where
+  -- what is told of the four places of files is told of each file's
+  of_places : (p : Bytes → Bool) → p head_place ≡ false → p packed_place ≡ false → p main_name ≡ false → p (log_place main_name) ≡ false → (path text : Bytes) → file_at tree path ≡ Some text → p path ≡ false
+  of_places p head packed main log path text is = by_four (either_true _ (is_log_place path && stands r (log_name path)) (holds.places path text is))
+    where
+      by_two : (bytes_eq path head_place ≡ true) ⊎ (bytes_eq path packed_place ≡ true) → p path ≡ false
+      by_two (inl same) = ap p ((bytes_eq-Decides path head_place).0 same) ∙ head
+      by_two (inr same) = ap p ((bytes_eq-Decides path packed_place).0 same) ∙ packed
+
+      by_three : ((bytes_eq path head_place || bytes_eq path packed_place) ≡ true) ⊎ (stands r path ≡ true) → p path ≡ false
+      by_three (inl some) = by_two (either_true (bytes_eq path head_place) (bytes_eq path packed_place) some)
+      by_three (inr stood) = ap p (offered.names path stood) ∙ main
+
+      by_four : ((bytes_eq path head_place || bytes_eq path packed_place || stands r path) ≡ true) ⊎ ((is_log_place path && stands r (log_name path)) ≡ true) → p path ≡ false
+      by_four (inl some) = by_three (either_true (bytes_eq path head_place || bytes_eq path packed_place) (stands r path) some)
+      by_four (inr placed) =
+          let parts = both_true (is_log_place path) (stands r (log_name path)) placed in
+          ap p (begins_parts (codes "logs/") path parts.0 ∙ ap log_place (offered.names (log_name path) parts.1)) ∙ log
+
+  none_at : (p : Bytes → Bool) → p head_place ≡ false → p packed_place ≡ false → p main_name ≡ false → p (log_place main_name) ≡ false → (path : Bytes) → p path ≡ true → file_at tree path ≡ None
+  none_at p head packed main log path passes = by_file (file_at tree path) refl
+    where
+      by_file : (o : Option Bytes) → file_at tree path ≡ o → o ≡ None
+      by_file None is = refl
+      by_file (Some text) is = let wrong : true ≡ false = sym passes ∙ of_places p head packed main log path text is in absurd (cc wrong)
+
+  -- Where no other name stands, the files of the branch main have their way.
+  pub main_way : HasWay main_name tree
+  main_way = record {
+    above = λ place above. none_at (λ path. is_below path main_name) refl refl refl refl place (is_below_it place main_name above);
+    below = λ other below. none_at (is_below main_name) refl refl refl refl other (is_below_it main_name other below);
+  }
+
+  pub main_log_way : HasWay (log_place main_name) tree
+  main_log_way = record {
+    above = λ place above. none_at (λ path. is_below path (log_place main_name)) refl refl refl refl place (is_below_it place (log_place main_name) above);
+    below = λ other below. none_at (is_below (log_place main_name)) refl refl refl refl other (is_below_it (log_place main_name) other below);
+  }
