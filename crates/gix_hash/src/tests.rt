@@ -23,6 +23,9 @@ const EMPTY_BLOB_SHA256: &str = "473a0f4c3be8a93681a267e3b1e9a7dcda1185436fe141f
 
 const EMPTY_TREE_SHA256: &str = "6ef19b41225c5369f1c104d45d8d85efa9b057b53b14b4b9b939dd74decc5321";
 
+// `head -c 70000 /dev/zero | sha1sum`
+const ZEROS_70000: &str = "4f85676b773b3616664160a70aa87f68e4a5b2b2";
+
 #[derive(Drop)]
 struct Amounts {
     sum: usize,
@@ -321,8 +324,54 @@ fn streams(rt: HostRuntime) -> Result<(), Fail> {
     let (told, read, answer) = hash_zeros(&rt, 70_000, 0)?;
     assert!(rt; told == 70_000);
     assert!(rt; read == 70_000);
-    // `head -c 70000 /dev/zero | sha1sum`
-    assert!(rt; matches!(&answer, Ok(id) if id.eq_str("4f85676b773b3616664160a70aa87f68e4a5b2b2")));
+    assert!(rt; matches!(&answer, Ok(id) if id.eq_str(ZEROS_70000)));
+    Ok(())
+}
+
+#[test]
+fn files(rt: HostRuntime) -> Result<(), Fail> {
+    let mut progress = Amounts { sum: 0, calls: 0 };
+    let mut interrupt = YesAt {
+        number: 0,
+        asked: 0,
+    };
+    let answer = bytes_of_file(
+        &rt,
+        "/dev/zero",
+        70_000,
+        Kind::Sha1,
+        &mut progress,
+        &mut interrupt,
+    );
+    assert!(rt; matches!(&answer, Ok(id) if id.eq_str(ZEROS_70000)));
+    assert!(rt; progress.sum == 70_000);
+    let answer = bytes_of_file(
+        &rt,
+        "/dev/null",
+        1,
+        Kind::Sha1,
+        &mut progress,
+        &mut interrupt,
+    );
+    assert!(rt; matches!(&answer, Err(io::Error::Io(_))));
+    Ok(())
+}
+
+#[test]
+fn written_texts(rt: HostRuntime) -> Result<(), Fail> {
+    let id = ObjectId::empty_blob(Kind::Sha1);
+    let mut out = Vec::new(rt.alloc());
+    id.write_hex_to(&mut out)?;
+    assert!(rt; out.as_slice() == EMPTY_BLOB.as_bytes());
+    out.clear();
+    id.as_oid().write_hex_to(&mut out)?;
+    assert!(rt; out.as_slice() == EMPTY_BLOB.as_bytes());
+    out.clear();
+    ChangeId::from(id).write_hex_to(&mut out)?;
+    assert!(rt; out.as_slice() == EMPTY_BLOB.as_bytes());
+    out.clear();
+    Prefix::from(id).write_hex_to(&mut out)?;
+    assert!(rt; out.as_slice() == EMPTY_BLOB.as_bytes());
     Ok(())
 }
 
