@@ -1,9 +1,9 @@
 -- The files of what the one name holds.
-use Rattle.std.proofs.Common.{◌≡◌, refl, sym, ◌∙◌, ap, subst, [], ◌∷◌}
-use Rattle.std.specs.Prelude.{Option, Some, None, option_map, option_and_then, option_to_list, unwrap_or, Result, Ok, Err}
+use Rattle.std.proofs.Common.{◌≡◌, sym, ◌∙◌, ap, subst}
+use Rattle.std.specs.Prelude.{Option, Some, None, option_map, option_and_then, option_to_list, unwrap_or, Result, Err}
 use Rattle.std.specs.FinMap.{get, empty}
 use Rattle.gix_ref_file.specs.History.{History}
-use Rattle.history_model.specs.Objects.{Id, Value, CommitValue, StoredCommit, StoredFolder, folder_id}
+use Rattle.history_model.specs.Objects.{Id, Value, CommitValue, StoredCommit, StoredFolder}
 use Rattle.history_model.specs.Repository as plain
 use Rattle.history_model.specs.Repository.{id_at, as_commit}
 use Rattle.history_model.specs.Meaning.{first_files}

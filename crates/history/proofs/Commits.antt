@@ -1,6 +1,6 @@
 -- A commit on the two parts: its values are put, and then its name moves.
-use Rattle.std.proofs.Common.{◌≡◌, refl, sym, ◌∙◌, ap, subst, Bool, true, false, ◌&&◌, List, [], ◌∷◌, ◌++◌, None, codes, map}
-use Rattle.std.specs.Prelude.{IsTrue, IsFalse, Vec}
+use Rattle.std.proofs.Common.{◌≡◌, refl, sym, ◌∙◌, ap, subst, true, [], ◌∷◌, ◌++◌, None, codes}
+use Rattle.std.specs.Prelude.{IsTrue, IsFalse}
 use Rattle.std.specs.Char.{encode_utf8}
 use Rattle.std.specs.Str.{is_utf8, chars}
 use Rattle.std.proofs.lemmas.List.{append-nil}
@@ -17,7 +17,7 @@ use Rattle.history_model.specs.Offered.{main_name}
 use Rattle.history_model.specs.Stage.{is_offered}
 use Rattle.history_model.specs.Causes.{first_cause}
 use Rattle.history_model.specs.Steps.{Accepts}
-use Rattle.history_model.specs.Places.{Pair, file_at, packed_place}
+use Rattle.history_model.specs.Places.{file_at, packed_place}
 use Rattle.history_model.specs.StandsFor.{StandsFor}
 use Rattle.history_model.specs.TreeHalves.{HoldsValues, HoldsNames, HaveOwnIds}
 use Rattle.history_model.specs.CommitSteps.{PutsAll, MovesToCommit}
@@ -29,7 +29,6 @@ use Rattle.history_model.proofs.TreeMoves.{packed_apart, packed_no_log}
 use Rattle.history_model.proofs.TreePuts.{halves_stand}
 use Rattle.history_model.proofs.WholeSteps.{steps_keep_sound}
 use Rattle.history_store.specs.Formats.{id_bytes}
-use Rattle.history.specs.Acts.{Acts}
 use Rattle.history.specs.Face.{objects_part, names_part, KeepsAllButObjects, KeepsAllButNames}
 use Rattle.history.specs.Halves.{objects_tree, names_tree, ObjectsStand, NamesStand}
 use Rattle.history.specs.Plans.{IsMove}

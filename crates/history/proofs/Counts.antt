@@ -1,5 +1,5 @@
 -- The counts of failed calls, over one step after another.
-use Rattle.std.proofs.Common.{◌≡◌, ◌⊎◌, inl, inr, ℕ, ◌+◌, ◌-◌, ◌^◌, ◌≤◌, min, arith}
+use Rattle.std.proofs.Common.{inl, inr, ℕ, ◌≤◌, arith}
 use Rattle.gix_ref_file.specs.History.{HasRisen}
 use Rattle.history.specs.Acts.{HasFailedCall, CountsRise}
 use Rattle.history.specs.declared.repository.Repository.{Repository}

@@ -1,6 +1,6 @@
 -- The name of a commit moves.
 use Rattle.std.proofs.Common.{◌≡◌, true, refl, sym, ◌∙◌, ap, subst}
-use Rattle.std.specs.Prelude.{IsTrue, Result, Ok, Err, Vec, ℕ}
+use Rattle.std.specs.Prelude.{IsTrue, Result, Err, Vec, ℕ}
 use Rattle.std.specs.declared.alloc.Global.{Global}
 use Rattle.gix_ref_file.specs.Tree.{Tree}
 use Rattle.gix_ref_file.specs.declared.files.FileError.{FileError}

@@ -1,18 +1,18 @@
 -- What a commit is to store, and how its name is to move, read from its command.
-use Rattle.std.proofs.Common.{◌≡◌, ℕ, ◌<◌, ◌≤◌, refl, sym, ◌∙◌, ap, subst, Bool, true, false, ◌&&◌, ◌||◌, List, [], ◌∷◌, ◌++◌, map, length, nat_lt, cond, append_assoc, Vec, codes}
-use Rattle.std.specs.Prelude.{Option, Some, None, option_map, option_to_list, unwrap_or, Result, Ok, Err, IsTrue}
+use Rattle.std.proofs.Common.{◌≡◌, ℕ, ◌<◌, ◌≤◌, refl, sym, ◌∙◌, ap, subst, Bool, true, false, ◌||◌, List, [], ◌∷◌, ◌++◌, map, length, Vec, codes}
+use Rattle.std.specs.Prelude.{Option, Some, None, option_map, option_to_list, unwrap_or, Result, Err}
 use Rattle.std.specs.declared.alloc.Global.{Global}
-use Rattle.std.specs.List.{list_any, flat_map}
+use Rattle.std.specs.List.{list_any}
 use Rattle.std.proofs.lemmas.List.{map-append}
 use Rattle.std.proofs.lemmas.List.Folds.{list_any-append}
 use Rattle.history_model.specs.Bytes.{Bytes}
 use Rattle.history_model.specs.FileMap.{FileMap, edited_by}
-use Rattle.history_model.specs.Objects.{Id, Actor, Value, StoredBytes, StoredFolder, StoredCommit, digest, object_text, null_id, content_of, root, folder_id, commit_content, id_of}
+use Rattle.history_model.specs.Objects.{StoredBytes, StoredFolder, StoredCommit, digest, object_text, null_id, content_of, root, commit_content, id_of}
 use Rattle.history_model.specs.Repository as plain
 use Rattle.history_model.specs.Repository.{HasWholeNames, id_at}
 use Rattle.history_model.specs.Forms.{title, max_content}
 use Rattle.history_model.specs.Commands.{CommitCommand, Commit}
-use Rattle.history_model.specs.CommandParts.{paths_in, contents_in, put_contents}
+use Rattle.history_model.specs.CommandParts.{paths_in, contents_in}
 use Rattle.history_model.specs.Meaning.{branch_or_name, first_files, parents_of, edits_of, new_commit, read_actor, stored_by}
 use Rattle.history_model.specs.Causes.{first_cause, is_bad_path, is_too_large}
 use Rattle.history_model.specs.Stage.{is_offered}
@@ -23,17 +23,16 @@ use Rattle.history_model.specs.declared.Cause.TheVariants.{TooLarge}
 use Rattle.history_model.specs.declared.Kind.{Kind}
 use Rattle.history_model.proofs.OfferedReads.{commits_follow_main, commits_name_main, commits_store_flat}
 use Rattle.history_model.proofs.OfferedSteps.{first_flat}
-use Rattle.history_store.specs.Formats.{id_bytes, actor_of, entry_of, commit_text}
+use Rattle.history_store.specs.Formats.{id_bytes, actor_of, entry_of}
 use Rattle.history_store.specs.Commits.{IsCommitOf}
 use Rattle.history_store.specs.Trees.{Folder, IsTreeOf, folder_content}
 use Rattle.history_store.specs.declared.commit.Commit as stored
 use Rattle.history_store.specs.declared.id.ObjectId.{ObjectId}
 use Rattle.history_store.specs.declared.log_entry.LogEntry.{LogEntry}
-use Rattle.history_store.proofs.CommitTexts.{text_of_commit}
 use Rattle.history_store.proofs.FlatTrees.{flat_content}
 use Rattle.history.specs.Acts.{IsReadingFault, Gives}
-use Rattle.history.specs.CommitCauses.{first_among, name_causes, form_causes, is_long, IsParent, HasTimes, AreTimes}
-use Rattle.history.specs.Files.{files_of_main, AreWithin, HasEdited}
+use Rattle.history.specs.CommitCauses.{first_among, name_causes, is_long, IsParent, HasTimes}
+use Rattle.history.specs.Files.{files_of_main, HasEdited}
 use Rattle.history.specs.Plans.{Plans}
 use Rattle.history.specs.declared.causes.Times.{Times}
 use Rattle.history.specs.declared.planning.Plan.{Plan}
@@ -41,7 +40,7 @@ use Rattle.history.specs.declared.stopped.Stopped.{Stopped}
 use Rattle.history.specs.declared.stopped.Stopped.TheVariants.{Refused, Fault}
 use Rattle.history.proofs.Edits.{files_after}
 use Rattle.history.proofs.FieldLemmas.{within, beyond}
-use Rattle.history.proofs.FirstCauses.{passed, here, refused_by_name, refused_by_form, refused_by_size, good_paths}
+use Rattle.history.proofs.FirstCauses.{passed, here, refused_by_name, refused_by_size, good_paths}
 use Rattle.history.proofs.Storing.{bytes_put}
 
 -- ---- sizes

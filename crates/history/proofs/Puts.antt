@@ -1,7 +1,7 @@
 -- Values are put, one after another.
-use Rattle.std.proofs.Common.{◌≡◌, ◌≢◌, ◌⊎◌, inl, inr, refl, sym, ◌∙◌, ap, subst, ℕ, ◌+◌, ◌<◌, ◌≤◌, Bool, true, false, cond, not, ◌&&◌, ◌||◌, List, [], ◌∷◌, ◌++◌, length, length-append, take, drop, get_or, bytes_eq, arith, codes, decimal}
+use Rattle.std.proofs.Common.{◌≡◌, ◌⊎◌, inl, inr, refl, sym, ◌∙◌, ap, subst, ℕ, ◌+◌, ◌<◌, Bool, true, false, not, ◌&&◌, ◌||◌, List, [], ◌∷◌, ◌++◌, length, take, drop, get_or, bytes_eq, arith, codes}
 use Rattle.std.proofs.lemmas.List.{take_more, map-append, take-append-drop}
-use Rattle.std.specs.Prelude.{IsTrue, IsFalse, Option, Some, None, option_map, unwrap_or, Result, Ok, Err, Vec, map}
+use Rattle.std.specs.Prelude.{IsFalse, Option, Some, None, option_map, unwrap_or, Result, Ok, Err, Vec, map}
 use Rattle.std.specs.declared.alloc.Global.{Global}
 use Rattle.std.specs.FinMap.{empty, entries, len-entries, len-empty}
 use Rattle.std.specs.List.{flat_map}
@@ -15,11 +15,11 @@ use Rattle.history_model.specs.Objects as model
 use Rattle.history_model.specs.Meaning.{store_one, store_all, is_taken, some_taken, is_other}
 use Rattle.history_model.specs.Places.{file_at, object_place, unfinished_place}
 use Rattle.history_model.specs.TreeHalves.{Values, HoldsValues, HaveOwnIds}
-use Rattle.history_model.specs.TreeSteps.{PutsValue, RenamesValue, is_taken_at}
+use Rattle.history_model.specs.TreeSteps.{PutsValue, is_taken_at}
 use Rattle.history_model.specs.CommitSteps.{PutsAll}
 use Rattle.history_model.specs.declared.Kind.{Kind}
 use Rattle.history_model.specs.declared.Fault.TheVariants.{Memory, File, IdTaken}
-use Rattle.history_model.proofs.TreePlaces.{text_itself, one_text, texts_apart, digest_is_id}
+use Rattle.history_model.proofs.TreePlaces.{text_itself, texts_apart, digest_is_id}
 use Rattle.history_model.proofs.TreePuts.{own_ids_stay, trees_tell_taken, renames_put}
 use Rattle.history_model.proofs.CommitStands.{puts_store_all}
 use Rattle.history_model.proofs.OfferedFiles.{flat_roots, empty_flat}

@@ -1,8 +1,7 @@
 -- The objects of a planned commit are put: the contents, the tree, the commit.
 use Rattle.std.proofs.Common.{◌≡◌, refl, sym, ◌∙◌, ap, subst, List, [], ◌∷◌, ◌++◌, map, append_assoc, None}
-use Rattle.std.specs.Prelude.{Result, Ok, Err}
+use Rattle.std.specs.Prelude.{Result, Err}
 use Rattle.std.specs.List.{flat_map}
-use Rattle.std.proofs.lemmas.List.{map-append}
 use Rattle.gix_ref_file.specs.History.{History}
 use Rattle.gix_ref_file.specs.Tree.{Tree}
 use Rattle.history_model.specs.Objects.{Value, StoredBytes, StoredFolder, StoredCommit, content_of, root, commit_content}
@@ -10,7 +9,7 @@ use Rattle.history_model.specs.Bytes.{Bytes}
 use Rattle.history_model.specs.Repository as plain
 use Rattle.history_model.specs.Commands.{CommitCommand, Commit, EditLine, PutLine, RemoveLine, RemoveFileLine}
 use Rattle.history_model.specs.CommandParts.{put_contents}
-use Rattle.history_model.specs.Meaning.{new_commit, stored_by, read_edit, put_bytes, edits_of}
+use Rattle.history_model.specs.Meaning.{new_commit, stored_by, read_edit, put_bytes}
 use Rattle.history_model.specs.Causes.{first_cause}
 use Rattle.history_model.specs.Offered.{IsOffered}
 use Rattle.history_model.specs.TreeHalves.{Values}

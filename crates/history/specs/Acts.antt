@@ -1,5 +1,5 @@
 -- What acting on a command gives, and what it leaves.
-use Rattle.std.specs.Prelude.{◌≡◌, ◌⊎◌, ⊤, ℕ, ◌≤◌, Bool, true, not, Option, Some, None, Result, Ok, Err, Vec, IsTrue}
+use Rattle.std.specs.Prelude.{◌≡◌, ◌⊎◌, ⊤, ℕ, ◌≤◌, Bool, not, Option, Some, None, Result, Ok, Err, Vec, IsTrue}
 use Rattle.std.specs.declared.alloc.Global.{Global}
 use Rattle.gix_ref_file.specs.History.{HasRisen}
 use Rattle.history_model.specs.Bytes.{Bytes}

@@ -1,5 +1,5 @@
 -- Why a command isn't done.
-use Rattle.std.specs.Prelude.{◌≡◌, ⊤, Bool, true, false}
+use Rattle.std.specs.Prelude.{⊤}
 use Rattle.gix_ref_file.specs.declared.files.FileError.{FileError}
 use Rattle.gix_ref_file.specs.declared.files.FileError.TheVariants as file
 use Rattle.history_model.specs.declared.Fault.{Fault}

@@ -1,5 +1,5 @@
 -- The files of a commit, as its parent's and its edits make them.
-use Rattle.std.specs.Prelude.{◌≡◌, ℕ, List, ◌∷◌, [], map, Vec, IsTrue, IsFalse, option_to_list}
+use Rattle.std.specs.Prelude.{◌≡◌, ℕ, List, map, Vec, IsTrue, IsFalse, option_to_list}
 use Rattle.std.specs.declared.alloc.Global.{Global}
 use Rattle.std.specs.List.{list_any, flat_map}
 use Rattle.history_model.specs.FileMap.{FileMap, edited_by}

@@ -1,8 +1,7 @@
 -- What a commit is to store and how its name is to move, as the plain repository has it.
-use Rattle.std.specs.Prelude.{◌≡◌, ⊤, map, Some, None, Option, option_map, List, [], ◌∷◌, find, Result, Ok, Err, IsTrue, IsFalse}
-use Rattle.std.specs.List.{flat_map, list_any}
+use Rattle.std.specs.Prelude.{◌≡◌, ⊤, map, Some, None, Result, Ok, Err, IsTrue, IsFalse}
+use Rattle.std.specs.List.{flat_map}
 use Rattle.gix_ref_file.specs.Tree.{Tree}
-use Rattle.history_model.specs.Bytes.{Bytes, digits_value}
 use Rattle.history_model.specs.Objects.{StoredCommit, commit_content, root, id_of}
 use Rattle.history_model.specs.Repository as plain
 use Rattle.history_model.specs.Repository.{id_at}

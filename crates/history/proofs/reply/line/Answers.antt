@@ -1,4 +1,4 @@
-use Rattle.std.proofs.Common.{◌≡◌, ◌++◌, ◌∷◌, [], ap, ◌∙◌}
+use Rattle.std.proofs.Common.{◌++◌, ◌∷◌, [], ap, ◌∙◌}
 use Rattle.history.proofs.Lines.{line_appended, line_empty}
 use Rattle.history.proofs.reply.line.Goals as goal
 use Rattle.history.proofs.reply.line.Goals.{in-Some+in_ok-extend_from_slice+in_ok-more_words, in_default}

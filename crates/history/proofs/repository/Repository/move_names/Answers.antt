@@ -1,4 +1,4 @@
-use Rattle.std.proofs.Common.{◌≡◌, ◌⊎◌, inl, inr, refl, sym, ◌∙◌, ap, Err, arith}
+use Rattle.std.proofs.Common.{◌⊎◌, inl, inr, ◌∙◌, ap, Err, arith}
 use Rattle.std.proofs.lemmas.Result.{err_from_is_err_and}
 use Rattle.history.proofs.Moving.{is_formed, way, log_way, moved, move_stopped}
 use Rattle.history.proofs.repository.Repository.move_names.Goals as goal

@@ -1,5 +1,5 @@
 use Rattle.std.proofs.lemmas.Result.{err_from_is_err_and}
-use Rattle.std.proofs.Common.{◌≡◌, Err, [], ◌∷◌, ◌⊎◌, ap, refl, inl, inr, arith, sym, ◌∙◌}
+use Rattle.std.proofs.Common.{◌≡◌, Err, [], ◌∷◌, ◌⊎◌, ap, refl, inl, inr, arith, ◌∙◌}
 use Rattle.history.proofs.Puts.{value_put, value_free, value_taken, put_stopped}
 use Rattle.history_store.proofs.ObjectParts.{values_are_objects}
 use Rattle.history.proofs.repository.Repository.put.Goals as goal

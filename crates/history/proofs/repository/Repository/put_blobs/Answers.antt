@@ -2,7 +2,6 @@ use Rattle.std.specs.declared.alloc.Global.{Global}
 use Rattle.std.proofs.Common.{ℕ, List, Vec, map, ◌≡◌, refl, sym, ◌∙◌, ap, subst, take, Err}
 use Rattle.std.proofs.lemmas.List.{take_all}
 use Rattle.std.proofs.lemmas.Result.{err_from_is_err_and}
-use Rattle.history_model.specs.Objects.{StoredBytes}
 use Rattle.history.specs.Acts.{HasFailedCall}
 use Rattle.history.proofs.Counts.{counts_joined, failed_before}
 use Rattle.history.proofs.Puts.{blob_value, kept_then_kept, no_blobs, blob_put, blob_stopped, HasStored}

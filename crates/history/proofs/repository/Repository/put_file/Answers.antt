@@ -1,4 +1,4 @@
-use Rattle.std.proofs.Common.{◌≡◌, refl, ◌∙◌, ap}
+use Rattle.std.proofs.Common.{refl, ◌∙◌, ap}
 use Rattle.std.specs.FinMap.{insert}
 use Rattle.history_model.specs.Objects.{blob_id}
 use Rattle.history_store.specs.declared.tree.TreeEntry.{TreeEntry}

@@ -1,4 +1,4 @@
-use Rattle.std.proofs.Common.{◌≡◌, refl, sym, ◌∙◌, ap, subst, map, ℕ, List, [], ◌∷◌, Vec, Err}
+use Rattle.std.proofs.Common.{refl, sym, ◌∙◌, ap, subst, map, ℕ, List, [], ◌∷◌, Vec, Err}
 use Rattle.std.specs.declared.alloc.Global.{Global}
 use Rattle.std.proofs.lemmas.Result.{err_from_is_err_and}
 use Rattle.history_model.specs.Objects.{StoredFolder, StoredCommit}
