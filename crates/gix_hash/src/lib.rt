@@ -12,8 +12,6 @@ mod object_id;
 pub mod prefix;
 mod run;
 mod spelling;
-#[cfg(test)]
-mod tests;
 pub mod verify;
 
 pub use crate::borrowed::{Error, oid};

@@ -8,8 +8,6 @@ mod memory;
 mod nodes;
 mod paths;
 mod ranges;
-#[cfg(test)]
-mod tests;
 
 pub use files::{FileError, Files, Place};
 pub use fuse::Fuse;
