@@ -12,8 +12,6 @@ mod names;
 mod object;
 mod objects;
 mod parts;
-#[cfg(test)]
-mod tests;
 mod tree;
 mod way;
 

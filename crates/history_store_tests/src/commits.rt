@@ -1,0 +1,97 @@
+//! Commits, printed and read.
+
+use crate::common::{actor, all_hold, id, is_id};
+use history_model::Kind;
+use history_store::{Commit, ObjectId, ObjectKind, object_id};
+use std::alloc::{AllocError, Global};
+use std::process::Abort;
+
+fn commit(alloc: Global, tree: ObjectId, message: &[u8]) -> Result<Commit, AllocError> {
+    Ok(Commit {
+        tree,
+        parents: Vec::new(alloc),
+        author: actor(alloc, "A", "a@b", 1, *b"+0000")?,
+        committer: actor(alloc, "B C", "c", 2, *b"-0130")?,
+        message: message.to_vec(alloc)?,
+    })
+}
+
+fn printed(alloc: Global, commit: &Commit) -> Result<Vec<u8>, AllocError> {
+    commit.to_bytes(alloc)
+}
+
+fn id_of(kind: Kind, content: &[u8]) -> ObjectId {
+    object_id(kind, ObjectKind::Commit, content)
+}
+
+fn read<R: Abort>(rt: &R, alloc: Global, content: &[u8]) -> Result<Commit, AllocError> {
+    match Commit::parse(alloc, content)? {
+        Some(commit) => Ok(commit),
+        None => panic!(rt; "no commit"),
+    }
+}
+
+fn comparisons(commit: &Commit, again: &Commit) -> [bool; 3] {
+    [
+        again.parents.len() == 1,
+        again.committer == commit.committer,
+        again.message == commit.message,
+    ]
+}
+
+// The ids of a tree, of the first commit on it, and of the second behind that.
+#[derive(Clone, Copy)]
+struct Ids {
+    tree: &'static str,
+    first: &'static str,
+    second: &'static str,
+}
+
+// With the tree of the test of trees and GIT_AUTHOR_NAME=A GIT_AUTHOR_EMAIL=a@b GIT_AUTHOR_DATE='@1 +0000'
+// GIT_COMMITTER_NAME='B C' GIT_COMMITTER_EMAIL=c GIT_COMMITTER_DATE='@2 -0130':
+// printf 'two\n\nmore\n' | git commit-tree TREE -p FIRST
+const SHA1_IDS: Ids = Ids {
+    tree: "493b995d7671277bcc987865fdf50c22ab90a54e",
+    first: "751c9241f1899391447a61415d390e05f87e1bd5",
+    second: "cd2f83c1a6b8be7dad146275ff801a64c52660e7",
+};
+
+fn check_commits<R: Abort>(rt: &R, alloc: Global, kind: Kind, ids: &Ids) -> Result<(), AllocError> {
+    let tree = id(rt, ids.tree);
+    let first = commit(alloc, tree, b"one")?;
+    let first = id_of(kind, printed(alloc, &first)?.as_slice());
+    assert!(rt; is_id(&first, ids.first));
+    let mut second = commit(alloc, tree, b"two\n\nmore\n")?;
+    second.parents.push(first)?;
+    let content = printed(alloc, &second)?;
+    assert!(rt; is_id(&id_of(kind, content.as_slice()), ids.second));
+    let again = read(rt, alloc, content.as_slice())?;
+    all_hold(rt, &comparisons(&second, &again));
+    assert!(rt; printed(alloc, &again)?.as_slice() == content.as_slice());
+    Ok(())
+}
+
+#[test]
+fn commits_are_those_of_git(rt: HostRuntime) -> Result<(), AllocError> {
+    check_commits(&rt, rt.alloc(), Kind::Sha1, &SHA1_IDS)
+}
+
+const SHA1_NO_COMMITS: [&str; 6] = [
+    "tree 4B825DC642CB6EB9A060E54BF8D69288FBEE4904\nauthor A <a@b> 1 +0000\ncommitter A <a@b> 1 +0000\n\none",
+    "tree 4b825dc642cb6eb9a060e54bf8d69288fbee4904\nauthor A <a@b> 1 +0000\ncommitter A <a@b> 1 +0000\none",
+    "tree 4b825dc642cb6eb9a060e54bf8d69288fbee4904\nauthor A <a@b> 1 +0000\ncommitter A <a@b> 1 +0000\nencoding x\n\none",
+    "tree 4b825dc642cb6eb9a060e54bf8d69288fbee4904\ncommitter A <a@b> 1 +0000\nauthor A <a@b> 1 +0000\n\none",
+    "tree 4b825dc642cb6eb9a060e54bf8d69288fbee4904\n\none",
+    "",
+];
+
+fn is_no_commit(alloc: Global, text: &str) -> bool {
+    matches!(Commit::parse(alloc, text.as_bytes()), Ok(None))
+}
+
+#[test]
+fn what_is_no_commit(rt: HostRuntime) {
+    for text in SHA1_NO_COMMITS {
+        assert!(rt; is_no_commit(rt.alloc(), text), "at {text:?}");
+    }
+}

@@ -1,0 +1,67 @@
+//! The object `hello`, ids, actors, and what stands in a file.
+
+use gix_ref_file::{Files, MemoryFiles};
+use history_store::{Actor, ObjectId};
+use std::alloc::{AllocError, Global};
+use std::process::Abort;
+
+// The id of the blob `hello` of one kind of digest, and where it is stored.
+#[derive(Clone, Copy)]
+pub struct Hello {
+    pub digits: &'static str,
+    pub folder: &'static str,
+    pub place: &'static str,
+}
+
+pub const SHA1_HELLO_DIGITS: &str = "b6fc4c620b67d95f953a5c1c1230aaab5db5a1b0";
+
+pub const SHA1_HELLO: Hello = Hello {
+    digits: SHA1_HELLO_DIGITS,
+    folder: "objects/b6",
+    place: "objects/b6/fc4c620b67d95f953a5c1c1230aaab5db5a1b0",
+};
+
+pub const SHA1_NULL: &str = "0000000000000000000000000000000000000000";
+
+pub fn id<R: Abort>(rt: &R, digits: &str) -> ObjectId {
+    match ObjectId::from_hex(digits.as_bytes()) {
+        Some(id) => id,
+        None => panic!(rt; "no id: {digits}"),
+    }
+}
+
+pub fn is_id(id: &ObjectId, digits: &str) -> bool {
+    ObjectId::from_hex(digits.as_bytes()) == Some(*id)
+}
+
+// Stops at the first answer that doesn't hold.
+pub fn all_hold<R: Abort>(rt: &R, answers: &[bool]) {
+    for (number, holds) in answers.iter().enumerate() {
+        assert!(rt; *holds, "answer {number}, from 0");
+    }
+}
+
+pub fn actor(
+    alloc: Global,
+    name: &str,
+    email: &str,
+    seconds: u64,
+    offset: [u8; 5],
+) -> Result<Actor, AllocError> {
+    Ok(Actor {
+        name: name.as_bytes().to_vec(alloc)?,
+        email: email.as_bytes().to_vec(alloc)?,
+        seconds,
+        offset,
+    })
+}
+
+// Whether this text stands in the file, or no file where none is wanted.
+pub fn holds(alloc: Global, files: &MemoryFiles, path: &str, wanted: Option<&[u8]>) -> bool {
+    let mut text = Vec::new(alloc);
+    match (files.read(path.as_bytes(), &mut text), wanted) {
+        (Ok(Some(_)), Some(wanted)) => text.as_slice() == wanted,
+        (Ok(None), None) => true,
+        _ => false,
+    }
+}
