@@ -31,6 +31,3 @@ pub use history_word::{Broken, Bytes, Collected, Sink, Source, Stream};
 pub use open::{OpenError, OpenRefusal};
 pub use repository::Repository;
 pub use running::{RunError, run};
-
-#[cfg(test)]
-mod tests;
