@@ -1,0 +1,49 @@
+//! Git's objects, after the crate `gix-object` 0.64. It stands in parts, whose public items are gathered here under the
+//! names of that crate.
+#![tactic(auto)]
+
+/// Reading, and why bytes are refused.
+pub mod decode {
+    pub use gix_object_lines::decode::{Error, LooseHeaderDecodeError, loose_header};
+}
+
+/// Spelling, and why a value is refused.
+pub mod encode {
+    pub use gix_object_lines::encode::{Error, loose_header};
+}
+
+/// The kinds of objects.
+pub mod kind {
+    pub use gix_object_lines::kind::Error;
+}
+
+/// Actors, times and the names of references.
+pub mod lines {
+    pub use gix_object_lines::lines::{
+        Actor, ActorRef, Time, is_partial_name, read_actor, read_time, write_actor,
+        write_actor_parts, write_time,
+    };
+}
+
+/// Tags.
+pub mod tag {
+    /// Writing tags.
+    pub mod write {
+        pub use gix_object_lines::write::TagNameError as Error;
+    }
+}
+
+/// Trees.
+pub mod tree {
+    /// Writing trees.
+    pub mod write {
+        pub use gix_object_lines::write::FilenameError as Error;
+    }
+}
+
+/// Writing objects.
+pub mod write {
+    pub use gix_object_lines::write::Error;
+}
+
+pub use gix_object_lines::{ByteString, Header, Kind, WriteTo};

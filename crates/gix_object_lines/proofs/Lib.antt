@@ -1,0 +1,11 @@
+pub mod Cuts
+pub mod Fronts
+pub mod HexLines
+pub mod Headers
+pub mod Numbers
+pub mod Refusals
+pub mod CutLemmas
+pub mod TimeLemmas
+pub mod SecondsLemmas
+pub mod ActorLemmas
+pub mod NameLemmas

@@ -1,0 +1,11 @@
+pub mod Bytes
+pub mod Kind
+pub mod Decimal
+pub mod Header
+pub mod HexLine
+pub mod Writes
+pub mod Time
+pub mod Clock
+pub mod Actor
+pub mod LineWrites
+pub mod PartialName

@@ -1,0 +1,82 @@
+//! Bytes that are owned.
+
+ghost use Rattle.std.specs.Prelude.{◌≡◌, ℕ, List, IfOk};
+ghost use Rattle.std.specs.Cmp.Lexicographic.{pointwise, nat_list_eq_equiv};
+ghost use Rattle.std.specs.Cmp.{partial_equiv_from_equiv};
+ghost use Rattle.std.specs.Prelude.{nat_eq};
+ghost use Rattle.bstr.specs.BStr.{bstr_bytes};
+
+use bstr::BStr;
+use std::alloc::{AllocError, Global};
+use std::marker::Model;
+
+/// A string of bytes, of any value. Contracts see the list of them.
+#[derive(Debug, Drop)]
+pub struct ByteString {
+    bytes: Vec<u8>,
+}
+
+impl Model for ByteString {
+    ghost Value = { List ℕ };
+
+    ghost view = { λ s. s.bytes.items };
+}
+
+impl ByteString {
+    /// Takes the bytes over, without memory.
+    pub fn new(bytes: Vec<u8>) -> ByteString
+        ensures { result ≡ bytes.items }
+    {
+        ByteString { bytes }
+    }
+
+    /// A copy of the bytes.
+    pub fn from_slice(alloc: Global, bytes: &[u8]) -> Result<ByteString, AllocError>
+        ensures { IfOk result (λ copy. copy ≡ bytes.now) }
+    {
+        Ok(ByteString::new(Vec::from_slice(alloc, bytes)?))
+    }
+
+    /// The bytes.
+    pub fn as_bytes(&self) -> &[u8]
+        ensures { result.now ≡ self.now }
+    {
+        self.bytes.as_slice()
+    }
+
+    /// The bytes, as text that may be no UTF-8.
+    pub fn as_bstr(&self) -> BStr<'_>
+        ensures { bstr_bytes result ≡ self.now }
+    {
+        BStr::new(self.as_bytes())
+    }
+
+    /// Gives the bytes back, without memory.
+    pub fn into_vec(self) -> Vec<u8>
+        ensures { result.items ≡ self }
+    {
+        let ByteString { bytes } = self;
+        bytes
+    }
+
+    /// A string of the same bytes.
+    pub fn try_clone(&self) -> Result<ByteString, AllocError>
+        ensures { IfOk result (λ copy. copy ≡ self.now) }
+    {
+        Ok(ByteString::new(self.bytes.clone()?))
+    }
+}
+
+impl PartialEq for ByteString {
+    ghost eq = { pointwise nat_eq };
+
+    ghost laws = { partial_equiv_from_equiv nat_list_eq_equiv };
+
+    fn eq(&self, other: &ByteString) -> bool {
+        self.bytes == other.bytes
+    }
+}
+
+impl Eq for ByteString {
+    ghost laws = { nat_list_eq_equiv };
+}

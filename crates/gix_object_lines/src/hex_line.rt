@@ -1,0 +1,63 @@
+//! Lines of a word, a space and the hexadecimal digits of an id, as commits and tags have them.
+
+ghost use Rattle.std.specs.Prelude.{◌≡◌, ◌≢◌, ◌++◌, ◌∷◌, ℕ, List, IsTrue, IfOk, IfErr, IsOkAnd, OnOk, OnErr, MatchOption};
+ghost use Rattle.std.specs.Io.KnownBytes.{Appends};
+ghost use Rattle.gix_object_lines.specs.HexLine.{hex_line, is_hex, IsHex, HexLineFault};
+ghost use Rattle.gix_object_lines.specs.Writes.{AppendsFront};
+
+use crate::decode::Error;
+use crate::split::behind;
+use crate::write::write_bytes;
+use std::io;
+
+/// The digits of a line that begins the input, and what follows the line: the word, a space, exactly `hex_len`
+/// hexadecimal digits in any letter case, and a line feed.
+///
+/// Of the parts that fail the first is told: the word with its space, the digits, the line feed.
+pub fn read_hex_line<'a>(
+    input: &'a [u8],
+    word: &[u8],
+    hex_len: usize,
+) -> Result<(&'a [u8], &'a [u8]), Error>
+    ensures read { IfOk result (λ line. (input.now ≡ hex_line word.now line.0.now ++ line.1.now) × IsHex hex_len line.0.now) }
+    ensures back { (digits rest : List ℕ) → IsHex hex_len digits → input.now ≡ hex_line word.now digits ++ rest
+        → IsOkAnd result (λ line. (line.0.now ≡ digits) × (line.1.now ≡ rest)) }
+    ensures refused { IfErr result (λ error. HexLineFault word.now hex_len input.now error) }
+{
+    let rest = behind_word(input, word).ok_or(Error::FieldName)?;
+    let (digits, rest) = rest.split_at_checked(hex_len).ok_or(Error::HexDigits)?;
+    if !is_hexadecimal(digits) {
+        return Err(Error::HexDigits);
+    }
+    match behind(rest, b"\n") {
+        Some(rest) => Ok((digits, rest)),
+        None => Err(Error::LineEnd),
+    }
+}
+
+// What follows the word and a space.
+fn behind_word<'a>(input: &'a [u8], word: &[u8]) -> Option<&'a [u8]>
+    ensures { MatchOption result ((rest : List ℕ) → input.now ≢ word.now ++ 32 ∷ rest) (λ rest. input.now ≡ word.now ++ 32 ∷ rest.now) }
+{
+    let rest = behind(input, word)?;
+    behind(rest, b" ")
+}
+
+// Whether all bytes are hexadecimal digits.
+fn is_hexadecimal(bytes: &[u8]) -> bool
+    ensures { result ≡ is_hex bytes.now }
+{
+    bytes.iter().all(|byte| byte.is_ascii_hexdigit())
+}
+
+/// Writes a line: the word, a space, the digits as they are, and a line feed. Where the writer fails it has taken a
+/// beginning of the line.
+pub fn write_hex_line<W: io::Write>(word: &[u8], digits: &[u8], out: &mut W) -> io::Result<()>
+    ensures ok { OnOk result (Appends (W.contents out.old) (W.contents out.new) (hex_line word.now digits.now)) }
+    ensures err { OnErr result (AppendsFront (W.contents out.old) (W.contents out.new) (hex_line word.now digits.now)) }
+{
+    write_bytes(out, word)?;
+    write_bytes(out, b" ")?;
+    write_bytes(out, digits)?;
+    write_bytes(out, b"\n")
+}

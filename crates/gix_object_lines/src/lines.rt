@@ -1,0 +1,12 @@
+//! The lines that commits, tags and logs share: who did something and when, and the names of references.
+
+mod actor;
+mod cut;
+mod digits;
+mod name;
+mod parts;
+mod time;
+
+pub use crate::lines::actor::{Actor, ActorRef, read_actor, write_actor, write_actor_parts};
+pub use crate::lines::name::is_partial_name;
+pub use crate::lines::time::{Time, read_time, write_time};

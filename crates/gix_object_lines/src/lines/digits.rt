@@ -1,0 +1,89 @@
+//! The digits of a time.
+
+ghost use Rattle.std.specs.Prelude.{ℕ, ℤ, [], ◌∷◌, ◌++◌, ◌≡◌, ◌≢◌, ◌<◌, ◌↔◌, IsTrue, MatchOption, FitsSigned};
+ghost use Rattle.std.specs.Int.{w64};
+ghost use Rattle.gix_object_lines.specs.Time.{SpellsSeconds, SpellsOffset, IsSpellableOffset, two_digits, offset_text};
+ghost use Rattle.gix_object_lines.specs.Clock.{SpellsClock};
+
+const SECONDS_PER_MINUTE: u32 = 60;
+
+const SECONDS_PER_HOUR: u32 = 3_600;
+
+/// Digits, perhaps behind a `-`, as a number of 64 bits.
+pub(crate) fn read_seconds(text: &[u8]) -> Option<i64>
+    ensures { MatchOption result ((seconds : ℤ) → FitsSigned w64 seconds → ¬ SpellsSeconds text.now seconds)
+        (λ seconds. SpellsSeconds text.now seconds) }
+{
+    // `parse` reads a `+` too.
+    if text.starts_with(b"+") {
+        return None;
+    }
+    std::str::from_utf8(text).ok()?.parse::<i64>().ok()
+}
+
+/// A sign, two digits of hours and two of minutes, in seconds.
+pub(crate) fn read_offset(text: &[u8]) -> Option<i32>
+    ensures { MatchOption result ((offset : ℤ) → ¬ SpellsOffset text.now offset) (λ offset. SpellsOffset text.now offset) }
+{
+    let &[sign, a, b, c, d] = text else {
+        return None;
+    };
+    let amount = read_clock(a, b, c, d)?;
+    match sign {
+        b'+' => Some(amount),
+        b'-' => Some(-amount),
+        _ => None,
+    }
+}
+
+// Two digits of hours and two of minutes below 60, in seconds.
+fn read_clock(a: u8, b: u8, c: u8, d: u8) -> Option<i32>
+    ensures { MatchOption result
+        ((hours minutes : ℕ) → hours < 100 → minutes < 60 → a ∷ b ∷ c ∷ d ∷ [] ≢ two_digits hours ++ two_digits minutes)
+        (λ amount. SpellsClock (a ∷ b ∷ c ∷ d ∷ []) amount) }
+{
+    let hours = read_two_digits(a, b)?;
+    let minutes = read_two_digits(c, d)?;
+    if !is_minute(minutes) {
+        return None;
+    }
+    Some((SECONDS_PER_HOUR * u32::from(hours) + SECONDS_PER_MINUTE * u32::from(minutes)) as i32)
+}
+
+// Whether an hour has this minute.
+fn is_minute(n: u8) -> bool
+    ensures { IsTrue result ↔ (n < 60) }
+{
+    n < 60
+}
+
+fn read_two_digits(tens: u8, ones: u8) -> Option<u8>
+    ensures { MatchOption result ((n : ℕ) → n < 100 → tens ∷ ones ∷ [] ≢ two_digits n) (λ n. (n < 100) × (tens ∷ ones ∷ [] ≡ two_digits n)) }
+{
+    if tens.is_ascii_digit() && ones.is_ascii_digit() {
+        Some(10 * (tens - b'0') + (ones - b'0'))
+    } else {
+        None
+    }
+}
+
+/// The sign, hours and minutes of an offset in seconds; `None` where it isn't whole minutes below 100 hours.
+pub(crate) fn spell_offset(offset: i32) -> Option<[u8; 5]>
+    ensures { MatchOption result (¬ IsSpellableOffset offset) (λ text. (text ≡ offset_text offset) × IsSpellableOffset offset) }
+{
+    let amount = offset.unsigned_abs();
+    if amount % SECONDS_PER_MINUTE != 0 || amount >= 100 * SECONDS_PER_HOUR {
+        return None;
+    }
+    let sign = if offset < 0 { b'-' } else { b'+' };
+    let [a, b] = two_digits((amount / SECONDS_PER_HOUR) as u8);
+    let [c, d] = two_digits((amount / SECONDS_PER_MINUTE % 60) as u8);
+    Some([sign, a, b, c, d])
+}
+
+fn two_digits(n: u8) -> [u8; 2]
+    requires { n < 100 }
+    ensures { result ≡ two_digits n }
+{
+    [b'0' + n / 10, b'0' + n % 10]
+}

@@ -1,0 +1,78 @@
+//! Writing objects, and why it stops.
+
+ghost use Rattle.std.specs.Prelude.{◌≡◌, OnOk, OnErr, length};
+ghost use Rattle.std.specs.Io.{WritesAtMost};
+ghost use Rattle.std.specs.Io.KnownBytes.{Appends, WriteAppends};
+ghost use Rattle.gix_object_lines.specs.Writes.{AppendsFront};
+
+use crate::encode;
+use std::io;
+
+/// Why a name is no tag's.
+#[derive(Debug, Clone, Copy, PartialEq, Eq, thiserror::Error)]
+pub enum TagNameError {
+    /// It begins with `-`, which commands read as an option.
+    #[error("a tag's name must not begin with a dash")]
+    StartsWithDash,
+    /// It is no partial name of a reference.
+    #[error("the tag's name is no name of a reference")]
+    InvalidRefName,
+}
+
+/// Why a name is no entry's of a tree.
+#[derive(Debug, Clone, Copy, PartialEq, Eq, thiserror::Error)]
+pub enum FilenameError {
+    /// It holds a zero byte, which would end it.
+    #[error("a name in a tree must not hold a zero byte")]
+    NullbyteInFilename,
+}
+
+/// Why an object wasn't written whole.
+#[derive(Debug, Drop, thiserror::Error)]
+pub enum Error {
+    /// The writer failed. Over memory: a growth was refused.
+    #[error("the writer failed")]
+    Writer(io::Error),
+    /// A value in the object's header lines can't be spelled.
+    #[error(transparent)]
+    Header(encode::Error),
+    /// The name is no tag's.
+    #[error(transparent)]
+    TagName(TagNameError),
+    /// A name is no entry's of a tree.
+    #[error(transparent)]
+    Filename(FilenameError),
+}
+
+/// Writes all of the bytes. Where the writer fails it has taken a beginning of them.
+pub fn write_bytes<W: io::Write>(out: &mut W, bytes: &[u8]) -> io::Result<()>
+    ensures ok { OnOk result (Appends (W.contents out.old) (W.contents out.new) bytes.now) }
+    ensures err { OnErr result (AppendsFront (W.contents out.old) (W.contents out.new) bytes.now) }
+{
+    let mut count = 0;
+    'writes: while count < bytes.len() {
+        match write_some(out, &bytes[count..])? {
+            0 => return Err(io::Error::from(io::ErrorKind::WriteZero)),
+            written => count += written,
+        }
+    }
+    Ok(())
+}
+
+// One write, which is tried again where a signal interrupted it.
+fn write_some<W: io::Write>(out: &mut W, bytes: &[u8]) -> io::Result<usize>
+    ensures bound { WritesAtMost result bytes.now }
+    ensures bytes { WriteAppends (W.contents out.old) (W.contents out.new) result bytes.now }
+{
+    'tries: for _ in 0..u64::MAX {
+        match out.write(bytes) {
+            Ok(written) => return Ok(written),
+            Err(error) => {
+                if error.kind() != io::ErrorKind::Interrupted {
+                    return Err(error);
+                }
+            }
+        }
+    }
+    Err(io::Error::from(io::ErrorKind::Interrupted))
+}

@@ -1,0 +1,71 @@
+//! A type of one's own that is written.
+
+ghost use Rattle.std.specs.Prelude.{length};
+ghost use Rattle.gix_object_lines.specs.declared.kind.Kind.TheVariants as kinds;
+
+use gix_object::write::Error;
+use gix_object::{Kind, WriteTo};
+use gix_object_lines::write::write_bytes;
+use std::io;
+use std::test::Fail;
+
+// The content of a blob.
+#[derive(Drop)]
+struct Content<'a>(&'a [u8]);
+
+impl WriteTo for Content<'_> {
+    ghost text = { λ content. content.0.now };
+
+    ghost object_kind = { λ _. kinds.Blob };
+
+    fn write_to<W: io::Write>(&self, out: &mut W) -> Result<(), Error> {
+        write_bytes(out, self.0).map_err(Error::Writer)
+    }
+
+    fn kind(&self) -> Kind {
+        Kind::Blob
+    }
+
+    fn size(&self) -> Option<u64> {
+        Some(self.0.len() as u64)
+    }
+}
+
+// A writer that fails once it has taken three bytes.
+#[derive(Drop)]
+struct Short(usize);
+
+impl io::Write for Short {
+    fn write(&mut self, buf: &[u8]) -> io::Result<usize> {
+        let taken = buf.len().min(3 - self.0.min(3));
+        if taken == 0 && !buf.is_empty() {
+            return Err(io::Error::from(io::ErrorKind::StorageFull));
+        }
+        self.0 = self.0.saturating_add(taken);
+        Ok(taken)
+    }
+
+    fn flush(&mut self) -> io::Result<()> {
+        Ok(())
+    }
+}
+
+#[test]
+fn writes_content(rt: HostRuntime) -> Result<(), Fail> {
+    let content = Content(b"hello");
+    let mut out = Vec::new(rt.alloc());
+    assert!(rt; (&content).write_to(&mut out).is_ok());
+    assert_eq!(rt; out.as_slice(), b"hello".as_slice());
+    assert_eq!(rt; content.size(), Some(5));
+    assert_eq!(rt; content.kind(), Kind::Blob);
+    let header = content.loose_header(rt.alloc()).ok_or("no header")?;
+    assert_eq!(rt; header.as_slice(), b"blob 5\0".as_slice());
+    Ok(())
+}
+
+#[test]
+fn tells_of_a_failed_writer(rt: HostRuntime) {
+    let mut out = Short(0);
+    assert!(rt; matches!(Content(b"hello").write_to(&mut out), Err(Error::Writer(_))));
+    assert_eq!(rt; out.0, 3);
+}
