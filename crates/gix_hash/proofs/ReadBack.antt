@@ -17,7 +17,7 @@ use Rattle.gix_hash.proofs.LawLemmas.{AreDigits, hex_text-IsHexOf, one_reading, 
 use Rattle.gix_hash.proofs.PrefixLemmas.{any_through, refused_whole}
 
 -- a text whose characters have values has none without
-all_values : (value : ℕ → Option ℕ) (text digits : List ℕ) → map value text ≡ map (λ (d : ℕ). Some d) digits → Any (λ c. value c ≡ None) text → ⊥
+pub all_values : (value : ℕ → Option ℕ) (text digits : List ℕ) → map value text ≡ map (λ (d : ℕ). Some d) digits → Any (λ c. value c ≡ None) text → ⊥
 all_values value text digits e h =
     let found = any_through value (λ (d : ℕ). Some d) text digits e h in
     let bad : Some found.1 ≡ None = found.4 in

@@ -1,6 +1,6 @@
 -- An object id as contracts see it: a kind and the list of its hexadecimal digits, each 0 to 15
 -- (Git's glossary, "object name").
-use Rattle.std.specs.Prelude.{ℕ, ◌/◌, ◌%◌, List, [], ◌∷◌, replicate}
+use Rattle.std.specs.Prelude.{ℕ, ◌+◌, ◌*◌, ◌/◌, ◌%◌, List, [], ◌∷◌, replicate}
 use Rattle.gix_hash.specs.declared.kind.Kind.{Kind}
 use Rattle.gix_hash.specs.declared.kind.Kind.TheVariants as kinds
 use Rattle.gix_hash.specs.declared.object_id.ObjectId.{ObjectId}
@@ -16,6 +16,16 @@ pub record Id : Type 0 where
 abbrev pub digits_of : List ℕ → List ℕ
 digits_of [] = []
 digits_of (byte ∷ rest) = byte / 16 ∷ byte % 16 ∷ digits_of rest
+
+-- the bytes of an even number of digits
+abbrev pub bytes_from : List ℕ → List ℕ
+bytes_from [] = []
+bytes_from (a ∷ []) = []
+bytes_from (a ∷ b ∷ rest) = (a * 16 + b) ∷ bytes_from rest
+
+-- the digest that an id is, as a tree's entry holds it
+abbrev pub raw_bytes : Id → List ℕ
+raw_bytes id = bytes_from id.digits
 
 -- the id that a value is
 abbrev pub id_of : ObjectId → Id

@@ -12,9 +12,8 @@ use Rattle.std.proofs.lemmas.Bool.Decides.{nat_tests}
 use Rattle.gix_hash.specs.declared.kind.Kind.{Kind}
 use Rattle.gix_hash.specs.declared.kind.Kind.TheVariants.{Sha1, Sha256}
 use Rattle.gix_hash.specs.Kind.{kind_number, hex_len}
-use Rattle.gix_hash.specs.Packed.{bytes_from}
 use Rattle.std.specs.Hash as fed
-use Rattle.gix_hash.specs.Id.{Id}
+use Rattle.gix_hash.specs.Id.{Id, bytes_from}
 use Rattle.gix_hash.specs.Order.{id_eq, id_cmp, digits_cmp}
 
 -- the laws of the equality

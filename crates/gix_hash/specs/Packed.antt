@@ -8,13 +8,7 @@ use Rattle.gix_hash.specs.declared.kind.Kind.TheVariants as kinds
 use Rattle.gix_hash.specs.declared.object_id.ObjectId.{ObjectId}
 use Rattle.gix_hash.specs.declared.object_id.ObjectId.TheVariants.{Sha1, Sha256}
 use Rattle.gix_hash.specs.Kind.{hex_len}
-use Rattle.gix_hash.specs.Id.{Id, id_of, digits_of}
-
--- the bytes of an even number of digits
-abbrev pub bytes_from : List ℕ → List ℕ
-bytes_from [] = []
-bytes_from (a ∷ []) = []
-bytes_from (a ∷ b ∷ rest) = (a * 16 + b) ∷ bytes_from rest
+use Rattle.gix_hash.specs.Id.{Id, id_of, digits_of, bytes_from}
 
 -- the value of a kind with these digits
 abbrev pub packed : Kind → List ℕ → ObjectId

@@ -5,7 +5,8 @@ use Rattle.std.specs.Result.{IsErrAnd}
 use Rattle.std.specs.declared.alloc.Global.{Global}
 use Rattle.history_model.specs.Bytes.{Bytes, is_among}
 use Rattle.history_model.specs.FileMap.{FileMap, Content}
-use Rattle.history_model.specs.Objects.{Id, CommitValue, StoredCommit, StoredBytes, StoredFolder, blob_id}
+use Rattle.history_model.specs.Objects.{CommitValue, StoredCommit, StoredBytes, StoredFolder, blob_id}
+use Rattle.gix_hash.specs.Id.{Id, id_of}
 use Rattle.history_model.specs.Repository.{Repository, HasWholeNames, IsWholeStore, id_at, stands, as_commit, peeled_value}
 use Rattle.history_model.specs.Meaning.{first_files}
 use Rattle.history_model.specs.Words.{WordReading, ReadsAs, Unknown, word_reading, name_reading, head_word, commit_read}
@@ -16,7 +17,7 @@ use Rattle.history_model.specs.Causes.{is_unknown, is_unborn, is_bad_path, word_
 use Rattle.history_model.specs.Offered.{IsOffered, main_name}
 use Rattle.history_model.specs.OfferedWords.{main_words}
 use Rattle.history_model.specs.declared.FileKind.{FileKind}
-use Rattle.history_model.specs.declared.Kind.{Kind}
+use Rattle.gix_hash.specs.declared.kind.Kind.{Kind}
 use Rattle.history_model.specs.declared.Cause.{Cause}
 use Rattle.history_model.specs.declared.Cause.TheVariants.{UnknownWord, UnbornHead, BadPath, NoSuchPath}
 use Rattle.history_model.proofs.OfferedReads.{main_is_meant, main_holds_a_commit}
@@ -24,10 +25,9 @@ use Rattle.history_model.proofs.OfferedCauses.{first_offered_cause}
 use Rattle.history_model.proofs.OfferedFiles.{files_are_stored}
 use Rattle.history_store.proofs.FlatTrees.{under, stored_under, flat_get}
 use Rattle.history_store.specs.Commits.{IsCommitOf}
-use Rattle.history_store.specs.Formats.{id_bytes}
 use Rattle.history_store.specs.Trees.{Folder, FileFacts, IsTreeOf, entry_facts, file_facts}
 use Rattle.history_store.specs.declared.commit.Commit as commits
-use Rattle.history_store.specs.declared.id.ObjectId.{ObjectId}
+use Rattle.gix_hash.specs.declared.object_id.ObjectId.{ObjectId}
 use Rattle.history_store.specs.declared.tree.TreeEntry.{TreeEntry}
 use Rattle.history.specs.Acts.{AnswersReading, ReadsWord, IsReadingFault, word_cause}
 use Rattle.history.specs.Shown.{shown_commit, shown_content, shown_file}
@@ -60,7 +60,7 @@ by_word x rest = cond (is_unknown x || false) (Some UnknownWord) (cond (is_unbor
 
 -- a file's kind and the id of its bytes
 abbrev entry_fact : TreeEntry → FileKind × Id
-entry_fact entry = (entry.kind, id_bytes entry.id)
+entry_fact entry = (entry.kind, id_of entry.id)
 
 abbrev content_fact : Kind → Content → FileKind × Id
 content_fact kind content = (content.kind, blob_id kind content.bytes)
@@ -125,14 +125,14 @@ module _ (r : Repository) (o : IsOffered r) (w : HasWholeNames r) where
         (id, commit, stands_for word id commit reads at, refl),
       )
 
-  pub commit_answered : (MayFail : Type 0) (word : Bytes) (id : ObjectId) (value : CommitValue) (commit : commits.Commit) (text : Vec ℕ Global) → word_reading r word ≡ ReadsAs (id_bytes id) → get r.objects (id_bytes id) ≡ Some (StoredCommit value)
+  pub commit_answered : (MayFail : Type 0) (word : Bytes) (id : ObjectId) (value : CommitValue) (commit : commits.Commit) (text : Vec ℕ Global) → word_reading r word ≡ ReadsAs (id_of id) → get r.objects (id_of id) ≡ Some (StoredCommit value)
       → IsCommitOf r.kind commit value → text.items ≡ reply_text (ShowsCommit (shown_commit id commit)) → AnswersReading MayFail r (Show word None) (Ok text)
   commit_answered MayFail word id value commit text reads at is written =
-      let shown : shown_commit id commit ≡ commit_shown r (id_bytes id) value = λ i. record { id = id_bytes id; tree = is.tree i; parents = is.parents i; author = is.author i; committer = is.committer i; message = is.message i } in (
-        ShowsCommit (commit_shown r (id_bytes id) value),
+      let shown : shown_commit id commit ≡ commit_shown r (id_of id) value = λ i. record { id = id_of id; tree = is.tree i; parents = is.parents i; author = is.author i; committer = is.committer i; message = is.message i } in (
+        ShowsCommit (commit_shown r (id_of id) value),
         written ∙ ap (λ shown. reply_text (ShowsCommit shown)) shown,
         commit_causes word ∙ ap (λ x. by_word x None) reads,
-        (id_bytes id, value, stands_for word (id_bytes id) value reads at, refl),
+        (id_of id, value, stands_for word (id_of id) value reads at, refl),
       )
 
   -- ---- what stands at a path
@@ -175,7 +175,7 @@ module _ (r : Repository) (o : IsOffered r) (w : HasWholeNames r) where
 
 -- the folder of a stored commit
 pub folder_at : (r : Repository) → IsWholeStore r → (id : Id) (value : CommitValue) (commit : commits.Commit) → get r.objects id ≡ Some (StoredCommit value) → IsCommitOf r.kind commit value
-    → get r.objects (id_bytes commit.tree) ≡ Some (StoredFolder value.files)
+    → get r.objects (id_of commit.tree) ≡ Some (StoredFolder value.files)
 folder_at r store id value commit at is = ap (get r.objects) is.tree ∙ (store.closed id (StoredCommit value) at).1
 
 module _ (kind : Kind) (tree : Folder) (files : FileMap) (path : Bytes) (is : IsTreeOf kind tree files) where
@@ -198,6 +198,6 @@ module _ (kind : Kind) (tree : Folder) (files : FileMap) (path : Bytes) (is : Is
 
   -- and its bytes are stored under the entry's id
   pub bytes_at : (r : Repository) → r.kind ≡ kind → IsWholeStore r → (id : Id) → get r.objects id ≡ Some (StoredFolder files) → (entry : TreeEntry) (content : Content) → get files path ≡ Some content
-      → entry_fact entry ≡ content_fact kind content → get r.objects (id_bytes entry.id) ≡ Some (StoredBytes content.bytes)
+      → entry_fact entry ≡ content_fact kind content → get r.objects (id_of entry.id) ≡ Some (StoredBytes content.bytes)
   bytes_at r of_kind store id at entry content found same =
       ap (get r.objects) (ap (λ (fact : FileKind × Id). fact.1) same ∙ ap (λ kind. blob_id kind content.bytes) (sym of_kind)) ∙ files_are_stored r id files path content store at found

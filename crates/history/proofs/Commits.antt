@@ -6,13 +6,16 @@ use Rattle.std.specs.Str.{is_utf8, chars}
 use Rattle.std.proofs.lemmas.List.{append-nil}
 use Rattle.gix_ref_file.specs.History.{History}
 use Rattle.history_model.specs.Bytes.{Bytes}
-use Rattle.history_model.specs.Objects.{Id, StoredCommit, hex, id_of}
+use Rattle.std.specs.FinMap.{contains_key}
+use Rattle.history_model.specs.Objects.{StoredCommit, hex}
+use Rattle.history_model.specs.Objects.{id_of as value_id}
+use Rattle.gix_hash.specs.Id.{Id, id_of}
 use Rattle.history_model.specs.Repository as plain
 use Rattle.history_model.specs.Forms.{is_name}
 use Rattle.history_model.specs.Commands.{CommitCommand, Commit}
 use Rattle.history_model.specs.Replies.{Committed, reply_text}
 use Rattle.history_model.specs.Spelling.{Line, part_text}
-use Rattle.history_model.specs.Meaning.{branch_or_name, new_commit, stored_by, takes_id, after}
+use Rattle.history_model.specs.Meaning.{branch_or_name, new_commit, stored_by, store_all, takes_id, after}
 use Rattle.history_model.specs.Offered.{main_name}
 use Rattle.history_model.specs.Stage.{is_offered}
 use Rattle.history_model.specs.Causes.{first_cause}
@@ -28,9 +31,8 @@ use Rattle.history_model.proofs.OfferedSteps.{offered_stays}
 use Rattle.history_model.proofs.TreeMoves.{packed_apart, packed_no_log}
 use Rattle.history_model.proofs.TreePuts.{halves_stand}
 use Rattle.history_model.proofs.WholeSteps.{steps_keep_sound}
-use Rattle.history_store.specs.Formats.{id_bytes}
 use Rattle.history.specs.Face.{objects_part, names_part, KeepsAllButObjects, KeepsAllButNames}
-use Rattle.history.specs.Halves.{objects_tree, names_tree, ObjectsStand, NamesStand}
+use Rattle.history.specs.Halves.{objects_tree, names_tree, ObjectsStand, NamesStand, KnowsIds}
 use Rattle.history.specs.Plans.{IsMove}
 use Rattle.history.specs.Stands.{pair_of, Stands}
 use Rattle.history.specs.declared.planning.Moves.{Moves}
@@ -46,7 +48,7 @@ moved_is_name r order is = ap is_name is ∙ main_is_name
 
 -- an accepted commit
 pub accepted : (r : plain.Repository) (order : CommitCommand) → first_cause r (Commit order) ≡ None → IsFalse (takes_id r (Commit order))
-    → Accepts r (Commit order) (Committed (id_of r.kind (StoredCommit (new_commit r order)))) (after r (Commit order))
+    → Accepts r (Commit order) (Committed (value_id r.kind (StoredCommit (new_commit r order)))) (after r (Commit order))
 accepted r order none free = record { no_cause = none; not_taken = free; answer = refl; result = refl }
 
 module _ {F : Type 0} (IsHonest : F → Type 0) (history : F → History) where
@@ -73,6 +75,7 @@ module _ {F : Type 0} (IsHonest : F → Type 0) (history : F → History) where
       (none : first_cause r (Commit order) ≡ None) (free : IsFalse (takes_id r (Commit order)))
       (kept : KeepsAllButObjects old mid) (honest : IsHonest (objects_part mid)) (kind : mid.objects.kind ≡ old.objects.kind)
       (puts : PutsAll r.kind (stored_by r (Commit order)) (objects_tree history old) (objects_tree history mid))
+      (known : KnowsIds mid (store_all r.kind r.objects (stored_by r (Commit order))))
       (kept_then : KeepsAllButNames mid new) (honest_then : IsHonest (names_part new)) (kind_then : new.names.kind ≡ mid.names.kind)
       (moves : MovesToCommit r order (names_tree history mid) (names_tree history new)) where
     is_main : branch_or_name r order.name ≡ main_name
@@ -88,7 +91,7 @@ module _ {F : Type 0} (IsHonest : F → Type 0) (history : F → History) where
     stands_after = commits_stand r.kind (pair_of history old) (pair_of history new) r order (h.whole).stands (((h.whole).whole).store).own_ids (moved_is_name r order is_main) free h.unpacked to_new from_old
 
     sound_after : IsSound (after r (Commit order))
-    sound_after = steps_keep_sound r (after r (Commit order)) (Commit order) (Committed (id_of r.kind (StoredCommit (new_commit r order)))) (accepted r order none free)
+    sound_after = steps_keep_sound r (after r (Commit order)) (Commit order) (Committed (value_id r.kind (StoredCommit (new_commit r order)))) (accepted r order none free)
         (record { whole = (h.whole).whole; written = (h.whole).written })
 
     pub commit_stands : Stands IsHonest history new (after r (Commit order))
@@ -99,6 +102,7 @@ module _ {F : Type 0} (IsHonest : F → Type 0) (history : F → History) where
       objects_kind = ap (λ objects. objects.kind) kept_then.objects ∙ kind ∙ h.objects_kind;
       names_kind = kind_then ∙ ap (λ names. names.kind) kept.names ∙ h.names_kind;
       branch = ap (λ branch. branch.items) (kept_then.branch ∙ kept.branch) ∙ h.branch;
+      known = λ id. ap (λ objects. contains_key objects.ids id) kept_then.objects ∙ known id;
       offered = offered_stays r (Commit order) h.offered offered none;
       unpacked = from_old.others packed_place (packed_apart (branch_or_name r order.name) (moved_is_name r order is_main)) (packed_no_log (branch_or_name r order.name)) ∙ h.unpacked;
     }
@@ -110,5 +114,5 @@ committed_text id before text ok word digits none is_ok is_word is_digits is =
     is ∙ (λ i. none i ++ part_text (Line (is_ok i ∷ is_word i ∷ is_digits i ∷ []))) ∙ sym (append-nil (part_text (Line (codes "ok" ∷ codes "commit" ∷ hex id ∷ []))))
 
 -- the id that the name moves to
-pub moved_to : (r : plain.Repository) (order : CommitCommand) (moves : Moves) → IsMove r order moves → id_bytes (moves.entry).after ≡ id_of r.kind (StoredCommit (new_commit r order))
+pub moved_to : (r : plain.Repository) (order : CommitCommand) (moves : Moves) → IsMove r order moves → id_of (moves.entry).after ≡ value_id r.kind (StoredCommit (new_commit r order))
 moved_to r order moves is = ap (λ entry. entry.after) is.entry

@@ -18,12 +18,11 @@ use Rattle.history_model.specs.CommandParts.{edit_paths, put_contents}
 use Rattle.history_model.specs.Meaning.{read_edit}
 use Rattle.history_model.specs.Causes.{is_bad_path}
 use Rattle.history_model.specs.Offered.{is_flat}
-use Rattle.history_model.specs.declared.Kind.{Kind}
+use Rattle.gix_hash.specs.declared.kind.Kind.{Kind}
 use Rattle.history_model.proofs.OfferedFiles.{edits_flat, flat_puts}
 use Rattle.history_word.specs.Commands.{IsEdit}
 use Rattle.history_word.specs.declared.command.Edit.TheVariants as sent
 use Rattle.history_word.specs.declared.command.Put as sent_put
-use Rattle.history_store.specs.Formats.{id_bytes}
 use Rattle.history_store.specs.Trees.{Folder, IsTreeOf}
 use Rattle.history_store.specs.declared.tree.TreeEntry.{TreeEntry}
 use Rattle.history_store.proofs.FlatTrees.{flat_insert}
@@ -31,6 +30,7 @@ use Rattle.history.specs.CommitCauses.{is_long}
 use Rattle.history.specs.Fields.{kept_bytes}
 use Rattle.history.specs.Files.{AreWithin, HasEdited}
 use Rattle.history.proofs.FieldLemmas.{either_false, both_true, turned, whole_path, whole_content}
+use Rattle.gix_hash.specs.Id.{id_of}
 
 -- a path that isn't bad is one that is offered
 path_offered : (path : Bytes) → is_bad_path path ≡ false → is_offered_path path ≡ true
@@ -40,7 +40,7 @@ path_offered path good =
 -- ---- one edit
 
 module _ (r : plain.Repository) (kind : Kind) (files : FileMap) (old new : Folder) (put : sent_put.Put) (blob : Vec ℕ Global) (entry : TreeEntry) (flat : IsTrue (is_flat files)) (tree : IsTreeOf kind old files)
-    (whole : blob.items ≡ kept_bytes put.content) (is_kind : entry.kind ≡ put.kind) (is_id : id_bytes entry.id ≡ blob_id kind blob.items) (is_new : new ≡ insert old (kept_bytes put.path) entry) where
+    (whole : blob.items ≡ kept_bytes put.content) (is_kind : entry.kind ≡ put.kind) (is_id : id_of entry.id ≡ blob_id kind blob.items) (is_new : new ≡ insert old (kept_bytes put.path) entry) where
   pub file_put : (line : EditLine) → IsEdit (sent.Put put) line → AreWithin (line ∷ []) → HasEdited r kind files (line ∷ []) (blob ∷ []) new
   file_put (RemoveLine path) is within = absurd is
   file_put (RemoveFileLine path) is within = absurd is

@@ -5,18 +5,17 @@ use Rattle.std.specs.FinMap.{get}
 use Rattle.std.proofs.Math.Seq.{take-append_seam, drop-append_seam}
 use Rattle.gix_ref_file.specs.History.{History}
 use Rattle.history_model.specs.Bytes.{Bytes, begins, ends, line}
-use Rattle.history_model.specs.Objects.{Id}
+use Rattle.gix_hash.specs.Id.{Id, id_of}
 use Rattle.history_model.specs.Repository.{Repository, Reference, id_at, stands}
 use Rattle.history_model.specs.Forms.{is_name}
 use Rattle.history_model.specs.PackedNames.{id_from_hex, line_text}
 use Rattle.history_model.specs.Places.{Pair, file_at, packed_place, head_place, is_log_place}
 use Rattle.history_model.specs.Readings.{Reading, Holds, Symbolic, Absent, Faulty, reading, loose_reading, loose_line, packed_text_reading}
 use Rattle.history_model.specs.StandsFor.{StandsFor}
-use Rattle.history_model.specs.declared.Kind.{Kind}
+use Rattle.gix_hash.specs.declared.kind.Kind.{Kind}
 use Rattle.history_model.proofs.TreePlaces.{one_text, texts_apart}
-use Rattle.history_store.specs.Formats.{id_bytes}
 use Rattle.history_store.specs.References.{SpellsId, NameHolds}
-use Rattle.history_store.specs.declared.id.ObjectId.{ObjectId}
+use Rattle.gix_hash.specs.declared.object_id.ObjectId.{ObjectId}
 use Rattle.history.specs.Stands.{Stands, pair_of}
 use Rattle.history.specs.Face.{names_part}
 use Rattle.history.specs.declared.repository.Repository as own
@@ -129,20 +128,20 @@ module _ (pair : Pair) (r : Repository) (stand : StandsFor r.kind pair r) (unpac
       by_ref None e h = cc
       by_ref (Some ref) e h = let at = ap (option_map (λ (ref : Reference). ref.id)) e in ap Some (same ref.id at) ∙ sym at
 
-  name_tells : begins (codes "refs/") name ≡ true → (found : Option ObjectId) → NameHolds r.kind pair.names name found → option_map id_bytes found ≡ id_at r name
+  name_tells : begins (codes "refs/") name ≡ true → (found : Option ObjectId) → NameHolds r.kind pair.names name found → option_map id_of found ≡ id_at r name
   name_tells front found holds = by_file (file_at pair.names name) refl found holds
     where
-      by_file : (o : Option Bytes) → file_at pair.names name ≡ o → (found : Option ObjectId) → MatchOption o (found ≡ None) (λ text. SpellsId r.kind text found) → option_map id_bytes found ≡ id_at r name
-      by_file None e found none = ap (option_map id_bytes) none ∙ none_held (λ id at. no_file (is_name name) id (ap loose (sym e) ∙ reads id at))
+      by_file : (o : Option Bytes) → file_at pair.names name ≡ o → (found : Option ObjectId) → MatchOption o (found ≡ None) (λ text. SpellsId r.kind text found) → option_map id_of found ≡ id_at r name
+      by_file None e found none = ap (option_map id_of) none ∙ none_held (λ id at. no_file (is_name name) id (ap loose (sym e) ∙ reads id at))
       by_file (Some text) e None spells = none_held (λ id at. of_name (is_name name) text id (ap loose (sym e) ∙ reads id at) (unspelled r.kind text id spells))
       by_file (Some text) e (Some id) spells =
-          id_held (id_bytes id) (name_stands text front e) (λ found at. of_name (is_name name) text found (ap loose (sym e) ∙ reads found at) (spelled r.kind text spells.0 (id_bytes id) found spells.1 spells.2))
+          id_held (id_of id) (name_stands text front e) (λ found at. of_name (is_name name) text found (ap loose (sym e) ∙ reads found at) (spelled r.kind text spells.0 (id_of id) found spells.1 spells.2))
 
 -- ---- a repository with its files
 
 module _ {F : Type 0} (IsHonest : F → Type 0) (history : F → History) (repository : own.Repository F) (r : Repository) (stand : Stands IsHonest history repository r) where
   -- what the file of a name tells is what the name holds
-  pub held : (name : Bytes) → begins (codes "refs/") name ≡ true → (found : Option ObjectId) → NameHolds r.kind (history (names_part repository)).tree name found → option_map id_bytes found ≡ id_at r name
+  pub held : (name : Bytes) → begins (codes "refs/") name ≡ true → (found : Option ObjectId) → NameHolds r.kind (history (names_part repository)).tree name found → option_map id_of found ≡ id_at r name
   held name front found holds = name_tells (pair_of history repository) r stand.whole.stands stand.unpacked name front found holds
 
   pub branch_is_name : begins (codes "refs/") repository.branch.items ≡ true

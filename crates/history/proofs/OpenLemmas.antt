@@ -1,18 +1,20 @@
 -- What opening a repository finds.
-use Rattle.std.proofs.Common.{◌≡◌, ◌≢◌, ◌<◌, ◌==◌, ◌&&◌, nat_lt, ℕ, Bool, true, false, [], ◌∷◌, ◌++◌, length, drop, Option, Some, None, MatchOption, Result, Ok, Err, IfOk, Vec, refl, sym, ap, subst, ◌∙◌, IsTrue, codes, arith}
+use Rattle.std.proofs.Common.{◌≡◌, ◌≢◌, ◌<◌, ◌==◌, ◌&&◌, nat_lt, ℕ, Bool, true, false, [], ◌∷◌, ◌++◌, length, drop, Option, Some, None, is_some, MatchOption, Result, Ok, Err, IfOk, Vec, refl, sym, ap, subst, ◌∙◌, IsTrue, codes, arith}
 use Rattle.std.proofs.lemmas.List.{append_cancel_left, append_cancel_right, length-drop}
 use Rattle.std.proofs.lemmas.Bool.Decides.{nat_tests}
 use Rattle.gix_ref_file.specs.Tree.{Tree, Node, file, folder, node_at, bytes_of, is_folder, place_of}
 use Rattle.gix_ref_file.specs.History.{History}
 use Rattle.gix_ref_file.specs.declared.files.Place.{Place}
 use Rattle.gix_ref_file.specs.declared.files.Place.TheVariants.{File}
-use Rattle.std.specs.FinMap.{get}
+use Rattle.std.specs.FinMap.{get, contains_key, empty, get-empty}
 use Rattle.history_model.specs.Bytes.{Bytes, begins}
 use Rattle.history_model.specs.Offered.{main_name}
+use Rattle.gix_hash.specs.Id.{Id}
+use Rattle.history_model.specs.Objects.{by_id}
 use Rattle.history_model.specs.Places.{file_at, head_place, packed_place}
 use Rattle.history_model.specs.StandsFor.{head_text}
 use Rattle.history_model.specs.Repository.{fresh}
-use Rattle.history_model.specs.declared.Kind.{Kind}
+use Rattle.gix_hash.specs.declared.kind.Kind.{Kind}
 use Rattle.history_model.proofs.OfferedSteps.{fresh_is_offered}
 use Rattle.history_store.proofs.FreshParts.{new_stands_whole}
 use Rattle.history_store.specs.Creation.{IsNew}
@@ -23,7 +25,7 @@ use Rattle.history_store.specs.declared.parts.Part.TheVariants.{Objects, Names}
 use Rattle.std.specs.declared.alloc.Global.{Global}
 use Rattle.history.specs.declared.open.OpenError.{OpenError}
 use Rattle.history.specs.declared.repository.Repository.{Repository}
-use Rattle.history.specs.Face.{objects_part, names_part}
+use Rattle.history.specs.Face.{objects_part, names_part, known_ids}
 use Rattle.history.specs.Stands.{Stands}
 use Rattle.history.specs.Opening.{HeadIs}
 
@@ -136,15 +138,19 @@ found_first objects names (Err error) new h = h
 
 -- a repository over the parts of a new one stands for the repository without names and objects
 pub opened_stands : {F : Type 0} (IsHonest : F → Type 0) (history : F → History) (repository : Repository F) (kind : Kind) → IsHonest (objects_part repository) → IsHonest (names_part repository)
-    → repository.objects.kind ≡ kind → repository.names.kind ≡ kind → repository.branch.items ≡ main_name
+    → repository.objects.kind ≡ kind → repository.names.kind ≡ kind → repository.branch.items ≡ main_name → known_ids repository ≡ empty
     → IsNew (history (objects_part repository)).tree (history (names_part repository)).tree → Stands IsHonest history repository (fresh kind)
-opened_stands IsHonest history repository kind objects names of_kind names_kind branch new = record {
+opened_stands IsHonest history repository kind objects names of_kind names_kind branch none new = record {
   honest_objects = objects;
   honest_names = names;
   whole = new_stands_whole kind (history (objects_part repository)).tree (history (names_part repository)).tree new;
   objects_kind = of_kind;
   names_kind = names_kind;
   branch = branch;
+  known = λ id. ap (λ ids. contains_key ids id) none ∙ ap is_some (get-empty by_id id) ∙ sym (no_object_known id);
   offered = fresh_is_offered kind;
   unpacked = new.no_other packed_place (λ e. cc);
 }
+  where
+    no_object_known : (id : Id) → contains_key (fresh kind).objects id ≡ false
+    no_object_known id = ap is_some (get-empty by_id id)

@@ -1,11 +1,11 @@
 -- The parent of a commit, and the causes that its name and its expectation tell.
 use Rattle.std.specs.declared.alloc.Global.{Global}
 use Rattle.std.specs.Prelude.{Vec, Result, IsErrAnd}
-use Rattle.std.proofs.Common.{◌≡◌, ◌≢◌, ℕ, Bool, true, false, cond, ◌&&◌, ◌||◌, List, [], ◌∷◌, ◌++◌, map, filter, refl, sym, ◌∙◌, ap, Option, Some, None, option_map, is_some, bytes_eq, codes, Err, Ok}
+use Rattle.std.proofs.Common.{◌≡◌, ◌≢◌, ℕ, Bool, true, false, cond, ◌&&◌, ◌||◌, List, [], ◌∷◌, ◌++◌, map, filter, refl, sym, ◌∙◌, ap, subst, Option, Some, None, option_map, is_some, bytes_eq, codes, Err, Ok}
 use Rattle.std.specs.List.{list_any, list_all}
 use Rattle.history_model.specs.Bytes.{Bytes, begins, is_empty, is_among}
 use Rattle.history_model.specs.Stage.{is_offered, is_put}
-use Rattle.history_model.specs.Objects.{Id}
+use Rattle.gix_hash.specs.Id.{Id, id_of}
 use Rattle.history_model.specs.Repository.{Repository, id_at, stands}
 use Rattle.history_model.specs.Words.{WordReading, ReadsAs, Unborn, Unknown, Ambiguous, word_reading, name_reading, head_word}
 use Rattle.history_model.specs.Commands.{Commit, CommitCommand, Expect, Any, New, At}
@@ -19,10 +19,9 @@ use Rattle.history_model.specs.declared.Cause.TheVariants.{UnknownWord, UnbornHe
 use Rattle.history_model.proofs.OfferedReads.{main_is_meant, commits_name_main}
 use Rattle.history_word.specs.Commands.{IsExpect}
 use Rattle.history_word.specs.declared.command.Expect.TheVariants as sent
-use Rattle.history_store.specs.Formats.{id_bytes}
 use Rattle.gix_ref_file.specs.History.{History}
 use Rattle.history_store.specs.References.{NameHolds}
-use Rattle.history_store.specs.declared.id.ObjectId.{ObjectId}
+use Rattle.gix_hash.specs.declared.object_id.ObjectId.{ObjectId}
 use Rattle.history.specs.Acts.{ReadsWord, word_cause}
 use Rattle.history.specs.CommitCauses.{first_among, name_causes, IsParent}
 use Rattle.history.specs.Stands.{Stands}
@@ -91,7 +90,7 @@ module _ (MayFail : Type 0) (r : Repository) (order : CommitCommand) (o : IsOffe
 
   -- ---- any parent
 
-  pub any_parent : (parent : Option ObjectId) → IsExpect sent.Any order.expect → option_map id_bytes parent ≡ id_at r main_name → IsParent MayFail r order (Ok parent)
+  pub any_parent : (parent : Option ObjectId) → IsExpect sent.Any order.expect → option_map id_of parent ≡ id_at r main_name → IsParent MayFail r order (Ok parent)
   unfolding causes_of
   any_parent parent sends at = (at, causes ∙ ap (λ e. causes_of r main_name e []) (any_sent order.expect sends))
 
@@ -104,8 +103,8 @@ module _ (MayFail : Type 0) (r : Repository) (order : CommitCommand) (o : IsOffe
   pub new_parent : IsExpect sent.New order.expect → None ≡ id_at r main_name → IsParent MayFail r order (Ok None)
   new_parent sends at = (at, new_causes sends None (sym at))
 
-  pub taken : (id : ObjectId) → IsExpect sent.New order.expect → Some (id_bytes id) ≡ id_at r main_name → IsParent MayFail r order (Err (Refused Taken))
-  taken id sends at = new_causes sends (Some (id_bytes id)) (sym at)
+  pub taken : (id : ObjectId) → IsExpect sent.New order.expect → Some (id_of id) ≡ id_at r main_name → IsParent MayFail r order (Err (Refused Taken))
+  taken id sends at = new_causes sends (Some (id_of id)) (sym at)
 
   -- ---- a word's commit
 
@@ -116,14 +115,14 @@ module _ (MayFail : Type 0) (r : Repository) (order : CommitCommand) (o : IsOffe
       causes ∙ ap (λ e. causes_of r main_name e []) (at_sent word order.expect sends)
       ∙ ap (λ x. cond (is_unknown x || false) (Some UnknownWord) (cond (is_unborn x || false) (Some UnbornHead) None)) e
 
-  pub at_parent : (word : Vec ℕ Global) (wanted found : ObjectId) → IsExpect (sent.At word) order.expect → word_reading r word.items ≡ ReadsAs (id_bytes wanted)
-      → Some (id_bytes found) ≡ id_at r main_name → IsParent MayFail r order (Ok (Some found))
-  at_parent word wanted found sends reads at = (at, at_causes word sends (ReadsAs (id_bytes wanted)) reads)
+  pub at_parent : (word : Vec ℕ Global) (wanted found : ObjectId) → IsExpect (sent.At word) order.expect → word_reading r word.items ≡ ReadsAs (id_of wanted)
+      → Some (id_of found) ≡ id_at r main_name → IsParent MayFail r order (Ok (Some found))
+  at_parent word wanted found sends reads at = (at, at_causes word sends (ReadsAs (id_of wanted)) reads)
 
   -- the name holds the word's commit
-  pub at_held : (word : Vec ℕ Global) (wanted : ObjectId) (found : Option ObjectId) → word_reading r word.items ≡ ReadsAs (id_bytes wanted) → option_map id_bytes found ≡ id_at r main_name
-      → option_map id_bytes found ≡ Some (id_bytes wanted)
-  at_held word wanted found reads at = at ∙ word_held word.items (id_bytes wanted) reads
+  pub at_held : (word : Vec ℕ Global) (wanted : ObjectId) (found : Option ObjectId) → word_reading r word.items ≡ ReadsAs (id_of wanted) → option_map id_of found ≡ id_at r main_name
+      → option_map id_of found ≡ Some (id_of wanted)
+  at_held word wanted found reads at = at ∙ word_held word.items (id_of wanted) reads
 
   pub at_refused : (word : Vec ℕ Global) (stopped : Stopped) → IsExpect (sent.At word) order.expect → ReadsWord MayFail r word.items (Err stopped) → IsParent MayFail r order (Err stopped)
   at_refused word (Fault fault) sends h = h
@@ -139,15 +138,15 @@ module _ (MayFail : Type 0) (r : Repository) (order : CommitCommand) (o : IsOffe
 
 module _ {F : Type 0} (IsHonest : F → Type 0) (history : F → History) (repository : own.Repository F) (r : Repository) (order : CommitCommand) (stand : Stands IsHonest history repository r) (offered : is_offered (Commit order) ≡ true) where
   -- what the file of a commit's name tells is what the one name holds
-  pub main_held : (name : Bytes) → name ≡ branch_or_name r order.name → (found : Option ObjectId) → NameHolds r.kind (history (names_part repository)).tree name found → option_map id_bytes found ≡ id_at r main_name
+  pub main_held : (name : Bytes) → name ≡ branch_or_name r order.name → (found : Option ObjectId) → NameHolds repository.names.kind (history (names_part repository)).tree name found → option_map id_of found ≡ id_at r main_name
   main_held name named found holds =
       let is = named ∙ commits_name_main r order stand.offered offered in
-      held IsHonest history repository r stand name (ap (begins (codes "refs/")) is) found holds ∙ ap (id_at r) is
+      held IsHonest history repository r stand name (ap (begins (codes "refs/")) is) found (subst (λ kind. NameHolds kind (history (names_part repository)).tree name found) stand.names_kind holds) ∙ ap (id_at r) is
 
 pub only_error : {A E : Type 0} (result : Result A E) (error : E) → IsErrAnd result (λ e. e ≡ error) → result ≡ Err error
 only_error (Ok x) error h = absurd h
 only_error (Err e) error h = ap Err h
 
-pub never_absent : {C : Type 0} (found : Option ObjectId) (id : Id) → option_map id_bytes found ≡ Some id → found ≡ None → C
+pub never_absent : {C : Type 0} (found : Option ObjectId) (id : Id) → option_map id_of found ≡ Some id → found ≡ None → C
 never_absent None id held none = absurd cc
 never_absent (Some x) id held none = absurd cc

@@ -7,7 +7,9 @@ use Rattle.std.proofs.lemmas.List.{map-append}
 use Rattle.std.proofs.lemmas.List.Folds.{list_any-append}
 use Rattle.history_model.specs.Bytes.{Bytes}
 use Rattle.history_model.specs.FileMap.{FileMap, edited_by}
-use Rattle.history_model.specs.Objects.{StoredBytes, StoredFolder, StoredCommit, digest, object_text, null_id, content_of, root, commit_content, id_of}
+use Rattle.history_model.specs.Objects.{StoredBytes, StoredFolder, StoredCommit, digest, object_text, content_of, root, commit_content}
+use Rattle.history_model.specs.Objects.{id_of as value_id}
+use Rattle.gix_hash.specs.Id.{null_id, id_of}
 use Rattle.history_model.specs.Repository as plain
 use Rattle.history_model.specs.Repository.{HasWholeNames, id_at}
 use Rattle.history_model.specs.Forms.{title, max_content}
@@ -20,14 +22,14 @@ use Rattle.history_model.specs.Offered.{IsOffered, is_flat, main_name}
 use Rattle.history_model.specs.TreeSteps.{move_entry}
 use Rattle.history_model.specs.declared.Cause.{Cause}
 use Rattle.history_model.specs.declared.Cause.TheVariants.{TooLarge}
-use Rattle.history_model.specs.declared.Kind.{Kind}
+use Rattle.gix_hash.specs.declared.kind.Kind.{Kind}
 use Rattle.history_model.proofs.OfferedReads.{commits_follow_main, commits_name_main, commits_store_flat}
 use Rattle.history_model.proofs.OfferedSteps.{first_flat}
-use Rattle.history_store.specs.Formats.{id_bytes, actor_of, entry_of}
+use Rattle.history_store.specs.Formats.{actor_of, entry_of}
 use Rattle.history_store.specs.Commits.{IsCommitOf}
 use Rattle.history_store.specs.Trees.{Folder, IsTreeOf, folder_content}
 use Rattle.history_store.specs.declared.commit.Commit as stored
-use Rattle.history_store.specs.declared.id.ObjectId.{ObjectId}
+use Rattle.gix_hash.specs.declared.object_id.ObjectId.{ObjectId}
 use Rattle.history_store.specs.declared.log_entry.LogEntry.{LogEntry}
 use Rattle.history_store.proofs.FlatTrees.{flat_content}
 use Rattle.history.specs.Acts.{IsReadingFault, Gives}
@@ -130,25 +132,25 @@ module _ (r : plain.Repository) (order : CommitCommand) (o : IsOffered r) (w : H
 
   -- ---- the commit and its move
 
-  parents_told : (parent : Option ObjectId) → map id_bytes (option_to_list parent) ≡ option_to_list (option_map id_bytes parent)
+  parents_told : (parent : Option ObjectId) → map id_of (option_to_list parent) ≡ option_to_list (option_map id_of parent)
   parents_told None = refl
   parents_told (Some id) = refl
 
-  pub parents_are : (parent : Option ObjectId) (parents : List ObjectId) → option_map id_bytes parent ≡ id_at r main_name → parents ≡ option_to_list parent → map id_bytes parents ≡ parents_of r order
-  parents_are parent parents at are = ap (map id_bytes) are ∙ parents_told parent ∙ ap option_to_list at ∙ sym (commits_follow_main r order o w offered)
+  pub parents_are : (parent : Option ObjectId) (parents : List ObjectId) → option_map id_of parent ≡ id_at r main_name → parents ≡ option_to_list parent → map id_of parents ≡ parents_of r order
+  parents_are parent parents at are = ap (map id_of) are ∙ parents_told parent ∙ ap option_to_list at ∙ sym (commits_follow_main r order o w offered)
 
-  before_told : (parent : Option ObjectId) (null : ObjectId) → id_bytes (unwrap_or parent null) ≡ unwrap_or (option_map id_bytes parent) (id_bytes null)
+  before_told : (parent : Option ObjectId) (null : ObjectId) → id_of (unwrap_or parent null) ≡ unwrap_or (option_map id_of parent) (id_of null)
   before_told None null = refl
   before_told (Some id) null = refl
 
-  pub before_is : (parent : Option ObjectId) (null : ObjectId) → option_map id_bytes parent ≡ id_at r main_name → id_bytes null ≡ null_id r.kind
-      → id_bytes (unwrap_or parent null) ≡ unwrap_or (id_at r (branch_or_name r order.name)) (null_id r.kind)
+  pub before_is : (parent : Option ObjectId) (null : ObjectId) → option_map id_of parent ≡ id_at r main_name → id_of null ≡ null_id r.kind
+      → id_of (unwrap_or parent null) ≡ unwrap_or (id_at r (branch_or_name r order.name)) (null_id r.kind)
   before_is parent null at is_null =
       before_told parent null
       ∙ (λ i. unwrap_or (at i) (is_null i)) ∙ ap (λ name. unwrap_or (id_at r name) (null_id r.kind)) (sym (commits_name_main r order o offered))
 
-  pub commit_is : (commit : stored.Commit) (kind : Kind) (tree : Bytes) → kind ≡ r.kind → id_bytes commit.tree ≡ digest kind (object_text (codes "tree") tree) → tree ≡ root r.kind (new_commit r order).files
-      → map id_bytes commit.parents.items ≡ parents_of r order → actor_of commit.author ≡ read_actor order.author → actor_of commit.committer ≡ read_actor order.committer → commit.message.items ≡ order.message
+  pub commit_is : (commit : stored.Commit) (kind : Kind) (tree : Bytes) → kind ≡ r.kind → id_of commit.tree ≡ digest kind (object_text (codes "tree") tree) → tree ≡ root r.kind (new_commit r order).files
+      → map id_of commit.parents.items ≡ parents_of r order → actor_of commit.author ≡ read_actor order.author → actor_of commit.committer ≡ read_actor order.committer → commit.message.items ≡ order.message
       → IsCommitOf r.kind commit (new_commit r order)
   commit_is commit kind tree same id is_tree parents author committer message = record {
     tree = id ∙ (λ i. digest (same i) (object_text (codes "tree") (is_tree i)));
@@ -158,9 +160,9 @@ module _ (r : plain.Repository) (order : CommitCommand) (o : IsOffered r) (w : H
     message = message;
   }
 
-  pub entry_is : (entry : LogEntry) (kind : Kind) (commit : Bytes) → kind ≡ r.kind → id_bytes entry.before ≡ unwrap_or (id_at r (branch_or_name r order.name)) (null_id r.kind)
-      → id_bytes entry.after ≡ digest kind (object_text (codes "commit") commit) → commit ≡ commit_content r.kind (new_commit r order) → actor_of entry.actor ≡ read_actor order.committer → entry.message.items ≡ title order.message
-      → entry_of entry ≡ move_entry r (branch_or_name r order.name) (id_of r.kind (StoredCommit (new_commit r order))) (read_actor order.committer) (title order.message)
+  pub entry_is : (entry : LogEntry) (kind : Kind) (commit : Bytes) → kind ≡ r.kind → id_of entry.before ≡ unwrap_or (id_at r (branch_or_name r order.name)) (null_id r.kind)
+      → id_of entry.after ≡ digest kind (object_text (codes "commit") commit) → commit ≡ commit_content r.kind (new_commit r order) → actor_of entry.actor ≡ read_actor order.committer → entry.message.items ≡ title order.message
+      → entry_of entry ≡ move_entry r (branch_or_name r order.name) (value_id r.kind (StoredCommit (new_commit r order))) (read_actor order.committer) (title order.message)
   entry_is entry kind commit same before after is_commit actor message =
       let after_is = after ∙ (λ i. digest (same i) (object_text (codes "commit") (is_commit i))) in
       λ i. record { before = before i; after = after_is i; actor = actor i; message = message i }

@@ -1,43 +1,47 @@
 -- Values are put, one after another.
-use Rattle.std.proofs.Common.{◌≡◌, ◌⊎◌, inl, inr, refl, sym, ◌∙◌, ap, subst, ℕ, ◌+◌, ◌<◌, Bool, true, false, not, ◌&&◌, ◌||◌, List, [], ◌∷◌, ◌++◌, length, take, drop, get_or, bytes_eq, arith, codes}
+use Rattle.std.proofs.Common.{◌≡◌, ◌⊎◌, inl, inr, refl, sym, ◌∙◌, ap, subst, ℕ, ◌+◌, ◌<◌, Bool, true, false, cond, not, ◌&&◌, ◌||◌, List, [], ◌∷◌, ◌++◌, length, take, drop, get_or, bytes_eq, arith, codes}
 use Rattle.std.proofs.lemmas.List.{take_more, map-append, take-append-drop}
-use Rattle.std.specs.Prelude.{IsFalse, Option, Some, None, option_map, unwrap_or, Result, Ok, Err, Vec, map}
+use Rattle.std.specs.Prelude.{IsFalse, Option, Some, None, is_some, option_map, unwrap_or, Result, Ok, Err, Vec, map}
 use Rattle.std.specs.declared.alloc.Global.{Global}
-use Rattle.std.specs.FinMap.{empty, entries, len-entries, len-empty}
+use Rattle.std.specs.FinMap.{FinMap, get, insert, contains_key, empty, entries, len-entries, len-empty}
 use Rattle.std.specs.List.{flat_map}
 use Rattle.gix_ref_file.specs.History.{History}
 use Rattle.gix_ref_file.specs.Tree.{Tree}
 use Rattle.history_model.specs.Bytes.{Bytes, by_bytes}
 use Rattle.history_model.specs.FileMap.{Content}
 use Rattle.history_model.specs.Offered.{file_entry_text}
-use Rattle.history_model.specs.Objects.{Id, Value, StoredBytes, StoredFolder, digest, root_within, object_text, value_text, content_of, root, id_of, null_id, empty_tree_id}
+use Rattle.history_model.specs.Objects.{by_id, Value, StoredBytes, StoredFolder, digest, root_within, object_text, value_text, content_of, root, id_of, empty_tree_id}
+use Rattle.gix_hash.specs.Id.{Id, null_id}
 use Rattle.history_model.specs.Objects as model
 use Rattle.history_model.specs.Meaning.{store_one, store_all, is_taken, some_taken, is_other}
 use Rattle.history_model.specs.Places.{file_at, object_place, unfinished_place}
 use Rattle.history_model.specs.TreeHalves.{Values, HoldsValues, HaveOwnIds}
 use Rattle.history_model.specs.TreeSteps.{PutsValue, is_taken_at}
 use Rattle.history_model.specs.CommitSteps.{PutsAll}
-use Rattle.history_model.specs.declared.Kind.{Kind}
+use Rattle.gix_hash.specs.declared.kind.Kind.{Kind}
 use Rattle.history_model.specs.declared.Fault.TheVariants.{Memory, File, IdTaken}
+use Rattle.gix_hash.specs.Order.{id_eq}
+use Rattle.history_model.proofs.IdLemmas.{one_id, get_with_id}
 use Rattle.history_model.proofs.TreePlaces.{text_itself, texts_apart, digest_is_id}
 use Rattle.history_model.proofs.TreePuts.{own_ids_stay, trees_tell_taken, renames_put}
 use Rattle.history_model.proofs.CommitStands.{puts_store_all}
 use Rattle.history_model.proofs.OfferedFiles.{flat_roots, empty_flat}
 use Rattle.history_model.proofs.WholeTexts.{object_same}
 use Rattle.history_store.specs.Formats.{type_word}
+use Rattle.history_store.specs.Ids.{IdSet, with_id}
 use Rattle.history_store.specs.Stores as store
 use Rattle.history_store.specs.Stores.{HoldsFile, FoldersAbove, IsTaken, IsObjectPart, is_empty_tree}
 use Rattle.history_store.specs.declared.object.ObjectKind.{ObjectKind}
 use Rattle.history_store.specs.declared.object.ObjectKind.TheVariants as kinds
 use Rattle.history_store.specs.declared.objects.PutError.{PutError}
 use Rattle.history_store.specs.declared.objects.PutError.TheVariants as errors
-use Rattle.history_store.specs.declared.id.ObjectId.{ObjectId}
+use Rattle.gix_hash.specs.declared.object_id.ObjectId.{ObjectId}
 use Rattle.history_store.proofs.ObjectParts.{values_are_objects, folders_after}
 use Rattle.history.proofs.Counts.{counts_same, counts_joined}
 use Rattle.history.specs.Acts.{CountsRise}
 use Rattle.history.specs.Face.{objects_part, KeepsAllButObjects}
 use Rattle.history.specs.Faults.{put_fault}
-use Rattle.history.specs.Halves.{objects_tree, ObjectsStand, StoresValues}
+use Rattle.history.specs.Halves.{objects_tree, ObjectsStand, KnowsIds, StoresValues}
 use Rattle.history.specs.declared.repository.Repository.{Repository}
 use Rattle.history.specs.declared.stopped.Stopped.{Stopped}
 use Rattle.history.specs.declared.stopped.Stopped.TheVariants.{Refused, Fault}
@@ -91,30 +95,30 @@ module _ (kind : Kind) (tree : Tree) (value : Value) (object : ObjectKind) (cont
   pub same_text : value_text kind value ≡ store.text_of object content
   same_text = λ i. object_text (typed i) (same i)
 
-  pub same_id : id_of kind value ≡ store.id_of kind object content
+  pub same_id : id_of kind value ≡ store.object_id kind object content
   same_id = ap (digest kind) same_text
 
-  reserved_told : store.is_reserved kind object content (store.id_of kind object content)
-      ≡ (bytes_eq (id_of kind value) (null_id kind) || (bytes_eq (id_of kind value) (empty_tree_id kind) && is_other kind (value_text kind (StoredFolder empty)) value))
+  reserved_told : store.is_reserved kind object content (store.object_id kind object content)
+      ≡ (id_eq (id_of kind value) (null_id kind) || (id_eq (id_of kind value) (empty_tree_id kind) && is_other kind (value_text kind (StoredFolder empty)) value))
   reserved_told =
       let id = sym same_id in
       let text = sym same_text in
       let no_content = sym (empty_root kind) in
       let others : not (is_empty_tree object content) ≡ is_other kind (value_text kind (StoredFolder empty)) value =
       ap not (empty_told object content ∙ (λ i. bytes_eq (object_text (codes "tree") (no_content i)) (text i))) in
-      λ i. bytes_eq (id i) (null_id kind) || (bytes_eq (id i) (empty_tree_id kind) && others i)
+      λ i. id_eq (id i) (null_id kind) || (id_eq (id i) (empty_tree_id kind) && others i)
 
   abbrev differs : Option Bytes → Bool
   differs file = unwrap_or (option_map (λ text. not (bytes_eq (value_text kind value) text)) file) false
 
-  at_place : file_at tree (object_place (id_of kind value)) ≡ file_at tree (object_place (store.id_of kind object content))
+  at_place : file_at tree (object_place (id_of kind value)) ≡ file_at tree (object_place (store.object_id kind object content))
   at_place = ap (λ id. file_at tree (object_place id)) same_id
 
   -- the object's id is taken exactly where the value's is
   pub taken_told : IsTaken kind object content tree → is_taken_at kind tree value ≡ true
   taken_told (inl reserved) = or_first _ (differs (file_at tree (object_place (id_of kind value)))) (sym reserved_told ∙ reserved)
   taken_told (inr (other, stands, unlike)) =
-      or_second (bytes_eq (id_of kind value) (null_id kind) || (bytes_eq (id_of kind value) (empty_tree_id kind) && is_other kind (value_text kind (StoredFolder empty)) value)) _
+      or_second (id_eq (id_of kind value) (null_id kind) || (id_eq (id_of kind value) (empty_tree_id kind) && is_other kind (value_text kind (StoredFolder empty)) value)) _
       (ap differs (at_place ∙ stands) ∙ ap not (texts_apart (value_text kind value) other (λ one. unlike (sym one ∙ same_text))))
 
   told_taken : is_taken_at kind tree value ≡ true → IsTaken kind object content tree
@@ -124,7 +128,7 @@ module _ (kind : Kind) (tree : Tree) (value : Value) (object : ObjectKind) (cont
       by_file None is differ = cc
       by_file (Some other) is differ = inr (other, sym at_place ∙ is, λ one. absurd (cc (sym differ ∙ ap (λ t. not (bytes_eq (value_text kind value) t)) (one ∙ sym same_text) ∙ ap not (text_itself (value_text kind value)))))
 
-      by_half : ((bytes_eq (id_of kind value) (null_id kind) || (bytes_eq (id_of kind value) (empty_tree_id kind) && is_other kind (value_text kind (StoredFolder empty)) value)) ≡ true)
+      by_half : ((id_eq (id_of kind value) (null_id kind) || (id_eq (id_of kind value) (empty_tree_id kind) && is_other kind (value_text kind (StoredFolder empty)) value)) ≡ true)
           ⊎ (differs (file_at tree (object_place (id_of kind value))) ≡ true) → IsTaken kind object content tree
       by_half (inl reserved) = inl (reserved_told ∙ reserved)
       by_half (inr differ) = by_file (file_at tree (object_place (id_of kind value))) refl differ
@@ -137,18 +141,18 @@ module _ (kind : Kind) (tree : Tree) (value : Value) (object : ObjectKind) (cont
 module _ (kind : Kind) (old new : Tree) (values : Values) (value : Value) (object : ObjectKind) (content : Bytes)
     (typed : model.type_word value ≡ type_word object) (same : content_of kind value ≡ content) (holds : HoldsValues kind old values) (own : HaveOwnIds kind values) where
   -- the contract of a put, in the words of the store
-  pub value_put : HoldsFile (object_place (store.id_of kind object content)) (store.text_of object content) old new
-      → FoldersAbove (object_place (store.id_of kind object content)) old new
+  pub value_put : HoldsFile (object_place (store.object_id kind object content)) (store.text_of object content) old new
+      → FoldersAbove (object_place (store.object_id kind object content)) old new
       → (file_at new unfinished_place ≡ None) ⊎ (new ≡ old)
       → PutsValue kind value old new ⊎ ((file_at old (object_place (id_of kind value)) ≡ Some (value_text kind value)) × (new ≡ old))
   value_put file folders (inl gone) = inl (renames_put kind old new values value own holds (record {
     here = ap (λ id. file_at new (object_place id)) (same_id kind old value object content typed same) ∙ file.here ∙ ap Some (sym (same_text kind old value object content typed same));
     gone = gone;
     others = λ path apart other. file.others path apart (λ one. other (one ∙ ap object_place (sym (same_id kind old value object content typed same))));
-    folders = folders_after old new (object_place (store.id_of kind object content)) (values_are_objects kind old values holds own) (kind, store.id_of kind object content, digest_is_id kind (store.text_of object content), refl) folders;
+    folders = folders_after old new (object_place (store.object_id kind object content)) (values_are_objects kind old values holds own) (kind, store.object_id kind object content, digest_is_id kind (store.text_of object content), refl) folders;
   }))
   value_put file folders (inr unchanged) = inr (
-    ap (λ id. file_at old (object_place id)) (same_id kind old value object content typed same) ∙ ap (λ tree. file_at tree (object_place (store.id_of kind object content))) (sym unchanged)
+    ap (λ id. file_at old (object_place id)) (same_id kind old value object content typed same) ∙ ap (λ tree. file_at tree (object_place (store.object_id kind object content))) (sym unchanged)
         ∙ file.here ∙ ap Some (sym (same_text kind old value object content typed same)),
     unchanged,
   )
@@ -158,6 +162,35 @@ module _ (kind : Kind) (old new : Tree) (values : Values) (value : Value) (objec
 
   pub value_taken : IsTaken kind object content old → some_taken kind values (value ∷ []) ≡ true
   value_taken taken = or_first (is_taken kind values value) false (trees_tell_taken kind old values value own holds ∙ taken_told kind old value object content typed same taken)
+
+-- ---- the ids that are known
+
+has_with : {X : Type 0} (m : FinMap by_id X) (id : Id) (x : X) (q : Id) → contains_key (insert m id x) q ≡ (id_eq q id || contains_key m q)
+has_with {X} m id x q = ap is_some (get_with_id m id x q) ∙ by_test (id_eq q id) (get m q)
+  where
+    by_test : (b : Bool) (o : Option X) → is_some (cond b (Some x) o) ≡ (b || is_some o)
+    by_test true o = refl
+    by_test false o = refl
+
+has_already : {X : Type 0} (m : FinMap by_id X) (id q : Id) → contains_key m id ≡ true → contains_key m q ≡ (id_eq q id || contains_key m q)
+has_already m id q has = by_test (id_eq q id) refl
+  where
+    by_test : (b : Bool) → id_eq q id ≡ b → contains_key m q ≡ (b || contains_key m q)
+    by_test true same = ap (contains_key m) (one_id q id same) ∙ has
+    by_test false other = refl
+
+has_stored : (kind : Kind) (values : Values) (value : Value) (q : Id) → contains_key (store_one kind values value) q ≡ (id_eq q (id_of kind value) || contains_key values q)
+has_stored kind values value q = by_test (contains_key values (id_of kind value)) refl
+  where
+    by_test : (b : Bool) → contains_key values (id_of kind value) ≡ b → contains_key (cond b values (insert values (id_of kind value) value)) q ≡ (id_eq q (id_of kind value) || contains_key values q)
+    by_test true has = has_already values (id_of kind value) q has
+    by_test false new = has_with values (id_of kind value) value q
+
+-- where the id of a value that is put becomes known, the ids that are known are again those of the values
+pub value_known : (kind : Kind) (old new : IdSet) (values : Values) (value : Value) (id : Id) → id_of kind value ≡ id → new ≡ with_id old id
+    → ((q : Id) → contains_key old q ≡ contains_key values q) → (q : Id) → contains_key new q ≡ contains_key (store_one kind values value) q
+value_known kind old new values value id same is known q =
+    ap (λ (ids : IdSet). contains_key ids q) is ∙ has_with old id tt q ∙ (λ i. id_eq q (sym same i) || known q i) ∙ sym (has_stored kind values value q)
 
 -- a put that stopped
 stopped_put : (C : Type 0) (kind : Kind) (values : Values) (more : List Value) (old new : Tree) (error : PutError) → (error ≡ errors.File → C)
@@ -177,6 +210,10 @@ some_taken-append kind values [] b = refl
 some_taken-append kind values (value ∷ a) b =
     ap (λ rest. is_taken kind values value || rest) (some_taken-append kind (store_one kind values value) a b)
     ∙ or_regrouped (is_taken kind values value) (some_taken kind (store_one kind values value) a) (some_taken kind (store_all kind (store_one kind values value) a) b)
+
+pub store_all-append : (kind : Kind) (values : Values) (a b : List Value) → store_all kind values (a ++ b) ≡ store_all kind (store_all kind values a) b
+store_all-append kind values [] b = refl
+store_all-append kind values (value ∷ a) b = store_all-append kind (store_one kind values value) a b
 
 puts_joined : (kind : Kind) (a b : List Value) (old mid new : Tree) → PutsAll kind a old mid → PutsAll kind b mid new → PutsAll kind (a ++ b) old new
 puts_joined kind [] b old mid new none puts = subst (λ tree. PutsAll kind b tree new) none puts
@@ -227,14 +264,15 @@ stores_stopped C D kind values a b old mid new (Fault IdTaken) keep h = some_tak
 -- ---- steps over repositories
 
 module _ {F : Type 0} (IsHonest : F → Type 0) (history : F → History) where
-  -- Honest files stay so, their kind stays, and where no id was taken these values were put.
+  -- Honest files stay so, their kind stays, and where no id was taken these values were put; their ids are known.
   pub record HasStored (more : List Value) (old new : Repository F) : Type 0 where
     pub honest : IsHonest (objects_part old) → IsHonest (objects_part new)
     pub kind : new.objects.kind ≡ old.objects.kind
     pub stores : (values : Values) → ObjectsStand IsHonest history old values → IsPut old.objects.kind values more (objects_tree history old) (objects_tree history new)
+    pub known : (values : Values) → KnowsIds old values → KnowsIds new (store_all old.objects.kind values more)
 
   pub stored_none : (old : Repository F) → HasStored [] old old
-  stored_none old = record { honest = λ honest. honest; kind = refl; stores = λ values stand. (refl, refl) }
+  stored_none old = record { honest = λ honest. honest; kind = refl; stores = λ values stand. (refl, refl); known = λ values known. known }
 
   stands_mid : (a : List Value) (old mid : Repository F) → HasStored a old mid → (values : Values) → ObjectsStand IsHonest history old values → ObjectsStand IsHonest history mid (store_all old.objects.kind values a)
   stands_mid a old mid first values stand = stand_after IsHonest history old mid values a stand (first.honest stand.honest) first.kind (first.stores values stand)
@@ -255,6 +293,9 @@ module _ {F : Type 0} (IsHonest : F → Type 0) (history : F → History) where
     stores = λ values stand. put_joined old.objects.kind values a b (objects_tree history old) (objects_tree history mid) (objects_tree history new) (first.stores values stand)
         (subst (λ kind. IsPut kind (store_all old.objects.kind values a) b (objects_tree history mid) (objects_tree history new)) first.kind
         (second.stores (store_all old.objects.kind values a) (stands_mid a old mid first values stand)));
+    known = λ values known. subst (KnowsIds new)
+        (ap (λ kind. store_all kind (store_all old.objects.kind values a) b) first.kind ∙ sym (store_all-append old.objects.kind values a b))
+        (second.known (store_all old.objects.kind values a) (first.known values known));
   }
 
 -- ---- contents

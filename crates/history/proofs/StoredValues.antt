@@ -8,12 +8,13 @@ use Rattle.gix_ref_file.specs.declared.files.FileError.TheVariants.{Failed, Memo
 use Rattle.history_model.specs.Bytes.{Bytes, has_byte}
 use Rattle.history_model.specs.FileMap.{FileMap, IsFileMap}
 use Rattle.history_model.specs.Forms.{is_commit_form}
-use Rattle.history_model.specs.Objects.{Id, CommitValue, Value, StoredCommit, StoredFolder, type_word, content_of, value_text, object_text}
+use Rattle.history_model.specs.Objects.{CommitValue, Value, StoredCommit, StoredFolder, type_word, content_of, value_text, object_text}
+use Rattle.gix_hash.specs.Id.{Id}
 use Rattle.history_model.specs.Offered.{is_flat}
 use Rattle.history_model.specs.Places.{file_at, object_place}
 use Rattle.history_model.specs.Repository as plain
 use Rattle.history_model.specs.TreeHalves.{HoldsValues, HaveOwnIds}
-use Rattle.history_model.specs.declared.Kind.{Kind}
+use Rattle.gix_hash.specs.declared.kind.Kind.{Kind}
 use Rattle.history_model.proofs.TreePlaces.{values_have_ids}
 use Rattle.history_model.proofs.TreePuts.{halves_stand, places_tell_values}
 use Rattle.history_model.proofs.WholeTexts.{object_same}

@@ -1,6 +1,6 @@
 -- The objects of a planned commit are put: the contents, the tree, the commit.
 use Rattle.std.proofs.Common.{◌≡◌, refl, sym, ◌∙◌, ap, subst, List, [], ◌∷◌, ◌++◌, map, append_assoc, None}
-use Rattle.std.specs.Prelude.{Result, Err}
+use Rattle.std.specs.Prelude.{Result, Err, OnOk}
 use Rattle.std.specs.List.{flat_map}
 use Rattle.gix_ref_file.specs.History.{History}
 use Rattle.gix_ref_file.specs.Tree.{Tree}
@@ -9,15 +9,15 @@ use Rattle.history_model.specs.Bytes.{Bytes}
 use Rattle.history_model.specs.Repository as plain
 use Rattle.history_model.specs.Commands.{CommitCommand, Commit, EditLine, PutLine, RemoveLine, RemoveFileLine}
 use Rattle.history_model.specs.CommandParts.{put_contents}
-use Rattle.history_model.specs.Meaning.{new_commit, stored_by, read_edit, put_bytes}
+use Rattle.history_model.specs.Meaning.{new_commit, stored_by, store_all, read_edit, put_bytes}
 use Rattle.history_model.specs.Causes.{first_cause}
 use Rattle.history_model.specs.Offered.{IsOffered}
 use Rattle.history_model.specs.TreeHalves.{Values}
-use Rattle.history_model.specs.declared.Kind.{Kind}
+use Rattle.gix_hash.specs.declared.kind.Kind.{Kind}
 use Rattle.history_model.specs.declared.Fault.TheVariants.{Memory, File, IdTaken}
 use Rattle.history_model.proofs.OfferedReads.{commits_store_flat}
 use Rattle.history_model.proofs.OfferedSteps.{no_bad_path}
-use Rattle.history.specs.Halves.{objects_tree, ObjectsStand, StoresValues}
+use Rattle.history.specs.Halves.{objects_tree, ObjectsStand, KnowsIds, StoresValues}
 use Rattle.history.specs.Plans.{IsPlan, StoresObjects}
 use Rattle.history.specs.Stands.{Stands}
 use Rattle.history.specs.declared.planning.Moves.{Moves}
@@ -26,7 +26,7 @@ use Rattle.history.specs.declared.repository.Repository.{Repository}
 use Rattle.history.specs.declared.stopped.Stopped.{Stopped}
 use Rattle.history.specs.declared.stopped.Stopped.TheVariants.{Refused, Fault}
 use Rattle.history.proofs.Commits.{objects_stand}
-use Rattle.history.proofs.Puts.{blob_value, HasStored, stored_then, stored_joined, stores_stopped}
+use Rattle.history.proofs.Puts.{blob_value, HasStored, stored_then, stored_joined, stores_stopped, store_all-append}
 
 pub bytes_put : (r : plain.Repository) (edits : List EditLine) → flat_map put_bytes (map (read_edit r) edits) ≡ map StoredBytes (flat_map put_contents edits)
 bytes_put r [] = refl
@@ -100,6 +100,19 @@ module _ (r : plain.Repository) (order : CommitCommand) (plan : Plan) (offered :
       all_stored C D last result keep second then =
           of_all D (objects_tree history last) result
           (stored_then IsHonest history C D (contents ++ folder) commit old new last result keep (stored_joined IsHonest history contents folder old mid new first second) then r.objects stand)
+
+      -- and then all their ids are known
+      pub all_known : (last : Repository F) (result : Result (Unit {0}) Stopped) → HasStored IsHonest history folder mid new
+          → ((values : Values) → KnowsIds new values → OnOk result (KnowsIds last (store_all new.objects.kind values commit)))
+          → OnOk result (KnowsIds last (store_all r.kind r.objects (stored_by r (Commit order))))
+      all_known last result second then =
+          let both = stored_joined IsHonest history contents folder old mid new first second in
+          let kind : new.objects.kind ≡ r.kind = both.kind ∙ h.objects_kind in
+          subst (λ values. OnOk result (KnowsIds last values))
+          ((λ i. store_all (kind i) (store_all (h.objects_kind i) r.objects (contents ++ folder)) commit)
+          ∙ sym (store_all-append r.kind r.objects (contents ++ folder) commit)
+          ∙ ap (store_all r.kind r.objects) in_parts)
+          (then (store_all old.objects.kind r.objects (contents ++ folder)) (both.known r.objects h.known))
 
 -- Where no cause holds and the puts stop, so do all.
 pub objects_stopped : (C : Type 0) (r : plain.Repository) (order : CommitCommand) (old new : Tree) (result : Result (Unit {0}) Stopped) (ends : Result Moves Stopped) (stopped : Stopped) → result ≡ Err stopped → ends ≡ Err stopped

@@ -7,14 +7,14 @@ use Rattle.history_model.specs.Forms.{is_private}
 use Rattle.history_model.specs.Repository.{Repository, Reference, id_at, stands}
 use Rattle.history_model.specs.Words.{ReadsAs, Unknown, word_reading, name_reading, id_reading, candidates, head_word}
 use Rattle.gix_ref_file.specs.History.{History}
-use Rattle.history_store.specs.Formats.{id_bytes}
 use Rattle.history_store.specs.References.{NameHolds}
-use Rattle.history_store.specs.declared.id.ObjectId.{ObjectId}
+use Rattle.gix_hash.specs.declared.object_id.ObjectId.{ObjectId}
 use Rattle.history.specs.Stands.{Stands}
 use Rattle.history.specs.Face.{names_part}
 use Rattle.history.specs.declared.repository.Repository as own
 use Rattle.history.proofs.FieldLemmas.{both_true}
 use Rattle.history.proofs.NameReads.{held, branch_is_name}
+use Rattle.gix_hash.specs.Id.{Id, id_of}
 
 -- what stands before and behind a word
 abbrev pub Ends : Type 0
@@ -95,14 +95,14 @@ module _ (r : Repository) (word : Bytes) where
   pub reads_branch : bytes_eq word head_word ≡ true → word_reading r word ≡ name_reading (id_at r r.branch)
   reads_branch is = ap (λ b. cond b (name_reading (id_at r r.branch)) (unwrap_or (option_map (λ name. name_reading (id_at r name)) (find (stands r) (candidates word))) (id_reading r word))) is
 
-  pub found_reads : bytes_eq word head_word ≡ false → (name id : Bytes) → first_meant r word ≡ Some name → id_at r name ≡ Some id → ReadsAs id ≡ word_reading r word
+  pub found_reads : bytes_eq word head_word ≡ false → (name : Bytes) (id : Id) → first_meant r word ≡ Some name → id_at r name ≡ Some id → ReadsAs id ≡ word_reading r word
   found_reads other name id e at = sym (reads_found other (Some name) e ∙ ap name_reading at)
 
   pub none_reads : bytes_eq word head_word ≡ false → (items : List Ends) (i : ℕ) → length items ≤ i → first_meant r word ≡ first_left r word (drop i items) → Unknown ≡ word_reading r word
   none_reads other items i past e = sym (reads_found other None (e ∙ ap (first_left r word) (drop_all i items past) ∙ none_left))
 
 -- a name that holds an id stands, and one that holds none doesn't
-pub stands_so : (r : Repository) (name : Bytes) (held : Option Bytes) → id_at r name ≡ held → stands r name ≡ is_some held
+pub stands_so : (r : Repository) (name : Bytes) (held : Option Id) → id_at r name ≡ held → stands r name ≡ is_some held
 stands_so r name held e = by_ref (get r.names name) ∙ ap is_some e
   where
     by_ref : (o : Option Reference) → is_some o ≡ is_some (option_map (λ (ref : Reference). ref.id) o)
@@ -112,14 +112,17 @@ stands_so r name held e = by_ref (get r.names name) ∙ ap is_some e
 -- ---- a repository with its files
 
 module _ {F : Type 0} (IsHonest : F → Type 0) (history : F → History) (repository : own.Repository F) (r : Repository) (stand : Stands IsHonest history repository r) where
+  of_one_kind : (place : Bytes) (found : Option ObjectId) → NameHolds repository.names.kind (history (names_part repository)).tree place found → NameHolds r.kind (history (names_part repository)).tree place found
+  of_one_kind place found holds = subst (λ kind. NameHolds kind (history (names_part repository)).tree place found) stand.names_kind holds
+
   -- what the file of a candidate tells is what the candidate holds
-  pub candidate_held : (place name : Bytes) → place ≡ name → may_mean name ≡ true → (found : Option ObjectId) → NameHolds r.kind (history (names_part repository)).tree place found → id_at r name ≡ option_map id_bytes found
+  pub candidate_held : (place name : Bytes) → place ≡ name → may_mean name ≡ true → (found : Option ObjectId) → NameHolds repository.names.kind (history (names_part repository)).tree place found → id_at r name ≡ option_map id_of found
   candidate_held place name same e found holds =
-      sym (held IsHonest history repository r stand name (both_true (begins (codes "refs/") name) (not (is_private name)) e).0 found (subst (λ p. NameHolds r.kind (history (names_part repository)).tree p found) same holds))
+      sym (held IsHonest history repository r stand name (both_true (begins (codes "refs/") name) (not (is_private name)) e).0 found (subst (λ p. NameHolds r.kind (history (names_part repository)).tree p found) same (of_one_kind place found holds)))
 
   -- HEAD reads as what its branch's file tells
-  pub branch_reads : (word place : Bytes) → bytes_eq word head_word ≡ true → place ≡ repository.branch.items → (found : Option ObjectId) → NameHolds r.kind (history (names_part repository)).tree place found
-      → name_reading (option_map id_bytes found) ≡ word_reading r word
+  pub branch_reads : (word place : Bytes) → bytes_eq word head_word ≡ true → place ≡ repository.branch.items → (found : Option ObjectId) → NameHolds repository.names.kind (history (names_part repository)).tree place found
+      → name_reading (option_map id_of found) ≡ word_reading r word
   branch_reads word place is same found holds =
-      ap name_reading (held IsHonest history repository r stand place (ap (begins (codes "refs/")) same ∙ branch_is_name IsHonest history repository r stand) found holds)
+      ap name_reading (held IsHonest history repository r stand place (ap (begins (codes "refs/")) same ∙ branch_is_name IsHonest history repository r stand) found (of_one_kind place found holds))
       ∙ ap (λ n. name_reading (id_at r n)) (same ∙ stand.branch) ∙ sym (reads_branch r word is)

@@ -15,14 +15,14 @@ use Rattle.history_model.specs.Steps.{Step, Accepts, goes_on}
 use Rattle.history_model.specs.declared.Cause.{Cause}
 use Rattle.history_model.specs.declared.Cause.TheVariants.{UnbornHead, UnknownWord, AmbiguousWord}
 use Rattle.history_model.specs.declared.Fault.TheVariants.{Memory, File, IdTaken}
-use Rattle.history_store.specs.Formats.{id_bytes}
-use Rattle.history_store.specs.declared.id.ObjectId.{ObjectId}
+use Rattle.gix_hash.specs.declared.object_id.ObjectId.{ObjectId}
 use Rattle.history.specs.Face.{objects_part, names_part}
 use Rattle.history.specs.Replies.{text_of}
 use Rattle.history.specs.declared.repository.Repository.{Repository}
 use Rattle.history.specs.declared.reply.Reply.{Reply}
 use Rattle.history.specs.declared.stopped.Stopped.{Stopped}
 use Rattle.history.specs.declared.stopped.Stopped.TheVariants.{Refused, Fault}
+use Rattle.gix_hash.specs.Id.{id_of}
 
 -- ---- faults
 
@@ -59,7 +59,7 @@ word_cause Ambiguous = Some AmbiguousWord
 
 -- the word reads as this id, or as none, for this cause
 abbrev pub ReadsWord : Type 0 → plain.Repository → Bytes → Result ObjectId Stopped → Type 0
-ReadsWord MayFail r word (Ok id) = word_reading r word ≡ ReadsAs (id_bytes id)
+ReadsWord MayFail r word (Ok id) = word_reading r word ≡ ReadsAs (id_of id)
 ReadsWord MayFail r word (Err (Refused cause)) = word_cause (word_reading r word) ≡ Some cause
 ReadsWord MayFail r word (Err (Fault fault)) = IsReadingFault MayFail (Fault fault)
 

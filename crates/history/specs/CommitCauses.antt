@@ -11,13 +11,13 @@ use Rattle.history_model.specs.Causes.{holds}
 use Rattle.history_model.specs.Offered.{main_name}
 use Rattle.history_model.specs.declared.Cause.{Cause}
 use Rattle.history_model.specs.declared.Cause.TheVariants.{UnknownWord, UnbornHead, Taken, BadPath, NoSuchPath, BadActor, BadTime, BadMessage, TooLarge}
-use Rattle.history_store.specs.Formats.{id_bytes}
-use Rattle.history_store.specs.declared.id.ObjectId.{ObjectId}
+use Rattle.gix_hash.specs.declared.object_id.ObjectId.{ObjectId}
 use Rattle.history.specs.Acts.{IsReadingFault}
 use Rattle.history.specs.declared.actors.Time.{Time}
 use Rattle.history.specs.declared.causes.Times.{Times}
 use Rattle.history.specs.declared.stopped.Stopped.{Stopped}
 use Rattle.history.specs.declared.stopped.Stopped.TheVariants.{Refused, Fault}
+use Rattle.gix_hash.specs.Id.{id_of}
 
 -- the first of these causes that holds
 abbrev pub first_among : List Cause → plain.Repository → Command → Option Cause
@@ -33,7 +33,7 @@ form_causes = BadPath ∷ NoSuchPath ∷ BadActor ∷ BadTime ∷ BadMessage ∷
 
 -- The parent is what the one name holds, where that is as expected; else the first cause is told, or a fault was met.
 abbrev pub IsParent : Type 0 → plain.Repository → CommitCommand → Result (Option ObjectId) Stopped → Type 0
-IsParent MayFail r order (Ok parent) = (option_map id_bytes parent ≡ id_at r main_name) × (first_among name_causes r (Commit order) ≡ None)
+IsParent MayFail r order (Ok parent) = (option_map id_of parent ≡ id_at r main_name) × (first_among name_causes r (Commit order) ≡ None)
 IsParent MayFail r order (Err (Refused cause)) = first_among name_causes r (Commit order) ≡ Some cause
 IsParent MayFail r order (Err (Fault fault)) = IsReadingFault MayFail (Fault fault)
 

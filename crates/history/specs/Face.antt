@@ -1,5 +1,6 @@
 -- What callers see of a repository.
 use Rattle.std.specs.Prelude.{◌≡◌, Bool}
+use Rattle.history_store.specs.Ids.{IdSet}
 use Rattle.history.specs.declared.repository.Repository.{Repository}
 
 -- the files of the part that holds the objects
@@ -9,6 +10,10 @@ objects_part repository = repository.objects.files
 -- the files of the part that holds HEAD, the names and their logs
 abbrev pub names_part : {F : Type 0} → Repository F → F
 names_part repository = repository.names.files
+
+-- the ids that are known to be stored
+abbrev pub known_ids : {F : Type 0} → Repository F → IdSet
+known_ids repository = repository.objects.ids
 
 -- whether a command that changes files met a fault
 abbrev pub has_failed : {F : Type 0} → Repository F → Bool

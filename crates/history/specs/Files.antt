@@ -10,7 +10,7 @@ use Rattle.history_model.specs.CommandParts.{edit_paths, put_contents}
 use Rattle.history_model.specs.Meaning.{first_files, read_edit}
 use Rattle.history_model.specs.Causes.{is_bad_path}
 use Rattle.history_model.specs.Offered.{is_flat, main_name}
-use Rattle.history_model.specs.declared.Kind.{Kind}
+use Rattle.gix_hash.specs.declared.kind.Kind.{Kind}
 use Rattle.history_store.specs.Trees.{Folder, IsTreeOf}
 use Rattle.history.specs.CommitCauses.{is_long}
 

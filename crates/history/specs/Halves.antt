@@ -10,9 +10,11 @@ use Rattle.history_model.specs.Offered.{IsOffered}
 use Rattle.history_model.specs.Places.{file_at, packed_place}
 use Rattle.history_model.specs.TreeHalves.{Values, HoldsValues, HoldsNames, HaveOwnIds}
 use Rattle.history_model.specs.CommitSteps.{PutsAll, MovesToCommit}
-use Rattle.history_model.specs.declared.Kind.{Kind}
+use Rattle.gix_hash.specs.declared.kind.Kind.{Kind}
 use Rattle.history_model.specs.declared.Fault.TheVariants.{Memory, File, IdTaken}
-use Rattle.history.specs.Face.{objects_part, names_part}
+use Rattle.std.specs.FinMap.{contains_key}
+use Rattle.gix_hash.specs.Id.{Id}
+use Rattle.history.specs.Face.{objects_part, names_part, known_ids}
 use Rattle.history.specs.declared.repository.Repository.{Repository}
 use Rattle.history.specs.declared.stopped.Stopped.{Stopped}
 use Rattle.history.specs.declared.stopped.Stopped.TheVariants.{Refused, Fault}
@@ -29,6 +31,10 @@ pub record ObjectsStand {F : Type 0} (IsHonest : F → Type 0) (history : F → 
   pub honest : IsHonest (objects_part repository)
   pub holds : HoldsValues repository.objects.kind (objects_tree history repository) values
   pub own_ids : HaveOwnIds repository.objects.kind values
+
+-- The ids that are known are those of these values.
+abbrev pub KnowsIds : {F : Type 0} → Repository F → Values → Type 0
+KnowsIds repository values = (id : Id) → contains_key (known_ids repository) id ≡ contains_key values id
 
 -- The names part is honest and holds the names of this repository, and no packed ones.
 pub record NamesStand {F : Type 0} (IsHonest : F → Type 0) (history : F → History) (repository : Repository F) (r : plain.Repository) : Type 0 where

@@ -6,7 +6,9 @@ use Rattle.history_model.specs.Places.{Pair, file_at, packed_place}
 use Rattle.history_model.specs.StandsFor.{StandsWhole}
 use Rattle.history_model.specs.Offered.{IsOffered}
 use Rattle.history.specs.declared.repository.Repository.{Repository}
-use Rattle.history.specs.Face.{objects_part, names_part}
+use Rattle.std.specs.FinMap.{contains_key}
+use Rattle.gix_hash.specs.Id.{Id}
+use Rattle.history.specs.Face.{objects_part, names_part, known_ids}
 
 -- the two trees that stand
 abbrev pub pair_of : {F : Type 0} → (F → History) → Repository F → Pair
@@ -21,6 +23,8 @@ pub record Stands {F : Type 0} (IsHonest : F → Type 0) (history : F → Histor
   pub objects_kind : repository.objects.kind ≡ r.kind
   pub names_kind : repository.names.kind ≡ r.kind
   pub branch : repository.branch.items ≡ r.branch
+  -- the ids that are known are those of what is stored
+  pub known : (id : Id) → contains_key (known_ids repository) id ≡ contains_key r.objects id
   -- what the commands of this stage leave: they pack no names
   pub offered : IsOffered r
   pub unpacked : file_at (pair_of history repository).names packed_place ≡ None

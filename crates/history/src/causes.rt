@@ -18,9 +18,9 @@ use crate::fields::{is_bad_path, is_too_long, kept};
 use crate::repository::Repository;
 use crate::stopped::Stopped;
 use crate::words::HEAD;
+use gix_hash::ObjectId;
 use gix_ref_file::Files;
 use history_model::Cause;
-use history_store::ObjectId;
 use history_word::{Commit, Edit, Expect};
 use std::alloc::{AllocError, Global};
 

@@ -1,13 +1,13 @@
 //! The command `commit`: the objects that it stores, and the name that it moves.
 
-ghost use Rattle.std.specs.Prelude.{◌≡◌, ◌∷◌, [], map, None, IfErr, IsTrue};
+ghost use Rattle.std.specs.Prelude.{◌≡◌, ◌∷◌, [], map, None, IfErr, OnOk, IsTrue};
 ghost use Rattle.history_model.specs.Objects.{Value, StoredBytes, content_of};
 ghost use Rattle.history_model.specs.Objects as model;
 ghost use Rattle.history_model.specs.Repository as plain;
 ghost use Rattle.history_model.specs.Commands as orders;
 ghost use Rattle.history_model.specs.Commands.{Commit as CommitOf};
 ghost use Rattle.history_model.specs.Causes.{first_cause};
-ghost use Rattle.history_model.specs.Meaning.{stored_by};
+ghost use Rattle.history_model.specs.Meaning.{store_one, store_all, stored_by};
 ghost use Rattle.history_model.specs.Stage.{is_offered};
 ghost use Rattle.history_model.specs.TreeHalves.{Values};
 ghost use Rattle.history_word.specs.Commands.{IsCommit};
@@ -15,7 +15,7 @@ ghost use Rattle.history_store.specs.Formats.{type_word};
 ghost use Rattle.history.specs.Acts.{Acts, CountsRise, HasFailedCall};
 ghost use Rattle.history.specs.Face.{has_failed, objects_part, names_part, KeepsAllButObjects, KeepsAllButNames};
 ghost use Rattle.history.specs.Faults.{IsRefusal, IsFault};
-ghost use Rattle.history.specs.Halves.{objects_tree, names_tree, ObjectsStand, NamesStand, StoresValues, MovesNames};
+ghost use Rattle.history.specs.Halves.{objects_tree, names_tree, ObjectsStand, NamesStand, KnowsIds, StoresValues, MovesNames};
 ghost use Rattle.history.specs.Plans.{IsPlan, IsMove, StoresObjects};
 ghost use Rattle.history.specs.Stands.{Stands};
 
@@ -23,8 +23,9 @@ use crate::planning::{Moves, Plan};
 use crate::reply::line;
 use crate::repository::Repository;
 use crate::stopped::Stopped;
+use gix_hash::Kind;
 use gix_ref_file::Files;
-use history_store::ObjectKind;
+use history_store::{ObjectKind, hex_digits};
 use history_word::Commit as CommitCommand;
 use std::alloc::Global;
 
@@ -38,6 +39,8 @@ impl<F: Files> Repository<F> {
         ensures fault { IfErr result IsFault }
         ensures stores { (values : Values) (value : Value) → ObjectsStand F.is_honest F.history self.old values → model.type_word value ≡ type_word object → content_of self.old.objects.kind value ≡ content.now
             → StoresValues (HasFailedCall F.failures F.reading_may_fail self.old self.new) self.old.objects.kind values (value ∷ []) (objects_tree F.history self.old) (objects_tree F.history self.new) result }
+        ensures known { (values : Values) (value : Value) → KnowsIds self.old values → model.type_word value ≡ type_word object → content_of self.old.objects.kind value ≡ content.now
+            → OnOk result (KnowsIds self.new (store_one self.old.objects.kind values value)) }
     {
         self.objects.put(alloc, object, content)?;
         Ok(())
@@ -52,6 +55,8 @@ impl<F: Files> Repository<F> {
         ensures fault { IfErr result IsFault }
         ensures stores { (values : Values) → ObjectsStand F.is_honest F.history self.old values
             → StoresValues (HasFailedCall F.failures F.reading_may_fail self.old self.new) self.old.objects.kind values (map (λ blob. StoredBytes blob.items) blobs.now) (objects_tree F.history self.old) (objects_tree F.history self.new) result }
+        ensures known { (values : Values) → KnowsIds self.old values
+            → OnOk result (KnowsIds self.new (store_all self.old.objects.kind values (map (λ blob. StoredBytes blob.items) blobs.now))) }
     {
         for blob in blobs {
             self.put(alloc, ObjectKind::Blob, blob)?;
@@ -68,6 +73,8 @@ impl<F: Files> Repository<F> {
         ensures fault { IfErr result IsFault }
         ensures stores { (r : plain.Repository) (order : orders.CommitCommand) → Stands F.is_honest F.history self.old r → first_cause r (CommitOf order) ≡ None → IsPlan r order plan.now
             → StoresValues (HasFailedCall F.failures F.reading_may_fail self.old self.new) r.kind r.objects (stored_by r (CommitOf order)) (objects_tree F.history self.old) (objects_tree F.history self.new) result }
+        ensures known { (r : plain.Repository) (order : orders.CommitCommand) → Stands F.is_honest F.history self.old r → first_cause r (CommitOf order) ≡ None → IsPlan r order plan.now
+            → OnOk result (KnowsIds self.new (store_all r.kind r.objects (stored_by r (CommitOf order)))) }
     {
         self.put_blobs(alloc, &plan.blobs)?;
         self.put(alloc, ObjectKind::Tree, &plan.tree)?;
@@ -84,6 +91,8 @@ impl<F: Files> Repository<F> {
         ensures counts { CountsRise F.failures self.old self.new }
         ensures stores { (r : plain.Repository) (order : orders.CommitCommand) → Stands F.is_honest F.history self.old r → IsCommit command order → IsTrue (is_offered (CommitOf order))
             → StoresObjects (HasFailedCall F.failures F.reading_may_fail self.old self.new) (F.history (objects_part self.old)).tree (F.history (objects_part self.new)).tree r order result }
+        ensures known { (r : plain.Repository) (order : orders.CommitCommand) → Stands F.is_honest F.history self.old r → IsCommit command order → IsTrue (is_offered (CommitOf order))
+            → OnOk result (KnowsIds self.new (store_all r.kind r.objects (stored_by r (CommitOf order)))) }
     {
         let plan = self.plan(alloc, command)?;
         self.store(alloc, &plan)?;
@@ -118,12 +127,13 @@ impl<F: Files> Repository<F> {
     {
         let moves = self.store_objects(alloc, command)?;
         let mut text = Vec::new(alloc);
+        let mut digits = Kind::hex_buf();
         line(
             &mut text,
             &[
                 b"ok".as_slice(),
                 b"commit".as_slice(),
-                moves.entry.after.to_hex().as_slice(),
+                hex_digits(&moves.entry.after, &mut digits),
             ],
         )?;
         self.move_names(alloc, &moves)?;

@@ -25,7 +25,8 @@ pub mod files {
     pub use gix_ref_file::{FileError, Files, Fuse, MemoryFiles, Place};
 }
 
-pub use history_model::{Cause, End, Fault, Kind};
+pub use gix_hash::Kind;
+pub use history_model::{Cause, End, Fault};
 pub use history_store::{CreateError, create};
 pub use history_word::{Broken, Bytes, Collected, Sink, Source, Stream};
 pub use open::{OpenError, OpenRefusal};

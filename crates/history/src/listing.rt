@@ -8,8 +8,9 @@ ghost use Rattle.history.specs.Shown.{shown_file};
 use crate::reply::{field, kind_word, line};
 use crate::repository::Repository;
 use crate::stopped::Stopped;
+use gix_hash::Kind;
 use gix_ref_file::Files;
-use history_store::Tree;
+use history_store::{Tree, hex_digits};
 use std::alloc::{AllocError, Global};
 
 /// The text that lists a tree's files.
@@ -28,11 +29,12 @@ fn files_text(alloc: Global, tree: &Tree) -> Result<Vec<u8>, AllocError>
     )?;
     for (name, entry) in tree.iter() {
         let mut size = itoa::Buffer::new();
+        let mut digits = Kind::hex_buf();
         line(
             &mut text,
             &[
                 kind_word(entry.kind),
-                entry.id.to_hex().as_slice(),
+                hex_digits(&entry.id, &mut digits),
                 size.format(name.len()).as_bytes(),
             ],
         )?;

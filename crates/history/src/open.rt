@@ -10,8 +10,8 @@ ghost use Rattle.history.specs.Opening.{open_fault, stray_error, HeadIs, IsWrong
 ghost use Rattle.history.specs.declared.open.OpenError.TheVariants.{Memory};
 
 use crate::repository::Repository;
+use gix_hash::Kind;
 use gix_ref_file::{FileError, Files, Place};
-use history_model::Kind;
 use history_store::{Names, Objects, Part, Stray, survey};
 use std::alloc::{AllocError, Global};
 use thiserror::Error;
@@ -165,7 +165,7 @@ impl<F: Files> Repository<F> {
         let names = Names::new(names, kind);
         match fresh_branch(alloc, &objects, &names) {
             Ok(branch) => Ok(Repository {
-                objects: Objects::new(objects, kind),
+                objects: Objects::new(alloc, objects, kind),
                 names,
                 branch,
                 has_failed: false,

@@ -13,21 +13,23 @@ ghost use Rattle.history_model.specs.Offered.{is_flat, main_name};
 ghost use Rattle.history_model.specs.declared.Cause.TheVariants.{TooLarge};
 ghost use Rattle.history_word.specs.Commands.{IsCommit, IsEdit, AreEdits};
 ghost use Rattle.history_word.specs.declared.command.Edit.TheVariants as edits;
-ghost use Rattle.history_store.specs.Formats.{id_bytes, type_word};
+ghost use Rattle.history_store.specs.Formats.{type_word};
 ghost use Rattle.history_store.specs.Trees.{IsTreeOf};
 ghost use Rattle.history.specs.Acts.{Gives};
 ghost use Rattle.history.specs.Files.{files_of_main, AreWithin, HasEdited};
 ghost use Rattle.history.specs.Plans.{Plans};
 ghost use Rattle.history.specs.Stands.{Stands};
+ghost use Rattle.gix_hash.specs.Id.{id_of};
 
 use crate::actors::actor_at;
 use crate::causes::{read_times, title};
 use crate::fields::into_kept;
 use crate::repository::Repository;
 use crate::stopped::Stopped;
+use gix_hash::ObjectId;
 use gix_ref_file::Files;
 use history_model::Cause;
-use history_store::{Commit, LogEntry, ObjectId, ObjectKind, Tree, TreeEntry, object_id};
+use history_store::{Commit, LogEntry, ObjectKind, Tree, TreeEntry, object_id};
 use history_word::{Commit as CommitCommand, Edit, Put};
 use std::alloc::{AllocError, Global};
 
@@ -76,14 +78,14 @@ fn parents(alloc: Global, parent: Option<ObjectId>) -> Result<Vec<ObjectId>, All
 impl<F: Files> Repository<F> {
     /// The id of this content.
     fn id_of(&self, object: ObjectKind, content: &[u8]) -> ObjectId
-        ensures { id_bytes result ≡ digest self.now.objects.kind (object_text (type_word object) content.now) }
+        ensures { id_of result ≡ digest self.now.objects.kind (object_text (type_word object) content.now) }
     {
         object_id(self.objects.kind(), object, content)
     }
 
     /// The files of a commit's parent, none without one.
     fn files_before(&self, alloc: Global, parent: Option<ObjectId>) -> Result<Tree, Stopped>
-        ensures { (r : plain.Repository) → Stands F.is_honest F.history self.now r → option_map id_bytes parent ≡ id_at r main_name
+        ensures { (r : plain.Repository) → Stands F.is_honest F.history self.now r → option_map id_of parent ≡ id_at r main_name
             → Gives F.reading_may_fail (λ tree. IsTreeOf r.kind tree (files_of_main r)) result }
     {
         match parent {

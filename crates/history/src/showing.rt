@@ -5,25 +5,31 @@ ghost use Rattle.history_model.specs.Bytes.{Bytes};
 ghost use Rattle.history_model.specs.Objects.{hex};
 ghost use Rattle.history_model.specs.Spelling.{parts_text, parent_part, actor_parts};
 ghost use Rattle.history_model.specs.Replies.{reply_text, spelled_actor, ShowsCommit, ShowsContent};
-ghost use Rattle.history_store.specs.Formats.{id_bytes, actor_of};
+ghost use Rattle.history_store.specs.Formats.{actor_of};
 ghost use Rattle.history.specs.Shown.{shown_commit, shown_content};
+ghost use Rattle.gix_hash.specs.Id.{id_of};
 
 use crate::fields::{is_bad_path, kept};
 use crate::reply::{field, kind_word, line};
 use crate::repository::Repository;
 use crate::stopped::Stopped;
+use gix_hash::{Kind, ObjectId};
 use gix_ref_file::Files;
 use history_model::Cause;
-use history_store::{Actor, Commit, ObjectId, ObjectKind, TreeEntry};
+use history_store::{Actor, Commit, ObjectKind, TreeEntry, hex_digits};
 use history_word::{Field, Show};
 use std::alloc::{AllocError, Global};
 
 /// Appends a line for each parent.
 fn parent_lines(text: &mut Vec<u8>, parents: &[ObjectId]) -> Result<(), AllocError>
-    ensures { OnOk result (text.new.items ≡ text.old.items ++ parts_text (map (λ id. parent_part (hex (id_bytes id))) parents.now)) }
+    ensures { OnOk result (text.new.items ≡ text.old.items ++ parts_text (map (λ id. parent_part (hex (id_of id))) parents.now)) }
 {
     for parent in parents {
-        line(text, &[b"parent".as_slice(), parent.to_hex().as_slice()])?;
+        let mut digits = Kind::hex_buf();
+        line(
+            text,
+            &[b"parent".as_slice(), hex_digits(parent, &mut digits)],
+        )?;
     }
     Ok(())
 }
@@ -55,18 +61,23 @@ fn commit_text(alloc: Global, id: &ObjectId, commit: &Commit) -> Result<Vec<u8>,
 {
     let mut text = Vec::new(alloc);
     let mut count = itoa::Buffer::new();
+    let mut digits = Kind::hex_buf();
+    let mut tree_digits = Kind::hex_buf();
     line(
         &mut text,
         &[
             b"ok".as_slice(),
             b"show".as_slice(),
             b"commit".as_slice(),
-            id.to_hex().as_slice(),
+            hex_digits(id, &mut digits),
         ],
     )?;
     line(
         &mut text,
-        &[b"tree".as_slice(), commit.tree.to_hex().as_slice()],
+        &[
+            b"tree".as_slice(),
+            hex_digits(&commit.tree, &mut tree_digits),
+        ],
     )?;
     line(
         &mut text,
@@ -96,6 +107,7 @@ fn content_text(alloc: Global, entry: &TreeEntry, content: &[u8]) -> Result<Vec<
 {
     let mut text = Vec::new(alloc);
     let mut size = itoa::Buffer::new();
+    let mut digits = Kind::hex_buf();
     line(
         &mut text,
         &[
@@ -103,7 +115,7 @@ fn content_text(alloc: Global, entry: &TreeEntry, content: &[u8]) -> Result<Vec<
             b"show".as_slice(),
             b"content".as_slice(),
             kind_word(entry.kind),
-            entry.id.to_hex().as_slice(),
+            hex_digits(&entry.id, &mut digits),
             size.format(content.len()).as_bytes(),
         ],
     )?;
@@ -123,7 +135,7 @@ impl<F: Files> Repository<F> {
 
     /// The reply to `show` of a commit.
     fn show_commit(&self, alloc: Global, id: &ObjectId) -> Result<Vec<u8>, Stopped>
-        ensures { (r : plain.Repository) (word : Bytes) → Stands F.is_honest F.history self.now r → word_reading r word ≡ ReadsAs (id_bytes id.now)
+        ensures { (r : plain.Repository) (word : Bytes) → Stands F.is_honest F.history self.now r → word_reading r word ≡ ReadsAs (id_of id.now)
             → AnswersReading F.reading_may_fail r (ShowOf word None) result }
     {
         let commit = self.read_commit(alloc, id)?;
@@ -132,7 +144,7 @@ impl<F: Files> Repository<F> {
 
     /// The reply to `show` of what a commit has at a path.
     fn show_content(&self, alloc: Global, id: &ObjectId, path: &Field) -> Result<Vec<u8>, Stopped>
-        ensures { (r : plain.Repository) (word bytes : Bytes) → Stands F.is_honest F.history self.now r → word_reading r word ≡ ReadsAs (id_bytes id.now) → Keeps max_path path.now bytes
+        ensures { (r : plain.Repository) (word bytes : Bytes) → Stands F.is_honest F.history self.now r → word_reading r word ≡ ReadsAs (id_of id.now) → Keeps max_path path.now bytes
             → AnswersReading F.reading_may_fail r (ShowOf word (Some bytes)) result }
     {
         if is_bad_path(path) {

@@ -5,15 +5,17 @@ ghost use Rattle.std.specs.FinMap.{get};
 ghost use Rattle.history_model.specs.FileMap.{FileMap};
 ghost use Rattle.history_model.specs.Objects.{CommitValue, Value, StoredCommit, StoredFolder, content_of};
 ghost use Rattle.history_model.specs.Objects as model;
-ghost use Rattle.history_store.specs.Formats.{id_bytes, type_word};
+ghost use Rattle.history_store.specs.Formats.{type_word};
 ghost use Rattle.history_store.specs.Commits.{IsCommitOf};
 ghost use Rattle.history_store.specs.Trees.{IsTreeOf};
+ghost use Rattle.gix_hash.specs.Id.{id_of};
 
 use crate::repository::Repository;
 use crate::stopped::Stopped;
+use gix_hash::ObjectId;
 use gix_ref_file::Files;
 use history_model::Fault;
-use history_store::{Commit, ObjectId, ObjectKind, Tree};
+use history_store::{Commit, ObjectKind, Tree};
 use std::alloc::Global;
 
 // In a whole repository each id that is read names an object of its kind, so only a failed call leads to `fault File`.
@@ -29,7 +31,7 @@ impl<F: Files> Repository<F> {
         kind: ObjectKind,
         id: &ObjectId,
     ) -> Result<Vec<u8>, Stopped>
-        ensures { (r : plain.Repository) (value : Value) → Stands F.is_honest F.history self.now r → get r.objects (id_bytes id.now) ≡ Some value → model.type_word value ≡ type_word kind
+        ensures { (r : plain.Repository) (value : Value) → Stands F.is_honest F.history self.now r → get r.objects (id_of id.now) ≡ Some value → model.type_word value ≡ type_word kind
             → Gives F.reading_may_fail (λ content. content.items ≡ content_of r.kind value) result }
     {
         match self.objects.read(alloc, id)? {
@@ -40,19 +42,19 @@ impl<F: Files> Repository<F> {
 
     /// A stored commit.
     pub(crate) fn read_commit(&self, alloc: Global, id: &ObjectId) -> Result<Commit, Stopped>
-        ensures { (r : plain.Repository) (value : CommitValue) → Stands F.is_honest F.history self.now r → get r.objects (id_bytes id.now) ≡ Some (StoredCommit value)
+        ensures { (r : plain.Repository) (value : CommitValue) → Stands F.is_honest F.history self.now r → get r.objects (id_of id.now) ≡ Some (StoredCommit value)
             → Gives F.reading_may_fail (λ commit. IsCommitOf r.kind commit value) result }
     {
         let content = self.content(alloc, ObjectKind::Commit, id)?;
-        Ok(Commit::parse(alloc, &content)?.ok_or(Fault::File)?)
+        Ok(Commit::parse(alloc, self.objects.kind(), &content)?.ok_or(Fault::File)?)
     }
 
     /// A stored tree.
     pub(crate) fn read_tree(&self, alloc: Global, id: &ObjectId) -> Result<Tree, Stopped>
-        ensures { (r : plain.Repository) (files : FileMap) → Stands F.is_honest F.history self.now r → get r.objects (id_bytes id.now) ≡ Some (StoredFolder files)
+        ensures { (r : plain.Repository) (files : FileMap) → Stands F.is_honest F.history self.now r → get r.objects (id_of id.now) ≡ Some (StoredFolder files)
             → Gives F.reading_may_fail (λ tree. IsTreeOf r.kind tree files) result }
     {
         let content = self.content(alloc, ObjectKind::Tree, id)?;
-        Ok(Tree::parse(alloc, &content)?.ok_or(Fault::File)?)
+        Ok(Tree::parse(alloc, self.objects.kind(), &content)?.ok_or(Fault::File)?)
     }
 }

@@ -4,15 +4,15 @@ ghost use Rattle.std.specs.Prelude.{◌≡◌, ◌++◌, ◌&&◌, not, Some, If
 ghost use Rattle.history_model.specs.Bytes.{begins};
 ghost use Rattle.history_model.specs.Forms.{is_private};
 ghost use Rattle.history_model.specs.Words.{word_reading, ReadsAs};
-ghost use Rattle.history_store.specs.Formats.{id_bytes};
 ghost use Rattle.history.specs.Acts.{word_cause};
 ghost use Rattle.history.specs.Readings.{reading_of};
+ghost use Rattle.gix_hash.specs.Id.{id_of};
 
 use crate::repository::Repository;
 use crate::stopped::Stopped;
+use gix_hash::ObjectId;
 use gix_ref_file::Files;
 use history_model::Cause;
-use history_store::ObjectId;
 use std::alloc::{AllocError, Global};
 
 /// The word, and the name in commands, that stands for HEAD's branch.
@@ -68,7 +68,7 @@ fn is_candidate(name: &[u8]) -> bool
 impl WordReading {
     /// The commit, where there is one; else why there is none.
     pub(crate) fn commit(self) -> Result<ObjectId, Cause>
-        ensures { MatchResult result (λ id. reading_of self ≡ ReadsAs (id_bytes id)) (λ cause. word_cause (reading_of self) ≡ Some cause) }
+        ensures { MatchResult result (λ id. reading_of self ≡ ReadsAs (id_of id)) (λ cause. word_cause (reading_of self) ≡ Some cause) }
     {
         match self {
             WordReading::Commit(id) => Ok(id),

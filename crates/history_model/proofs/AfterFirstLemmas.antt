@@ -5,7 +5,9 @@ use Rattle.std.proofs.lemmas.Cmp.{nat_list_cmp_total}
 use Rattle.std.proofs.lemmas.Map.Text.{is_eq-slice_cmp}
 use Rattle.history_model.specs.Bytes.{Bytes, by_bytes}
 use Rattle.history_model.specs.FileMap.{FileMap, Content, has_below}
-use Rattle.history_model.specs.Objects.{Id, CommitValue, Value, StoredCommit, StoredFolder, id_of, null_id, empty_tree_id, value_text}
+use Rattle.history_model.specs.Objects.{by_id, CommitValue, Value, StoredCommit, StoredFolder, id_of, empty_tree_id, value_text}
+use Rattle.gix_hash.specs.Id.{Id, null_id}
+use Rattle.gix_hash.specs.Order.{id_eq}
 use Rattle.history_model.specs.Repository.{Repository, Reference, fresh, id_at, stands, commit_at, peeled, peeled_value, as_commit}
 use Rattle.history_model.specs.Commands.{Commit, Files, Show, CommitCommand, EditLine}
 use Rattle.history_model.specs.Words.{ReadsAs, word_reading, commit_of, commit_read, candidates, name_reading, id_reading}
@@ -16,7 +18,7 @@ use Rattle.history_model.specs.Replies.{Committed, FilesAre, ShowsCommit, ShowsC
 use Rattle.history_model.specs.Steps.{Step}
 use Rattle.history_model.specs.Rows.{first_command, first_commit, sample_actor}
 use Rattle.history_model.specs.declared.Cause.{Cause}
-use Rattle.history_model.specs.declared.Kind.TheVariants.{Sha1}
+use Rattle.gix_hash.specs.declared.kind.Kind.TheVariants.{Sha1}
 
 abbrev pub command_with : List EditLine → CommitCommand
 command_with edits = record first_command { edits = edits }
@@ -30,12 +32,12 @@ main = codes "refs/heads/main"
 -- ---- ids that are free
 
 -- each value has this id, which is free when its turn comes
-abbrev pub AllFree : FinMap by_bytes Value → List (Id × Value) → Type 0
+abbrev pub AllFree : FinMap by_id Value → List (Id × Value) → Type 0
 AllFree objects [] = Unit {0}
-AllFree objects (e ∷ es) = (id_of Sha1 e.1 ≡ e.0) × (bytes_eq e.0 (null_id Sha1) ≡ false)
-    × ((bytes_eq e.0 (empty_tree_id Sha1) && is_other Sha1 (value_text Sha1 (StoredFolder empty)) e.1) ≡ false) × (get objects e.0 ≡ None) × AllFree (insert objects e.0 e.1) es
+AllFree objects (e ∷ es) = (id_of Sha1 e.1 ≡ e.0) × (id_eq e.0 (null_id Sha1) ≡ false)
+    × ((id_eq e.0 (empty_tree_id Sha1) && is_other Sha1 (value_text Sha1 (StoredFolder empty)) e.1) ≡ false) × (get objects e.0 ≡ None) × AllFree (insert objects e.0 e.1) es
 
-abbrev pub with_all : FinMap by_bytes Value → List (Id × Value) → FinMap by_bytes Value
+abbrev pub with_all : FinMap by_id Value → List (Id × Value) → FinMap by_id Value
 with_all objects [] = objects
 with_all objects (e ∷ es) = with_all (insert objects e.0 e.1) es
 
@@ -48,26 +50,26 @@ or2 : (a b : Bool) → a ≡ false → b ≡ false → (a || b) ≡ false
 or2 true b e f = cc
 or2 false b e f = f
 
-value_free : (objects : FinMap by_bytes Value) (id : Id) (value : Value) → id_of Sha1 value ≡ id → bytes_eq id (null_id Sha1) ≡ false
-    → (bytes_eq id (empty_tree_id Sha1) && is_other Sha1 (value_text Sha1 (StoredFolder empty)) value) ≡ false → get objects id ≡ None → is_taken Sha1 objects value ≡ false
+value_free : (objects : FinMap by_id Value) (id : Id) (value : Value) → id_of Sha1 value ≡ id → id_eq id (null_id Sha1) ≡ false
+    → (id_eq id (empty_tree_id Sha1) && is_other Sha1 (value_text Sha1 (StoredFolder empty)) value) ≡ false → get objects id ≡ None → is_taken Sha1 objects value ≡ false
 value_free objects id value is null tree none = or3 _ _ _
-    (ap (λ i. bytes_eq i (null_id Sha1)) is ∙ null)
-    (ap (λ i. bytes_eq i (empty_tree_id Sha1) && is_other Sha1 (value_text Sha1 (StoredFolder empty)) value) is ∙ tree)
+    (ap (λ i. id_eq i (null_id Sha1)) is ∙ null)
+    (ap (λ i. id_eq i (empty_tree_id Sha1) && is_other Sha1 (value_text Sha1 (StoredFolder empty)) value) is ∙ tree)
     (ap (λ i. unwrap_or (option_map (is_other Sha1 (value_text Sha1 value)) (get objects i)) false) is ∙ ap (λ o. unwrap_or (option_map (is_other Sha1 (value_text Sha1 value)) o) false) none)
 
-value_stored : (objects : FinMap by_bytes Value) (id : Id) (value : Value) → id_of Sha1 value ≡ id → get objects id ≡ None → store_one Sha1 objects value ≡ insert objects id value
+value_stored : (objects : FinMap by_id Value) (id : Id) (value : Value) → id_of Sha1 value ≡ id → get objects id ≡ None → store_one Sha1 objects value ≡ insert objects id value
 value_stored objects id value is none =
     ap (λ i. cond (is_some (get objects i)) objects (insert objects i value)) is ∙ ap (λ o. cond (is_some o) objects (insert objects id value)) none
 
 abbrev pub values_of : List (Id × Value) → List Value
 values_of es = map (λ e. e.1) es
 
-none_taken : (objects : FinMap by_bytes Value) (es : List (Id × Value)) → AllFree objects es → some_taken Sha1 objects (values_of es) ≡ false
+none_taken : (objects : FinMap by_id Value) (es : List (Id × Value)) → AllFree objects es → some_taken Sha1 objects (values_of es) ≡ false
 none_taken objects [] h = refl
 none_taken objects (e ∷ es) (is, null, tree, none, rest) = or2 _ _ (value_free objects e.0 e.1 is null tree none)
     (ap (λ o. some_taken Sha1 o (values_of es)) (value_stored objects e.0 e.1 is none) ∙ none_taken (insert objects e.0 e.1) es rest)
 
-all_stored : (objects : FinMap by_bytes Value) (es : List (Id × Value)) → AllFree objects es → store_all Sha1 objects (values_of es) ≡ with_all objects es
+all_stored : (objects : FinMap by_id Value) (es : List (Id × Value)) → AllFree objects es → store_all Sha1 objects (values_of es) ≡ with_all objects es
 all_stored objects [] h = refl
 all_stored objects (e ∷ es) (is, null, tree, none, rest) =
     ap (λ o. store_all Sha1 o (values_of es)) (value_stored objects e.0 e.1 is none) ∙ all_stored (insert objects e.0 e.1) es rest

@@ -4,7 +4,8 @@ use Rattle.std.specs.List.{flat_map, filter_map}
 use Rattle.std.specs.FinMap.{get, empty}
 use Rattle.history_model.specs.Bytes.{Bytes}
 use Rattle.history_model.specs.FileMap.{FileMap, Edit, Put, Remove, RemoveFile, edited, edited_by, folders_of}
-use Rattle.history_model.specs.Objects.{Id, CommitValue, StoredCommit, StoredFolder, id_of, folder_id}
+use Rattle.history_model.specs.Objects.{CommitValue, StoredCommit, StoredFolder, id_of, folder_id}
+use Rattle.gix_hash.specs.Id.{Id}
 use Rattle.history_model.specs.Repository.{Repository, Reference, as_commit, peeled, peeled_value, id_at}
 use Rattle.history_model.specs.Commands.{Commit, CommitCommand, EditLine, PutLine, RemoveLine, RemoveFileLine, LogCommand, Order, Breadth, Newest, Oldest, NewestSince, OldestSince, Date, Topological}
 use Rattle.history_model.specs.Words.{commit_of}

@@ -9,7 +9,8 @@ use Rattle.std.proofs.lemmas.Map.Text.{is_eq-slice_cmp}
 use Rattle.std.proofs.lemmas.Slice.Eq.{bytes_eq-Decides}
 use Rattle.history_model.specs.Bytes.{Bytes, by_bytes}
 use Rattle.history_model.proofs.GrammarLemmas.{words_differ}
-use Rattle.history_model.specs.Objects.{Id, Value, StoredBytes, StoredFolder, blob_id, folder_id, mode_of, entry_at}
+use Rattle.history_model.specs.Objects.{Value, StoredBytes, StoredFolder, blob_id, folder_id, mode_of, entry_at}
+use Rattle.gix_hash.specs.Id.{Id}
 use Rattle.history_model.specs.Repository.{Repository, IsWhole, IsStored, file_values}
 use Rattle.history_model.specs.Laws.{EntriesTellFiles}
 use Rattle.history_model.specs.declared.FileKind.{FileKind}

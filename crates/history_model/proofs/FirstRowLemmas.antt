@@ -4,7 +4,7 @@ use Rattle.std.specs.List.{list_any, flat_map}
 use Rattle.std.specs.Char.{encode_utf8}
 use Rattle.std.specs.Str.{is_utf8, chars}
 use Rattle.std.specs.FinMap.{entries, empty, get, get-empty}
-use Rattle.history_model.specs.Bytes.{Bytes, by_bytes}
+use Rattle.history_model.specs.Bytes.{Bytes, by_bytes, has_twice}
 use Rattle.history_model.specs.FileMap.{Content, folders_of, inside, beginnings}
 use Rattle.history_model.specs.Objects.{CommitValue, StoredCommit, StoredFolder, commit_content, content_of}
 use Rattle.history_model.specs.Repository.{fresh, Reference, Repository, stands}
@@ -15,7 +15,8 @@ use Rattle.history_model.specs.Causes.{first_cause, holds, do_collide}
 use Rattle.history_model.specs.Rows.{first_command, first_commit}
 use Rattle.history_model.specs.declared.Cause.{Cause}
 use Rattle.history_model.specs.declared.Cause.TheVariants.{Taken, Collides, HoldsTag, TooLarge}
-use Rattle.history_model.specs.declared.Kind.TheVariants.{Sha1}
+use Rattle.gix_hash.specs.Order.{id_eq}
+use Rattle.gix_hash.specs.declared.kind.Kind.TheVariants.{Sha1}
 use Rattle.history_model.proofs.RowLemmas.{entries-empty, root-empty, first_length, first_new_commit}
 
 abbrev main : Bytes
@@ -54,5 +55,5 @@ pub first_is_accepted : first_cause (fresh Sha1) (Commit first_command) ≡ None
 unfolding is_utf8 chars encode_utf8
 first_is_accepted =
     skip _ _ _ not_taken (skip _ _ _ no_clash (skip _ _ _ no_tag
-    (skip _ _ _ (ap (λ ps. nat_lt 64 (length ps)) no_parents) (skip _ _ _ (ap Rattle.history_model.specs.Bytes.has_twice no_parents)
+    (skip _ _ _ (ap (λ ps. nat_lt 64 (length ps)) no_parents) (skip _ _ _ (ap (has_twice id_eq) no_parents)
     (skip _ _ _ not_large refl)))))

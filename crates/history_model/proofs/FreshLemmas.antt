@@ -8,7 +8,8 @@ use Rattle.std.proofs.lemmas.Map.Text.{is_eq-slice_cmp}
 use Rattle.std.proofs.lemmas.Slice.Eq.{bytes_eq-Decides}
 use Rattle.gix_ref_file.specs.Tree.{file, folder, bytes_of}
 use Rattle.history_model.specs.Bytes.{Bytes, by_bytes}
-use Rattle.history_model.specs.Objects.{Id, Value, value_text}
+use Rattle.history_model.specs.Objects.{by_id, Value, value_text}
+use Rattle.gix_hash.specs.Id.{Id}
 use Rattle.history_model.specs.Repository.{Reference, IsWhole, Reaches, named, by_way_of, fresh, moves_at}
 use Rattle.history_model.specs.Forms.{is_name}
 use Rattle.history_model.specs.Logs.{log_text}
@@ -16,8 +17,8 @@ use Rattle.history_model.specs.Places.{Pair, file_at, head_place, packed_place, 
 use Rattle.history_model.specs.Readings.{Reading, Holds, Absent, reading, packed_text_reading, loose_reading}
 use Rattle.history_model.specs.StandsFor.{StandsFor, head_text, object_files}
 use Rattle.history_model.specs.Laws.{FreshStands, IsFresh, fresh_pair}
-use Rattle.history_model.proofs.RowLemmas.{entries-empty}
-use Rattle.history_model.specs.declared.Kind.{Kind}
+use Rattle.history_model.proofs.RowLemmas.{no_entries_by}
+use Rattle.gix_hash.specs.declared.kind.Kind.{Kind}
 
 some_none : {A X : Type 0} (x : X) → Some x ≡ None → A
 some_none x e = cc
@@ -25,18 +26,21 @@ some_none x e = cc
 nothing : {A X : Type 0} (key : Bytes) (x : X) → get (empty {X = X} {R = by_bytes}) key ≡ Some x → A
 nothing key x e = some_none x (sym e ∙ get-empty by_bytes key)
 
+no_object : {A : Type 0} (id : Id) (value : Value) → get (empty {X = Value} {R = by_id}) id ≡ Some value → A
+no_object id value e = some_none value (sym e ∙ get-empty by_id id)
+
 reaches_nothing : (kind : Kind) {a b : Id} → Reaches (fresh kind) a b → ⊥
-reaches_nothing kind (named {from = from} value at h) = nothing from value at
+reaches_nothing kind (named {from = from} value at h) = no_object from value at
 reaches_nothing kind (by_way_of mid first second) = reaches_nothing kind first
 
 pub fresh_is_whole : (kind : Kind) → IsWhole (fresh kind)
 fresh_is_whole kind = record {
   store = record {
-    own_ids = λ id value at. nothing id value at;
-    closed = λ id value at. nothing id value at;
+    own_ids = λ id value at. no_object id value at;
+    closed = λ id value at. no_object id value at;
     acyclic = λ id h. reaches_nothing kind h;
-    null = get-empty by_bytes _;
-    empty_tree = λ value at. nothing _ value at;
+    null = get-empty by_id _;
+    empty_tree = λ value at. no_object _ value at;
   };
   names = record {
     held = λ name id at. some_none id (sym at ∙ ap (option_map (λ ref. ref.id)) (get-empty by_bytes name));
@@ -107,7 +111,7 @@ module _ (kind : Kind) (pair : Pair) (h : IsFresh pair) where
 
   no_objects : (path : Bytes) → file_at (pair.objects) path ≡ get (object_files (fresh kind)) path
   no_objects path = h.objects path
-      ∙ sym (ap (λ es. get (from_entries {R = by_bytes} (map (λ (e : Bytes × Value). (object_place e.0, value_text kind e.1)) es)) path) (entries-empty {X = Value}) ∙ get-empty by_bytes path)
+      ∙ sym (ap (λ es. get (from_entries {R = by_bytes} (map (λ (e : Id × Value). (object_place e.0, value_text kind e.1)) es)) path) (no_entries_by {X = Value} by_id) ∙ get-empty by_bytes path)
 
   fresh_stands_for : StandsFor kind pair (fresh kind)
   fresh_stands_for = record {
@@ -139,7 +143,7 @@ fresh_stands kind pair h = record {
   written = record {
     branch = refl;
     names = λ name ref at. nothing name ref at;
-    values = λ id value at. nothing id value at;
+    values = λ id value at. no_object id value at;
   };
   whole = fresh_is_whole kind;
 }

@@ -1,4 +1,5 @@
 mod PartLemmas
+pub mod IdLemmas
 mod GrammarLemmas
 mod RestLemmas
 mod EditLemmas

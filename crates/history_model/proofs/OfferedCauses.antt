@@ -7,7 +7,9 @@ use Rattle.std.specs.FinMap.{get, keys}
 use Rattle.history_model.specs.Bytes.{Bytes, is_empty, has_twice}
 use Rattle.history_model.specs.FileMap.{FileMap, some_refused, edited, has_below, Put}
 use Rattle.history_model.specs.Stage.{is_offered, is_put}
-use Rattle.history_model.specs.Objects.{Id, Value, StoredCommit, StoredTag, StoredBytes, StoredFolder}
+use Rattle.history_model.specs.Objects.{Value, StoredCommit, StoredTag, StoredBytes, StoredFolder}
+use Rattle.gix_hash.specs.Id.{Id}
+use Rattle.gix_hash.specs.Order.{id_eq}
 use Rattle.history_model.specs.Repository.{Repository, Reference, HasWholeNames, id_at, stands, peeled, is_tag, is_tag_value}
 use Rattle.history_model.specs.Forms.{is_name, is_private, max_parents}
 use Rattle.history_model.specs.Words.{WordReading, ReadsAs, Unborn, Unknown, Ambiguous, word_reading, name_reading, id_reading, candidates, head_word, commit_of, commit_read}
@@ -18,8 +20,9 @@ use Rattle.history_model.specs.Causes.{holds, in_order, is_unknown, is_unborn, i
 use Rattle.history_model.specs.Offered.{main_name, IsOffered, offered_causes, FirstOfferedCause}
 use Rattle.history_model.specs.declared.Cause.{Cause}
 use Rattle.history_model.specs.declared.Cause.TheVariants.{BadName, PrivateName, NameTwice, UnknownWord, AmbiguousWord, UnbornHead, NotACommit, NoSuchName, Taken, NotExpected, Collides, HoldsTag, TooManyParents, DuplicateParent, BadPath, IsFolder, NoSuchPath, BadActor, BadTime, BadMessage, TooLarge, NothingMoves, OrderWithParents}
+use Rattle.history_model.proofs.IdLemmas.{id_itself}
 use Rattle.history_model.proofs.PartLemmas.{both_true, either_false}
-use Rattle.history_model.proofs.TreePlaces.{one_text, text_itself}
+use Rattle.history_model.proofs.TreePlaces.{one_text}
 use Rattle.history_model.proofs.OfferedFiles.{neither, turned, all_keys, none_below}
 use Rattle.history_model.proofs.OfferedSteps.{name_is_main, first_flat}
 
@@ -144,7 +147,7 @@ module _ (r : Repository) (o : IsOffered r) (w : HasWholeNames r) where
 
   same_itself : (x : Option Id) → same_id x x ≡ true
   same_itself None = refl
-  same_itself (Some id) = text_itself id
+  same_itself (Some id) = id_itself id
 
   module _ (name : Bytes) (is : name ≡ main_name) where
     main_stands : (word : Bytes) → Reads word → stands r name ≡ true
@@ -205,7 +208,7 @@ module _ (r : Repository) (o : IsOffered r) (w : HasWholeNames r) where
   -- ---- commands
 
   few_parents : (x : Option Id) (parents : List Bytes) → is_empty parents ≡ true
-      → (nat_lt max_parents (length (option_to_list x ++ filter_map (commit_of r) parents)) ≡ false) × (has_twice (option_to_list x ++ filter_map (commit_of r) parents) ≡ false)
+      → (nat_lt max_parents (length (option_to_list x ++ filter_map (commit_of r) parents)) ≡ false) × (has_twice id_eq (option_to_list x ++ filter_map (commit_of r) parents) ≡ false)
   few_parents None [] h = (refl, refl)
   few_parents (Some id) [] h = (refl, refl)
   few_parents x (word ∷ parents) h = cc

@@ -11,7 +11,7 @@ use Rattle.history_model.specs.Stage.{is_offered_path}
 use Rattle.history_model.specs.Objects.{Value, StoredBytes, StoredFolder, FileEntry, tree_entries, tree_entry_text, into_folder, root, root_within}
 use Rattle.history_model.specs.Repository.{IsStored}
 use Rattle.history_model.specs.Offered.{is_flat, file_entry_text, FlatRoots, FlatFolders, FlatPuts, FilesAreStored}
-use Rattle.history_model.specs.declared.Kind.{Kind}
+use Rattle.gix_hash.specs.declared.kind.Kind.{Kind}
 use Rattle.history_model.proofs.PartLemmas.{both_true, either_false}
 use Rattle.history_model.proofs.TreePlaces.{one_text, text_itself, texts_apart, same_key, get_with}
 

@@ -5,7 +5,9 @@ use Rattle.std.specs.FinMap.{FinMap, get, empty, insert, contains_key, get-empty
 use Rattle.history_model.specs.Bytes.{Bytes, by_bytes}
 use Rattle.history_model.specs.FileMap.{Edit, Put, Remove, RemoveFile, edit_path, folders_of, is_path}
 use Rattle.history_model.specs.Stage.{is_offered_path}
-use Rattle.history_model.specs.Objects.{Id, Value, CommitValue, StoredCommit, StoredTag, StoredBytes, StoredFolder, id_of}
+use Rattle.history_model.specs.Objects.{by_id, Value, CommitValue, StoredCommit, StoredTag, StoredBytes, StoredFolder, id_of}
+use Rattle.gix_hash.specs.Id.{Id}
+use Rattle.gix_hash.specs.Order.{id_eq}
 use Rattle.history_model.specs.Repository.{Repository, Reference, as_commit, stands}
 use Rattle.history_model.specs.Forms.{max_path, title}
 use Rattle.history_model.specs.Commands.{Command, Commit, Tag, Move, Rename, Delete, Switch, Pack, Index, Names, Files, Past, Log, Show, CommitCommand, EditLine, PutLine, RemoveLine, RemoveFileLine}
@@ -13,9 +15,10 @@ use Rattle.history_model.specs.CommandParts.{edit_paths, paths_in}
 use Rattle.history_model.specs.Meaning.{after, branch_or_name, parents_of, files_at, first_files, edits_of, read_edit, new_commit, put_bytes, store_one, store_all, stored_by, moved_reference, read_actor}
 use Rattle.history_model.specs.Causes.{holds, first_cause, is_bad_path}
 use Rattle.history_model.specs.Offered.{main_name, is_flat, IsOfferedValue, IsOffered, FreshIsOffered, OfferedStays}
-use Rattle.history_model.specs.declared.Kind.{Kind}
+use Rattle.gix_hash.specs.declared.kind.Kind.{Kind}
 use Rattle.history_model.specs.declared.Cause.{Cause}
 use Rattle.history_model.specs.declared.Cause.TheVariants.{BadName, PrivateName, NameTwice, UnknownWord, AmbiguousWord, UnbornHead, NotACommit, NoSuchName, Taken, NotExpected, Collides, HoldsTag, TooManyParents, DuplicateParent, BadPath, IsFolder, NoSuchPath, BadActor, BadTime, BadMessage, TooLarge, NothingMoves, OrderWithParents}
+use Rattle.history_model.proofs.IdLemmas.{get_with_id}
 use Rattle.history_model.proofs.PartLemmas.{both_true, either_false}
 use Rattle.history_model.proofs.TreePlaces.{one_text, get_with}
 use Rattle.history_model.proofs.OfferedFiles.{both, empty_flat, edits_flat, flat_folders}
@@ -27,7 +30,7 @@ some_none x e = cc
 
 pub fresh_is_offered : FreshIsOffered
 fresh_is_offered kind = record {
-  values = λ id value at. some_none value (sym at ∙ get-empty by_bytes id);
+  values = λ id value at. some_none value (sym at ∙ get-empty by_id id);
   names = λ name e. absurd (cc (sym (ap is_some (get-empty {X = Reference} by_bytes name)) ∙ e));
   branch = refl;
 }
@@ -114,10 +117,10 @@ put_values (Put kind path bytes ∷ edits) = (tt, put_values edits)
 put_values (Remove path ∷ edits) = put_values edits
 put_values (RemoveFile path ∷ edits) = put_values edits
 
-AreOffered : FinMap by_bytes Value → Type 0
+AreOffered : FinMap by_id Value → Type 0
 AreOffered values = (id : Id) (value : Value) → get values id ≡ Some value → IsOfferedValue value
 
-one_stored : (kind : Kind) (values : FinMap by_bytes Value) (value : Value) → AreOffered values → IsOfferedValue value → AreOffered (store_one kind values value)
+one_stored : (kind : Kind) (values : FinMap by_id Value) (value : Value) → AreOffered values → IsOfferedValue value → AreOffered (store_one kind values value)
 unfolding AreOffered
 one_stored kind values value h is id found at = go (contains_key values (id_of kind value)) at
   where
@@ -130,9 +133,9 @@ one_stored kind values value h is id found at = go (contains_key values (id_of k
 
     go : (b : Bool) → get (cond b values (insert values (id_of kind value) value)) id ≡ Some found → IsOfferedValue found
     go true e = h id found e
-    go false e = new (bytes_eq id (id_of kind value)) (sym (get_with values (id_of kind value) value id) ∙ e)
+    go false e = new (id_eq id (id_of kind value)) (sym (get_with_id values (id_of kind value) value id) ∙ e)
 
-all_stored : (kind : Kind) (values : FinMap by_bytes Value) (more : List Value) → AreOffered values → AllByRecursion IsOfferedValue more → AreOffered (store_all kind values more)
+all_stored : (kind : Kind) (values : FinMap by_id Value) (more : List Value) → AreOffered values → AllByRecursion IsOfferedValue more → AreOffered (store_all kind values more)
 all_stored kind values [] h is = h
 all_stored kind values (value ∷ more) h is = all_stored kind (store_one kind values value) more (one_stored kind values value h is.0) is.1
 

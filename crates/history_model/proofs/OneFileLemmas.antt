@@ -1,5 +1,5 @@
 -- A first commit of one file `a`.
-use Rattle.std.proofs.Common.{◌≡◌, Bool, true, false, cond, ◌&&◌, ◌||◌, List, [], ◌∷◌, ◌++◌, map, refl, sym, ◌∙◌, ap, Option, Some, None, codes, bytes_eq, length, nat_lt}
+use Rattle.std.proofs.Common.{◌≡◌, Bool, true, false, cond, ◌&&◌, ◌||◌, List, [], ◌∷◌, ◌++◌, map, refl, sym, ◌∙◌, ap, Option, Some, None, codes, length, nat_lt}
 use Rattle.std.specs.List.{list_any, flat_map}
 use Rattle.std.specs.Char.{encode_utf8}
 use Rattle.std.specs.Str.{is_utf8, chars}
@@ -7,12 +7,12 @@ use Rattle.std.specs.Fmt.{digits}
 use Rattle.std.specs.FinMap.{FinMap, get, insert, empty, entries, retain_keys, get-empty, get-retain_keys, entries-insert, same_map, slice_cmp-IsAntisymmetric, nat_cmp-IsAntisymmetric}
 use Rattle.std.specs.FinMap.Entries.{put}
 use Rattle.std.proofs.lemmas.Cmp.{nat_list_cmp_total}
-use Rattle.std.proofs.lemmas.Slice.Eq.{bytes_eq-Decides}
-use Rattle.hex.specs.Hex.{encode_with}
 use Rattle.sha1.specs.Sha1.{sha1, digest_bytes}
 use Rattle.history_model.specs.Bytes.{Bytes, by_bytes, has_twice}
 use Rattle.history_model.specs.FileMap.{FileMap, Content, Put, edited_by, folders_of, inside, beginnings, has_below, is_below}
-use Rattle.history_model.specs.Objects.{Id, CommitValue, Value, StoredCommit, StoredFolder, StoredBytes, null_id, empty_tree_id, hex, digest, blob_id, tree_text, object_text, entry_text, root, root_within, folder_id, commit_content, content_of, id_of}
+use Rattle.history_model.specs.Objects.{by_id, CommitValue, Value, StoredCommit, StoredFolder, StoredBytes, empty_tree_id, hex, digest, blob_id, tree_text, object_text, entry_text, root, root_within, folder_id, commit_content, content_of, id_of}
+use Rattle.gix_hash.specs.Id.{Id, null_id}
+use Rattle.gix_hash.specs.Order.{id_eq}
 use Rattle.history_model.specs.Repository.{fresh}
 use Rattle.history_model.specs.Forms.{max_content}
 use Rattle.history_model.specs.Commands.{Commit, EditLine, PutLine}
@@ -20,8 +20,9 @@ use Rattle.history_model.specs.Meaning.{new_commit, stored_by, first_files}
 use Rattle.history_model.specs.Causes.{first_cause, holds}
 use Rattle.history_model.specs.Rows.{content}
 use Rattle.history_model.specs.declared.Cause.TheVariants.{TooLarge}
-use Rattle.history_model.specs.declared.Kind.TheVariants.{Sha1}
+use Rattle.gix_hash.specs.declared.kind.Kind.TheVariants.{Sha1}
 use Rattle.history_model.specs.declared.FileKind.TheVariants.{File}
+use Rattle.history_model.proofs.IdLemmas.{get_with_id, id_itself}
 use Rattle.history_model.proofs.RowLemmas.{entries-empty, text_with}
 use Rattle.history_model.proofs.FirstRowLemmas.{not_taken, no_clash, no_tag, no_parents}
 use Rattle.history_model.proofs.AfterFirstLemmas.{command_with, commit_with, skip, get-with, AllFree, IsFirst}
@@ -75,11 +76,11 @@ module _ (text : Bytes) where
   pub none_below : has_below (one_file text) (codes "a") ≡ false
   none_below = ap (λ es. list_any (is_below (codes "a")) (map (λ (e : Bytes × Content). e.0) es)) entry_is
 
-pub found_there : (map : FinMap by_bytes Value) (key : Id) (v : Value) → get (insert map key v) key ≡ Some v
-found_there map key v = get-with map key v key ∙ ap (λ b. cond b (Some v) (get map key)) ((bytes_eq-Decides key key).1 refl)
+pub found_there : (map : FinMap by_id Value) (key : Id) (v : Value) → get (insert map key v) key ≡ Some v
+found_there map key v = get_with_id map key v key ∙ ap (λ b. cond b (Some v) (get map key)) (id_itself key)
 
 pub content_shown : (files : FileMap) → commit_content Sha1 (commit_with files) ≡ text_with (hex (folder_id Sha1 files))
-unfolding digits text_with encode_with digest sha1 digest_bytes
+unfolding digits text_with digest sha1 digest_bytes
 content_shown files = refl
 
 -- ---- with the ids told
@@ -90,15 +91,15 @@ pub record AreIds (text : Bytes) (blob tree commit none : Id) : Type 0 where
   pub blob_is : blob_id Sha1 text ≡ blob
   pub tree_is : digest Sha1 (tree_text (entry_text (codes "100644") (codes "a") blob)) ≡ tree
   pub commit_is : digest Sha1 (object_text (codes "commit") (text_with (hex tree))) ≡ commit
-  pub blob_null : bytes_eq blob (null_id Sha1) ≡ false
-  pub tree_null : bytes_eq tree (null_id Sha1) ≡ false
-  pub commit_null : bytes_eq commit (null_id Sha1) ≡ false
-  pub blob_none : bytes_eq blob none ≡ false
-  pub tree_none : bytes_eq tree none ≡ false
-  pub commit_none : bytes_eq commit none ≡ false
-  pub tree_blob : bytes_eq tree blob ≡ false
-  pub commit_blob : bytes_eq commit blob ≡ false
-  pub commit_tree : bytes_eq commit tree ≡ false
+  pub blob_null : id_eq blob (null_id Sha1) ≡ false
+  pub tree_null : id_eq tree (null_id Sha1) ≡ false
+  pub commit_null : id_eq commit (null_id Sha1) ≡ false
+  pub blob_none : id_eq blob none ≡ false
+  pub tree_none : id_eq tree none ≡ false
+  pub commit_none : id_eq commit none ≡ false
+  pub tree_blob : id_eq tree blob ≡ false
+  pub commit_blob : id_eq commit blob ≡ false
+  pub commit_tree : id_eq commit tree ≡ false
   pub text_small : nat_lt max_content (length text) ≡ false
   pub tree_small : nat_lt max_content (length (entry_text (codes "100644") (codes "a") blob)) ≡ false
   pub commit_small : nat_lt max_content (length (text_with (hex tree))) ≡ false
@@ -120,24 +121,24 @@ module _ (text : Bytes) (blob tree commit none : Id) (h : AreIds text blob tree 
   commit_id = ap (λ c. digest Sha1 (object_text (codes "commit") c)) content_told ∙ h.commit_is
 
   -- a new key finds nothing
-  apart : (map : FinMap by_bytes Value) (key q : Id) (v : Value) → bytes_eq q key ≡ false → get map q ≡ None → get (insert map key v) q ≡ None
-  apart map key q v e none = get-with map key v q ∙ ap (λ b. cond b (Some v) (get map q)) e ∙ none
+  apart : (map : FinMap by_id Value) (key q : Id) (v : Value) → id_eq q key ≡ false → get map q ≡ None → get (insert map key v) q ≡ None
+  apart map key q v e none = get_with_id map key v q ∙ ap (λ b. cond b (Some v) (get map q)) e ∙ none
 
-  no_empty_tree : (id : Id) (b : Bool) → bytes_eq id none ≡ false → (bytes_eq id (empty_tree_id Sha1) && b) ≡ false
-  no_empty_tree id b e = ap (λ t. bytes_eq id t && b) h.none_is ∙ ap (λ c. c && b) e
+  no_empty_tree : (id : Id) (b : Bool) → id_eq id none ≡ false → (id_eq id (empty_tree_id Sha1) && b) ≡ false
+  no_empty_tree id b e = ap (λ t. id_eq id t && b) h.none_is ∙ ap (λ c. c && b) e
 
   all_free : AllFree empty objects
   all_free = (
     h.blob_is,
     h.blob_null,
     no_empty_tree blob _ h.blob_none,
-    get-empty by_bytes blob,
+    get-empty by_id blob,
     (
       tree_id,
       h.tree_null,
       no_empty_tree tree _ h.tree_none,
-      apart empty blob tree _ h.tree_blob (get-empty by_bytes tree),
-      (commit_id, h.commit_null, no_empty_tree commit _ h.commit_none, apart _ tree commit _ h.commit_tree (apart empty blob commit _ h.commit_blob (get-empty by_bytes commit)), tt),
+      apart empty blob tree _ h.tree_blob (get-empty by_id tree),
+      (commit_id, h.commit_null, no_empty_tree commit _ h.commit_none, apart _ tree commit _ h.commit_tree (apart empty blob commit _ h.commit_blob (get-empty by_id commit)), tt),
     ),
   )
 
@@ -156,7 +157,7 @@ module _ (text : Bytes) (blob tree commit none : Id) (h : AreIds text blob tree 
   unfolding is_utf8 chars encode_utf8
   is_accepted =
       skip _ _ _ not_taken (skip _ _ _ no_clash (skip _ _ _ no_tag
-      (skip _ _ _ (ap (λ ps. nat_lt 64 (length ps)) no_parents) (skip _ _ _ (ap has_twice no_parents)
+      (skip _ _ _ (ap (λ ps. nat_lt 64 (length ps)) no_parents) (skip _ _ _ (ap (has_twice id_eq) no_parents)
       (skip _ _ _ not_large refl)))))
 
   pub is_first : IsFirst (put_edits text) (one_file text) commit objects

@@ -1,82 +1,39 @@
 -- One pair of file trees stands for one whole repository.
-use Rattle.std.proofs.Common.{◌≡◌, ℕ, zero, suc, ◌⊎◌, Bool, true, false, cond, List, [], ◌∷◌, ◌++◌, map, take, drop, refl, sym, ◌∙◌, ap, subst, arith, inl, inr, Option, Some, None, bytes_eq, option_map, unwrap_or, append_assoc, codes, ◌==◌}
-use Rattle.std.specs.Ordering.{eq_by_cmp}
-use Rattle.std.specs.FinMap.{FinMap, entries, get, get-entries, get-from_entries}
-use Rattle.std.specs.FinMap.Entries.{find}
-use Rattle.std.proofs.lemmas.Cmp.{nat_list_cmp_total}
-use Rattle.history_model.specs.Bytes.{Bytes, by_bytes, has_byte}
+use Rattle.std.proofs.Common.{◌≡◌, ◌⊎◌, true, [], ◌++◌, refl, sym, ◌∙◌, ap, subst, inl, inr, Option, Some, None, option_map, unwrap_or, codes}
+use Rattle.std.specs.FinMap.{FinMap, get}
+use Rattle.history_model.specs.Bytes.{Bytes, by_bytes}
 use Rattle.history_model.specs.FileMap.{FileMap}
-use Rattle.history_model.specs.Objects.{Id, hex, Value, CommitValue, StoredCommit, StoredTag, StoredBytes, StoredFolder, value_text, id_of}
+use Rattle.history_model.specs.Objects.{by_id, Value, CommitValue, StoredCommit, StoredTag, StoredBytes, StoredFolder, value_text, id_of}
+use Rattle.gix_hash.specs.Id.{Id}
 use Rattle.history_model.specs.Repository.{Repository, Reference, IsStored, IsWholeStore, id_at, moves_at}
 use Rattle.history_model.specs.Forms.{is_id}
 use Rattle.history_model.specs.Places.{Pair, object_place}
 use Rattle.history_model.specs.StandsFor.{StandsWhole, object_files, head_text}
-use Rattle.history_model.specs.declared.Kind.{Kind}
-use Rattle.history_model.proofs.PartLemmas.{split_at}
-use Rattle.history_model.proofs.WholeLists.{In, either, same_text, text_itself, texts_differ, some_inside, none_is_some, or_none, none_or}
+use Rattle.gix_hash.specs.declared.kind.Kind.{Kind}
+use Rattle.history_model.proofs.IdLemmas.{one_by_ids}
+use Rattle.history_model.proofs.TreePlaces.{file_at_id}
+use Rattle.history_model.proofs.WholeLists.{texts_differ, some_inside, none_is_some}
 use Rattle.history_model.proofs.WholeTexts.{text_same, cut_same, is_id-digest}
 use Rattle.history_model.proofs.WholeRoots.{HasAll, one_map}
-use Rattle.history_model.proofs.WholeStores.{same_key, one_by_keys, in_get}
+use Rattle.history_model.proofs.WholeStores.{one_by_keys}
 use Rattle.history_model.proofs.WholeGrowth.{has_stored}
 use Rattle.history_model.proofs.WholeReads.{plain_written}
 use Rattle.history_model.proofs.WholeForms.{moves_formed}
-use Rattle.history_model.proofs.OnePairTexts.{hex_same, hex_high, last_same}
+use Rattle.history_model.proofs.OnePairTexts.{last_same}
 use Rattle.history_model.proofs.OnePairLines.{moves_same, commit_same, tag_same}
 
--- ---- places of objects
-
-taken_plain : (n d : ℕ) (text : Bytes) → has_byte d text ≡ false → has_byte d (take n text) ≡ false
-taken_plain zero d text h = refl
-taken_plain (suc n) d [] h = refl
-taken_plain (suc n) d (b ∷ text) h = let parts = or_none (b == d) (has_byte d text) h in none_or (b == d) (has_byte d (take n text)) parts.0 (taken_plain n d text parts.1)
-
-two_parts : (n : ℕ) (text : Bytes) → take n text ++ drop n text ≡ text
-two_parts zero text = refl
-two_parts (suc n) [] = refl
-two_parts (suc n) (b ∷ text) = ap (λ bs. b ∷ bs) (two_parts n text)
-
--- a place tells its id
-place_same : (kind : Kind) (a b : Id) → is_id kind a ≡ true → is_id kind b ≡ true → object_place a ≡ object_place b → a ≡ b
-place_same kind a b ha hb e =
-    let cut = split_at 47 (take 2 (hex a)) (take 2 (hex b)) (drop 2 (hex a)) (drop 2 (hex b)) (taken_plain 2 47 (hex a) (hex_high 47 (omega arith) kind a ha)) (taken_plain 2 47 (hex b) (hex_high 47 (omega arith) kind b hb))
-    (cut_same (codes "objects/") (codes "objects/") (take 2 (hex a) ++ 47 ∷ drop 2 (hex a)) (take 2 (hex b) ++ 47 ∷ drop 2 (hex b)) refl
-    (sym (append_assoc (codes "objects/") (take 2 (hex a)) (47 ∷ drop 2 (hex a))) ∙ e ∙ append_assoc (codes "objects/") (take 2 (hex b)) (47 ∷ drop 2 (hex b)))).1 in
-    hex_same kind a b ha hb (sym (two_parts 2 (hex a)) ∙ (λ i. cut.0 i ++ cut.1 i) ∙ two_parts 2 (hex b))
-
-find_placed : (kind : Kind) (es : List (Bytes × Value)) → ((e : Bytes × Value) → In e es → is_id kind e.0 ≡ true) → (q : Id) → is_id kind q ≡ true
-    → find by_bytes (object_place q) (map (λ (e : Bytes × Value). (object_place e.0, value_text kind e.1)) es) ≡ option_map (value_text kind) (find by_bytes q es)
-find_placed kind [] ids q h = refl
-find_placed kind (e ∷ es) ids q h = go (bytes_eq q e.0) refl (find_placed kind es (λ f i. ids f (inr i)) q h)
-  where
-    placed : List (Bytes × Value) → List (Bytes × Bytes)
-    placed fs = map (λ (e : Bytes × Value). (object_place e.0, value_text kind e.1)) fs
-
-    same_place : (b : Bool) → bytes_eq q e.0 ≡ b → eq_by_cmp by_bytes (object_place q) (object_place e.0) ≡ b
-    same_place true k = same_key (object_place q) (object_place e.0) ∙ ap (λ p. bytes_eq p (object_place e.0)) (ap object_place (same_text q e.0 k)) ∙ text_itself (object_place e.0)
-    same_place false k = elim (either (bytes_eq (object_place q) (object_place e.0))) [
-      | inl l ↦ texts_differ q e.0 k (place_same kind q e.0 h (ids e (inl refl)) (same_text (object_place q) (object_place e.0) l))
-      | inr l ↦ same_key (object_place q) (object_place e.0) ∙ l
-    ]
-
-    go : (b : Bool) → bytes_eq q e.0 ≡ b → find by_bytes (object_place q) (placed es) ≡ option_map (value_text kind) (find by_bytes q es)
-        → cond (eq_by_cmp by_bytes (object_place q) (object_place e.0)) (Some (value_text kind e.1)) (find by_bytes (object_place q) (placed es))
-        ≡ option_map (value_text kind) (cond (eq_by_cmp by_bytes q e.0) (Some e.1) (find by_bytes q es))
-    go true k rest = rw (same_place true k, same_key q e.0 ∙ k) refl
-    go false k rest = rw (same_place false k, same_key q e.0 ∙ k) rest
+-- ---- objects at their places
 
 stored_id : (r : Repository) → IsWholeStore r → (q : Id) (v : Value) → get r.objects q ≡ Some v → is_id r.kind q ≡ true
 stored_id r whole q v at = ap (is_id r.kind) (whole.own_ids q v at) ∙ is_id-digest r.kind (value_text r.kind v)
 
 -- at an id's place stands its value's text
 at_place : (r : Repository) → IsWholeStore r → (q : Id) → is_id r.kind q ≡ true → get (object_files r) (object_place q) ≡ option_map (value_text r.kind) (get r.objects q)
-at_place r whole q h =
-    get-from_entries nat_list_cmp_total (map (λ (e : Bytes × Value). (object_place e.0, value_text r.kind e.1)) (entries r.objects)) (object_place q)
-    ∙ find_placed r.kind (entries r.objects) (λ e i. stored_id r whole e.0 e.1 (in_get r.objects e.0 e.1 i)) q h
-    ∙ ap (option_map (value_text r.kind)) (sym (get-entries r.objects q))
+at_place r whole q h = file_at_id r.kind r.objects whole.own_ids q h
 
 -- ---- two repositories of one kind
 
-module _ (kind : Kind) (pair : Pair) (r : Repository) (other_names : FinMap by_bytes Reference) (other_branch : Bytes) (other_objects : FinMap by_bytes Value) where
+module _ (kind : Kind) (pair : Pair) (r : Repository) (other_names : FinMap by_bytes Reference) (other_branch : Bytes) (other_objects : FinMap by_id Value) where
   abbrev s : Repository
   s = record { kind = r.kind; names = other_names; branch = other_branch; objects = other_objects }
 
@@ -170,7 +127,7 @@ module _ (kind : Kind) (pair : Pair) (r : Repository) (other_names : FinMap by_b
         (some_inside (head_text r.branch) (head_text s.branch) (sym (left.stands).head ∙ (right.stands).head)))).1
 
     of_one_kind : r ≡ s
-    of_one_kind = λ i. record { kind = r.kind; names = one_by_keys r.names s.names names_at i; branch = branches i; objects = one_by_keys r.objects s.objects objects_at i }
+    of_one_kind = λ i. record { kind = r.kind; names = one_by_keys r.names s.names names_at i; branch = branches i; objects = one_by_ids r.objects s.objects objects_at i }
 
 pub one_pair : (kind : Kind) (pair : Pair) (r s : Repository) → StandsWhole kind pair r → StandsWhole kind pair s → r ≡ s
 one_pair kind pair r s left right = of_one_kind kind pair r s.names s.branch s.objects left (subst (StandsWhole kind pair) same right) ∙ sym same

@@ -5,11 +5,13 @@ use Rattle.std.proofs.lemmas.List.{reverse-reverse, reverse-append}
 use Rattle.history_model.specs.Bytes.{Bytes, has_byte, has_pair, begins, ends, has_twice, is_empty, line}
 use Rattle.std.specs.Str.{is_utf8}
 use Rattle.history_model.specs.FileMap.{components}
-use Rattle.history_model.specs.Objects.{Id, hex, Actor, actor_text, CommitValue, TagValue, commit_content, tag_content, folder_id, root, tree_text}
+use Rattle.history_model.specs.Objects.{hex, Actor, actor_text, CommitValue, TagValue, commit_content, tag_content, folder_id, root, tree_text}
+use Rattle.gix_hash.specs.Id.{Id}
+use Rattle.gix_hash.specs.Order.{id_eq}
 use Rattle.history_model.specs.Repository.{LogEntry}
 use Rattle.history_model.specs.Logs.{log_line, log_text}
 use Rattle.history_model.specs.Forms.{is_id, is_actor, is_log_entry, is_commit_form, is_tag_form, is_tag_name, is_name, is_partial_name, is_barred, is_name_component, title, max_title, max_parents, max_name}
-use Rattle.history_model.specs.declared.Kind.{Kind}
+use Rattle.gix_hash.specs.declared.kind.Kind.{Kind}
 use Rattle.history_model.proofs.PartLemmas.{split_at, head_same, tail_same, tail_of}
 use Rattle.history_model.proofs.WholeLists.{In, in_either, none_or, or_none, clash, and_true, not_true, all_pass}
 use Rattle.history_model.proofs.WholeTexts.{cut_same, is_id-digest}
@@ -115,7 +117,7 @@ commit_parts : (kind : Kind) (c : CommitValue) → is_commit_form kind c ≡ tru
 commit_parts kind c h =
     let ids = list_all (is_id kind) c.parents in
     let count = nat_le (length c.parents) max_parents in
-    let once = not (has_twice c.parents) in
+    let once = not (has_twice id_eq c.parents) in
     let a = and_true (ids && count && once && is_actor c.author && is_actor c.committer) (nat_le (length (title c.message)) max_title) h in
     let b = and_true (ids && count && once && is_actor c.author) (is_actor c.committer) a.0 in
     let d = and_true (ids && count && once) (is_actor c.author) b.0 in

@@ -1,34 +1,25 @@
 -- The texts of ids and actors in their written forms: what they hold, and what they stand for.
-use Rattle.std.proofs.Common.{◌≡◌, ℕ, zero, suc, ◌/◌, ◌%◌, ◌^◌, ◌<◌, Bool, true, false, not, ◌&&◌, ◌||◌, [], ◌∷◌, ◌++◌, length, refl, sym, ◌∙◌, ap, arith, tests, inl, inr, bytes_eq, nat_lt, nat_le, ◌==◌, append_assoc, codes, decimal, slice_index, length-append}
+use Rattle.std.proofs.Common.{◌≡◌, ℕ, zero, suc, ◌^◌, ◌<◌, Bool, true, false, not, ◌&&◌, ◌||◌, [], ◌∷◌, ◌++◌, length, refl, sym, ◌∙◌, ap, arith, tests, inl, inr, bytes_eq, nat_lt, nat_le, ◌==◌, append_assoc, codes, decimal, slice_index, length-append}
 use Rattle.std.specs.List.{list_any, list_all}
 use Rattle.std.specs.Char.{is_ascii_digit}
 use Rattle.std.proofs.lemmas.Fmt.{decimal_injective}
-use Rattle.hex.specs.Hex.{encode_with, lower_digits, decode_of, IsBytes}
-use Rattle.hex.proofs.HexLemmas.{decode_of-encode_lower, decode_of-same}
+use Rattle.hex.specs.Hex.{lower_digits}
 use Rattle.history_model.specs.Bytes.{Bytes, has_byte, begins, ends, is_empty}
-use Rattle.history_model.specs.Objects.{Id, id_len, hex, Actor, actor_text}
+use Rattle.history_model.specs.Objects.{hex, Actor, actor_text}
+use Rattle.gix_hash.specs.Id.{Id}
+use Rattle.gix_hash.specs.Spelling.{hex_text}
 use Rattle.history_model.specs.Forms.{is_id, is_actor, is_actor_part, is_offset, max_seconds, max_actor_part}
-use Rattle.history_model.specs.declared.Kind.{Kind}
+use Rattle.gix_hash.specs.declared.kind.Kind.{Kind}
+use Rattle.history_model.proofs.IdLemmas.{low_digit, id_digits, hex_tells}
 use Rattle.history_model.proofs.PartLemmas.{split_at, tail_same}
 use Rattle.history_model.proofs.WholeLists.{none_or, or_none, or_true, clash, and_true, not_true}
 use Rattle.history_model.proofs.WholeTexts.{cut_same, decimal_high}
 
 -- ---- hex
 
-below_256 : (b : ℕ) → nat_lt b 256 ≡ true → b < 256
-below_256 b h = grind (arith, tests)
-
-id_bytes : (xs : Bytes) → list_all (λ b. nat_lt b 256) xs ≡ true → IsBytes xs
-id_bytes [] h i = omega arith
-id_bytes (x ∷ xs) h zero = below_256 x (and_true (nat_lt x 256) (list_all (λ b. nat_lt b 256) xs) h).0
-id_bytes (x ∷ xs) h (suc i) = id_bytes xs (and_true (nat_lt x 256) (list_all (λ b. nat_lt b 256) xs) h).1 i
-
--- hex digits tell the bytes
+-- hex digits tell the id
 pub hex_same : (kind : Kind) (a b : Id) → is_id kind a ≡ true → is_id kind b ≡ true → hex a ≡ hex b → a ≡ b
-hex_same kind a b ha hb e = decode_of-same (hex a) a b (decode_of-encode_lower a (bytes a ha)) (ap decode_of e ∙ decode_of-encode_lower b (bytes b hb))
-  where
-    bytes : (id : Id) → is_id kind id ≡ true → IsBytes id
-    bytes id h = id_bytes id (and_true (length id == id_len kind) (list_all (λ b. nat_lt b 256) id) h).1
+hex_same kind a b ha hb e = hex_tells kind a b ha hb e
 
 -- a table of digits has only bytes that are at least `0`
 table_high : (d : ℕ) → d < 48 → (table : Bytes) → list_all (λ c. nat_le 48 c) table ≡ true → (i : ℕ) → i < length table → (slice_index table i == d) ≡ false
@@ -43,17 +34,14 @@ digit_high : (d : ℕ) → d < 48 → (i : ℕ) → i < 16 → (slice_index lowe
 digit_high d low i less = table_high d low lower_digits refl i less
 
 -- no byte below the digits stands in hex
-hex_plain : (d : ℕ) → d < 48 → (id : Bytes) → list_all (λ b. nat_lt b 256) id ≡ true → has_byte d (encode_with lower_digits id) ≡ false
-unfolding encode_with
+hex_plain : (d : ℕ) → d < 48 → (digits : Bytes) → list_all (λ d. nat_lt d 16) digits ≡ true → has_byte d (hex_text digits) ≡ false
 hex_plain d low [] h = refl
-hex_plain d low (b ∷ id) h =
-    let parts = and_true (nat_lt b 256) (list_all (λ b. nat_lt b 256) id) h in
-    let less : b < 256 = below_256 b parts.0 in
-    none_or (slice_index lower_digits (b / 16) == d) ((slice_index lower_digits (b % 16) == d) || has_byte d (encode_with lower_digits id)) (digit_high d low (b / 16) (omega arith))
-    (none_or (slice_index lower_digits (b % 16) == d) (has_byte d (encode_with lower_digits id)) (digit_high d low (b % 16) (omega arith)) (hex_plain d low id parts.1))
+hex_plain d low (i ∷ digits) h =
+    let parts = and_true (nat_lt i 16) (list_all (λ d. nat_lt d 16) digits) h in
+    none_or (slice_index lower_digits i == d) (has_byte d (hex_text digits)) (digit_high d low i (low_digit i parts.0)) (hex_plain d low digits parts.1)
 
 pub hex_high : (d : ℕ) → d < 48 → (kind : Kind) (id : Id) → is_id kind id ≡ true → has_byte d (hex id) ≡ false
-hex_high d low kind id h = hex_plain d low id (and_true (length id == id_len kind) (list_all (λ b. nat_lt b 256) id) h).1
+hex_high d low kind id h = hex_plain d low id.digits (id_digits kind id h)
 
 -- ---- actors
 

@@ -2,7 +2,9 @@
 use Rattle.std.proofs.Common.{◌≡◌, Bool, true, false, cond, not, ◌&&◌, List, [], ◌∷◌, ◌++◌, ◌⊎◌, refl, sym, ◌∙◌, ap, subst, inl, inr, Option, Some, None, is_some, bytes_eq, option_map, unwrap_or, append_assoc, append-nil, codes, MatchBool}
 use Rattle.std.specs.FinMap.{get, remove}
 use Rattle.history_model.specs.Bytes.{Bytes}
-use Rattle.history_model.specs.Objects.{Id, Actor, StoredCommit, StoredTag, id_of, null_id}
+use Rattle.history_model.specs.Objects.{Actor, StoredCommit, StoredTag, id_of}
+use Rattle.gix_hash.specs.Id.{Id, null_id}
+use Rattle.gix_hash.specs.Order.{id_eq}
 use Rattle.history_model.specs.Repository.{LogEntry, Repository, Reference, id_at, moves_at, stands}
 use Rattle.history_model.specs.Forms.{title}
 use Rattle.history_model.specs.Commands.{Command, Commit, Tag, Move, Rename, Delete, Switch, Pack, Index, Names, Files, Past, Log, Show, To}
@@ -12,7 +14,8 @@ use Rattle.history_model.specs.Meaning.{References, after, branch_or_name, read_
 use Rattle.history_model.specs.Steps.{Step, Steps, goes_on, some_failed, next}
 use Rattle.history_model.specs.Stops.{LeftByStop, is_changing}
 use Rattle.history_model.specs.Pasts.{mover, move_message, step_moves, stands_through, moves_made, PastsTellMoves}
-use Rattle.history_model.proofs.WholeLists.{and_true, or_none, not_false, clash, same_text, text_itself}
+use Rattle.history_model.proofs.IdLemmas.{id_itself}
+use Rattle.history_model.proofs.WholeLists.{and_true, or_none, not_false, clash, same_text}
 use Rattle.history_model.proofs.WholeStores.{get_inserted, get_removed}
 
 -- ---- one step
@@ -34,7 +37,7 @@ with_moved r actor message name id names all other = subst (IsOneOf r actor mess
 lines_moved : (r : Repository) (actor : Actor) (message : Bytes) (lines : List To) (names : References) → IsMoved r actor message names → IsMoved r actor message (with_lines r actor message lines names)
 lines_moved r actor message [] names all = all
 lines_moved r actor message (to ∷ lines) names all =
-    lines_moved r actor message lines (with_name r to.name (unwrap_or (commit_of r to.word) []) actor message names) (with_moved r actor message to.name (unwrap_or (commit_of r to.word) []) names all)
+    lines_moved r actor message lines (with_name r to.name (unwrap_or (commit_of r to.word) (null_id r.kind)) actor message names) (with_moved r actor message to.name (unwrap_or (commit_of r to.word) (null_id r.kind)) names all)
 
 removed_moved : (r : Repository) (actor : Actor) (message name : Bytes) → IsMoved r actor message (remove r.names name)
 removed_moved r actor message name other = subst (IsOneOf r actor message other) (sym (get_removed r.names name other)) (go (bytes_eq other name))
@@ -50,7 +53,7 @@ after_moved : (r : Repository) (command : Command) → IsMoved r (mover command)
 after_moved r (Commit c) = with_moved r (read_actor c.committer) (title c.message) (branch_or_name r c.name) (id_of r.kind (StoredCommit (new_commit r c))) r.names (unmoved r (read_actor c.committer) (title c.message))
 after_moved r (Tag c) = with_moved r (read_actor c.tagger) (title c.message) c.name (id_of r.kind (StoredTag (new_tag r c))) r.names (unmoved r (read_actor c.tagger) (title c.message))
 after_moved r (Move c) = lines_moved r (read_actor c.actor) c.message c.to r.names (unmoved r (read_actor c.actor) c.message)
-after_moved r (Rename from to) = with_moved r history_actor (codes "rename") to (unwrap_or (id_at r from) []) (remove r.names from) (removed_moved r history_actor (codes "rename") from)
+after_moved r (Rename from to) = with_moved r history_actor (codes "rename") to (unwrap_or (id_at r from) (null_id r.kind)) (remove r.names from) (removed_moved r history_actor (codes "rename") from)
 after_moved r (Delete name at) = removed_moved r history_actor (codes "rename") name
 after_moved r (Switch name) = unmoved r history_actor (codes "rename")
 after_moved r Pack = unmoved r history_actor (codes "rename")
@@ -69,17 +72,17 @@ abbrev move_to : Repository → Command → Bytes → Option Reference → List 
 move_to r command name o =
     let before = unwrap_or (id_at r name) (null_id r.kind) in
     let after = unwrap_or (option_map (λ (ref : Reference). ref.id) o) (null_id r.kind) in
-    cond (bytes_eq before after) [] (record { before = before; after = after; actor = mover command; message = move_message command } ∷ [])
+    cond (id_eq before after) [] (record { before = before; after = after; actor = mover command; message = move_message command } ∷ [])
 
 as_it_was : (r : Repository) (command : Command) (name : Bytes) → unwrap_or (option_map (λ (ref : Reference). ref.moves) (get r.names name)) [] ≡ move_to r command name (get r.names name) ++ moves_at r name
-as_it_was r command name = sym (ap (λ b. cond b [] (record { before = before; after = before; actor = mover command; message = move_message command } ∷ []) ++ moves_at r name) (text_itself before))
+as_it_was r command name = sym (ap (λ b. cond b [] (record { before = before; after = before; actor = mover command; message = move_message command } ∷ []) ++ moves_at r name) (id_itself before))
   where
     before : Id
     before = unwrap_or (id_at r name) (null_id r.kind)
 
 as_moved : (r : Repository) (command : Command) (name : Bytes) (id : Id)
     → (moved_reference r name id (mover command) (move_message command)).moves ≡ move_to r command name (Some (moved_reference r name id (mover command) (move_message command))) ++ moves_at r name
-as_moved r command name id = go (bytes_eq before id)
+as_moved r command name id = go (id_eq before id)
   where
     before : Id
     before = unwrap_or (id_at r name) (null_id r.kind)

@@ -8,7 +8,8 @@ use Rattle.std.proofs.lemmas.Map.Text.{is_eq-slice_cmp}
 use Rattle.std.proofs.lemmas.Slice.Eq.{bytes_eq-Decides}
 use Rattle.gix_ref_file.specs.Tree.{Tree, Node, file, folder, bytes_of}
 use Rattle.history_model.specs.Bytes.{Bytes, by_bytes, has_byte, line}
-use Rattle.history_model.specs.Objects.{Id, Value, hex, value_text}
+use Rattle.history_model.specs.Objects.{Value, hex, value_text}
+use Rattle.gix_hash.specs.Id.{Id}
 use Rattle.history_model.specs.Repository.{Repository, LogEntry, moves_at, stands}
 use Rattle.history_model.specs.Forms.{is_name}
 use Rattle.history_model.specs.Logs.{log_line, log_text, whole_lines}
@@ -17,7 +18,7 @@ use Rattle.history_model.specs.Readings.{Reading, Holds, Absent, is_absent, read
 use Rattle.history_model.specs.StandsFor.{StandsFor, object_files}
 use Rattle.history_model.specs.Recovery.{is_leftover, is_deserted, recovered, recovered_files, recovered_names, recovered_node, recovered_objects}
 use Rattle.history_model.specs.Laws.{RecoveredStands}
-use Rattle.history_model.specs.declared.Kind.{Kind}
+use Rattle.gix_hash.specs.declared.kind.Kind.{Kind}
 use Rattle.history_model.proofs.PartLemmas.{one_is_in}
 use Rattle.history_model.proofs.NameLemmas.{name-log, log-lock}
 use Rattle.history_model.proofs.RecoveryLemmas.{recovery_keeps, recovery_reads, file_kept, get-kept, get-recovered_files, get-recovered_names}
@@ -37,9 +38,9 @@ place_apart id = go (hex id)
     go (a ∷ []) = and_right _ _ refl
     go (a ∷ b ∷ digits) = and_right _ _ (and_right _ _ refl)
 
-none_found : (kind : Kind) (es : List (Bytes × Value)) → find by_bytes unfinished_place (map (λ e. (object_place e.0, value_text kind e.1)) es) ≡ None
+none_found : (kind : Kind) (es : List (Id × Value)) → find by_bytes unfinished_place (map (λ (e : Id × Value). (object_place e.0, value_text kind e.1)) es) ≡ None
 none_found kind [] = refl
-none_found kind (e ∷ es) = ap (λ b. cond b (Some (value_text kind e.1)) (find by_bytes unfinished_place (map (λ e. (object_place e.0, value_text kind e.1)) es)))
+none_found kind (e ∷ es) = ap (λ b. cond b (Some (value_text kind e.1)) (find by_bytes unfinished_place (map (λ (e : Id × Value). (object_place e.0, value_text kind e.1)) es)))
     (is_eq-slice_cmp unfinished_place (object_place e.0) ∙ place_apart e.0) ∙ none_found kind es
 
 none_unfinished : (r : Repository) → get (object_files r) unfinished_place ≡ None

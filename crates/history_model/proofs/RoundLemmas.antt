@@ -18,7 +18,7 @@ use Rattle.history_model.specs.Runs.{BeginsWith}
 use Rattle.history_model.specs.Moments.{Moment, IsPairAt, IsCommandPair, ActsOn}
 use Rattle.history_model.specs.Rounds.{Stopped, between, during, Round, IsStoppedRun, Recovers}
 use Rattle.history_model.specs.Laws.{RoundsJoin}
-use Rattle.history_model.specs.declared.Kind.{Kind}
+use Rattle.gix_hash.specs.declared.kind.Kind.{Kind}
 use Rattle.history_model.proofs.RecoveredLemmas.{recovered_stands}
 
 -- ---- the kind stays

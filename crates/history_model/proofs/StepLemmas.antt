@@ -8,7 +8,8 @@ use Rattle.std.proofs.lemmas.Map.Text.{is_eq-slice_cmp}
 use Rattle.std.proofs.lemmas.Slice.Eq.{bytes_eq-Decides}
 use Rattle.history_model.specs.Bytes.{Bytes, by_bytes}
 use Rattle.history_model.specs.FileMap.{FileMap}
-use Rattle.history_model.specs.Objects.{Id, CommitValue, StoredFolder, id_of}
+use Rattle.history_model.specs.Objects.{CommitValue, StoredFolder, id_of}
+use Rattle.gix_hash.specs.Id.{Id, null_id}
 use Rattle.history_model.specs.Repository.{Repository, Reference, id_at, stands, commit_at}
 use Rattle.history_model.specs.Commands.{Command, Commit, Tag, Move, Rename, Delete, Switch, Pack, Index, Names, Files, Past, Log, Show}
 use Rattle.history_model.specs.Replies.{Reply, RefusedFor, Faulted, FilesAre, ShowsCommit, ShowsContent}
@@ -133,9 +134,9 @@ is_none_so : {X : Type 0} (o : Option X) → is_some o ≡ false → o ≡ None
 is_none_so None e = refl
 is_none_so (Some x) e = cc
 
-held : (o : Option Reference) → is_some o ≡ true → Some (unwrap_or (option_map (λ ref. ref.id) o) []) ≡ option_map (λ ref. ref.id) o
-held None e = cc
-held (Some ref) e = refl
+held : (none : Id) (o : Option Reference) → is_some o ≡ true → Some (unwrap_or (option_map (λ ref. ref.id) o) none) ≡ option_map (λ ref. ref.id) o
+held none None e = cc
+held none (Some ref) e = refl
 
 same_key : (p q : Bytes) → eq_by_cmp by_bytes p q ≡ bytes_eq p q
 same_key p q = is_eq-slice_cmp p q
@@ -154,7 +155,7 @@ renames_lose_nothing old x from to none left = record {
     between = subst (λ o. MatchBool (not (is_some o)) (Between old (Rename from to) x) (x ≡ old)) none left.1
 
     made : Reference
-    made = moved_reference old to (unwrap_or (id_at old from) []) history_actor (Rattle.std.specs.Prelude.codes "rename")
+    made = moved_reference old to (unwrap_or (id_at old from) (null_id old.kind)) history_actor (Rattle.std.specs.Prelude.codes "rename")
 
     differ : bytes_eq from to ≡ false
     differ = no_cause old (Rename from to) none 2 NameTwice refl
@@ -179,7 +180,7 @@ renames_lose_nothing old x from to none left = record {
     to_made = ap (option_map (λ ref. ref.id))
         (get-insert nat_list_cmp_total (remove old.names from) to made to
         ∙ ap (λ b. cond b (Some made) (get (remove old.names from) to)) (itself to))
-        ∙ held (get old.names from) stood
+        ∙ held (null_id old.kind) (get old.names from) stood
 
 -- ---- a stop that leaves all as it was
 

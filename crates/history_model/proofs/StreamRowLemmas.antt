@@ -5,23 +5,25 @@ use Rattle.std.specs.Fmt.{digits}
 use Rattle.std.specs.FinMap.{empty, get-empty}
 use Rattle.std.proofs.lemmas.Slice.Eq.{bytes_eq-Decides}
 use Rattle.sha1.specs.Sha1.{sha1, hash_after, compress, rounds, schedule, first_words, digest_bytes}
-use Rattle.hex.specs.Hex.{encode_with}
-use Rattle.history_model.specs.Bytes.{Bytes, by_bytes}
+use Rattle.history_model.specs.Bytes.{Bytes}
 use Rattle.history_model.specs.FileMap.{Content}
-use Rattle.history_model.specs.Objects.{Id, Value, StoredCommit, StoredFolder, hex, digest, blob_id, empty_tree_id, tree_text, object_text, entry_text, value_text, folder_id}
+use Rattle.history_model.specs.Objects.{by_id, Value, StoredCommit, StoredFolder, hex, digest, blob_id, empty_tree_id, tree_text, object_text, entry_text, value_text, folder_id}
+use Rattle.gix_hash.specs.Id.{Id, digits_of}
+use Rattle.gix_hash.specs.Order.{id_eq}
 use Rattle.history_model.specs.Repository.{Repository}
 use Rattle.history_model.specs.Commands.{Commit, Files, Show}
 use Rattle.history_model.specs.Replies.{Reply, Faulted, FileLine, Committed, FilesAre, ShowsCommit, ShowsContent, reply_text}
 use Rattle.history_model.specs.Answers.{file_line, files_shown}
 use Rattle.history_model.specs.Steps.{is_faulted}
 use Rattle.history_model.specs.Rows.{Gives, content, first_stream, first_output, empty_file_stream, empty_file_output, hello_stream, hello_output, sample_actor}
-use Rattle.history_model.specs.declared.Kind.TheVariants.{Sha1}
+use Rattle.gix_hash.specs.declared.kind.Kind.TheVariants.{Sha1}
 use Rattle.history_model.specs.declared.Fault.TheVariants.{File as ByFile}
 use Rattle.history_model.specs.declared.FileKind.TheVariants.{File}
+use Rattle.history_model.proofs.IdLemmas.{get_with_id}
 use Rattle.history_model.proofs.RowLemmas.{entries-empty, root-empty, text_with, first_content, first_new_commit}
 use Rattle.history_model.proofs.PartLemmas.{either_false}
 use Rattle.history_model.proofs.FirstRowLemmas.{first_is_accepted, first_stored}
-use Rattle.history_model.proofs.AfterFirstLemmas.{command_with, commit_with, state, IsFirst, AllFree, get-with, commit_step, files_step, show_step, path_step}
+use Rattle.history_model.proofs.AfterFirstLemmas.{command_with, commit_with, state, IsFirst, AllFree, commit_step, files_step, show_step, path_step}
 use Rattle.history_model.proofs.OneFileLemmas.{put_edits, one_file, objects, AreIds, is_first, entry_is, at_a, none_below, found_there}
 
 -- no reply is a fault
@@ -34,10 +36,10 @@ none_faulted (reply ∷ replies) e =
 -- ---- without files
 
 abbrev none_tree : Id
-none_tree = 75 ∷ 130 ∷ 93 ∷ 198 ∷ 66 ∷ 203 ∷ 110 ∷ 185 ∷ 160 ∷ 96 ∷ 229 ∷ 75 ∷ 248 ∷ 214 ∷ 146 ∷ 136 ∷ 251 ∷ 238 ∷ 73 ∷ 4 ∷ []
+none_tree = record { kind = Sha1; digits = digits_of (75 ∷ 130 ∷ 93 ∷ 198 ∷ 66 ∷ 203 ∷ 110 ∷ 185 ∷ 160 ∷ 96 ∷ 229 ∷ 75 ∷ 248 ∷ 214 ∷ 146 ∷ 136 ∷ 251 ∷ 238 ∷ 73 ∷ 4 ∷ []) }
 
 abbrev none_commit : Id
-none_commit = 211 ∷ 155 ∷ 3 ∷ 108 ∷ 121 ∷ 125 ∷ 205 ∷ 156 ∷ 2 ∷ 16 ∷ 182 ∷ 106 ∷ 9 ∷ 78 ∷ 232 ∷ 70 ∷ 163 ∷ 188 ∷ 79 ∷ 217 ∷ []
+none_commit = record { kind = Sha1; digits = digits_of (211 ∷ 155 ∷ 3 ∷ 108 ∷ 121 ∷ 125 ∷ 205 ∷ 156 ∷ 2 ∷ 16 ∷ 182 ∷ 106 ∷ 9 ∷ 78 ∷ 232 ∷ 70 ∷ 163 ∷ 188 ∷ 79 ∷ 217 ∷ []) }
 
 none_tree_is : empty_tree_id Sha1 ≡ none_tree
 unfolding digest sha1 hash_after compress rounds schedule first_words digest_bytes digits
@@ -60,8 +62,8 @@ and_right : (a b : Bool) → b ≡ false → (a && b) ≡ false
 and_right true b e = e
 and_right false b e = refl
 
-no_empty_tree : (id : Id) (b : Bool) → bytes_eq id none_tree ≡ false → (bytes_eq id (empty_tree_id Sha1) && b) ≡ false
-no_empty_tree id b e = ap (λ t. bytes_eq id t && b) none_tree_is ∙ ap (λ c. c && b) e
+no_empty_tree : (id : Id) (b : Bool) → id_eq id none_tree ≡ false → (id_eq id (empty_tree_id Sha1) && b) ≡ false
+no_empty_tree id b e = ap (λ t. id_eq id t && b) none_tree_is ∙ ap (λ c. c && b) e
 
 none_free : AllFree empty none_objects
 unfolding none_objects
@@ -69,12 +71,12 @@ none_free = (
   none_folder_is,
   refl,
   and_right _ _ (not_other (value_text Sha1 (StoredFolder empty))),
-  get-empty by_bytes none_tree,
+  get-empty by_id none_tree,
   (
     ap (λ c. digest Sha1 (object_text (codes "commit") c)) first_content ∙ none_commit_computed,
     refl,
     no_empty_tree none_commit _ refl,
-    get-with empty none_tree (StoredFolder empty) none_commit ∙ get-empty by_bytes none_commit,
+    get_with_id empty none_tree (StoredFolder empty) none_commit ∙ get-empty by_id none_commit,
     tt,
   ),
 )
@@ -98,7 +100,7 @@ none_replies files tree = Committed none_commit ∷ FilesAre files
     ∷ ShowsCommit (record { id = none_commit; tree = tree; parents = []; author = sample_actor; committer = sample_actor; message = codes "one" }) ∷ []
 
 none_written : first_output ≡ flat_map reply_text (none_replies [] none_tree) ++ []
-unfolding none_replies digits encode_with
+unfolding none_replies digits
 none_written = refl
 
 pub first_gives : Gives first_stream first_output
@@ -135,13 +137,13 @@ first_gives = (
 -- ---- empty
 
 abbrev empty_blob : Id
-empty_blob = 230 ∷ 157 ∷ 226 ∷ 155 ∷ 178 ∷ 209 ∷ 214 ∷ 67 ∷ 75 ∷ 139 ∷ 41 ∷ 174 ∷ 119 ∷ 90 ∷ 216 ∷ 194 ∷ 228 ∷ 140 ∷ 83 ∷ 145 ∷ []
+empty_blob = record { kind = Sha1; digits = digits_of (230 ∷ 157 ∷ 226 ∷ 155 ∷ 178 ∷ 209 ∷ 214 ∷ 67 ∷ 75 ∷ 139 ∷ 41 ∷ 174 ∷ 119 ∷ 90 ∷ 216 ∷ 194 ∷ 228 ∷ 140 ∷ 83 ∷ 145 ∷ []) }
 
 abbrev empty_tree : Id
-empty_tree = 73 ∷ 109 ∷ 100 ∷ 40 ∷ 185 ∷ 207 ∷ 146 ∷ 152 ∷ 29 ∷ 201 ∷ 73 ∷ 82 ∷ 17 ∷ 230 ∷ 225 ∷ 18 ∷ 15 ∷ 182 ∷ 242 ∷ 186 ∷ []
+empty_tree = record { kind = Sha1; digits = digits_of (73 ∷ 109 ∷ 100 ∷ 40 ∷ 185 ∷ 207 ∷ 146 ∷ 152 ∷ 29 ∷ 201 ∷ 73 ∷ 82 ∷ 17 ∷ 230 ∷ 225 ∷ 18 ∷ 15 ∷ 182 ∷ 242 ∷ 186 ∷ []) }
 
 abbrev empty_commit : Id
-empty_commit = 251 ∷ 82 ∷ 141 ∷ 173 ∷ 46 ∷ 240 ∷ 16 ∷ 113 ∷ 78 ∷ 151 ∷ 101 ∷ 0 ∷ 61 ∷ 34 ∷ 82 ∷ 246 ∷ 113 ∷ 235 ∷ 60 ∷ 60 ∷ []
+empty_commit = record { kind = Sha1; digits = digits_of (251 ∷ 82 ∷ 141 ∷ 173 ∷ 46 ∷ 240 ∷ 16 ∷ 113 ∷ 78 ∷ 151 ∷ 101 ∷ 0 ∷ 61 ∷ 34 ∷ 82 ∷ 246 ∷ 113 ∷ 235 ∷ 60 ∷ 60 ∷ []) }
 
 empty_blob_is : blob_id Sha1 [] ≡ empty_blob
 unfolding digest sha1 hash_after compress rounds schedule first_words digest_bytes digits
@@ -152,11 +154,11 @@ unfolding digest sha1 hash_after compress rounds schedule first_words digest_byt
 empty_tree_is = refl
 
 empty_commit_is : digest Sha1 (object_text (codes "commit") (text_with (hex empty_tree))) ≡ empty_commit
-unfolding digest sha1 hash_after compress rounds schedule first_words digest_bytes digits encode_with text_with
+unfolding digest sha1 hash_after compress rounds schedule first_words digest_bytes digits text_with
 empty_commit_is = refl
 
 empty_ids : AreIds [] empty_blob empty_tree empty_commit none_tree
-unfolding encode_with text_with
+unfolding text_with
 empty_ids = record {
   none_is = none_tree_is;
   blob_is = empty_blob_is;
@@ -198,7 +200,7 @@ unfolding empty_state state empty_line
 empty_shown = ap (λ es. map (file_line empty_state) es) (entry_is []) ∙ ap (λ i. record { kind = File; id = i; path = codes "a" } ∷ []) empty_blob_is
 
 empty_written : empty_file_output ≡ flat_map reply_text (empty_replies (empty_line ∷ [])) ++ []
-unfolding empty_replies empty_line digits encode_with
+unfolding empty_replies empty_line digits
 empty_written = refl
 
 pub empty_file_gives : Gives empty_file_stream empty_file_output
@@ -229,13 +231,13 @@ empty_file_gives = (
 -- ---- hello
 
 abbrev hello_blob : Id
-hello_blob = 182 ∷ 252 ∷ 76 ∷ 98 ∷ 11 ∷ 103 ∷ 217 ∷ 95 ∷ 149 ∷ 58 ∷ 92 ∷ 28 ∷ 18 ∷ 48 ∷ 170 ∷ 171 ∷ 93 ∷ 181 ∷ 161 ∷ 176 ∷ []
+hello_blob = record { kind = Sha1; digits = digits_of (182 ∷ 252 ∷ 76 ∷ 98 ∷ 11 ∷ 103 ∷ 217 ∷ 95 ∷ 149 ∷ 58 ∷ 92 ∷ 28 ∷ 18 ∷ 48 ∷ 170 ∷ 171 ∷ 93 ∷ 181 ∷ 161 ∷ 176 ∷ []) }
 
 abbrev hello_tree : Id
-hello_tree = 137 ∷ 23 ∷ 206 ∷ 56 ∷ 51 ∷ 117 ∷ 12 ∷ 15 ∷ 66 ∷ 74 ∷ 22 ∷ 150 ∷ 110 ∷ 243 ∷ 57 ∷ 26 ∷ 175 ∷ 232 ∷ 128 ∷ 193 ∷ []
+hello_tree = record { kind = Sha1; digits = digits_of (137 ∷ 23 ∷ 206 ∷ 56 ∷ 51 ∷ 117 ∷ 12 ∷ 15 ∷ 66 ∷ 74 ∷ 22 ∷ 150 ∷ 110 ∷ 243 ∷ 57 ∷ 26 ∷ 175 ∷ 232 ∷ 128 ∷ 193 ∷ []) }
 
 abbrev hello_commit : Id
-hello_commit = 102 ∷ 104 ∷ 94 ∷ 42 ∷ 177 ∷ 76 ∷ 72 ∷ 246 ∷ 178 ∷ 45 ∷ 254 ∷ 202 ∷ 116 ∷ 129 ∷ 121 ∷ 212 ∷ 12 ∷ 252 ∷ 116 ∷ 240 ∷ []
+hello_commit = record { kind = Sha1; digits = digits_of (102 ∷ 104 ∷ 94 ∷ 42 ∷ 177 ∷ 76 ∷ 72 ∷ 246 ∷ 178 ∷ 45 ∷ 254 ∷ 202 ∷ 116 ∷ 129 ∷ 121 ∷ 212 ∷ 12 ∷ 252 ∷ 116 ∷ 240 ∷ []) }
 
 hello_blob_is : blob_id Sha1 (codes "hello") ≡ hello_blob
 unfolding digest sha1 hash_after compress rounds schedule first_words digest_bytes digits
@@ -246,11 +248,11 @@ unfolding digest sha1 hash_after compress rounds schedule first_words digest_byt
 hello_tree_is = refl
 
 hello_commit_is : digest Sha1 (object_text (codes "commit") (text_with (hex hello_tree))) ≡ hello_commit
-unfolding digest sha1 hash_after compress rounds schedule first_words digest_bytes digits encode_with text_with
+unfolding digest sha1 hash_after compress rounds schedule first_words digest_bytes digits text_with
 hello_commit_is = refl
 
 hello_ids : AreIds (codes "hello") hello_blob hello_tree hello_commit none_tree
-unfolding encode_with text_with
+unfolding text_with
 hello_ids = record {
   none_is = none_tree_is;
   blob_is = hello_blob_is;
@@ -292,7 +294,7 @@ unfolding hello_state state hello_line
 hello_shown = ap (λ es. map (file_line hello_state) es) (entry_is (codes "hello")) ∙ ap (λ i. record { kind = File; id = i; path = codes "a" } ∷ []) hello_blob_is
 
 hello_written : hello_output ≡ flat_map reply_text (hello_replies (hello_line ∷ []) hello_blob) ++ []
-unfolding hello_replies hello_line digits encode_with
+unfolding hello_replies hello_line digits
 hello_written = refl
 
 pub hello_gives : Gives hello_stream hello_output

@@ -1,28 +1,31 @@
 -- What a move of a name's files does to the half that holds the names.
-use Rattle.std.proofs.Common.{◌≡◌, ◌≢◌, ℕ, zero, suc, ◌+◌, ◌-◌, ◌*◌, ◌<◌, ◌/◌, Bool, true, false, cond, not, ◌&&◌, ◌||◌, List, [], ◌∷◌, ◌++◌, length, take, drop, reverse, refl, sym, ◌∙◌, ap, subst, arith, tests, Option, Some, None, option_map, is_some, unwrap_or, bytes_eq, nat_eq, ◌==◌, codes, slice_index, length-append}
+use Rattle.std.proofs.Common.{◌≡◌, ◌≢◌, ℕ, zero, suc, ◌-◌, ◌<◌, Bool, true, false, cond, not, ◌&&◌, ◌||◌, List, [], ◌∷◌, ◌++◌, length, take, drop, reverse, refl, sym, ◌∙◌, ap, subst, arith, Option, Some, None, option_map, is_some, unwrap_or, bytes_eq, nat_eq, nat_lt, codes, slice_index, length-append}
 use Rattle.std.specs.List.{list_all, flat_map}
 use Rattle.std.specs.FinMap.{get}
 use Rattle.std.proofs.lemmas.List.{reverse-append}
 use Rattle.std.proofs.lemmas.Grind.{flat_map-append}
 use Rattle.std.proofs.Math.Seq.{take-append_seam, drop-append_seam}
-use Rattle.hex.specs.Hex.{encode_with, lower_digits, decode_of}
-use Rattle.hex.proofs.HexLemmas.{decode_of-encode_lower}
+use Rattle.hex.specs.Hex.{lower_digits}
 use Rattle.gix_ref_file.specs.Tree.{Tree}
 use Rattle.history_model.specs.Bytes.{Bytes, begins, ends, line}
-use Rattle.history_model.specs.Objects.{Id, Actor, id_len, hex}
+use Rattle.history_model.specs.Objects.{Actor, hex}
+use Rattle.gix_hash.specs.Id.{Id}
+use Rattle.gix_hash.specs.Order.{id_eq}
+use Rattle.gix_hash.specs.Spelling.{hex_text}
 use Rattle.history_model.specs.Repository.{Repository, Reference, LogEntry, id_at, moves_at, stands}
 use Rattle.history_model.specs.Forms.{is_id, is_name}
 use Rattle.history_model.specs.Meaning.{moved_reference, with_name}
 use Rattle.history_model.specs.Logs.{log_line, log_text}
-use Rattle.history_model.specs.PackedNames.{id_from_hex, line_text, result_ok}
+use Rattle.history_model.specs.PackedNames.{id_from_hex, line_text}
 use Rattle.history_model.specs.Places.{file_at, head_place, packed_place, log_place, is_log_place, is_name_place}
 use Rattle.history_model.specs.Readings.{Reading, Holds, Symbolic, Absent, Faulty, reading, loose_reading, loose_line, packed_text_reading}
 use Rattle.history_model.specs.TreeHalves.{HoldsNames}
 use Rattle.history_model.specs.TreeSteps.{MovesName, MovesMove, move_entry}
-use Rattle.history_model.specs.declared.Kind.{Kind}
+use Rattle.gix_hash.specs.declared.kind.Kind.{Kind}
+use Rattle.history_model.proofs.IdLemmas.{low_digit, id_digits, id_from_hex-hex, one_id, apart_ids}
 use Rattle.history_model.proofs.PartLemmas.{both_true}
 use Rattle.history_model.proofs.NameLemmas.{name-log}
-use Rattle.history_model.proofs.TreePlaces.{one_text, text_itself, get_with, id_bytes, id_length, length_hex}
+use Rattle.history_model.proofs.TreePlaces.{one_text, text_itself, get_with}
 use Rattle.history_model.proofs.TreePuts.{no_text}
 
 -- ---- the id that a name's file holds
@@ -37,23 +40,16 @@ no_r (c ∷ table) h zero less = turned (nat_eq 114 c) (both_true (not (nat_eq 1
     turned false e = refl
 no_r (c ∷ table) h (suc i) less = no_r table (both_true (not (nat_eq 114 c)) (list_all (λ c. not (nat_eq 114 c)) table) h).1 i (omega arith)
 
-no_ref : (id : Bytes) → ((i : ℕ) → slice_index id i < 256) → begins (codes "ref: ") (hex id) ≡ false
-unfolding encode_with
+no_ref : (digits : Bytes) → list_all (λ d. nat_lt d 16) digits ≡ true → begins (codes "ref: ") (hex_text digits) ≡ false
 no_ref [] h = refl
-no_ref (b ∷ id) h = first _ _ (no_r lower_digits refl (b / 16) (let less = h 0 in omega arith))
+no_ref (d ∷ digits) h = first _ _ (no_r lower_digits refl d (low_digit d (both_true (nat_lt d 16) (list_all (λ d. nat_lt d 16) digits) h).0))
   where
     first : (a c : Bool) → a ≡ false → (a && c) ≡ false
     first true c e = cc
     first false c e = refl
 
 pub id_read : (kind : Kind) (id : Id) → is_id kind id ≡ true → id_from_hex kind (hex id) ≡ Some id
-id_read kind id h = ap (λ b. cond b (result_ok (decode_of (hex id))) None) (sized (length (hex id)) (id_len kind) (length_hex id ∙ twice (id_length kind id h))) ∙ ap result_ok (decode_of-encode_lower id (id_bytes kind id h))
-  where
-    sized : (a n : ℕ) → a ≡ n + n → (a == 2 * n) ≡ true
-    sized a n e = grind (arith, tests)
-
-    twice : {a n : ℕ} → a ≡ n → a + a ≡ n + n
-    twice e = ap (λ m. m + m) e
+id_read kind id h = id_from_hex-hex kind id h
 
 line_read : (text : Bytes) → line_text (line text) ≡ Some text
 line_read text = ap (λ b. cond b (Some (take (length (line text) - 1) (line text))) None) ends_so ∙ ap Some (ap (λ n. take n (line text)) shorter ∙ take-append_seam text (10 ∷ []))
@@ -67,7 +63,7 @@ line_read text = ap (λ b. cond b (Some (take (length (line text) - 1) (line tex
 pub id_reads : (kind : Kind) (id : Id) → is_id kind id ≡ true → loose_reading kind (line (hex id)) ≡ Holds id
 id_reads kind id h =
     ap (λ o. unwrap_or (option_map (loose_line kind) o) Faulty) (line_read (hex id))
-    ∙ no_symbol (begins (codes "ref: ") (hex id)) _ (no_ref id (id_bytes kind id h))
+    ∙ no_symbol (begins (codes "ref: ") (hex id)) _ (no_ref id.digits (id_digits kind id h))
     ∙ ap (λ o. unwrap_or (option_map Holds o) Faulty) (id_read kind id h)
   where
     no_symbol : (a b : Bool) → a ≡ false → cond (a && b) (Symbolic (drop 5 (hex id))) (unwrap_or (option_map Holds (id_from_hex kind (hex id))) Faulty) ≡ unwrap_or (option_map Holds (id_from_hex kind (hex id))) Faulty
@@ -183,11 +179,11 @@ module _ (r : Repository) (name : Bytes) (id : Id) (actor : Actor) (message : By
             (λ k. at ∙ (h.names q x).0 (sym there ∙ k), λ k. there ∙ (h.names q x).1 (sym at ∙ k))
 
     log_here : unwrap_or (file_at new (log_place name)) [] ≡ log_text ref.moves
-    log_here = go (bytes_eq entry.before id) refl
+    log_here = go (id_eq entry.before id) refl
       where
-        go : (b : Bool) → bytes_eq entry.before id ≡ b → unwrap_or (file_at new (log_place name)) [] ≡ log_text (cond b (moves_at r name) (entry ∷ moves_at r name))
-        go true e = ap (λ o. unwrap_or o []) (m.unmoved (one_text entry.before id e)) ∙ h.logs name
-        go false e = ap (λ o. unwrap_or o []) (m.appended (λ same. absurd (cc (sym e ∙ ap (λ t. bytes_eq t id) same ∙ text_itself id))))
+        go : (b : Bool) → id_eq entry.before id ≡ b → unwrap_or (file_at new (log_place name)) [] ≡ log_text (cond b (moves_at r name) (entry ∷ moves_at r name))
+        go true e = ap (λ o. unwrap_or o []) (m.unmoved (one_id entry.before id e)) ∙ h.logs name
+        go false e = ap (λ o. unwrap_or o []) (m.appended (λ same. apart_ids entry.before id e same))
             ∙ ap (λ t. t ++ log_line entry) (h.logs name) ∙ sym (more_texts (moves_at r name) entry)
 
     logs_told : (q : Bytes) → unwrap_or (file_at new (log_place q)) [] ≡ log_text (moves_at moved q)

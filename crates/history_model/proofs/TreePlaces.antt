@@ -1,22 +1,23 @@
 -- Places tell ids, and the files of values tell what is stored under each id.
-use Rattle.std.proofs.Common.{◌≡◌, ℕ, zero, suc, ◌+◌, ◌<◌, Bool, true, false, cond, List, [], ◌∷◌, ◌++◌, map, length, take, drop, refl, sym, ◌∙◌, ap, subst, arith, tests, Option, Some, None, option_map, is_some, bytes_eq, nat_lt, ◌==◌}
-use Rattle.std.specs.List.{list_all}
+use Rattle.std.proofs.Common.{◌≡◌, Bool, true, false, cond, List, [], ◌∷◌, ◌++◌, map, length, take, drop, refl, sym, ◌∙◌, ap, subst, arith, Option, Some, None, option_map, is_some, bytes_eq}
 use Rattle.std.specs.Ordering.{eq_by_cmp}
 use Rattle.std.specs.FinMap.{FinMap, entries, get, get-entries, get-from_entries, get-insert, insert}
 use Rattle.std.specs.FinMap.Entries.{find}
 use Rattle.std.proofs.lemmas.Cmp.{nat_list_cmp_total}
 use Rattle.std.proofs.lemmas.Map.Text.{is_eq-slice_cmp}
 use Rattle.std.proofs.lemmas.Slice.Eq.{bytes_eq-Decides}
-use Rattle.hex.specs.Hex.{encode_with, decode_of, IsBytes}
-use Rattle.hex.proofs.HexLemmas.{decode_of-encode_lower, decode_of-same}
 use Rattle.history_model.specs.Bytes.{Bytes, by_bytes}
-use Rattle.history_model.specs.Objects.{Id, Value, hex, digest, id_len, value_text}
+use Rattle.history_model.specs.Objects.{by_id, Value, hex, digest, value_text}
+use Rattle.gix_hash.specs.Id.{Id}
+use Rattle.gix_hash.specs.Order.{id_eq}
+use Rattle.gix_hash.specs.Kind.{hex_len}
 use Rattle.history_model.specs.Forms.{is_id}
 use Rattle.history_model.specs.Places.{object_place}
 use Rattle.history_model.specs.TreeHalves.{Values, value_files, HaveOwnIds, PlacesTellIds, ValuesHaveIds}
-use Rattle.history_model.specs.declared.Kind.{Kind}
+use Rattle.gix_hash.specs.declared.kind.Kind.{Kind}
 use Rattle.history_model.proofs.WholeTexts.{is_id-digest}
-use Rattle.history_model.proofs.PartLemmas.{both_true, head_same, tail_same}
+use Rattle.history_model.proofs.IdLemmas.{has_kind, hex_tells, length-hex, one_id, id_itself, apart_ids, same_id_key}
+use Rattle.history_model.proofs.PartLemmas.{head_same, tail_same}
 
 -- ---- texts
 
@@ -44,20 +45,6 @@ get_with m key x q = get-insert nat_list_cmp_total m key x q ∙ ap (λ b. cond 
 
 -- ---- ids
 
-below_256 : (b : ℕ) → nat_lt b 256 ≡ true → b < 256
-below_256 b h = grind (arith, tests)
-
-are_bytes : (xs : Bytes) → list_all (λ b. nat_lt b 256) xs ≡ true → IsBytes xs
-are_bytes [] h i = omega arith
-are_bytes (x ∷ xs) h zero = below_256 x (both_true (nat_lt x 256) (list_all (λ b. nat_lt b 256) xs) h).0
-are_bytes (x ∷ xs) h (suc i) = are_bytes xs (both_true (nat_lt x 256) (list_all (λ b. nat_lt b 256) xs) h).1 i
-
-pub id_bytes : (kind : Kind) (id : Id) → is_id kind id ≡ true → IsBytes id
-id_bytes kind id h = are_bytes id (both_true (length id == id_len kind) (list_all (λ b. nat_lt b 256) id) h).1
-
-hex_tells : (kind : Kind) (a b : Id) → is_id kind a ≡ true → is_id kind b ≡ true → hex a ≡ hex b → a ≡ b
-hex_tells kind a b ha hb e = decode_of-same (hex a) a b (decode_of-encode_lower a (id_bytes kind a ha)) (ap decode_of e ∙ decode_of-encode_lower b (id_bytes kind b hb))
-
 -- the digits behind `objects/`, whatever their number
 digits_told : (s t : Bytes) → take 2 s ++ 47 ∷ drop 2 s ≡ take 2 t ++ 47 ∷ drop 2 t → length s ≡ length t → s ≡ t
 digits_told [] [] e n = refl
@@ -68,21 +55,15 @@ digits_told (a ∷ []) (b ∷ d ∷ t) e n = absurd (omega arith)
 digits_told (a ∷ c ∷ s) (b ∷ []) e n = absurd (omega arith)
 digits_told (a ∷ c ∷ s) (b ∷ d ∷ t) e n = λ i. head_same e i ∷ head_same (tail_same e) i ∷ tail_same (tail_same (tail_same e)) i
 
-pub length_hex : (id : Bytes) → length (hex id) ≡ length id + length id
-unfolding encode_with
-length_hex [] = refl
-length_hex (b ∷ id) = let rest = length_hex id in omega arith
+pub length_hex : (id : Id) → length (hex id) ≡ length id.digits
+length_hex id = length-hex id
 
-pub id_length : (kind : Kind) (id : Id) → is_id kind id ≡ true → length id ≡ id_len kind
-id_length kind id h = let e = (both_true (length id == id_len kind) (list_all (λ b. nat_lt b 256) id) h).0 in grind (arith, tests)
+pub id_length : (kind : Kind) (id : Id) → is_id kind id ≡ true → length id.digits ≡ hex_len kind
+id_length kind id h = (has_kind kind id h).whole
 
 pub places_tell_ids : PlacesTellIds
 places_tell_ids kind a b ha hb e =
-    let la = id_length kind a ha in
-    let lb = id_length kind b hb in
-    let twice_a = length_hex a in
-    let twice_b = length_hex b in
-    hex_tells kind a b ha hb (digits_told (hex a) (hex b) (behind e) (omega arith))
+    hex_tells kind a b ha hb (digits_told (hex a) (hex b) (behind e) (length_hex a ∙ id_length kind a ha ∙ sym (length_hex b ∙ id_length kind b hb)))
   where
     behind : object_place a ≡ object_place b → take 2 (hex a) ++ 47 ∷ drop 2 (hex a) ≡ take 2 (hex b) ++ 47 ∷ drop 2 (hex b)
     behind same = ap (λ (text : Bytes). drop 8 text) same
@@ -96,50 +77,50 @@ values_have_ids kind values own id value at = ap (is_id kind) (own id value at) 
 -- ---- files of values
 
 module _ (kind : Kind) where
-  abbrev pub placed : List (Bytes × Value) → List (Bytes × Bytes)
-  placed es = map (λ (e : Bytes × Value). (object_place e.0, value_text kind e.1)) es
+  abbrev pub placed : List (Id × Value) → List (Bytes × Bytes)
+  placed es = map (λ (e : Id × Value). (object_place e.0, value_text kind e.1)) es
 
   -- what is found has an id
-  abbrev pub AllIds : List (Bytes × Value) → Type 0
-  AllIds es = (q : Bytes) → is_some (find by_bytes q es) ≡ true → is_id kind q ≡ true
+  abbrev pub AllIds : List (Id × Value) → Type 0
+  AllIds es = (q : Id) → is_some (find by_id q es) ≡ true → is_id kind q ≡ true
 
-  found_later : (q : Bytes) (e : Bytes × Value) (es : List (Bytes × Value)) → is_some (find by_bytes q es) ≡ true → is_some (find by_bytes q (e ∷ es)) ≡ true
-  found_later q e es h = go (eq_by_cmp by_bytes q e.0)
+  found_later : (q : Id) (e : Id × Value) (es : List (Id × Value)) → is_some (find by_id q es) ≡ true → is_some (find by_id q (e ∷ es)) ≡ true
+  found_later q e es h = go (eq_by_cmp by_id q e.0)
     where
-      go : (b : Bool) → is_some (cond b (Some e.1) (find by_bytes q es)) ≡ true
+      go : (b : Bool) → is_some (cond b (Some e.1) (find by_id q es)) ≡ true
       go true = refl
       go false = h
 
-  found_first : (e : Bytes × Value) (es : List (Bytes × Value)) → is_some (find by_bytes e.0 (e ∷ es)) ≡ true
-  found_first e es = ap (λ b. is_some (cond b (Some e.1) (find by_bytes e.0 es))) (same_key e.0 e.0 ∙ text_itself e.0)
+  found_first : (e : Id × Value) (es : List (Id × Value)) → is_some (find by_id e.0 (e ∷ es)) ≡ true
+  found_first e es = ap (λ b. is_some (cond b (Some e.1) (find by_id e.0 es))) (same_id_key e.0 e.0 ∙ id_itself e.0)
 
   -- a file is at the place of a key
-  pub found_at : (path : Bytes) (es : List (Bytes × Value)) → is_some (find by_bytes path (placed es)) ≡ true → (q : Bytes) × (is_some (find by_bytes q es) ≡ true) × (path ≡ object_place q)
+  pub found_at : (path : Bytes) (es : List (Id × Value)) → is_some (find by_bytes path (placed es)) ≡ true → (q : Id) × (is_some (find by_id q es) ≡ true) × (path ≡ object_place q)
   found_at path [] h = cc
   found_at path (e ∷ es) h = go (found_at path es) (bytes_eq path (object_place e.0)) refl (subst (λ b. is_some (cond b (Some (value_text kind e.1)) (find by_bytes path (placed es))) ≡ true) (same_key path (object_place e.0)) h)
     where
-      go : (is_some (find by_bytes path (placed es)) ≡ true → (q : Bytes) × (is_some (find by_bytes q es) ≡ true) × (path ≡ object_place q))
+      go : (is_some (find by_bytes path (placed es)) ≡ true → (q : Id) × (is_some (find by_id q es) ≡ true) × (path ≡ object_place q))
           → (b : Bool) → bytes_eq path (object_place e.0) ≡ b → is_some (cond b (Some (value_text kind e.1)) (find by_bytes path (placed es))) ≡ true
-          → (q : Bytes) × (is_some (find by_bytes q (e ∷ es)) ≡ true) × (path ≡ object_place q)
+          → (q : Id) × (is_some (find by_id q (e ∷ es)) ≡ true) × (path ≡ object_place q)
       go later true k found = (e.0, found_first e es, one_text path (object_place e.0) k)
       go later false k found = let rest = later found in (rest.0, found_later rest.0 e es rest.1, rest.2)
 
-  pub text_at : (es : List (Bytes × Value)) → AllIds es → (q : Id) → is_id kind q ≡ true → find by_bytes (object_place q) (placed es) ≡ option_map (value_text kind) (find by_bytes q es)
+  pub text_at : (es : List (Id × Value)) → AllIds es → (q : Id) → is_id kind q ≡ true → find by_bytes (object_place q) (placed es) ≡ option_map (value_text kind) (find by_id q es)
   text_at [] ids q h = refl
-  text_at (e ∷ es) ids q h = go (bytes_eq q e.0) refl (text_at es (λ x f. ids x (found_later x e es f)) q h)
+  text_at (e ∷ es) ids q h = go (id_eq q e.0) refl (text_at es (λ x f. ids x (found_later x e es f)) q h)
     where
       key_id : is_id kind e.0 ≡ true
       key_id = ids e.0 (found_first e es)
 
-      same_place : (b : Bool) → bytes_eq q e.0 ≡ b → eq_by_cmp by_bytes (object_place q) (object_place e.0) ≡ b
-      same_place true k = same_key (object_place q) (object_place e.0) ∙ (bytes_eq-Decides (object_place q) (object_place e.0)).1 (ap object_place (one_text q e.0 k))
-      same_place false k = same_key (object_place q) (object_place e.0) ∙ texts_apart (object_place q) (object_place e.0) (λ same. apart_texts q e.0 k (places_tell_ids kind q e.0 h key_id same))
+      same_place : (b : Bool) → id_eq q e.0 ≡ b → eq_by_cmp by_bytes (object_place q) (object_place e.0) ≡ b
+      same_place true k = same_key (object_place q) (object_place e.0) ∙ (bytes_eq-Decides (object_place q) (object_place e.0)).1 (ap object_place (one_id q e.0 k))
+      same_place false k = same_key (object_place q) (object_place e.0) ∙ texts_apart (object_place q) (object_place e.0) (λ same. apart_ids q e.0 k (places_tell_ids kind q e.0 h key_id same))
 
-      go : (b : Bool) → bytes_eq q e.0 ≡ b → find by_bytes (object_place q) (placed es) ≡ option_map (value_text kind) (find by_bytes q es)
+      go : (b : Bool) → id_eq q e.0 ≡ b → find by_bytes (object_place q) (placed es) ≡ option_map (value_text kind) (find by_id q es)
           → cond (eq_by_cmp by_bytes (object_place q) (object_place e.0)) (Some (value_text kind e.1)) (find by_bytes (object_place q) (placed es))
-          ≡ option_map (value_text kind) (cond (eq_by_cmp by_bytes q e.0) (Some e.1) (find by_bytes q es))
-      go true k rest = rw (same_place true k, same_key q e.0 ∙ k) refl
-      go false k rest = rw (same_place false k, same_key q e.0 ∙ k) rest
+          ≡ option_map (value_text kind) (cond (eq_by_cmp by_id q e.0) (Some e.1) (find by_id q es))
+      go true k rest = rw (same_place true k, same_id_key q e.0 ∙ k) refl
+      go false k rest = rw (same_place false k, same_id_key q e.0 ∙ k) rest
 
   module _ (values : Values) (own : HaveOwnIds kind values) where
     files_found : (path : Bytes) → get (value_files kind values) path ≡ find by_bytes path (placed (entries values))
@@ -150,7 +131,7 @@ module _ (kind : Kind) where
     some_is (Some x) h = (x, refl)
 
     all_ids : AllIds (entries values)
-    all_ids q h = let found = some_is (find by_bytes q (entries values)) h in values_have_ids kind values own q found.0 (get-entries values q ∙ found.1)
+    all_ids q h = let found = some_is (find by_id q (entries values)) h in values_have_ids kind values own q found.0 (get-entries values q ∙ found.1)
 
     pub file_at_id : (id : Id) → is_id kind id ≡ true → get (value_files kind values) (object_place id) ≡ option_map (value_text kind) (get values id)
     file_at_id id h = files_found (object_place id) ∙ text_at (entries values) all_ids id h ∙ ap (option_map (value_text kind)) (sym (get-entries values id))

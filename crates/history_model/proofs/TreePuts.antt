@@ -3,14 +3,17 @@ use Rattle.std.proofs.Common.{◌≡◌, ◌≢◌, Bool, true, false, cond, not
 use Rattle.std.specs.FinMap.{get, insert, contains_key, empty}
 use Rattle.gix_ref_file.specs.Tree.{Tree}
 use Rattle.history_model.specs.Bytes.{Bytes}
-use Rattle.history_model.specs.Objects.{Id, Value, hex, StoredFolder, value_text, id_of, null_id, empty_tree_id}
+use Rattle.history_model.specs.Objects.{Value, hex, StoredFolder, value_text, id_of, empty_tree_id}
+use Rattle.gix_hash.specs.Id.{Id, null_id}
+use Rattle.gix_hash.specs.Order.{id_eq}
 use Rattle.history_model.specs.Meaning.{store_one, is_taken, is_other}
 use Rattle.history_model.specs.Places.{file_at, object_place, unfinished_place}
 use Rattle.history_model.specs.TreeHalves.{Values, value_files, HoldsValues, HaveOwnIds, HalvesStand, NamesSpeakOfNoValues, PlacesTellValues}
 use Rattle.history_model.specs.TreeSteps.{PutsValue, PutsStore, StandingIsStored, StoredStands, TreesTellTaken, OwnIdsStay, NoneUnfinished, RenamesPut}
-use Rattle.history_model.specs.declared.Kind.{Kind}
+use Rattle.gix_hash.specs.declared.kind.Kind.{Kind}
+use Rattle.history_model.proofs.IdLemmas.{one_id, id_itself, ids_apart, get_with_id}
 use Rattle.history_model.proofs.PartLemmas.{either_false}
-use Rattle.history_model.proofs.TreePlaces.{one_text, text_itself, texts_apart, get_with, digest_is_id, file_at_id, file_has_id, same_file}
+use Rattle.history_model.proofs.TreePlaces.{one_text, text_itself, digest_is_id, file_at_id, file_has_id, same_file}
 
 pub halves_stand : HalvesStand
 halves_stand kind pair r = (
@@ -70,13 +73,13 @@ module _ (kind : Kind) (values : Values) (value : Value) where
 
   module _ (own : HaveOwnIds kind values) where
     stay_new : HaveOwnIds kind (insert values id value)
-    stay_new q v at = go (bytes_eq q id) refl (sym (get_with values id value q) ∙ at)
+    stay_new q v at = go (id_eq q id) refl (sym (get_with_id values id value q) ∙ at)
       where
         inside : {a b : Value} → Some a ≡ Some b → a ≡ b
         inside e = cc
 
-        go : (b : Bool) → bytes_eq q id ≡ b → cond b (Some value) (get values q) ≡ Some v → q ≡ id_of kind v
-        go true e h = one_text q id e ∙ ap (id_of kind) (inside h)
+        go : (b : Bool) → id_eq q id ≡ b → cond b (Some value) (get values q) ≡ Some v → q ≡ id_of kind v
+        go true e h = one_id q id e ∙ ap (id_of kind) (inside h)
         go false e h = own q v h
 
     stay : HaveOwnIds kind (store_one kind values value)
@@ -106,7 +109,7 @@ module _ (kind : Kind) (values : Values) (value : Value) where
       text_stands free stored = go (file_at tree place) refl
         where
           no_other : unwrap_or (option_map (λ text. not (bytes_eq (value_text kind value) text)) (file_at tree place)) false ≡ false
-          no_other = sym taken_told ∙ (either_false (bytes_eq id (null_id kind) || (bytes_eq id (empty_tree_id kind) && is_other kind (value_text kind (StoredFolder empty)) value)) _ free).1
+          no_other = sym taken_told ∙ (either_false (id_eq id (null_id kind) || (id_eq id (empty_tree_id kind) && is_other kind (value_text kind (StoredFolder empty)) value)) _ free).1
 
           some_stands : is_some (file_at tree place) ≡ true
           some_stands = ap is_some at_place ∙ kept (get values id) ∙ stored
@@ -132,12 +135,12 @@ module _ (kind : Kind) (values : Values) (value : Value) where
           go true k =
               ap (file_at new) (one_text path place k) ∙ puts.here
               ∙ sym (file_at_id kind (insert values id value) stay_new id (digest_is_id kind (value_text kind value))
-              ∙ ap (option_map (value_text kind)) (get_with values id value id ∙ ap (λ b. cond b (Some value) (get values id)) (text_itself id)))
+              ∙ ap (option_map (value_text kind)) (get_with_id values id value id ∙ ap (λ b. cond b (Some value) (get values id)) (id_itself id)))
               ∙ ap (get (value_files kind (insert values id value))) (sym (one_text path place k))
           go false k =
               puts.others path differ ∙ h.files path
-              ∙ same_file kind values (insert values id value) own stay_new path (λ q is same. sym (get_with values id value q
-              ∙ ap (λ b. cond b (Some value) (get values q)) (texts_apart q id (λ one. differ (same ∙ ap object_place one)))))
+              ∙ same_file kind values (insert values id value) own stay_new path (λ q is same. sym (get_with_id values id value q
+              ∙ ap (λ b. cond b (Some value) (get values q)) (ids_apart q id (λ one. differ (same ∙ ap object_place one)))))
             where
               differ : path ≢ place
               differ same = absurd (cc (sym k ∙ ap (λ p. bytes_eq p place) same ∙ text_itself place))
@@ -168,7 +171,7 @@ stored_stands kind tree values value own h free e = text_stands kind values valu
 
 pub trees_tell_taken : TreesTellTaken
 trees_tell_taken kind tree values value own h =
-    ap (λ b. bytes_eq (id_of kind value) (null_id kind) || (bytes_eq (id_of kind value) (empty_tree_id kind) && is_other kind (value_text kind (StoredFolder empty)) value) || b)
+    ap (λ b. id_eq (id_of kind value) (null_id kind) || (id_eq (id_of kind value) (empty_tree_id kind) && is_other kind (value_text kind (StoredFolder empty)) value) || b)
     (taken_told kind values value own tree h)
 
 pub own_ids_stay : OwnIdsStay

@@ -4,7 +4,8 @@ use Rattle.std.specs.List.{flat_map}
 use Rattle.std.specs.FinMap.{entries, keys}
 use Rattle.history_model.specs.Bytes.{Bytes}
 use Rattle.history_model.specs.FileMap.{FileMap, Content, inside, beginnings, folders_of, Edit, Put, Remove, RemoveFile}
-use Rattle.history_model.specs.Objects.{Id, Value, StoredCommit, StoredBytes, StoredFolder}
+use Rattle.history_model.specs.Objects.{Value, StoredCommit, StoredBytes, StoredFolder}
+use Rattle.gix_hash.specs.Id.{Id, null_id}
 use Rattle.history_model.specs.Repository.{Repository, IsStored, HoldsCommit, peeled, IsWholeStore}
 use Rattle.history_model.specs.Forms.{IsWrittenFiles, IsWritten}
 use Rattle.history_model.specs.Words.{WordReading, ReadsAs, Unborn, Unknown, Ambiguous, commit_read, commit_of, word_reading}
@@ -106,7 +107,7 @@ module _ (r : Repository) (whole : IsWholeStore r) (written : IsWritten r) where
   tag_fits : (c : TagCommand) → first_cause r (Tag c) ≡ None → (v : Value) → In v (stored_by r (Tag c)) → Fits r (stored_by r (Tag c)) v
   tag_fits c none v (inl e) =
       let word = word_commit r (Tag c) none c.word (in_right c.word (at_word c.expect) (c.word ∷ []) (inl refl)) in
-      subst (Fits r (stored_by r (Tag c))) (sym e) (subst (HoldsCommit r) (sym (ap (λ o. unwrap_or o []) word.1)) (read_holds r whole (word_reading r c.word) word.0 word.1))
+      subst (Fits r (stored_by r (Tag c))) (sym e) (subst (HoldsCommit r) (sym (ap (λ o. unwrap_or o (null_id r.kind)) word.1)) (read_holds r whole (word_reading r c.word) word.0 word.1))
   tag_fits c none v (inr i) = absurd i
 
   pub all_fits : (command : Command) → first_cause r command ≡ None → (v : Value) → In v (stored_by r command) → Fits r (stored_by r command) v

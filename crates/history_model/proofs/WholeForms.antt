@@ -4,7 +4,9 @@ use Rattle.std.specs.List.{list_any, list_all, flat_map, slice_split, onto_first
 use Rattle.std.specs.FinMap.{get, remove, contains_key}
 use Rattle.history_model.specs.Bytes.{Bytes, begins, has_byte, has_twice, is_empty, digits_value, is_decimal}
 use Rattle.history_model.specs.FileMap.{FileMap, is_path, components, inside, folders_of, Edit, Put, Remove, RemoveFile}
-use Rattle.history_model.specs.Objects.{Id, Actor, Value, StoredCommit, StoredTag, StoredFolder, content_of, value_text, id_of, null_id}
+use Rattle.history_model.specs.Objects.{Actor, Value, StoredCommit, StoredTag, StoredFolder, content_of, value_text, id_of}
+use Rattle.gix_hash.specs.Id.{Id, null_id}
+use Rattle.gix_hash.specs.Order.{id_eq}
 use Rattle.history_model.specs.Repository.{Repository, Reference, LogEntry, HoldsCommit, id_at, moves_at, stands, IsWholeStore, IsWhole}
 use Rattle.history_model.specs.Forms.{IsWritten, IsWrittenFiles, IsWrittenValue, HasForm, is_id, is_actor, is_actor_part, is_seconds, is_offset, is_name, is_private, is_branch, is_tag_name, is_commit_form, is_tag_form, is_log_entry, is_reference, title, max_title, max_content, max_parents, max_seconds}
 use Rattle.history_model.specs.Words.{commit_of, word_reading, head_word}
@@ -12,11 +14,11 @@ use Rattle.history_model.specs.Commands.{Command, Commit, Tag, Move, Rename, Del
 use Rattle.history_model.specs.Meaning.{References, branch_or_name, read_actor, history_actor, parents_of, edits_of, new_commit, new_tag, tag_rest, put_bytes, stored_by, with_name, with_lines, moved_reference, names_after, branch_after, after}
 use Rattle.history_model.specs.CommandParts.{words_in, at_word, targets, names_in, actors_in, contents_in}
 use Rattle.history_model.specs.Causes.{first_cause, is_bad_actor, is_bad_title, is_bad_place, holds}
-use Rattle.history_model.specs.declared.Kind.{Kind}
-use Rattle.history_model.specs.declared.Kind.TheVariants.{Sha1}
+use Rattle.gix_hash.specs.declared.kind.Kind.{Kind}
 use Rattle.history_model.specs.declared.Cause.TheVariants.{BadName, PrivateName, NoSuchName, TooManyParents, DuplicateParent, BadActor, BadTime, BadMessage, TooLarge}
 use Rattle.history_model.proofs.WholeLists.{In, in_right, in_either, in_map, in_flat, of_flat, or_none, none_or, and_true, and_both, some_inside, none_is_some, none_passes, not_false, not_true, false_not, pass_all}
 use Rattle.history_model.proofs.WholePaths.{inner_below, begins_parts}
+use Rattle.history_model.proofs.IdLemmas.{null_is_id}
 use Rattle.history_model.proofs.WholeTexts.{is_id-digest}
 use Rattle.history_model.proofs.WholeRoots.{HasAll, of_folders, of_inside}
 use Rattle.history_model.proofs.WholeStores.{get_in, in_get, get_inserted, get_removed, all_from}
@@ -102,7 +104,7 @@ id_held r whole id h =
     ap (is_id r.kind) (whole.own_ids id (StoredCommit held.0) held.1) ∙ is_id-digest r.kind (value_text r.kind (StoredCommit held.0))
 
 null_formed : (kind : Kind) → is_id kind (null_id kind) ≡ true
-null_formed Sha1 = refl
+null_formed kind = null_is_id kind
 
 module _ (r : Repository) (command : Command) (none : first_cause r command ≡ None) where
   actor_parts : (a : ActorLine) → In a (actors_in command) → (is_empty a.name ≡ false) × (is_actor_part a.name ≡ true) × (is_actor_part a.email ≡ true)
@@ -167,14 +169,14 @@ module _ (r : Repository) (whole : IsWhole r) (written : IsWritten r) where
 
   pub commit_formed : (c : CommitCommand) → first_cause r (Commit c) ≡ None → is_commit_form r.kind (new_commit r c) ≡ true
   commit_formed c none =
-      both (list_all (is_id r.kind) ps && nat_le (length ps) max_parents && not (has_twice ps) && is_actor author && is_actor committer) (nat_le (length (title c.message)) max_title)
-      (both (list_all (is_id r.kind) ps && nat_le (length ps) max_parents && not (has_twice ps) && is_actor author) (is_actor committer)
-      (both (list_all (is_id r.kind) ps && nat_le (length ps) max_parents && not (has_twice ps)) (is_actor author)
-      (both (list_all (is_id r.kind) ps && nat_le (length ps) max_parents) (not (has_twice ps))
+      both (list_all (is_id r.kind) ps && nat_le (length ps) max_parents && not (has_twice id_eq ps) && is_actor author && is_actor committer) (nat_le (length (title c.message)) max_title)
+      (both (list_all (is_id r.kind) ps && nat_le (length ps) max_parents && not (has_twice id_eq ps) && is_actor author) (is_actor committer)
+      (both (list_all (is_id r.kind) ps && nat_le (length ps) max_parents && not (has_twice id_eq ps)) (is_actor author)
+      (both (list_all (is_id r.kind) ps && nat_le (length ps) max_parents) (not (has_twice id_eq ps))
       (both (list_all (is_id r.kind) ps) (nat_le (length ps) max_parents)
       (pass_all (is_id r.kind) ps (λ id i. id_held r whole.store id (parents_hold r whole.store c id i)))
       (fits_test max_parents (length ps) (no_cause r (Commit c) none TooManyParents tests_too_many_parents)))
-      (false_not (has_twice ps) (no_cause r (Commit c) none DuplicateParent tests_duplicate_parent)))
+      (false_not (has_twice id_eq ps) (no_cause r (Commit c) none DuplicateParent tests_duplicate_parent)))
       (actor_formed r (Commit c) none c.author (inl refl) times))
       (actor_formed r (Commit c) none c.committer (inr (inl refl)) times))
       (fits_test max_title (length (title c.message)) (title_parts (title c.message) bad_message).1)
@@ -204,14 +206,14 @@ module _ (r : Repository) (whole : IsWhole r) (written : IsWritten r) where
       (both (is_id r.kind target && is_tag_name (tag_rest c.name) && is_actor tagger) (not (is_empty c.message))
       (both (is_id r.kind target && is_tag_name (tag_rest c.name)) (is_actor tagger)
       (both (is_id r.kind target) (is_tag_name (tag_rest c.name))
-      (subst (λ o. is_id r.kind (unwrap_or o []) ≡ true) (sym word.1) (id_held r whole.store word.0 (read_holds r whole.store (word_reading r c.word) word.0 word.1)))
+      (subst (λ o. is_id r.kind (unwrap_or o (null_id r.kind)) ≡ true) (sym word.1) (id_held r whole.store word.0 (read_holds r whole.store (word_reading r c.word) word.0 word.1)))
       (and_true (begins (codes "refs/tags/") c.name) (is_tag_name (tag_rest c.name)) (not_false (begins (codes "refs/tags/") c.name && is_tag_name (tag_rest c.name)) place)).1)
       (actor_formed r (Tag c) none c.tagger (inl refl) times))
       (false_not (is_empty c.message) (message_there c.message (title_parts (title c.message) bad_message).0)))
       (fits_test max_title (length (title c.message)) (title_parts (title c.message) bad_message).1)
     where
       target : Id
-      target = unwrap_or (commit_of r c.word) []
+      target = unwrap_or (commit_of r c.word) (null_id r.kind)
 
       tagger : Actor
       tagger = read_actor c.tagger
@@ -354,7 +356,7 @@ module _ (r : Repository) (written : IsWritten r) where
       before = unwrap_or (id_at r name) (null_id r.kind)
 
       same : Bool
-      same = bytes_eq before id
+      same = id_eq before id
 
       entry : LogEntry
       entry = record { before = before; after = id; actor = actor; message = message }
@@ -379,11 +381,11 @@ module _ (r : Repository) (written : IsWritten r) where
       go false k = all other ref k
 
   lines_formed : (actor : Actor) (message : Bytes) (lines : List To) (names : References) → AllFormed r.kind names → is_actor actor ≡ true → IsLogMessage message
-      → ((to : To) → In to lines → is_id r.kind (unwrap_or (commit_of r to.word) []) ≡ true) → AllFormed r.kind (with_lines r actor message lines names)
+      → ((to : To) → In to lines → is_id r.kind (unwrap_or (commit_of r to.word) (null_id r.kind)) ≡ true) → AllFormed r.kind (with_lines r actor message lines names)
   lines_formed actor message [] names all act m h = all
   lines_formed actor message (to ∷ lines) names all act m h =
-      lines_formed actor message lines (with_name r to.name (unwrap_or (commit_of r to.word) []) actor message names)
-      (with_formed to.name (unwrap_or (commit_of r to.word) []) actor message names all (h to (inl refl)) act m) act m (λ other i. h other (inr i))
+      lines_formed actor message lines (with_name r to.name (unwrap_or (commit_of r to.word) (null_id r.kind)) actor message names)
+      (with_formed to.name (unwrap_or (commit_of r to.word) (null_id r.kind)) actor message names all (h to (inl refl)) act m) act m (λ other i. h other (inr i))
 
   old_formed : AllFormed r.kind r.names
   old_formed name ref at = (name_parts name ref at).1
@@ -391,10 +393,10 @@ module _ (r : Repository) (written : IsWritten r) where
 title_message : (message : Bytes) → is_bad_title (title message) ≡ false → (has_byte 10 (title message) ≡ false) × (nat_le (length (title message)) max_title ≡ true)
 title_message message h = (title_line message, fits_test max_title (length (title message)) (title_parts (title message) h).1)
 
-word_id : (r : Repository) → IsWhole r → (command : Command) → first_cause r command ≡ None → (word : Bytes) → In word (words_in command) → is_id r.kind (unwrap_or (commit_of r word) []) ≡ true
+word_id : (r : Repository) → IsWhole r → (command : Command) → first_cause r command ≡ None → (word : Bytes) → In word (words_in command) → is_id r.kind (unwrap_or (commit_of r word) (null_id r.kind)) ≡ true
 word_id r whole command none word i =
     let at = word_commit r command none word i in
-    subst (λ o. is_id r.kind (unwrap_or o []) ≡ true) (sym at.1) (id_held r whole.store at.0 (read_holds r whole.store (word_reading r word) at.0 at.1))
+    subst (λ o. is_id r.kind (unwrap_or o (null_id r.kind)) ≡ true) (sym at.1) (id_held r whole.store at.0 (read_holds r whole.store (word_reading r word) at.0 at.1))
 
 history_actor_formed : is_actor history_actor ≡ true
 history_actor_formed = refl
@@ -418,15 +420,15 @@ names_formed r whole written (Move c) none =
     message : (has_byte 10 c.message ≡ false) × (nat_le (length c.message) max_title ≡ true)
     message = (bad.1, subst (λ t. nat_le (length t) max_title ≡ true) (title_whole c.message bad.1) (title_message c.message bad.0).1)
 names_formed r whole written (Rename from to) none =
-    with_formed r written to (unwrap_or (id_at r from) []) history_actor (codes "rename") (remove r.names from) (removed_formed r written r.names from (old_formed r written)) held history_actor_formed (refl, refl)
+    with_formed r written to (unwrap_or (id_at r from) (null_id r.kind)) history_actor (codes "rename") (remove r.names from) (removed_formed r written r.names from (old_formed r written)) held history_actor_formed (refl, refl)
   where
     stood : stands r from ≡ true
     stood = not_false (stands r from) (none_passes (λ name. not (stands r name)) (from ∷ []) (no_cause r (Rename from to) none NoSuchName tests_no_such_name) from (inl refl))
 
-    held : is_id r.kind (unwrap_or (id_at r from) []) ≡ true
+    held : is_id r.kind (unwrap_or (id_at r from) (null_id r.kind)) ≡ true
     held =
         let ref = some_there (get r.names from) stood in
-        subst (λ o. is_id r.kind (unwrap_or (option_map (λ (x : Reference). x.id) o) []) ≡ true) (sym ref.1)
+        subst (λ o. is_id r.kind (unwrap_or (option_map (λ (x : Reference). x.id) o) (null_id r.kind)) ≡ true) (sym ref.1)
         (and_true (is_id r.kind (ref.0).id) (list_all (is_log_entry r.kind) (ref.0).moves) (old_formed r written from ref.0 ref.1)).0
 names_formed r whole written (Delete name at) none = removed_formed r written r.names name (old_formed r written)
 names_formed r whole written (Switch name) none = old_formed r written

@@ -4,13 +4,16 @@ use Rattle.std.specs.List.{list_any, flat_map}
 use Rattle.std.specs.FinMap.{FinMap, entries, keys, values, get, empty}
 use Rattle.history_model.specs.Bytes.{Bytes, by_bytes}
 use Rattle.history_model.specs.FileMap.{FileMap, Content, inside, beginnings}
-use Rattle.history_model.specs.Objects.{Id, Value, CommitValue, StoredCommit, StoredTag, StoredBytes, StoredFolder, value_text, id_of, null_id, empty_tree_id, longest, digest, tree_text}
+use Rattle.history_model.specs.Objects.{Value, CommitValue, StoredCommit, StoredTag, StoredBytes, StoredFolder, value_text, id_of, empty_tree_id, longest, digest, tree_text}
+use Rattle.gix_hash.specs.Id.{Id, null_id}
+use Rattle.gix_hash.specs.Order.{id_eq}
 use Rattle.history_model.specs.Repository.{Repository, Reference, IsStored, HoldsCommit, as_commit, NamesAreStored, named_ids, file_values, Reaches, named, by_way_of, IsWholeStore}
 use Rattle.history_model.specs.Meaning.{store_all, some_taken, is_other}
-use Rattle.history_model.specs.declared.Kind.{Kind}
+use Rattle.gix_hash.specs.declared.kind.Kind.{Kind}
 use Rattle.history_model.proofs.RowLemmas.{entries-empty, root-empty}
-use Rattle.history_model.proofs.WholeLists.{In, all_in, in_all, in_either, of_map, of_flat, same_text, text_itself, texts_differ, some_inside, none_is_some, not_false, one_passes}
+use Rattle.history_model.proofs.WholeLists.{In, all_in, in_all, in_either, of_map, of_flat, same_text, texts_differ, some_inside, none_is_some, not_false, one_passes}
 use Rattle.history_model.proofs.WholePaths.{beginning_parts}
+use Rattle.history_model.proofs.IdLemmas.{one_id, id_itself, apart_ids}
 use Rattle.history_model.proofs.WholeTexts.{text_same}
 use Rattle.history_model.proofs.WholeItems.{Entry}
 use Rattle.history_model.proofs.WholeRoots.{HasAll, ArePlain, one_map, has_all, all_values, of_inside, are_shorter}
@@ -52,8 +55,8 @@ named_there r (StoredFolder m) h to i =
     let from = of_map (id_of r.kind) to (drop 1 (file_values m)) i in
     (from.0, ap (get r.objects) from.2 ∙ all_in (IsStored r) (file_values m) h from.0 (dropped from.0 (file_values m) from.1))
 
-named_in : (kind : Kind) (v : Value) (to : Id) → list_any (bytes_eq to) (named_ids kind v) ≡ true → In to (named_ids kind v)
-named_in kind v to h = let one = one_passes (bytes_eq to) (named_ids kind v) h in subst (λ q. In q (named_ids kind v)) (sym (same_text to one.0 one.2)) one.1
+named_in : (kind : Kind) (v : Value) (to : Id) → list_any (id_eq to) (named_ids kind v) ≡ true → In to (named_ids kind v)
+named_in kind v to h = let one = one_passes (id_eq to) (named_ids kind v) h in subst (λ q. In q (named_ids kind v)) (sym (one_id to one.0 one.2)) one.1
 
 -- ---- ranks
 
@@ -245,7 +248,7 @@ module _ (r : Repository) (whole : IsWholeStore r) (plain : (q : Id) (m : FileMa
       go None e = refl
       go (Some v) e = elim (all_from r.kind r.objects vs (null_id r.kind) v e) [
         | inl old ↦ none_is_some v (sym whole.null ∙ old)
-        | inr made ↦ texts_differ (id_of r.kind v) (null_id r.kind) (none_reserved r.kind r.objects vs free v made.0).0 (sym made.1)
+        | inr made ↦ apart_ids (id_of r.kind v) (null_id r.kind) (none_reserved r.kind r.objects vs free v made.0).0 (sym made.1)
       ]
 
   no_entry : {A : Type 0} (e : Entry) → In e (entries (empty {X = Content} {R = by_bytes})) → A
@@ -269,7 +272,7 @@ module _ (r : Repository) (whole : IsWholeStore r) (plain : (q : Id) (m : FileMa
 
   reserved : (v : Value) → In v vs → empty_tree_id r.kind ≡ id_of r.kind v → value_text r.kind (StoredFolder empty) ≡ value_text r.kind v
   reserved v i e = same_text (value_text r.kind (StoredFolder empty)) (value_text r.kind v) (not_false (bytes_eq (value_text r.kind (StoredFolder empty)) (value_text r.kind v))
-      (go (bytes_eq (id_of r.kind v) (empty_tree_id r.kind)) (ap (λ q. bytes_eq q (empty_tree_id r.kind)) (sym e) ∙ text_itself (empty_tree_id r.kind)) (none_reserved r.kind r.objects vs free v i).1))
+      (go (id_eq (id_of r.kind v) (empty_tree_id r.kind)) (ap (λ q. id_eq q (empty_tree_id r.kind)) (sym e) ∙ id_itself (empty_tree_id r.kind)) (none_reserved r.kind r.objects vs free v i).1))
     where
       go : (b : Bool) → b ≡ true → (b && is_other r.kind (value_text r.kind (StoredFolder empty)) v) ≡ false → is_other r.kind (value_text r.kind (StoredFolder empty)) v ≡ false
       go true h k = k

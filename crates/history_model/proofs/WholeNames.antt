@@ -2,9 +2,10 @@
 use Rattle.std.proofs.Common.{◌≡◌, Bool, true, false, cond, not, List, [], ◌∷◌, ◌++◌, ◌⊎◌, map, filter, refl, sym, ◌∙◌, ap, subst, inl, inr, Option, Some, None, is_some, bytes_eq, option_map, unwrap_or, option_and_then, codes}
 use Rattle.std.specs.List.{list_any, flat_map}
 use Rattle.std.specs.FinMap.{FinMap, entries, keys, get, remove}
-use Rattle.history_model.specs.Bytes.{Bytes, by_bytes}
+use Rattle.history_model.specs.Bytes.{Bytes}
 use Rattle.history_model.specs.FileMap.{is_below, folders_of}
-use Rattle.history_model.specs.Objects.{Id, Actor, Value, StoredCommit, StoredTag, StoredBytes, StoredFolder, type_word, id_of}
+use Rattle.history_model.specs.Objects.{by_id, Actor, Value, StoredCommit, StoredTag, StoredBytes, StoredFolder, type_word, id_of}
+use Rattle.gix_hash.specs.Id.{Id, null_id}
 use Rattle.history_model.specs.Repository.{Repository, Reference, HoldsCommit, peeled_value, id_at, stands, HasWholeNames, IsWhole}
 use Rattle.history_model.specs.Forms.{IsWritten, title}
 use Rattle.history_model.specs.Words.{commit_of, word_reading}
@@ -23,13 +24,13 @@ use Rattle.history_model.proofs.WholeCommands.{word_commit, after_store}
 -- ---- what a name stands for
 
 -- an id that is a commit or a tag, among these objects
-abbrev pub IsHeld : FinMap by_bytes Value → Id → Type 0
+abbrev pub IsHeld : FinMap by_id Value → Id → Type 0
 IsHeld objects id = is_some (option_and_then (peeled_value id) (get objects id)) ≡ true
 
-abbrev pub AllHeld : FinMap by_bytes Value → References → Type 0
+abbrev pub AllHeld : FinMap by_id Value → References → Type 0
 AllHeld objects names = (name : Bytes) (ref : Reference) → get names name ≡ Some ref → IsHeld objects ref.id
 
-held_more : (objects more : FinMap by_bytes Value) → ((q : Id) (x : Value) → get objects q ≡ Some x → get more q ≡ Some x) → (id : Id) → IsHeld objects id → IsHeld more id
+held_more : (objects more : FinMap by_id Value) → ((q : Id) (x : Value) → get objects q ≡ Some x → get more q ≡ Some x) → (id : Id) → IsHeld objects id → IsHeld more id
 held_more objects more keep id h = go (get objects id) refl h
   where
     go : (o : Option Value) → get objects id ≡ o → is_some (option_and_then (peeled_value id) o) ≡ true → IsHeld more id
@@ -39,7 +40,7 @@ held_more objects more keep id h = go (get objects id) refl h
 held_commit : (r : Repository) (id : Id) → HoldsCommit r id → IsHeld r.objects id
 held_commit r id h = let held = holds_value r id h in ap (λ o. is_some (option_and_then (peeled_value id) o)) held.1
 
-with_held : (objects : FinMap by_bytes Value) (r : Repository) (name : Bytes) (id : Id) (actor : Actor) (message : Bytes) (names : References) → AllHeld objects names → IsHeld objects id
+with_held : (objects : FinMap by_id Value) (r : Repository) (name : Bytes) (id : Id) (actor : Actor) (message : Bytes) (names : References) → AllHeld objects names → IsHeld objects id
     → AllHeld objects (with_name r name id actor message names)
 with_held objects r name id actor message names all h other ref at = go (bytes_eq other name) (sym (get_inserted names name (moved_reference r name id actor message) other) ∙ at)
   where
@@ -47,22 +48,22 @@ with_held objects r name id actor message names all h other ref at = go (bytes_e
     go true k = subst (λ (x : Reference). IsHeld objects x.id) (some_inside (moved_reference r name id actor message) ref k) h
     go false k = all other ref k
 
-removed_held : (objects : FinMap by_bytes Value) (names : References) (name : Bytes) → AllHeld objects names → AllHeld objects (remove names name)
+removed_held : (objects : FinMap by_id Value) (names : References) (name : Bytes) → AllHeld objects names → AllHeld objects (remove names name)
 removed_held objects names name all other ref at = go (bytes_eq other name) (sym (get_removed names name other) ∙ at)
   where
     go : (b : Bool) → cond b None (get names other) ≡ Some ref → IsHeld objects ref.id
     go true k = none_is_some ref k
     go false k = all other ref k
 
-lines_held : (objects : FinMap by_bytes Value) (r : Repository) (actor : Actor) (message : Bytes) (lines : List To) (names : References) → AllHeld objects names
-    → ((to : To) → In to lines → IsHeld objects (unwrap_or (commit_of r to.word) [])) → AllHeld objects (with_lines r actor message lines names)
+lines_held : (objects : FinMap by_id Value) (r : Repository) (actor : Actor) (message : Bytes) (lines : List To) (names : References) → AllHeld objects names
+    → ((to : To) → In to lines → IsHeld objects (unwrap_or (commit_of r to.word) (null_id r.kind))) → AllHeld objects (with_lines r actor message lines names)
 lines_held objects r actor message [] names all h = all
 lines_held objects r actor message (to ∷ lines) names all h =
-    lines_held objects r actor message lines (with_name r to.name (unwrap_or (commit_of r to.word) []) actor message names)
-    (with_held objects r to.name (unwrap_or (commit_of r to.word) []) actor message names all (h to (inl refl))) (λ other i. h other (inr i))
+    lines_held objects r actor message lines (with_name r to.name (unwrap_or (commit_of r to.word) (null_id r.kind)) actor message names)
+    (with_held objects r to.name (unwrap_or (commit_of r to.word) (null_id r.kind)) actor message names all (h to (inl refl))) (λ other i. h other (inr i))
 
 module _ (r : Repository) (whole : IsWhole r) (written : IsWritten r) (command : Command) (none : first_cause r command ≡ None) (free : takes_id r command ≡ false) where
-  abbrev objects : FinMap by_bytes Value
+  abbrev objects : FinMap by_id Value
   objects = (after r command).objects
 
   keep : (q : Id) (x : Value) → get r.objects q ≡ Some x → get objects q ≡ Some x
@@ -71,10 +72,10 @@ module _ (r : Repository) (whole : IsWhole r) (written : IsWritten r) (command :
   old_held : AllHeld objects r.names
   old_held name ref at = held_more r.objects objects keep ref.id ((whole.names).held name ref.id (ap (option_map (λ (x : Reference). x.id)) at))
 
-  word_held : (word : Bytes) → In word (words_in command) → IsHeld objects (unwrap_or (commit_of r word) [])
+  word_held : (word : Bytes) → In word (words_in command) → IsHeld objects (unwrap_or (commit_of r word) (null_id r.kind))
   word_held word i =
       let at = word_commit r command none word i in
-      subst (IsHeld objects) (sym (ap (λ o. unwrap_or o []) at.1)) (held_more r.objects objects keep at.0 (held_commit r at.0 (read_holds r whole.store (word_reading r word) at.0 at.1)))
+      subst (IsHeld objects) (sym (ap (λ o. unwrap_or o (null_id r.kind)) at.1)) (held_more r.objects objects keep at.0 (held_commit r at.0 (read_holds r whole.store (word_reading r word) at.0 at.1)))
 
   -- a commit or a tag that is stored is held
   stored_held : (v : Value) → In v (stored_by r command) → is_some (peeled_value (id_of r.kind v) v) ≡ true → IsHeld objects (id_of r.kind v)
@@ -98,11 +99,11 @@ some_there (Some x) h = (x, refl)
 
 -- the name that a rename takes away holds an id
 from_held : (r : Repository) (whole : IsWhole r) (written : IsWritten r) (from to : Bytes) (none : first_cause r (Rename from to) ≡ None) (free : takes_id r (Rename from to) ≡ false)
-    → IsHeld (after r (Rename from to)).objects (unwrap_or (id_at r from) [])
+    → IsHeld (after r (Rename from to)).objects (unwrap_or (id_at r from) (null_id r.kind))
 from_held r whole written from to none free =
     let stood = not_false (stands r from) (none_passes (λ name. not (stands r name)) (from ∷ []) (no_cause r (Rename from to) none NoSuchName tests_no_such_name) from (inl refl)) in
     let ref = some_there (get r.names from) stood in
-    subst (IsHeld (after r (Rename from to)).objects) (sym (ap (λ o. unwrap_or (option_map (λ (x : Reference). x.id) o) []) ref.1)) (old_held r whole written (Rename from to) none free from ref.0 ref.1)
+    subst (IsHeld (after r (Rename from to)).objects) (sym (ap (λ o. unwrap_or (option_map (λ (x : Reference). x.id) o) (null_id r.kind)) ref.1)) (old_held r whole written (Rename from to) none free from ref.0 ref.1)
 
 names_held : (r : Repository) → IsWhole r → IsWritten r → (command : Command) → first_cause r command ≡ None → takes_id r command ≡ false → AllHeld (after r command).objects (names_after r command)
 names_held r whole written (Commit c) none free =
@@ -116,7 +117,7 @@ names_held r whole written (Move c) none free =
     lines_held (after r (Move c)).objects r (read_actor c.actor) c.message c.to r.names (old_held r whole written (Move c) none free)
     (λ to i. word_held r whole written (Move c) none free to.word (in_flat (λ (to : To). at_word to.expect ++ to.word ∷ []) to.word to c.to i (in_right to.word (at_word to.expect) (to.word ∷ []) (inl refl))))
 names_held r whole written (Rename from to) none free =
-    with_held (after r (Rename from to)).objects r to (unwrap_or (id_at r from) []) history_actor (codes "rename") (remove r.names from)
+    with_held (after r (Rename from to)).objects r to (unwrap_or (id_at r from) (null_id r.kind)) history_actor (codes "rename") (remove r.names from)
     (removed_held (after r (Rename from to)).objects r.names from (old_held r whole written (Rename from to) none free)) (from_held r whole written from to none free)
 names_held r whole written (Delete name at) none free = removed_held (after r (Delete name at)).objects r.names name (old_held r whole written (Delete name at) none free)
 names_held r whole written (Switch name) none free = old_held r whole written (Switch name) none free
@@ -145,8 +146,8 @@ lines_stood : (old : References) (made : List Bytes) (r : Repository) (actor : A
     → ((to : To) → In to lines → In to.name made) → StoodOr old made (with_lines r actor message lines names)
 lines_stood old made r actor message [] names all h = all
 lines_stood old made r actor message (to ∷ lines) names all h =
-    lines_stood old made r actor message lines (with_name r to.name (unwrap_or (commit_of r to.word) []) actor message names)
-    (with_stood old made r to.name (unwrap_or (commit_of r to.word) []) actor message names all (h to (inl refl))) (λ other i. h other (inr i))
+    lines_stood old made r actor message lines (with_name r to.name (unwrap_or (commit_of r to.word) (null_id r.kind)) actor message names)
+    (with_stood old made r to.name (unwrap_or (commit_of r to.word) (null_id r.kind)) actor message names all (h to (inl refl))) (λ other i. h other (inr i))
 
 removed_stood : (old : References) (made : List Bytes) (names : References) (name : Bytes) → StoodOr old made names → StoodOr old made (remove names name)
 removed_stood old made names name all other ref at = go (bytes_eq other name) (sym (get_removed names name other) ∙ at)
@@ -162,7 +163,7 @@ pub names_from : (r : Repository) (command : Command) → StoodOr r.names (targe
 names_from r (Commit c) = with_stood r.names (branch_or_name r c.name ∷ []) r (branch_or_name r c.name) (id_of r.kind (StoredCommit (new_commit r c))) (read_actor c.committer) (title c.message) r.names (as_before r.names (branch_or_name r c.name ∷ [])) (inl refl)
 names_from r (Tag c) = with_stood r.names (c.name ∷ []) r c.name (id_of r.kind (StoredTag (new_tag r c))) (read_actor c.tagger) (title c.message) r.names (as_before r.names (c.name ∷ [])) (inl refl)
 names_from r (Move c) = lines_stood r.names (map (λ to. to.name) c.to) r (read_actor c.actor) c.message c.to r.names (as_before r.names (map (λ to. to.name) c.to)) (λ to i. in_map (λ (to : To). to.name) to c.to i)
-names_from r (Rename from to) = with_stood r.names (to ∷ []) r to (unwrap_or (id_at r from) []) history_actor (codes "rename") (remove r.names from)
+names_from r (Rename from to) = with_stood r.names (to ∷ []) r to (unwrap_or (id_at r from) (null_id r.kind)) history_actor (codes "rename") (remove r.names from)
     (removed_stood r.names (to ∷ []) r.names from (as_before r.names (to ∷ []))) (inl refl)
 names_from r (Delete name at) = removed_stood r.names [] r.names name (as_before r.names [])
 names_from r (Switch name) = as_before r.names []

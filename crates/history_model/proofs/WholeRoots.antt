@@ -6,13 +6,16 @@ use Rattle.history_model.specs.Bytes.{Bytes, has_byte, is_empty}
 use Rattle.history_model.specs.FileMap.{FileMap, Content, is_below, inside, beginnings, folders_of}
 use Rattle.history_model.specs.Objects.{digest, TreeEntry, FileEntry, FolderEntry, tree_entries, mode_of, entry_text, tree_entry_text, root_within, longest, root, blob_text, tree_text, Value, StoredBytes, StoredFolder, value_text, id_of}
 use Rattle.history_model.specs.Repository.{file_values}
-use Rattle.history_model.specs.declared.Kind.{Kind}
+use Rattle.history_model.specs.Forms.{is_id}
+use Rattle.gix_hash.specs.Id.{Id, raw_bytes}
+use Rattle.gix_hash.specs.declared.kind.Kind.{Kind}
 use Rattle.history_model.specs.declared.FileKind.{FileKind}
 use Rattle.history_model.specs.declared.FileKind.TheVariants.{File, Exec, Link}
 use Rattle.history_model.proofs.PartLemmas.{split_at}
 use Rattle.history_model.proofs.WholeLists.{In, all_in, in_all, in_left, in_right, in_either, in_flat, of_flat, in_map, of_map, or_none, none_or, clash, either, texts_differ}
 use Rattle.history_model.proofs.WholePaths.{below_below, beginning_parts, is_beginning, below_front, below_parts, inner_below}
-use Rattle.history_model.proofs.WholeTexts.{text_same, cut_same, length-digest}
+use Rattle.history_model.proofs.WholeTexts.{text_same, cut_same}
+use Rattle.history_model.proofs.IdLemmas.{digest_is_id, length-raw_bytes, raw_bytes_tell}
 use Rattle.history_model.proofs.WholeItems.{Entry, below, below_entry, files_of, items_files, leaf_in, folder_in, folder_fits, sorted_entries, entries_inside, of_below, in_below}
 
 -- ---- how deep folders nest
@@ -199,21 +202,21 @@ mode_plain File = refl
 mode_plain Exec = refl
 mode_plain Link = refl
 
-regrouped : (mode name id x : Bytes) → entry_text mode name id ++ x ≡ mode ++ 32 ∷ (name ++ 0 ∷ (id ++ x))
-regrouped mode name id x = append_assoc (mode ++ 32 ∷ name) (0 ∷ id) x ∙ append_assoc mode (32 ∷ name) (0 ∷ (id ++ x))
+regrouped : (mode name : Bytes) (id : Id) (x : Bytes) → entry_text mode name id ++ x ≡ mode ++ 32 ∷ (name ++ 0 ∷ (raw_bytes id ++ x))
+regrouped mode name id x = append_assoc (mode ++ 32 ∷ name) (0 ∷ raw_bytes id) x ∙ append_assoc mode (32 ∷ name) (0 ∷ (raw_bytes id ++ x))
 
-entry_same : (m n i k l j x y : Bytes) → has_byte 32 m ≡ false → has_byte 32 k ≡ false → has_byte 0 n ≡ false → has_byte 0 l ≡ false → length i ≡ length j
-    → entry_text m n i ++ x ≡ entry_text k l j ++ y → (m ≡ k) × (n ≡ l) × (i ≡ j) × (x ≡ y)
-entry_same m n i k l j x y hm hk hn hl len e =
-    let modes = split_at 32 m k (n ++ 0 ∷ (i ++ x)) (l ++ 0 ∷ (j ++ y)) hm hk (sym (regrouped m n i x) ∙ e ∙ regrouped k l j y) in
-    let names = split_at 0 n l (i ++ x) (j ++ y) hn hl modes.1 in
-    let ids = cut_same i j x y len names.1 in
-    (modes.0, names.0, ids.0, ids.1)
+entry_same : (kind : Kind) (m n : Bytes) (i : Id) (k l : Bytes) (j : Id) (x y : Bytes) → has_byte 32 m ≡ false → has_byte 32 k ≡ false → has_byte 0 n ≡ false → has_byte 0 l ≡ false
+    → is_id kind i ≡ true → is_id kind j ≡ true → entry_text m n i ++ x ≡ entry_text k l j ++ y → (m ≡ k) × (n ≡ l) × (i ≡ j) × (x ≡ y)
+entry_same kind m n i k l j x y hm hk hn hl hi hj e =
+    let modes = split_at 32 m k (n ++ 0 ∷ (raw_bytes i ++ x)) (l ++ 0 ∷ (raw_bytes j ++ y)) hm hk (sym (regrouped m n i x) ∙ e ∙ regrouped k l j y) in
+    let names = split_at 0 n l (raw_bytes i ++ x) (raw_bytes j ++ y) hn hl modes.1 in
+    let ids = cut_same (raw_bytes i) (raw_bytes j) x y (length-raw_bytes kind i hi ∙ sym (length-raw_bytes kind j hj)) names.1 in
+    (modes.0, names.0, raw_bytes_tell kind i j hi hj ids.0, ids.1)
 
-no_entry : {A : Type 0} (mode name id x : Bytes) → [] ≡ entry_text mode name id ++ x → A
+no_entry : {A : Type 0} (mode name : Bytes) (id : Id) (x : Bytes) → [] ≡ entry_text mode name id ++ x → A
 no_entry mode name id x e = go mode (e ∙ regrouped mode name id x)
   where
-    go : {A : Type 0} (m : Bytes) → [] ≡ m ++ 32 ∷ (name ++ 0 ∷ (id ++ x)) → A
+    go : {A : Type 0} (m : Bytes) → [] ≡ m ++ 32 ∷ (name ++ 0 ∷ (raw_bytes id ++ x)) → A
     go [] h = cc
     go (b ∷ m) h = cc
 
@@ -248,19 +251,19 @@ module _ (kind : Kind) (P : Value → Type 0) (same : (v w : Value) → P v → 
   item_same : (n : ℕ) → ((fs gs : List Entry) → Good n fs → Good n gs → root_within n kind fs ≡ root_within n kind gs → fs ≡ gs)
       → (a b : TreeEntry) (x y : Bytes) → ItemGood n (λ files. Good n files) a → ItemGood n (λ files. Good n files) b → entry_of n a ++ x ≡ entry_of n b ++ y → (a ≡ b) × (x ≡ y)
   item_same n rest (FileEntry p c) (FileEntry q d) x y g h e =
-      let parts = entry_same (mode_of c.kind) p (digest kind (blob_text c.bytes)) (mode_of d.kind) q (digest kind (blob_text d.bytes)) x y (mode_plain c.kind) (mode_plain d.kind) g.0 h.0
-      (length-digest kind (blob_text c.bytes) (blob_text d.bytes)) e in
+      let parts = entry_same kind (mode_of c.kind) p (digest kind (blob_text c.bytes)) (mode_of d.kind) q (digest kind (blob_text d.bytes)) x y (mode_plain c.kind) (mode_plain d.kind) g.0 h.0
+      (digest_is_id kind (blob_text c.bytes)) (digest_is_id kind (blob_text d.bytes)) e in
       let texts = (text_same kind (StoredBytes c.bytes) (StoredBytes d.bytes) (same (StoredBytes c.bytes) (StoredBytes d.bytes) g.1 h.1 parts.2)).1 in
       (λ i. FileEntry (parts.1 i) (record { kind = leaf_same c.kind d.kind parts.0 i; bytes = texts i }), parts.3)
   item_same n rest (FileEntry p c) (FolderEntry q gs) x y g h e =
-      no_leaf c.kind (entry_same (mode_of c.kind) p (digest kind (blob_text c.bytes)) (codes "40000") q (digest kind (tree_text (root_within n kind gs))) x y (mode_plain c.kind) refl g.0 h.0
-      (length-digest kind (blob_text c.bytes) (tree_text (root_within n kind gs))) e).0
+      no_leaf c.kind (entry_same kind (mode_of c.kind) p (digest kind (blob_text c.bytes)) (codes "40000") q (digest kind (tree_text (root_within n kind gs))) x y (mode_plain c.kind) refl g.0 h.0
+      (digest_is_id kind (blob_text c.bytes)) (digest_is_id kind (tree_text (root_within n kind gs))) e).0
   item_same n rest (FolderEntry p fs) (FileEntry q d) x y g h e =
-      no_leaf d.kind (sym (entry_same (codes "40000") p (digest kind (tree_text (root_within n kind fs))) (mode_of d.kind) q (digest kind (blob_text d.bytes)) x y refl (mode_plain d.kind) g.0 h.0
-      (length-digest kind (tree_text (root_within n kind fs)) (blob_text d.bytes)) e).0)
+      no_leaf d.kind (sym (entry_same kind (codes "40000") p (digest kind (tree_text (root_within n kind fs))) (mode_of d.kind) q (digest kind (blob_text d.bytes)) x y refl (mode_plain d.kind) g.0 h.0
+      (digest_is_id kind (tree_text (root_within n kind fs))) (digest_is_id kind (blob_text d.bytes)) e).0)
   item_same n rest (FolderEntry p fs) (FolderEntry q gs) x y g h e =
-      let parts = entry_same (codes "40000") p (digest kind (tree_text (root_within n kind fs))) (codes "40000") q (digest kind (tree_text (root_within n kind gs))) x y refl refl g.0 h.0
-      (length-digest kind (tree_text (root_within n kind fs)) (tree_text (root_within n kind gs))) e in
+      let parts = entry_same kind (codes "40000") p (digest kind (tree_text (root_within n kind fs))) (codes "40000") q (digest kind (tree_text (root_within n kind gs))) x y refl refl g.0 h.0
+      (digest_is_id kind (tree_text (root_within n kind fs))) (digest_is_id kind (tree_text (root_within n kind gs))) e in
       let left : root kind (g.1).0 ≡ root_within n kind fs = at (g.1).0 fs (g.1).1 g.2 in
       let right : root kind (h.1).0 ≡ root_within n kind gs = at (h.1).0 gs (h.1).1 h.2 in
       let ids : id_of kind (StoredFolder (g.1).0) ≡ id_of kind (StoredFolder (h.1).0) = ap (λ t. digest kind (tree_text t)) left ∙ parts.2 ∙ sym (ap (λ t. digest kind (tree_text t)) right) in

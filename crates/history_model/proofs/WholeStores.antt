@@ -7,10 +7,13 @@ use Rattle.std.proofs.lemmas.Cmp.{nat_list_cmp_total}
 use Rattle.std.proofs.lemmas.Map.Text.{is_eq-slice_cmp}
 use Rattle.history_model.specs.Bytes.{Bytes, by_bytes}
 use Rattle.history_model.specs.FileMap.{FileMap, inside}
-use Rattle.history_model.specs.Objects.{Id, Value, StoredCommit, StoredTag, StoredBytes, StoredFolder, value_text, id_of, null_id, empty_tree_id}
+use Rattle.history_model.specs.Objects.{by_id, Value, StoredCommit, StoredTag, StoredBytes, StoredFolder, value_text, id_of, empty_tree_id}
+use Rattle.gix_hash.specs.Id.{Id, null_id}
+use Rattle.gix_hash.specs.Order.{id_eq}
 use Rattle.history_model.specs.Meaning.{store_one, store_all, is_other, is_taken, some_taken}
-use Rattle.history_model.specs.declared.Kind.{Kind}
+use Rattle.gix_hash.specs.declared.kind.Kind.{Kind}
 use Rattle.history_model.proofs.WholeLists.{In, or_none, clash, same_text, text_itself, texts_differ, some_inside, none_is_some, not_false, and_true}
+use Rattle.history_model.proofs.IdLemmas.{one_id, id_itself, get_with_id}
 use Rattle.history_model.proofs.WholeTexts.{text_same}
 use Rattle.history_model.proofs.WholeItems.{sorted_entries}
 use Rattle.history_model.proofs.WholeRoots.{HasAll, ArePlain, one_map, inside_has, plain_inside}
@@ -81,29 +84,29 @@ in_get m q x i = get-entries m q ∙ found_there (entries m) (sorted_entries m) 
 -- ---- storing
 
 -- where a value stands under its id there is one of the same text
-abbrev pub Near : Kind → FinMap by_bytes Value → Value → Type 0
+abbrev pub Near : Kind → FinMap by_id Value → Value → Type 0
 Near kind objects v = (w : Value) × (get objects (id_of kind v) ≡ Some w) × (value_text kind w ≡ value_text kind v)
 
-pub near_same : (kind : Kind) (objects : FinMap by_bytes Value) (v w : Value) → Near kind objects v → Near kind objects w → id_of kind v ≡ id_of kind w → value_text kind v ≡ value_text kind w
+pub near_same : (kind : Kind) (objects : FinMap by_id Value) (v w : Value) → Near kind objects v → Near kind objects w → id_of kind v ≡ id_of kind w → value_text kind v ≡ value_text kind w
 near_same kind objects v w (x, gx, tx) (y, gy, ty) e = sym tx ∙ ap (value_text kind) (some_inside x y (sym gx ∙ ap (get objects) e ∙ gy)) ∙ ty
 
 module _ (kind : Kind) where
-  one_keeps : (objects : FinMap by_bytes Value) (v : Value) (q : Id) (x : Value) → get objects q ≡ Some x → get (store_one kind objects v) q ≡ Some x
+  one_keeps : (objects : FinMap by_id Value) (v : Value) (q : Id) (x : Value) → get objects q ≡ Some x → get (store_one kind objects v) q ≡ Some x
   one_keeps objects v q x h = go (contains_key objects (id_of kind v)) refl
     where
       go : (b : Bool) → contains_key objects (id_of kind v) ≡ b → get (cond b objects (insert objects (id_of kind v) v)) q ≡ Some x
       go true e = h
-      go false e = get_inserted objects (id_of kind v) v q ∙ ap (λ b. cond b (Some v) (get objects q)) (other (bytes_eq q (id_of kind v)) refl) ∙ h
+      go false e = get_with_id objects (id_of kind v) v q ∙ ap (λ b. cond b (Some v) (get objects q)) (other (id_eq q (id_of kind v)) refl) ∙ h
         where
-          other : (b : Bool) → bytes_eq q (id_of kind v) ≡ b → b ≡ false
+          other : (b : Bool) → id_eq q (id_of kind v) ≡ b → b ≡ false
           other false f = refl
-          other true f = clash (ap is_some h) (ap (contains_key objects) (same_text q (id_of kind v) f) ∙ e)
+          other true f = clash (ap is_some h) (ap (contains_key objects) (one_id q (id_of kind v) f) ∙ e)
 
-  pub all_keep : (objects : FinMap by_bytes Value) (vs : List Value) (q : Id) (x : Value) → get objects q ≡ Some x → get (store_all kind objects vs) q ≡ Some x
+  pub all_keep : (objects : FinMap by_id Value) (vs : List Value) (q : Id) (x : Value) → get objects q ≡ Some x → get (store_all kind objects vs) q ≡ Some x
   all_keep objects [] q x h = h
   all_keep objects (v ∷ vs) q x h = all_keep (store_one kind objects v) vs q x (one_keeps objects v q x h)
 
-  one_near : (objects : FinMap by_bytes Value) (v : Value) → is_taken kind objects v ≡ false → Near kind (store_one kind objects v) v
+  one_near : (objects : FinMap by_id Value) (v : Value) → is_taken kind objects v ≡ false → Near kind (store_one kind objects v) v
   one_near objects v free = go (contains_key objects (id_of kind v)) refl
     where
       is_free : unwrap_or (option_map (is_other kind (value_text kind v)) (get objects (id_of kind v))) false ≡ false
@@ -115,10 +118,10 @@ module _ (kind : Kind) where
 
       go : (b : Bool) → contains_key objects (id_of kind v) ≡ b → Near kind (cond b objects (insert objects (id_of kind v) v)) v
       go true e = at (get objects (id_of kind v)) e is_free
-      go false e = (v, get_inserted objects (id_of kind v) v (id_of kind v) ∙ ap (λ b. cond b (Some v) (get objects (id_of kind v))) (text_itself (id_of kind v)), refl)
+      go false e = (v, get_with_id objects (id_of kind v) v (id_of kind v) ∙ ap (λ b. cond b (Some v) (get objects (id_of kind v))) (id_itself (id_of kind v)), refl)
 
   -- after values are stored, none of which has a taken id, each is near
-  pub all_near : (objects : FinMap by_bytes Value) (vs : List Value) → some_taken kind objects vs ≡ false → (v : Value) → In v vs → Near kind (store_all kind objects vs) v
+  pub all_near : (objects : FinMap by_id Value) (vs : List Value) → some_taken kind objects vs ≡ false → (v : Value) → In v vs → Near kind (store_all kind objects vs) v
   all_near objects [] free v i = absurd i
   all_near objects (u ∷ vs) free v (inl e) =
       let near = one_near objects u (or_none (is_taken kind objects u) (some_taken kind (store_one kind objects u) vs) free).0 in
@@ -126,38 +129,38 @@ module _ (kind : Kind) where
   all_near objects (u ∷ vs) free v (inr i) = all_near (store_one kind objects u) vs (or_none (is_taken kind objects u) (some_taken kind (store_one kind objects u) vs) free).1 v i
 
   -- an id is neither null nor, but for its value, the empty tree's
-  pub none_reserved : (objects : FinMap by_bytes Value) (vs : List Value) → some_taken kind objects vs ≡ false → (v : Value) → In v vs
-      → (bytes_eq (id_of kind v) (null_id kind) ≡ false) × ((bytes_eq (id_of kind v) (empty_tree_id kind) && is_other kind (value_text kind (StoredFolder empty)) v) ≡ false)
+  pub none_reserved : (objects : FinMap by_id Value) (vs : List Value) → some_taken kind objects vs ≡ false → (v : Value) → In v vs
+      → (id_eq (id_of kind v) (null_id kind) ≡ false) × ((id_eq (id_of kind v) (empty_tree_id kind) && is_other kind (value_text kind (StoredFolder empty)) v) ≡ false)
   none_reserved objects [] free v i = absurd i
   none_reserved objects (u ∷ vs) free v (inr i) = none_reserved (store_one kind objects u) vs (or_none (is_taken kind objects u) (some_taken kind (store_one kind objects u) vs) free).1 v i
   none_reserved objects (u ∷ vs) free v (inl e) =
       let taken = (or_none (is_taken kind objects u) (some_taken kind (store_one kind objects u) vs) free).0 in
-      let outer = or_none (bytes_eq (id_of kind u) (null_id kind) || (bytes_eq (id_of kind u) (empty_tree_id kind) && is_other kind (value_text kind (StoredFolder empty)) u)) _ taken in
-      let inner = or_none (bytes_eq (id_of kind u) (null_id kind)) (bytes_eq (id_of kind u) (empty_tree_id kind) && is_other kind (value_text kind (StoredFolder empty)) u) outer.0 in
-      subst (λ w. (bytes_eq (id_of kind w) (null_id kind) ≡ false) × ((bytes_eq (id_of kind w) (empty_tree_id kind) && is_other kind (value_text kind (StoredFolder empty)) w) ≡ false)) (sym e) inner
+      let outer = or_none (id_eq (id_of kind u) (null_id kind) || (id_eq (id_of kind u) (empty_tree_id kind) && is_other kind (value_text kind (StoredFolder empty)) u)) _ taken in
+      let inner = or_none (id_eq (id_of kind u) (null_id kind)) (id_eq (id_of kind u) (empty_tree_id kind) && is_other kind (value_text kind (StoredFolder empty)) u) outer.0 in
+      subst (λ w. (id_eq (id_of kind w) (null_id kind) ≡ false) × ((id_eq (id_of kind w) (empty_tree_id kind) && is_other kind (value_text kind (StoredFolder empty)) w) ≡ false)) (sym e) inner
 
-  one_from : (objects : FinMap by_bytes Value) (v : Value) (q : Id) (x : Value) → get (store_one kind objects v) q ≡ Some x → (get objects q ≡ Some x) ⊎ ((x ≡ v) × (q ≡ id_of kind x) × (get objects q ≡ None))
+  one_from : (objects : FinMap by_id Value) (v : Value) (q : Id) (x : Value) → get (store_one kind objects v) q ≡ Some x → (get objects q ≡ Some x) ⊎ ((x ≡ v) × (q ≡ id_of kind x) × (get objects q ≡ None))
   one_from objects v q x h = go (contains_key objects (id_of kind v)) refl h
     where
       is_none_so : (o : Option Value) → is_some o ≡ false → o ≡ None
       is_none_so None e = refl
       is_none_so (Some y) e = cc
 
-      new : (b : Bool) → bytes_eq q (id_of kind v) ≡ b → contains_key objects (id_of kind v) ≡ false → cond b (Some v) (get objects q) ≡ Some x
+      new : (b : Bool) → id_eq q (id_of kind v) ≡ b → contains_key objects (id_of kind v) ≡ false → cond b (Some v) (get objects q) ≡ Some x
           → (get objects q ≡ Some x) ⊎ ((x ≡ v) × (q ≡ id_of kind x) × (get objects q ≡ None))
       new false f e k = inl k
       new true f e k =
           let same : x ≡ v = sym (some_inside v x k) in
-          let at : q ≡ id_of kind v = same_text q (id_of kind v) f in
+          let at : q ≡ id_of kind v = one_id q (id_of kind v) f in
           inr (same, at ∙ ap (id_of kind) (sym same), is_none_so (get objects q) (ap (contains_key objects) at ∙ e))
 
       go : (b : Bool) → contains_key objects (id_of kind v) ≡ b → get (cond b objects (insert objects (id_of kind v) v)) q ≡ Some x
           → (get objects q ≡ Some x) ⊎ ((x ≡ v) × (q ≡ id_of kind x) × (get objects q ≡ None))
       go true e k = inl k
-      go false e k = new (bytes_eq q (id_of kind v)) refl e (sym (get_inserted objects (id_of kind v) v q) ∙ k)
+      go false e k = new (id_eq q (id_of kind v)) refl e (sym (get_with_id objects (id_of kind v) v q) ∙ k)
 
   -- what is stored then stood before, or is one of the values under its own id, where nothing stood
-  pub all_from : (objects : FinMap by_bytes Value) (vs : List Value) (q : Id) (x : Value) → get (store_all kind objects vs) q ≡ Some x → (get objects q ≡ Some x) ⊎ (In x vs × (q ≡ id_of kind x) × (get objects q ≡ None))
+  pub all_from : (objects : FinMap by_id Value) (vs : List Value) (q : Id) (x : Value) → get (store_all kind objects vs) q ≡ Some x → (get objects q ≡ Some x) ⊎ (In x vs × (q ≡ id_of kind x) × (get objects q ≡ None))
   all_from objects [] q x h = inl h
   all_from objects (v ∷ vs) q x h = go (all_from (store_one kind objects v) vs q x h)
     where
@@ -172,24 +175,24 @@ module _ (kind : Kind) where
 -- ---- stored values
 
 -- the value is stored under its own id
-abbrev pub Stored : Kind → FinMap by_bytes Value → Value → Type 0
+abbrev pub Stored : Kind → FinMap by_id Value → Value → Type 0
 Stored kind objects v = get objects (id_of kind v) ≡ Some v
 
-pub near_stored : (kind : Kind) (objects : FinMap by_bytes Value) (v : Value) → Stored kind objects v → Near kind objects v
+pub near_stored : (kind : Kind) (objects : FinMap by_id Value) (v : Value) → Stored kind objects v → Near kind objects v
 near_stored kind objects v h = (v, h, refl)
 
 -- for each folder that is stored, all of it is near
-abbrev pub FoldersNear : Kind → FinMap by_bytes Value → Type 0
+abbrev pub FoldersNear : Kind → FinMap by_id Value → Type 0
 FoldersNear kind objects = (q : Id) (m : FileMap) → get objects q ≡ Some (StoredFolder m) → HasAll (Near kind objects) m × ArePlain (entries m)
 
-pub bytes_stored : (kind : Kind) (objects : FinMap by_bytes Value) (bytes : Bytes) → Near kind objects (StoredBytes bytes) → Stored kind objects (StoredBytes bytes)
+pub bytes_stored : (kind : Kind) (objects : FinMap by_id Value) (bytes : Bytes) → Near kind objects (StoredBytes bytes) → Stored kind objects (StoredBytes bytes)
 bytes_stored kind objects bytes (StoredBytes other, at, same) = at ∙ ap (λ b. Some (StoredBytes b)) (text_same kind (StoredBytes other) (StoredBytes bytes) same).1
 bytes_stored kind objects bytes (StoredCommit c, at, same) = texts_differ _ _ refl (text_same kind (StoredCommit c) (StoredBytes bytes) same).0
 bytes_stored kind objects bytes (StoredTag t, at, same) = texts_differ _ _ refl (text_same kind (StoredTag t) (StoredBytes bytes) same).0
 bytes_stored kind objects bytes (StoredFolder m, at, same) = texts_differ _ _ refl (text_same kind (StoredFolder m) (StoredBytes bytes) same).0
 
 -- a folder that is near, with all of it, is stored
-pub folder_stored : (kind : Kind) (objects : FinMap by_bytes Value) → FoldersNear kind objects → (m : FileMap) → HasAll (Near kind objects) m → ArePlain (entries m)
+pub folder_stored : (kind : Kind) (objects : FinMap by_id Value) → FoldersNear kind objects → (m : FileMap) → HasAll (Near kind objects) m → ArePlain (entries m)
     → Near kind objects (StoredFolder m) → Stored kind objects (StoredFolder m)
 folder_stored kind objects near m has plain (StoredFolder other, at, same) =
     let of_other = near (id_of kind (StoredFolder m)) other at in
@@ -199,7 +202,7 @@ folder_stored kind objects near m has plain (StoredTag t, at, same) = texts_diff
 folder_stored kind objects near m has plain (StoredBytes b, at, same) = texts_differ _ _ refl (text_same kind (StoredBytes b) (StoredFolder m) same).0
 
 -- then all values of the folder are stored
-pub files_stored : (kind : Kind) (objects : FinMap by_bytes Value) → FoldersNear kind objects → (m : FileMap) → HasAll (Near kind objects) m → ArePlain (entries m)
+pub files_stored : (kind : Kind) (objects : FinMap by_id Value) → FoldersNear kind objects → (m : FileMap) → HasAll (Near kind objects) m → ArePlain (entries m)
     → HasAll (Stored kind objects) m
 files_stored kind objects near m has plain = record {
   itself = folder_stored kind objects near m has plain has.itself;

@@ -1,15 +1,15 @@
 -- One text has one kind's word and one content; ids of one kind have one length.
-use Rattle.std.proofs.Common.{◌≡◌, ℕ, zero, suc, ◌+◌, ◌<◌, ◌%◌, ◌/◌, Bool, true, false, cond, ◌&&◌, List, [], ◌∷◌, ◌++◌, length, refl, sym, ◌∙◌, arith, tests, nat_lt, ◌==◌, append_assoc, decimal}
-use Rattle.std.specs.List.{list_all}
+use Rattle.std.proofs.Common.{◌≡◌, ℕ, zero, suc, ◌+◌, ◌<◌, ◌%◌, ◌/◌, Bool, true, false, cond, [], ◌∷◌, ◌++◌, length, refl, sym, ◌∙◌, arith, tests, nat_lt, ◌==◌, append_assoc, decimal}
 use Rattle.std.specs.Fmt.{digits_onto, digit_glyph, digits}
-use Rattle.sha1.specs.Sha1.{sha1, digest_bytes as sha1_bytes, hash_after as sha1_hash, padded_message as sha1_padded}
 use Rattle.history_model.specs.Bytes.{Bytes, has_byte}
-use Rattle.history_model.specs.Objects.{Id, digest, id_len, object_text, Value, StoredCommit, StoredTag, StoredBytes, StoredFolder, type_word, content_of, value_text}
+use Rattle.history_model.specs.Objects.{digest, object_text, Value, StoredCommit, StoredTag, StoredBytes, StoredFolder, type_word, content_of, value_text}
+use Rattle.gix_hash.specs.Id.{Id}
+use Rattle.gix_hash.specs.Kind.{hex_len}
 use Rattle.history_model.specs.Forms.{is_id}
-use Rattle.history_model.specs.declared.Kind.{Kind}
-use Rattle.history_model.specs.declared.Kind.TheVariants.{Sha1}
+use Rattle.gix_hash.specs.declared.kind.Kind.{Kind}
+use Rattle.history_model.proofs.IdLemmas.{has_kind, digest_is_id}
 use Rattle.history_model.proofs.PartLemmas.{split_at, head_same, tail_same}
-use Rattle.history_model.proofs.WholeLists.{none_or, and_true}
+use Rattle.history_model.proofs.WholeLists.{none_or}
 
 unequal_numbers : (a d : ℕ) → d < a → (a == d) ≡ false
 unequal_numbers a d h = grind (arith, tests)
@@ -55,23 +55,12 @@ text_same kind v w e = object_same (type_word v) (type_word w) (content_of kind 
 
 -- ---- ids
 
-small : (n : ℕ) → nat_lt (n % 256) 256 ≡ true
-small n = grind (arith, tests)
-
-is_sha1_id : (h : List ℕ) → (length (sha1_bytes h 5) == 20 && list_all (λ b. nat_lt b 256) (sha1_bytes h 5)) ≡ true
-unfolding sha1_bytes
-is_sha1_id h = simp small
-
--- a digest has its kind's length, and is bytes
+-- a digest has its kind's form
 pub is_id-digest : (kind : Kind) (text : Bytes) → is_id kind (digest kind text) ≡ true
-unfolding digest sha1
-is_id-digest Sha1 text = is_sha1_id (sha1_hash (sha1_padded text) (length (sha1_padded text) / 64))
+is_id-digest kind text = digest_is_id kind text
 
-pub is_id-length : (kind : Kind) (id : Id) → is_id kind id ≡ true → length id ≡ id_len kind
-is_id-length kind id h = let e : (length id == id_len kind) ≡ true = (and_true (length id == id_len kind) (list_all (λ b. nat_lt b 256) id) h).0 in grind (arith, tests)
-
-pub length-digest : (kind : Kind) (a b : Bytes) → length (digest kind a) ≡ length (digest kind b)
-length-digest kind a b = is_id-length kind (digest kind a) (is_id-digest kind a) ∙ sym (is_id-length kind (digest kind b) (is_id-digest kind b))
+pub is_id-length : (kind : Kind) (id : Id) → is_id kind id ≡ true → length id.digits ≡ hex_len kind
+is_id-length kind id h = (has_kind kind id h).whole
 
 -- texts of one length, each with more behind it
 pub cut_same : (a b x y : Bytes) → length a ≡ length b → a ++ x ≡ b ++ y → (a ≡ b) × (x ≡ y)

@@ -4,7 +4,8 @@ use Rattle.std.specs.List.{filter_map, list_any}
 use Rattle.std.specs.FinMap.{entries, keys, get, len}
 use Rattle.history_model.specs.Bytes.{Bytes, begins, digits_value}
 use Rattle.history_model.specs.FileMap.{FileMap, Content, cut_to}
-use Rattle.history_model.specs.Objects.{Id, CommitValue, StoredCommit, StoredTag, id_of, blob_id, folder_id}
+use Rattle.history_model.specs.Objects.{CommitValue, StoredCommit, StoredTag, id_of, blob_id, folder_id}
+use Rattle.gix_hash.specs.Id.{Id, null_id}
 use Rattle.history_model.specs.Repository.{Repository, Reference, moves_at, commit_at, peeled}
 use Rattle.history_model.specs.Words.{commit_of}
 use Rattle.history_model.specs.Commands.{Command, Commit, Tag, Move, Rename, Delete, Switch, Pack, Index, Names, Files, Past, Log, Show, LogCommand, Order, Breadth, Newest, Oldest, NewestSince, OldestSince, Date, Topological, LogItem, Tip, Hidden}
@@ -67,7 +68,7 @@ is_in_folder None name = true
 is_in_folder (Some folder) name = begins (folder ++ 47 ∷ []) name
 
 abbrev pub name_line : Repository → Bytes × Reference → NameLine
-name_line r e = record { id = (e.1).id; commit = unwrap_or (peeled r (e.1).id) []; name = e.0 }
+name_line r e = record { id = (e.1).id; commit = unwrap_or (peeled r (e.1).id) (null_id r.kind); name = e.0 }
 
 abbrev pub names_shown : Repository → Option Bytes → List NameLine
 names_shown r folder = map (name_line r) (filter (λ e. is_in_folder folder e.0) (entries r.names))

@@ -5,7 +5,9 @@ use Rattle.std.specs.FinMap.{keys, get}
 use Rattle.history_model.specs.Bytes.{Bytes, begins, has_byte, has_twice, is_empty}
 use Rattle.history_model.specs.FileMap.{FileMap, some_refused, has_below, is_below, is_path}
 use Rattle.history_model.specs.Stage.{is_offered_path}
-use Rattle.history_model.specs.Objects.{Id, content_of, id_of, StoredTag}
+use Rattle.history_model.specs.Objects.{content_of, id_of, StoredTag}
+use Rattle.gix_hash.specs.Id.{Id}
+use Rattle.gix_hash.specs.Order.{id_eq}
 use Rattle.history_model.specs.Repository.{Repository, id_at, stands, is_tag, peeled}
 use Rattle.history_model.specs.Forms.{is_name, is_private, is_tag_name, is_actor_part, is_seconds, is_offset, title, max_title, max_path, max_content, max_parents}
 use Rattle.history_model.specs.Words.{WordReading, ReadsAs, Unborn, Unknown, Ambiguous, word_reading, commit_of}
@@ -21,7 +23,7 @@ is_bad_place (Switch name) = not (begins (codes "refs/heads/") name)
 is_bad_place _ = false
 
 abbrev pub is_name_twice : Command → Bool
-is_name_twice (Move c) = has_twice (map (λ to. to.name) c.to)
+is_name_twice (Move c) = has_twice bytes_eq (map (λ to. to.name) c.to)
 is_name_twice (Rename from to) = bytes_eq from to
 is_name_twice _ = false
 
@@ -67,7 +69,7 @@ must_not_stand r (Rename from to) = to ∷ []
 must_not_stand r command = map (λ e. e.0) (filter (λ e. is_new e.1) (expected r command))
 
 abbrev pub same_id : Option Id → Option Id → Bool
-same_id (Some a) (Some b) = bytes_eq a b
+same_id (Some a) (Some b) = id_eq a b
 same_id None None = true
 same_id _ _ = false
 
@@ -164,7 +166,7 @@ holds NotExpected r c = list_any (is_elsewhere r) (expected r c)
 holds Collides r c = some_collide r c
 holds HoldsTag r c = holds_tag r c
 holds TooManyParents r c = nat_lt max_parents (length (parents_in r c))
-holds DuplicateParent r c = has_twice (parents_in r c)
+holds DuplicateParent r c = has_twice id_eq (parents_in r c)
 holds BadPath r c = list_any is_bad_path (paths_in c)
 holds IsFolder r c = meets_folder r c
 holds NoSuchPath r c = finds_no_path r c

@@ -10,7 +10,7 @@ use Rattle.history_model.specs.Places.{Pair, file_at, object_place, packed_place
 use Rattle.history_model.specs.StandsFor.{StandsFor}
 use Rattle.history_model.specs.TreeHalves.{Values, HoldsValues, HaveOwnIds}
 use Rattle.history_model.specs.TreeSteps.{PutsValue, MovesName, move_entry}
-use Rattle.history_model.specs.declared.Kind.{Kind}
+use Rattle.gix_hash.specs.declared.kind.Kind.{Kind}
 
 -- each value is put, or its text stands already and nothing changes
 abbrev pub PutsAll : Kind → List Value → Tree → Tree → Type 0

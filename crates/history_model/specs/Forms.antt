@@ -6,9 +6,12 @@ use Rattle.std.specs.Str.{is_utf8}
 use Rattle.std.specs.FinMap.{get, contains_key}
 use Rattle.history_model.specs.Bytes.{Bytes, begins, ends, has_byte, has_pair, has_twice, is_empty, is_decimal, digits_value}
 use Rattle.history_model.specs.FileMap.{FileMap, IsFileMap, components}
-use Rattle.history_model.specs.Objects.{Id, id_len, Actor, CommitValue, TagValue, Value, StoredCommit, StoredTag, StoredBytes, StoredFolder, content_of}
+use Rattle.history_model.specs.Objects.{Actor, CommitValue, TagValue, Value, StoredCommit, StoredTag, StoredBytes, StoredFolder, content_of}
+use Rattle.gix_hash.specs.Id.{Id}
+use Rattle.gix_hash.specs.Kind.{hex_len, kind_number}
+use Rattle.gix_hash.specs.Order.{id_eq}
 use Rattle.history_model.specs.Repository.{LogEntry, Reference, Repository}
-use Rattle.history_model.specs.declared.Kind.{Kind}
+use Rattle.gix_hash.specs.declared.kind.Kind.{Kind}
 
 -- the most bytes of any object's content
 abbrev pub max_content : ℕ
@@ -87,11 +90,12 @@ title message = before_first (λ b. b == 10) message
 
 -- ---- values and moves
 
+-- as many digits as ids of the kind have, each 0 to 15
 abbrev pub is_id : Kind → Id → Bool
-is_id kind id = length id == id_len kind && list_all (λ b. nat_lt b 256) id
+is_id kind id = kind_number id.kind == kind_number kind && length id.digits == hex_len kind && list_all (λ d. nat_lt d 16) id.digits
 
 abbrev pub is_commit_form : Kind → CommitValue → Bool
-is_commit_form kind commit = list_all (is_id kind) commit.parents && nat_le (length commit.parents) max_parents && not (has_twice commit.parents)
+is_commit_form kind commit = list_all (is_id kind) commit.parents && nat_le (length commit.parents) max_parents && not (has_twice id_eq commit.parents)
     && is_actor commit.author && is_actor commit.committer && nat_le (length (title commit.message)) max_title
 
 abbrev pub is_tag_form : Kind → TagValue → Bool

@@ -6,7 +6,8 @@ use Rattle.std.specs.FinMap.{get, empty, insert}
 use Rattle.gix_ref_file.specs.Tree.{Tree, file, folder}
 use Rattle.history_model.specs.Bytes.{Bytes, by_bytes}
 use Rattle.history_model.specs.FileMap.{FileMap, Edit, cut_to, IsFileMap, edited_by, edit_path, is_path}
-use Rattle.history_model.specs.Objects.{Id, StoredFolder, entry_at}
+use Rattle.history_model.specs.Objects.{StoredFolder, entry_at}
+use Rattle.gix_hash.specs.Id.{Id}
 use Rattle.history_model.specs.Repository.{Repository, IsWhole, id_at, moves_at, fresh}
 use Rattle.history_model.specs.Commands.{Command, Rename, Pack, Files, Log}
 use Rattle.history_model.specs.Replies.{Reply, FileLine, FilesAre}
@@ -19,7 +20,7 @@ use Rattle.history_model.specs.Logs.{whole_lines}
 use Rattle.history_model.specs.Stops.{LeftByStop}
 use Rattle.history_model.specs.Steps.{Step, goes_on, is_faulted, next}
 use Rattle.history_model.specs.Rounds.{Round, AreRounds, last_left, Outcomes}
-use Rattle.history_model.specs.declared.Kind.{Kind}
+use Rattle.gix_hash.specs.declared.kind.Kind.{Kind}
 
 -- ---- trees and files
 

@@ -4,12 +4,14 @@ use Rattle.std.specs.List.{flat_map, filter_map}
 use Rattle.std.specs.FinMap.{FinMap, get, insert, remove, contains_key, empty}
 use Rattle.history_model.specs.Bytes.{Bytes, by_bytes, digits_value}
 use Rattle.history_model.specs.FileMap.{FileMap, Edit, Put, Remove, RemoveFile, edited_by, folders_of}
-use Rattle.history_model.specs.Objects.{Id, Actor, CommitValue, TagValue, Value, StoredCommit, StoredTag, StoredBytes, StoredFolder, value_text, id_of, null_id, empty_tree_id}
+use Rattle.history_model.specs.Objects.{by_id, Actor, CommitValue, TagValue, Value, StoredCommit, StoredTag, StoredBytes, StoredFolder, value_text, id_of, empty_tree_id}
+use Rattle.gix_hash.specs.Order.{id_eq}
+use Rattle.gix_hash.specs.Id.{Id, null_id}
 use Rattle.history_model.specs.Repository.{Reference, Repository, id_at, moves_at, stands, commit_at, peeled}
 use Rattle.history_model.specs.Forms.{title, is_name}
 use Rattle.history_model.specs.Words.{head_word, candidates, commit_of}
 use Rattle.history_model.specs.Commands.{Command, Commit, Tag, Move, Rename, Delete, Switch, ActorLine, EditLine, PutLine, RemoveLine, RemoveFileLine, CommitCommand, TagCommand, To}
-use Rattle.history_model.specs.declared.Kind.{Kind}
+use Rattle.gix_hash.specs.declared.kind.Kind.{Kind}
 
 -- ---- what is read before anything is stored
 
@@ -67,7 +69,7 @@ tag_rest name = drop 10 name
 
 abbrev pub new_tag : Repository → TagCommand → TagValue
 new_tag r c = record {
-  target = unwrap_or (commit_of r c.word) [];
+  target = unwrap_or (commit_of r c.word) (null_id r.kind);
   name = tag_rest c.name;
   tagger = read_actor c.tagger;
   message = c.message;
@@ -87,10 +89,10 @@ stored_by r (Tag c) = StoredTag (new_tag r c) ∷ []
 stored_by r _ = []
 
 -- what is stored already stays
-abbrev pub store_one : Kind → FinMap by_bytes Value → Value → FinMap by_bytes Value
+abbrev pub store_one : Kind → FinMap by_id Value → Value → FinMap by_id Value
 store_one kind objects value = if contains_key objects (id_of kind value) then objects else insert objects (id_of kind value) value
 
-abbrev pub store_all : Kind → FinMap by_bytes Value → List Value → FinMap by_bytes Value
+abbrev pub store_all : Kind → FinMap by_id Value → List Value → FinMap by_id Value
 store_all kind objects [] = objects
 store_all kind objects (value ∷ values) = store_all kind (store_one kind objects value) values
 
@@ -99,15 +101,15 @@ abbrev pub is_other : Kind → Bytes → Value → Bool
 is_other kind text value = not (bytes_eq text (value_text kind value))
 
 -- whether the value's id is null, the empty tree's for anything else, or one that names other bytes
-abbrev pub is_taken : Kind → FinMap by_bytes Value → Value → Bool
+abbrev pub is_taken : Kind → FinMap by_id Value → Value → Bool
 is_taken kind objects value =
     let id = id_of kind value in
-    bytes_eq id (null_id kind)
-    || (bytes_eq id (empty_tree_id kind) && is_other kind (value_text kind (StoredFolder empty)) value)
+    id_eq id (null_id kind)
+    || (id_eq id (empty_tree_id kind) && is_other kind (value_text kind (StoredFolder empty)) value)
     || unwrap_or (option_map (is_other kind (value_text kind value)) (get objects id)) false
 
 -- The store as it is, or the same command's values before it.
-abbrev pub some_taken : Kind → FinMap by_bytes Value → List Value → Bool
+abbrev pub some_taken : Kind → FinMap by_id Value → List Value → Bool
 some_taken kind objects [] = false
 some_taken kind objects (value ∷ values) = is_taken kind objects value || some_taken kind (store_one kind objects value) values
 
@@ -122,7 +124,7 @@ moved_reference r name id actor message =
     let before = unwrap_or (id_at r name) (null_id r.kind) in
     record {
       id = id;
-      moves = if bytes_eq before id then moves_at r name
+      moves = if id_eq before id then moves_at r name
           else record { before = before; after = id; actor = actor; message = message } ∷ moves_at r name;
     }
 
@@ -136,7 +138,7 @@ with_name r name id actor message names = insert names name (moved_reference r n
 abbrev pub with_lines : Repository → Actor → Bytes → List To → References → References
 with_lines r actor message [] names = names
 with_lines r actor message (to ∷ lines) names =
-    with_lines r actor message lines (with_name r to.name (unwrap_or (commit_of r to.word) []) actor message names)
+    with_lines r actor message lines (with_name r to.name (unwrap_or (commit_of r to.word) (null_id r.kind)) actor message names)
 
 -- the actor of a rename
 abbrev pub history_actor : Actor
@@ -146,7 +148,7 @@ abbrev pub names_after : Repository → Command → References
 names_after r (Commit c) = with_name r (branch_or_name r c.name) (id_of r.kind (StoredCommit (new_commit r c))) (read_actor c.committer) (title c.message) r.names
 names_after r (Tag c) = with_name r c.name (id_of r.kind (StoredTag (new_tag r c))) (read_actor c.tagger) (title c.message) r.names
 names_after r (Move c) = with_lines r (read_actor c.actor) c.message c.to r.names
-names_after r (Rename from to) = with_name r to (unwrap_or (id_at r from) []) history_actor (codes "rename") (remove r.names from)
+names_after r (Rename from to) = with_name r to (unwrap_or (id_at r from) (null_id r.kind)) history_actor (codes "rename") (remove r.names from)
 names_after r (Delete name at) = remove r.names name
 names_after r _ = r.names
 

@@ -1,34 +1,30 @@
 -- The objects of Git's object format and their ids: blobs, trees, commits and annotated tags ("Git Objects" in the book
 -- Pro Git; git-hash-object, git-mktree, git-commit-tree, git-mktag). Each text is written here uncompressed.
-use Rattle.std.specs.Prelude.{ℕ, zero, suc, List, [], ◌∷◌, ◌++◌, length, fold, max, replicate, ◌==◌, if◌then◌else◌, bytes_eq, codes, decimal, Option, Some, option_map}
+use Rattle.std.specs.Prelude.{ℕ, zero, suc, List, [], ◌∷◌, ◌++◌, length, fold, max, ◌==◌, if◌then◌else◌, bytes_eq, codes, decimal, Option, Some, option_map}
 use Rattle.std.specs.List.{flat_map, before_first, after_first}
 use Rattle.std.specs.FinMap.{entries, keys, get}
-use Rattle.sha1.specs.Sha1.{sha1}
-use Rattle.hex.specs.Hex.{encode_lower}
+use Rattle.std.specs.declared.cmp.Ordering.{Ordering}
+use Rattle.gix_hash.specs.declared.kind.Kind.{Kind}
+use Rattle.gix_hash.specs.Id.{Id, raw_bytes}
+use Rattle.gix_hash.specs.Order.{id_cmp}
+use Rattle.gix_hash.specs.Spelling.{hex_text}
+use Rattle.gix_hash.specs.Hasher.{id_of_message}
 use Rattle.history_model.specs.Bytes.{Bytes, line, has_byte}
 use Rattle.history_model.specs.FileMap.{FileMap, Content, has_below, inside}
-use Rattle.history_model.specs.declared.Kind.{Kind}
-use Rattle.history_model.specs.declared.Kind.TheVariants.{Sha1}
 use Rattle.history_model.specs.declared.FileKind.{FileKind}
 use Rattle.history_model.specs.declared.FileKind.TheVariants.{File, Exec, Link}
 
--- An id is the bytes of a digest.
-abbrev pub Id : Type 0
-Id = Bytes
-
--- SHA-1 as FIPS 180-4 defines it
+-- The id of a text is its digest, a kind and hexadecimal digits.
 unfoldable pub digest : Kind → Bytes → Id
-digest Sha1 text = sha1 text
+digest kind text = id_of_message kind text
 
-abbrev pub id_len : Kind → ℕ
-id_len Sha1 = 20
+-- the order of ids: by kind, then by digits
+abbrev pub by_id : Id → Id → Ordering
+by_id = id_cmp
 
--- in lower-case hex digits
+-- an id in lower-case hexadecimal
 abbrev pub hex : Id → Bytes
-hex id = encode_lower id
-
-abbrev pub null_id : Kind → Id
-null_id kind = replicate (id_len kind) 0
+hex id = hex_text id.digits
 
 -- the word of the object's type, the content's length, a zero byte and the content
 abbrev pub object_text : Bytes → Bytes → Bytes
@@ -73,7 +69,7 @@ mode_of Exec = codes "100755"
 mode_of Link = codes "120000"
 
 abbrev pub entry_text : Bytes → Bytes → Id → Bytes
-entry_text mode name id = mode ++ 32 ∷ name ++ 0 ∷ id
+entry_text mode name id = mode ++ 32 ∷ name ++ 0 ∷ raw_bytes id
 
 -- An entry's line in a tree. The content of a folder's tree comes from tree_of.
 abbrev pub tree_entry_text : Kind → (List (Bytes × Content) → Bytes) → TreeEntry → Bytes

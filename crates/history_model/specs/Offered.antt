@@ -5,12 +5,13 @@ use Rattle.std.specs.FinMap.{entries, keys, get, insert}
 use Rattle.history_model.specs.Bytes.{Bytes}
 use Rattle.history_model.specs.FileMap.{FileMap, Content, folders_of, put_at}
 use Rattle.history_model.specs.Stage.{is_offered, is_offered_path}
-use Rattle.history_model.specs.Objects.{Id, Value, StoredCommit, StoredTag, StoredBytes, StoredFolder, entry_text, mode_of, blob_id, root}
+use Rattle.history_model.specs.Objects.{Value, StoredCommit, StoredTag, StoredBytes, StoredFolder, entry_text, mode_of, blob_id, root}
+use Rattle.gix_hash.specs.Id.{Id}
 use Rattle.history_model.specs.Repository.{Repository, IsStored, IsWholeStore, HasWholeNames, stands, fresh}
 use Rattle.history_model.specs.Commands.{Command}
 use Rattle.history_model.specs.Meaning.{after}
 use Rattle.history_model.specs.Causes.{holds, first_cause}
-use Rattle.history_model.specs.declared.Kind.{Kind}
+use Rattle.gix_hash.specs.declared.kind.Kind.{Kind}
 use Rattle.history_model.specs.declared.Cause.{Cause}
 use Rattle.history_model.specs.declared.Cause.TheVariants.{UnknownWord, UnbornHead, Taken, BadPath, NoSuchPath, BadActor, BadTime, BadMessage, TooLarge}
 

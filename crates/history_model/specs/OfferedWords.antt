@@ -4,7 +4,8 @@ use Rattle.std.specs.List.{list_any, flat_map}
 use Rattle.std.specs.FinMap.{get}
 use Rattle.history_model.specs.Bytes.{Bytes, is_among}
 use Rattle.history_model.specs.Stage.{is_offered}
-use Rattle.history_model.specs.Objects.{Id, CommitValue, StoredCommit, StoredFolder}
+use Rattle.history_model.specs.Objects.{CommitValue, StoredCommit, StoredFolder}
+use Rattle.gix_hash.specs.Id.{Id}
 use Rattle.history_model.specs.Repository.{Repository, HasWholeNames, id_at, stands}
 use Rattle.history_model.specs.Words.{Unknown, word_reading, name_reading, head_word, commit_of}
 use Rattle.history_model.specs.Commands.{Commit, CommitCommand}

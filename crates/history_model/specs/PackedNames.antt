@@ -1,13 +1,14 @@
 -- The file `packed-refs`, as git-pack-refs(1) writes it: a header, and a record for each packed name.
-use Rattle.std.specs.Prelude.{◌≡◌, ◌+◌, ◌-◌, ◌*◌, Bool, false, not, ◌&&◌, ◌||◌, List, [], ◌∷◌, length, take, drop, map, ◌==◌, if◌then◌else◌, Option, Some, None, Result, Ok, Err, option_map, option_and_then, IfSome, codes, IsTrue}
-use Rattle.std.specs.List.{list_any, slice_split, AllByRecursion}
+use Rattle.std.specs.Prelude.{ℕ, unwrap_or, is_some, bytes_eq, ◌≡◌, ◌+◌, ◌-◌, Bool, false, not, ◌&&◌, ◌||◌, List, [], ◌∷◌, length, take, drop, map, ◌==◌, if◌then◌else◌, Option, Some, None, option_map, option_and_then, IfSome, codes, IsTrue}
+use Rattle.std.specs.List.{list_any, list_all, slice_split, AllByRecursion}
 use Rattle.std.specs.FinMap.{is_sorted}
-use Rattle.hex.specs.Hex.{decode_of}
+use Rattle.hex.specs.Hex.{hex_digit_value}
 use Rattle.history_model.specs.Bytes.{Bytes, by_bytes, begins, ends, is_among, has_twice, is_empty}
-use Rattle.history_model.specs.Objects.{Id, id_len}
+use Rattle.gix_hash.specs.Id.{Id}
+use Rattle.gix_hash.specs.Kind.{hex_len}
 use Rattle.history_model.specs.Repository.{Repository, peeled, is_tag}
 use Rattle.history_model.specs.Forms.{is_name, is_private}
-use Rattle.history_model.specs.declared.Kind.{Kind}
+use Rattle.gix_hash.specs.declared.kind.Kind.{Kind}
 
 pub record PackedRecord : Type 0 where
   pub name : Bytes
@@ -21,13 +22,14 @@ pub record PackedFile : Type 0 where
 
 -- ---- ids and lines
 
-abbrev pub result_ok : {T E : Type 0} → Result T E → Option T
-result_ok (Ok x) = Some x
-result_ok (Err e) = None
+-- the digits that hexadecimal characters of either case spell
+abbrev pub digits_read : Bytes → Option (List ℕ)
+digits_read text =
+    if list_all (λ c. is_some (hex_digit_value c)) text then Some (map (λ c. unwrap_or (hex_digit_value c) 0) text) else None
 
 -- the id that hex digits of either case spell
 abbrev pub id_from_hex : Kind → Bytes → Option Id
-id_from_hex kind text = if length text == 2 * id_len kind then result_ok (decode_of text) else None
+id_from_hex kind text = if length text == hex_len kind then option_map (λ digits. record { kind = kind; digits = digits }) (digits_read text) else None
 
 -- the text before a line feed at its end
 abbrev pub line_text : Bytes → Option Bytes
@@ -46,7 +48,7 @@ pub data PackedLine : Type 0 where
 
 abbrev pub packed_line : Kind → Bytes → Option PackedLine
 packed_line kind text =
-    let n = 2 * id_len kind in
+    let n = hex_len kind in
     let name = drop (n + 1) text in
     if begins (codes "^") text then option_map PeelLine (id_from_hex kind (drop 1 text))
     else if begins (32 ∷ []) (drop n text) && is_name name then option_map (λ id. RecordLine id name) (id_from_hex kind (take n text))
@@ -94,7 +96,7 @@ PeelAgrees r entry = IfSome entry.peel (λ commit. IsTrue (is_tag r entry.target
 abbrev pub is_packed_form : PackedFile → Bool
 is_packed_form packed =
     let names = map (λ entry. entry.name) packed.records in
-    not (has_twice names) && not (list_any is_private names) && (not packed.sorted || is_sorted by_bytes (map (λ name. (name, name)) names))
+    not (has_twice bytes_eq names) && not (list_any is_private names) && (not packed.sorted || is_sorted by_bytes (map (λ name. (name, name)) names))
 
 abbrev pub PackedAgrees : Repository → PackedFile → Type 0
 PackedAgrees r packed = IsTrue (is_packed_form packed) × AllByRecursion (PeelAgrees r) packed.records

@@ -1,7 +1,9 @@
 -- What the law on the past of a name says.
-use Rattle.std.specs.Prelude.{◌≡◌, Bool, ◌&&◌, List, [], ◌∷◌, ◌++◌, unwrap_or, bytes_eq, codes, IsFalse, if◌then◌else◌}
+use Rattle.std.specs.Prelude.{◌≡◌, Bool, ◌&&◌, List, [], ◌∷◌, ◌++◌, unwrap_or, codes, IsFalse, if◌then◌else◌}
 use Rattle.history_model.specs.Bytes.{Bytes}
-use Rattle.history_model.specs.Objects.{Actor, null_id}
+use Rattle.history_model.specs.Objects.{Actor}
+use Rattle.gix_hash.specs.Order.{id_eq}
+use Rattle.gix_hash.specs.Id.{null_id}
 use Rattle.history_model.specs.Repository.{LogEntry, Repository, id_at, moves_at, stands}
 use Rattle.history_model.specs.Forms.{title}
 use Rattle.history_model.specs.Commands.{Command, Commit, Tag, Move}
@@ -28,7 +30,7 @@ abbrev pub step_moves : Repository → Command → Repository → Bytes → List
 step_moves old command new name =
     let before = unwrap_or (id_at old name) (null_id old.kind) in
     let after = unwrap_or (id_at new name) (null_id old.kind) in
-    if bytes_eq before after then []
+    if id_eq before after then []
     else record { before = before; after = after; actor = mover command; message = move_message command } ∷ []
 
 -- the name stands before these commands and after each of them

@@ -4,7 +4,8 @@ use Rattle.std.specs.List.{list_any, list_all}
 use Rattle.gix_ref_file.specs.Tree.{Tree, node_at, bytes_of}
 use Rattle.history_model.specs.Bytes.{Bytes, begins, ends}
 use Rattle.history_model.specs.FileMap.{is_within}
-use Rattle.history_model.specs.Objects.{Id, hex}
+use Rattle.history_model.specs.Objects.{hex}
+use Rattle.gix_hash.specs.Id.{Id}
 use Rattle.history_model.specs.Repository.{Repository, stands}
 
 -- The objects part, all below `objects`, and the names part, all else. Paths in both are whole.

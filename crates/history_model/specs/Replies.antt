@@ -2,7 +2,8 @@
 use Rattle.std.specs.Prelude.{ℕ, List, [], ◌∷◌, ◌++◌, length, map, codes, decimal}
 use Rattle.std.specs.List.{flat_map}
 use Rattle.history_model.specs.Bytes.{Bytes}
-use Rattle.history_model.specs.Objects.{Id, Actor, hex}
+use Rattle.history_model.specs.Objects.{Actor, hex}
+use Rattle.gix_hash.specs.Id.{Id}
 use Rattle.history_model.specs.Repository.{LogEntry}
 use Rattle.history_model.specs.Logs.{log_line}
 use Rattle.history_model.specs.Commands.{ActorLine}

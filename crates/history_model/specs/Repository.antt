@@ -1,11 +1,13 @@
 -- The plain repository, and when it is whole.
-use Rattle.std.specs.Prelude.{◌≡◌, Bool, true, false, List, [], ◌∷◌, ◌++◌, map, drop, Option, Some, None, option_map, option_and_then, unwrap_or, is_some, IsSome, IsTrue, IsFalse, bytes_eq, codes}
+use Rattle.std.specs.Prelude.{◌≡◌, Bool, true, false, List, [], ◌∷◌, ◌++◌, map, drop, Option, Some, None, option_map, option_and_then, unwrap_or, is_some, IsSome, IsTrue, IsFalse, codes}
 use Rattle.std.specs.List.{AllByRecursion, list_any}
 use Rattle.std.specs.FinMap.{FinMap, get, values, empty}
 use Rattle.history_model.specs.Bytes.{Bytes, by_bytes}
 use Rattle.history_model.specs.FileMap.{FileMap, folders_of, is_below}
-use Rattle.history_model.specs.Objects.{Id, Actor, CommitValue, Value, StoredCommit, StoredTag, StoredBytes, StoredFolder, id_of, null_id, empty_tree_id}
-use Rattle.history_model.specs.declared.Kind.{Kind}
+use Rattle.history_model.specs.Objects.{by_id, Actor, CommitValue, Value, StoredCommit, StoredTag, StoredBytes, StoredFolder, id_of, empty_tree_id}
+use Rattle.gix_hash.specs.Order.{id_eq}
+use Rattle.gix_hash.specs.Id.{Id, null_id}
+use Rattle.gix_hash.specs.declared.kind.Kind.{Kind}
 
 -- One move of a name, a line of its log. The old id of a made name is null.
 pub record LogEntry : Type 0 where
@@ -24,7 +26,7 @@ pub record Repository : Type 0 where
   pub kind : Kind
   pub names : FinMap by_bytes Reference
   pub branch : Bytes
-  pub objects : FinMap by_bytes Value
+  pub objects : FinMap by_id Value
 
 -- ---- what it answers
 
@@ -96,7 +98,7 @@ named_ids kind (StoredFolder files) = map (id_of kind) (drop 1 (file_values file
 
 -- one object reaches another by the ids that values name
 pub data Reaches (r : Repository) : Id → Id → Type 0 where
-  named : {from to : Id} (value : Value) → get r.objects from ≡ Some value → IsTrue (list_any (bytes_eq to) (named_ids r.kind value)) → Reaches r from to
+  named : {from to : Id} (value : Value) → get r.objects from ≡ Some value → IsTrue (list_any (id_eq to) (named_ids r.kind value)) → Reaches r from to
   by_way_of : {from to : Id} (mid : Id) → Reaches r from mid → Reaches r mid to → Reaches r from to
 
 -- Each id is its value's, what a value names is stored, and no object reaches itself. Nothing is stored under the null id,

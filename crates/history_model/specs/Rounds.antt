@@ -12,7 +12,7 @@ use Rattle.history_model.specs.Stops.{LeftByStop}
 use Rattle.history_model.specs.Steps.{Steps, some_failed}
 use Rattle.history_model.specs.Runs.{BeginsWith}
 use Rattle.history_model.specs.Moments.{Moment, IsPairAt, IsRunPair, ActsOn}
-use Rattle.history_model.specs.declared.Kind.{Kind}
+use Rattle.gix_hash.specs.declared.kind.Kind.{Kind}
 
 -- What a stop of a run over the input leaves, once recovered, where these replies were made before it: what their steps
 -- leave, or what a stop in the next command leaves.

@@ -8,7 +8,7 @@ use Rattle.history_model.specs.Objects.{Actor, CommitValue}
 use Rattle.history_model.specs.Repository.{Repository, fresh}
 use Rattle.history_model.specs.Commands.{ActorLine, CommitCommand, New}
 use Rattle.history_model.specs.Runs.{Runs}
-use Rattle.history_model.specs.declared.Kind.TheVariants.{Sha1}
+use Rattle.gix_hash.specs.declared.kind.Kind.TheVariants.{Sha1}
 use Rattle.history_model.specs.declared.FileKind.TheVariants.{File, Exec}
 use Rattle.history_model.specs.declared.End.TheVariants.{Input, Refused as ByRefusal}
 

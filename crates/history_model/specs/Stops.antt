@@ -2,7 +2,8 @@
 use Rattle.std.specs.Prelude.{◌≡◌, ◌⊎◌, Bool, true, false, not, ◌&&◌, [], Some, IsTrue, MatchBool, is_some, bytes_eq, Contains, if◌then◌else◌}
 use Rattle.std.specs.FinMap.{get}
 use Rattle.history_model.specs.Bytes.{Bytes}
-use Rattle.history_model.specs.Objects.{Id, Value}
+use Rattle.history_model.specs.Objects.{Value}
+use Rattle.gix_hash.specs.Id.{Id}
 use Rattle.history_model.specs.Repository.{Repository, IsWhole, id_at, moves_at}
 use Rattle.history_model.specs.Commands.{Command, Commit, Tag, Move, Rename, Delete, Switch, Pack, Index, Names, Files, Past, Log, Show}
 use Rattle.history_model.specs.Meaning.{after, stored_by, takes_id}

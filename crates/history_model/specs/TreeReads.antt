@@ -4,11 +4,12 @@ use Rattle.std.specs.FinMap.{get}
 use Rattle.gix_ref_file.specs.Tree.{Tree}
 use Rattle.history_model.specs.Bytes.{Bytes, has_byte}
 use Rattle.history_model.specs.FileMap.{FileMap}
-use Rattle.history_model.specs.Objects.{Id, CommitValue, Value, StoredCommit, StoredBytes, StoredFolder, object_text, type_word, content_of, commit_content, root}
+use Rattle.history_model.specs.Objects.{CommitValue, Value, StoredCommit, StoredBytes, StoredFolder, object_text, type_word, content_of, commit_content, root}
+use Rattle.gix_hash.specs.Id.{Id}
 use Rattle.history_model.specs.Forms.{is_id}
 use Rattle.history_model.specs.Places.{file_at, object_place}
 use Rattle.history_model.specs.TreeHalves.{Values, HoldsValues, HaveOwnIds}
-use Rattle.history_model.specs.declared.Kind.{Kind}
+use Rattle.gix_hash.specs.declared.kind.Kind.{Kind}
 
 -- an object of this type and content stands at the id's place
 pub record HasObject (kind : Kind) (tree : Tree) (id : Id) (word content : Bytes) : Type 0 where

@@ -3,14 +3,16 @@ use Rattle.std.specs.Prelude.{◌≡◌, ◌≢◌, Bool, false, not, ◌&&◌, 
 use Rattle.std.specs.FinMap.{get, contains_key, empty}
 use Rattle.gix_ref_file.specs.Tree.{Tree, folder, bytes_at}
 use Rattle.history_model.specs.Bytes.{Bytes, line}
-use Rattle.history_model.specs.Objects.{Id, Actor, Value, StoredFolder, hex, value_text, id_of, null_id, empty_tree_id}
+use Rattle.history_model.specs.Objects.{Actor, Value, StoredFolder, hex, value_text, id_of, empty_tree_id}
+use Rattle.gix_hash.specs.Order.{id_eq}
+use Rattle.gix_hash.specs.Id.{Id, null_id}
 use Rattle.history_model.specs.Repository.{Repository, LogEntry, id_at}
 use Rattle.history_model.specs.Forms.{is_id, is_name}
 use Rattle.history_model.specs.Meaning.{store_one, is_taken, is_other, with_name}
 use Rattle.history_model.specs.Places.{file_at, object_place, unfinished_place, is_object_folder, packed_place, log_place, is_name_folder}
 use Rattle.history_model.specs.Logs.{log_line}
 use Rattle.history_model.specs.TreeHalves.{Values, HoldsValues, HoldsNames, HaveOwnIds}
-use Rattle.history_model.specs.declared.Kind.{Kind}
+use Rattle.gix_hash.specs.declared.kind.Kind.{Kind}
 
 -- ---- values
 
@@ -39,8 +41,8 @@ StoredStands = (kind : Kind) (tree : Tree) (values : Values) (value : Value) →
 abbrev pub is_taken_at : Kind → Tree → Value → Bool
 is_taken_at kind tree value =
     let id = id_of kind value in
-    bytes_eq id (null_id kind)
-    || (bytes_eq id (empty_tree_id kind) && is_other kind (value_text kind (StoredFolder empty)) value)
+    id_eq id (null_id kind)
+    || (id_eq id (empty_tree_id kind) && is_other kind (value_text kind (StoredFolder empty)) value)
     || unwrap_or (option_map (λ text. not (bytes_eq (value_text kind value) text)) (file_at tree (object_place id))) false
 
 -- The tree tells whether a value's id is taken.

@@ -1,6 +1,6 @@
 -- Which lists a walk may give. (Stands in for the crate of walks, whose words these are.)
 use Rattle.std.specs.Prelude.{◌≡◌, ℕ, zero, suc, ◌<◌, ◌≤◌, ◌⊎◌, ◌↔◌, ⊤, Bool, List, take, Option, Some, IfSome, Contains, slice_get, if◌then◌else◌}
-use Rattle.history_model.specs.Objects.{Id}
+use Rattle.gix_hash.specs.Id.{Id}
 
 -- the parents of each commit in their order, and its committer's seconds
 pub record Graph : Type 0 where

@@ -1,10 +1,12 @@
 -- What a word stands for, by the candidates of gitrevisions(7) for a `<refname>` and a short object name.
-use Rattle.std.specs.Prelude.{◌*◌, Bool, not, ◌&&◌, List, [], ◌∷◌, ◌++◌, length, nat_le, filter, find, Option, Some, None, option_map, unwrap_or, bytes_eq, codes, if◌then◌else◌}
+use Rattle.std.specs.Prelude.{Bool, not, ◌&&◌, List, [], ◌∷◌, ◌++◌, length, nat_le, filter, find, Option, Some, None, option_map, unwrap_or, bytes_eq, codes, if◌then◌else◌}
 use Rattle.std.specs.List.{list_all}
 use Rattle.std.specs.FinMap.{keys}
 use Rattle.hex.specs.Hex.{is_hex_digit}
 use Rattle.history_model.specs.Bytes.{Bytes, begins, lower}
-use Rattle.history_model.specs.Objects.{Id, id_len, hex}
+use Rattle.history_model.specs.Objects.{hex}
+use Rattle.gix_hash.specs.Id.{Id}
+use Rattle.gix_hash.specs.Kind.{hex_len}
 use Rattle.history_model.specs.Forms.{is_private}
 use Rattle.history_model.specs.Stage.{offers_short_ids}
 use Rattle.history_model.specs.Repository.{Repository, id_at, stands, peeled}
@@ -27,7 +29,7 @@ pub data WordReading : Type 0 where
 
 -- 4 digits to the kind's length
 abbrev pub is_short_id : Repository → Bytes → Bool
-is_short_id r word = nat_le 4 (length word) && nat_le (length word) (2 * id_len r.kind) && list_all is_hex_digit word
+is_short_id r word = nat_le 4 (length word) && nat_le (length word) (hex_len r.kind) && list_all is_hex_digit word
 
 -- the stored ids that begin with the word, whatever the case of its letters
 abbrev pub matches : Repository → Bytes → List Id

@@ -1,12 +1,6 @@
 // The words of the engine that its contracts and its definitions share.
 #![tactic(auto)]
 
-/// Which digest names the objects.
-#[derive(Clone, Copy, Debug, PartialEq, Eq)]
-pub enum Kind {
-    Sha1,
-}
-
 /// What a file is.
 #[derive(Clone, Copy, Debug, PartialEq, Eq)]
 pub enum FileKind {

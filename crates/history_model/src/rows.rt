@@ -5,14 +5,17 @@ ghost use Rattle.history_model.specs.Bytes.{line};
 ghost use Rattle.history_model.specs.Objects.{hex, blob_id, blob_text, digest, tree_text, root_within, empty_tree_id, commit_content, id_of, StoredCommit};
 ghost use Rattle.history_model.specs.Rows.{Gives, Refuses, first_commit, first_stream, first_output, empty_file_stream, empty_file_output};
 ghost use Rattle.history_model.specs.Rows.{hello_stream, hello_output, three_files, xs};
-ghost use Rattle.history_model.specs.declared.Kind.TheVariants.{Sha1};
+ghost use Rattle.gix_hash.specs.declared.kind.Kind.TheVariants.{Sha1, Sha256};
 
-/// Ids of blobs and of the empty tree, the first commit's 99 bytes and id, three files in their order and their tree.
+/// Ids of blobs and of the empty tree in both kinds, the first commit's 99 bytes and id, three files in their order and their tree.
 pub fn ids()
     ensures hello { blob_text (codes "hello") ≡ codes "blob 5" ++ 0 ∷ codes "hello" }
     ensures blob { hex (blob_id Sha1 []) ≡ codes "e69de29bb2d1d6434b8b29ae775ad8c2e48c5391" }
     ensures hello_blob { hex (blob_id Sha1 (codes "hello")) ≡ codes "b6fc4c620b67d95f953a5c1c1230aaab5db5a1b0" }
     ensures empty_tree { hex (empty_tree_id Sha1) ≡ codes "4b825dc642cb6eb9a060e54bf8d69288fbee4904" }
+    ensures blob_sha256 { hex (blob_id Sha256 []) ≡ codes "473a0f4c3be8a93681a267e3b1e9a7dcda1185436fe141f7749120a303721813" }
+    ensures hello_blob_sha256 { hex (blob_id Sha256 (codes "hello")) ≡ codes "8aec4e4876f854f688d0ebfc8f37598f38e5fd6903cccc850ca36591175aeb60" }
+    ensures empty_tree_sha256 { hex (empty_tree_id Sha256) ≡ codes "6ef19b41225c5369f1c104d45d8d85efa9b057b53b14b4b9b939dd74decc5321" }
     ensures commit_len { length (commit_content Sha1 first_commit) ≡ 99 }
     ensures commit_id { hex (id_of Sha1 (StoredCommit first_commit)) ≡ codes "d39b036c797dcd9c0210b66a094ee846a3bc4fd9" }
     ensures tree { hex (digest Sha1 (tree_text (root_within 4 Sha1 three_files))) ≡ codes "b8b673d28f410aa8dd3222ef9fffe69e44e01d26" }

@@ -5,14 +5,16 @@ use Rattle.std.specs.List.{flat_map, list_all}
 use Rattle.std.proofs.lemmas.List.{map-append}
 use Rattle.history_model.specs.Bytes.{Bytes, has_byte, has_twice, begins, line}
 use Rattle.history_model.specs.Forms.{is_id, is_actor, is_commit_form, title, max_parents, max_title}
-use Rattle.history_model.specs.Objects.{Id, Actor, CommitValue, hex, actor_text, commit_content, folder_id, tree_text, root}
-use Rattle.history_model.specs.declared.Kind.{Kind}
+use Rattle.history_model.specs.Objects.{Actor, CommitValue, hex, actor_text, commit_content, folder_id, tree_text, root}
+use Rattle.gix_hash.specs.Id.{Id, id_of}
+use Rattle.gix_hash.specs.Order.{id_eq}
+use Rattle.gix_hash.specs.declared.kind.Kind.{Kind}
 use Rattle.history_model.proofs.OnePairTexts.{hex_high, none_in, actor_one_line}
-use Rattle.history_model.proofs.WholeTexts.{is_id-digest}
+use Rattle.history_model.proofs.IdLemmas.{digest_is_id}
 use Rattle.history_store.specs.Commits.{IsCommitOf}
-use Rattle.history_store.specs.Formats.{id_bytes, id_line, commit_text}
+use Rattle.history_store.specs.Formats.{id_line, commit_text}
 use Rattle.history_store.specs.declared.commit.Commit.{Commit}
-use Rattle.history_store.specs.declared.id.ObjectId.{ObjectId}
+use Rattle.gix_hash.specs.declared.object_id.ObjectId.{ObjectId}
 use Rattle.history_store.proofs.ActorTexts.{stands}
 use Rattle.history_store.proofs.Spelled.{and_of, cut_same, front_same}
 
@@ -55,39 +57,39 @@ parents_text parents = flat_map (λ parent. line (codes "parent " ++ hex parent)
 pub record Left (kind : Kind) (parents : List Id) (rest : Bytes) (ids : List ObjectId) (text : Bytes) : Type 0 where
   pub left : List Id
   pub formed : IsTrue (list_all (is_id kind) left)
-  pub whole : map id_bytes ids ++ left ≡ parents
+  pub whole : map id_of ids ++ left ≡ parents
   pub text_is : text ≡ parents_text left ++ rest
 
 pub one_less : (kind : Kind) (parents : List Id) (rest : Bytes) (ids more : List ObjectId) (text after : Bytes) (id : ObjectId) → Left kind parents rest ids text → IsFalse (begins (codes "parent ") rest)
     → text ≡ id_line (codes "parent ") id ++ after
-    → ((kind : Kind) (other : Id) (behind : Bytes) → IsTrue (is_id kind other) → IsFalse (has_byte 10 (codes "parent ")) → text ≡ line (codes "parent " ++ hex other) ++ behind → (id_bytes id ≡ other) × (after ≡ behind))
+    → ((other : Id) (behind : Bytes) → IsTrue (is_id kind other) → IsFalse (has_byte 10 (codes "parent ")) → text ≡ line (codes "parent " ++ hex other) ++ behind → (id_of id ≡ other) × (after ≡ behind))
     → more ≡ ids ++ id ∷ [] → Left kind parents rest more after
 one_less kind parents rest ids more text after id so_far ends spelled read is = by_cases so_far.left so_far.formed so_far.whole so_far.text_is
   where
-    by_cases : (left : List Id) → IsTrue (list_all (is_id kind) left) → map id_bytes ids ++ left ≡ parents → text ≡ parents_text left ++ rest → Left kind parents rest more after
+    by_cases : (left : List Id) → IsTrue (list_all (is_id kind) left) → map id_of ids ++ left ≡ parents → text ≡ parents_text left ++ rest → Left kind parents rest more after
     by_cases [] formed whole text_is =
         let begun : begins (codes "parent ") text ≡ true = ap (begins (codes "parent ")) spelled in
         absurd (cc (sym ends ∙ ap (begins (codes "parent ")) (sym text_is) ∙ begun))
     by_cases (p ∷ ps) formed whole text_is =
         let parts = and_of (is_id kind p) (list_all (is_id kind) ps) formed in
-        let first = read kind p (parents_text ps ++ rest) parts.0 refl (text_is ∙ append_assoc (line (codes "parent " ++ hex p)) (parents_text ps) rest) in
+        let first = read p (parents_text ps ++ rest) parts.0 refl (text_is ∙ append_assoc (line (codes "parent " ++ hex p)) (parents_text ps) rest) in
         record {
           left = ps;
           formed = parts.1;
-          whole = ap (λ m. map id_bytes m ++ ps) is ∙ ap (λ t. t ++ ps) (map-append id_bytes ids (id ∷ [])) ∙ append_assoc (map id_bytes ids) (id_bytes id ∷ []) ps ∙ ap (λ x. map id_bytes ids ++ x ∷ ps) first.0 ∙ whole;
+          whole = ap (λ m. map id_of m ++ ps) is ∙ ap (λ t. t ++ ps) (map-append id_of ids (id ∷ [])) ∙ append_assoc (map id_of ids) (id_of id ∷ []) ps ∙ ap (λ x. map id_of ids ++ x ∷ ps) first.0 ∙ whole;
           text_is = first.1;
         }
 
 pub none_left : (kind : Kind) (parents : List Id) (rest : Bytes) (ids : List ObjectId) (text : Bytes) → Left kind parents rest ids text
-    → ((kind : Kind) (other : Id) (behind : Bytes) → IsTrue (is_id kind other) → IsFalse (has_byte 10 (codes "parent ")) → text ≡ line (codes "parent " ++ hex other) ++ behind → ⊥)
-    → (map id_bytes ids ≡ parents) × (text ≡ rest)
+    → ((other : Id) (behind : Bytes) → IsTrue (is_id kind other) → IsFalse (has_byte 10 (codes "parent ")) → text ≡ line (codes "parent " ++ hex other) ++ behind → ⊥)
+    → (map id_of ids ≡ parents) × (text ≡ rest)
 none_left kind parents rest ids text so_far none = by_cases so_far.left so_far.formed so_far.whole so_far.text_is
   where
-    by_cases : (left : List Id) → IsTrue (list_all (is_id kind) left) → map id_bytes ids ++ left ≡ parents → text ≡ parents_text left ++ rest → (map id_bytes ids ≡ parents) × (text ≡ rest)
-    by_cases [] formed whole text_is = (sym (append-nil (map id_bytes ids)) ∙ whole, text_is)
+    by_cases : (left : List Id) → IsTrue (list_all (is_id kind) left) → map id_of ids ++ left ≡ parents → text ≡ parents_text left ++ rest → (map id_of ids ≡ parents) × (text ≡ rest)
+    by_cases [] formed whole text_is = (sym (append-nil (map id_of ids)) ∙ whole, text_is)
     by_cases (p ∷ ps) formed whole text_is =
         let parts = and_of (is_id kind p) (list_all (is_id kind) ps) formed in
-        absurd (none kind p (parents_text ps ++ rest) parts.0 refl (text_is ∙ append_assoc (line (codes "parent " ++ hex p)) (parents_text ps) rest))
+        absurd (none p (parents_text ps ++ rest) parts.0 refl (text_is ∙ append_assoc (line (codes "parent " ++ hex p)) (parents_text ps) rest))
 
 -- ---- whole commits
 
@@ -108,7 +110,7 @@ commit_lines kind value =
     six_parts t ps a c n m = simp append_assoc
 
 pub tree_formed : (kind : Kind) (value : CommitValue) → IsTrue (is_id kind (folder_id kind value.files))
-tree_formed kind value = is_id-digest kind (tree_text (root kind value.files))
+tree_formed kind value = digest_is_id kind (tree_text (root kind value.files))
 
 pub record CommitParts (kind : Kind) (value : CommitValue) : Type 0 where
   pub parents : IsTrue (list_all (is_id kind) value.parents)
@@ -119,7 +121,7 @@ pub commit_parts : (kind : Kind) (value : CommitValue) → IsTrue (is_commit_for
 commit_parts kind value h =
     let ids = list_all (is_id kind) value.parents in
     let count = nat_le (length value.parents) max_parents in
-    let once = not (has_twice value.parents) in
+    let once = not (has_twice id_eq value.parents) in
     let a = and_of (ids && count && once && is_actor value.author && is_actor value.committer) (nat_le (length (title value.message)) max_title) h in
     let b = and_of (ids && count && once && is_actor value.author) (is_actor value.committer) a.0 in
     let c = and_of (ids && count && once) (is_actor value.author) b.0 in
@@ -132,6 +134,6 @@ text_of_commit kind commit value is = (λ i.
     line (codes "tree " ++ hex (is.tree i)) ++ (parents_of commit.parents.items ∙ ap parents_text is.parents) i ++ line (codes "author " ++ actor_text (is.author i))
     ++ line (codes "committer " ++ actor_text (is.committer i)) ++ line [] ++ is.message i)
   where
-    parents_of : (ids : List ObjectId) → flat_map (λ parent. id_line (codes "parent ") parent) ids ≡ parents_text (map id_bytes ids)
+    parents_of : (ids : List ObjectId) → flat_map (λ parent. id_line (codes "parent ") parent) ids ≡ parents_text (map id_of ids)
     parents_of [] = refl
     parents_of (id ∷ ids) = ap (λ t. id_line (codes "parent ") id ++ t) (parents_of ids)

@@ -1,6 +1,6 @@
 -- The trees of flat files: what they spell, and what stands under their names.
-use Rattle.std.proofs.Common.{◌≡◌, ◌∙◌, ap, refl, sym, subst, suc, Bool, true, false, cond, ◌&&◌, T, List, [], ◌∷◌, ◌++◌, map, length, arith}
-use Rattle.std.specs.Prelude.{◌==◌, Option, Some, None, MatchOption, IsSomeAnd, IsTrue, option_map, bytes_eq, codes}
+use Rattle.std.proofs.Common.{◌≡◌, ◌∙◌, ap, refl, sym, subst, suc, ℕ, Bool, true, false, cond, ◌&&◌, T, List, [], ◌∷◌, ◌++◌, map, length, arith}
+use Rattle.std.specs.Prelude.{Option, Some, None, MatchOption, IsSomeAnd, IsTrue, option_map, bytes_eq, codes}
 use Rattle.std.specs.List.{flat_map, list_all}
 use Rattle.std.specs.Ordering.{is_lt, eq_by_cmp}
 use Rattle.std.specs.declared.cmp.Ordering.{Ordering}
@@ -8,22 +8,23 @@ use Rattle.std.specs.declared.cmp.Ordering.TheVariants.{Less, Equal, Greater}
 use Rattle.std.specs.Cmp.Lexicographic.{nat_list_cmp_total}
 use Rattle.std.specs.FinMap.{entries, get, len, empty, insert, find, put, is_sorted, from_sorted, entries_sorted, get-entries, len-entries, len-empty, entries-insert, entries-from_sorted}
 use Rattle.std.specs.FinMap.Entries.{by_order, below_all}
-use Rattle.std.proofs.lemmas.Bool.Decides.{Decides-eqb}
 use Rattle.history_model.specs.declared.FileKind.{FileKind}
 use Rattle.history_model.specs.declared.FileKind.TheVariants.{File, Exec, Link}
-use Rattle.history_model.specs.declared.Kind.{Kind}
-use Rattle.history_model.specs.declared.Kind.TheVariants.{Sha1}
+use Rattle.gix_hash.specs.declared.kind.Kind.{Kind}
+use Rattle.gix_hash.specs.declared.kind.Kind.TheVariants.{Sha1, Sha256}
 use Rattle.history_model.specs.Bytes.{Bytes, by_bytes}
 use Rattle.history_model.specs.FileMap.{FileMap, Content, IsFileMap, is_path}
-use Rattle.history_model.specs.Objects.{Id, id_len, mode_of, entry_text, blob_id, blob_text, root}
+use Rattle.history_model.specs.Objects.{mode_of, entry_text, blob_id, blob_text, root}
+use Rattle.gix_hash.specs.Id.{Id, id_of, digits_of, bytes_from, raw_bytes}
+use Rattle.gix_hash.specs.Packed.{packed, object_id_of}
+use Rattle.history_model.specs.Forms.{is_id}
+use Rattle.history_model.proofs.IdLemmas.{digest_is_id, digits_of-raw_bytes, raw_bytes_tell}
 use Rattle.history_model.specs.Offered.{is_flat, file_entry_text}
 use Rattle.history_model.specs.Stage.{is_offered_path}
 use Rattle.history_model.proofs.OfferedFiles.{all_keys, each_key, flat_roots}
-use Rattle.history_model.proofs.WholeTexts.{is_id-digest, is_id-length}
 use Rattle.history_store.specs.declared.tree.TreeEntry.{TreeEntry}
-use Rattle.history_store.specs.Formats.{id_bytes}
 use Rattle.history_store.specs.Trees.{Folder, Named, FileFacts, named_text, folder_content, is_entry_name, is_entry, Spells, SpellsNone, BeginsWith, entry_facts, file_facts, IsTreeOf}
-use Rattle.history_store.proofs.Spelled.{and_of, and_from, mode_cut, cut_same, front_same, cut_up, no_space, begins_with, longer, no_entries}
+use Rattle.history_store.proofs.Spelled.{and_of, and_from, mode_cut, cut_same, front_same, cut_up, no_space, begins_with, longer, no_entries, same_length}
 
 -- ---- texts
 
@@ -64,7 +65,7 @@ module _ (kind : Kind) where
   flat_len folder files is = len-entries folder ∙ lengths (entries folder) (entries files) is ∙ sym (len-entries files)
 
   abbrev pub under : Option TreeEntry → Option (FileKind × Id)
-  under found = option_map (λ e. (e.kind, id_bytes e.id)) found
+  under found = option_map (λ e. (e.kind, id_of e.id)) found
 
   abbrev pub stored_under : Option Content → Option (FileKind × Id)
   stored_under found = option_map (λ c. (c.kind, blob_id kind c.bytes)) found
@@ -110,7 +111,7 @@ module _ (kind : Kind) where
       by_cases Greater first rest here later i = first i ∷ later i
 
   -- the tree with an entry for the new content is that of the files with it
-  pub flat_insert : (folder : Folder) (files : FileMap) (path : Bytes) (entry : TreeEntry) (content : Content) → IsTreeOf kind folder files → entry.kind ≡ content.kind → id_bytes entry.id ≡ blob_id kind content.bytes
+  pub flat_insert : (folder : Folder) (files : FileMap) (path : Bytes) (entry : TreeEntry) (content : Content) → IsTreeOf kind folder files → entry.kind ≡ content.kind → id_of entry.id ≡ blob_id kind content.bytes
       → IsTreeOf kind (insert folder path entry) (insert files path content)
   flat_insert folder files path entry content is same_kind same_id =
       ap (map entry_facts) (entries-insert nat_list_cmp_total folder path entry)
@@ -131,34 +132,46 @@ kind_of-mode_of Link = refl
 same_mode : (j k : FileKind) → mode_of j ≡ mode_of k → j ≡ k
 same_mode j k e = sym (kind_of-mode_of j) ∙ ap kind_of e ∙ kind_of-mode_of k
 
-one_entry : (text : Bytes) (j k : FileKind) (name name_2 id id_2 rest rest_2 : Bytes) → BeginsWith text j name id rest → BeginsWith text k name_2 id_2 rest_2
+one_entry : (digests : Kind) (text : Bytes) (j k : FileKind) (name name_2 : Bytes) (id id_2 : Id) (rest rest_2 : Bytes) → BeginsWith digests text j name id rest → BeginsWith digests text k name_2 id_2 rest_2
     → (◌≡◌ {A = FileFacts} (name, j, id) (name_2, k, id_2)) × (rest ≡ rest_2)
-one_entry text j k name name_2 id id_2 rest rest_2 a b =
-    let mode = mode_cut text (mode_of j) (name ++ 0 ∷ (id ++ rest)) (a.spelled ∙ cut_up (mode_of j) name id rest) (no_space j) k name_2 id_2 rest_2 b in
-    let names = cut_same 0 name name_2 (id ++ rest) (id_2 ++ rest_2) a.no_zero b.no_zero mode.1 in
-    let ids = front_same id id_2 rest rest_2 (a.id_length ∙ sym b.id_length) names.1 in
-    ((λ i. (names.0 i, same_mode j k mode.0 i, ids.0 i)), ids.1)
+one_entry digests text j k name name_2 id id_2 rest rest_2 a b =
+    let mode = mode_cut digests text (mode_of j) (name ++ 0 ∷ (raw_bytes id ++ rest)) (a.spelled ∙ cut_up (mode_of j) name id rest) (no_space j) k name_2 id_2 rest_2 b in
+    let names = cut_same 0 name name_2 (raw_bytes id ++ rest) (raw_bytes id_2 ++ rest_2) a.no_zero b.no_zero mode.1 in
+    let bytes = front_same (raw_bytes id) (raw_bytes id_2) rest rest_2 (same_length digests id id_2 a.id_formed b.id_formed) names.1 in
+    let ids = raw_bytes_tell digests id id_2 a.id_formed b.id_formed bytes.0 in
+    ((λ i. (names.0 i, same_mode j k mode.0 i, ids i)), bytes.1)
 
 no_text : (e : Named) (es : List Named) → [] ≡ flat_map named_text (e ∷ es) → ⊥
-no_text e es is = absurd (omega (arith, ap length is, longer (mode_of e.1.kind) e.0 (id_bytes e.1.id) (flat_map named_text es)))
+no_text e es is = absurd (omega (arith, ap length is, longer (mode_of e.1.kind) e.0 (id_of e.1.id) (flat_map named_text es)))
 
-spelled_once : (es fs : List Named) → IsTrue (list_all is_entry es) → IsTrue (list_all is_entry fs) → flat_map named_text es ≡ flat_map named_text fs → map entry_facts es ≡ map entry_facts fs
-spelled_once [] [] p q is = refl
-spelled_once [] (f ∷ fs) p q is = absurd (no_text f fs is)
-spelled_once (e ∷ es) [] p q is = absurd (no_text e es (sym is))
-spelled_once (e ∷ es) (f ∷ fs) p q is =
-    let ps = and_of (is_entry e) (list_all is_entry es) p in
-    let qs = and_of (is_entry f) (list_all is_entry fs) q in
-    let other = subst (λ t. BeginsWith t f.1.kind f.0 (id_bytes f.1.id) (flat_map named_text fs)) (sym is) (begins_with f (flat_map named_text fs) qs.0) in
-    let same = one_entry _ e.1.kind f.1.kind e.0 f.0 (id_bytes e.1.id) (id_bytes f.1.id) (flat_map named_text es) (flat_map named_text fs) (begins_with e (flat_map named_text es) ps.0) other in
-    let rest = spelled_once es fs ps.1 qs.1 same.1 in
+spelled_once : (digests : Kind) (es fs : List Named) → IsTrue (list_all (is_entry digests) es) → IsTrue (list_all (is_entry digests) fs) → flat_map named_text es ≡ flat_map named_text fs → map entry_facts es ≡ map entry_facts fs
+spelled_once digests [] [] p q is = refl
+spelled_once digests [] (f ∷ fs) p q is = absurd (no_text f fs is)
+spelled_once digests (e ∷ es) [] p q is = absurd (no_text e es (sym is))
+spelled_once digests (e ∷ es) (f ∷ fs) p q is =
+    let ps = and_of (is_entry digests e) (list_all (is_entry digests) es) p in
+    let qs = and_of (is_entry digests f) (list_all (is_entry digests) fs) q in
+    let other = subst (λ t. BeginsWith digests t f.1.kind f.0 (id_of f.1.id) (flat_map named_text fs)) (sym is) (begins_with digests f (flat_map named_text fs) qs.0) in
+    let same = one_entry digests _ e.1.kind f.1.kind e.0 f.0 (id_of e.1.id) (id_of f.1.id) (flat_map named_text es) (flat_map named_text fs) (begins_with digests e (flat_map named_text es) ps.0) other in
+    let rest = spelled_once digests es fs ps.1 qs.1 same.1 in
     λ i. same.0 i ∷ rest i
+
+-- an id's bytes are those of a value
+value_of_id : (digests : Kind) (id : Id) → IsTrue (is_id digests id) → id_of (object_id_of id) ≡ id
+value_of_id digests id h = by_kind id.kind id.digits (digits_of-raw_bytes digests id h)
+  where
+    by_kind : (kind : Kind) (digits : List ℕ) → digits_of (bytes_from digits) ≡ digits → id_of (packed kind digits) ≡ record { kind = kind; digits = digits }
+    by_kind Sha1 digits same = λ i. record { kind = Sha1; digits = same i }
+    by_kind Sha256 digits same = λ i. record { kind = Sha256; digits = same i }
 
 -- ---- the tree of flat files
 
 module _ (kind : Kind) where
   named_file : Bytes × Content → Named
-  named_file file = (file.0, record { kind = (file.1).kind; id = record { bytes = blob_id kind (file.1).bytes } })
+  named_file file = (file.0, record { kind = (file.1).kind; id = object_id_of (blob_id kind (file.1).bytes) })
+
+  named_id : (content : Content) → id_of (object_id_of (blob_id kind content.bytes)) ≡ blob_id kind content.bytes
+  named_id content = value_of_id kind (blob_id kind content.bytes) (digest_is_id kind (blob_text content.bytes))
 
   files_below : (x : Bytes) (fs : List (Bytes × Content)) → below_all by_bytes x (map named_file fs) ≡ below_all by_bytes x fs
   unfolding named_file
@@ -180,39 +193,36 @@ module _ (kind : Kind) where
   facts_same : (fs : List (Bytes × Content)) → map entry_facts (map named_file fs) ≡ map (file_facts kind) fs
   unfolding named_file
   facts_same [] = refl
-  facts_same (f ∷ fs) = ap (λ x. file_facts kind f ∷ x) (facts_same fs)
+  facts_same (f ∷ fs) = let rest = facts_same fs in λ i. (f.0, (f.1).kind, named_id f.1 i) ∷ rest i
 
   is_tree_of : (files : FileMap) → IsTreeOf kind (tree_of files) files
   is_tree_of files = ap (map entry_facts) (entries-tree_of files) ∙ facts_same (entries files)
 
-  id_size : (content : Content) → (length (blob_id kind content.bytes) == 20) ≡ true
-  id_size content = (Decides-eqb _ 20).1 (is_id-length kind (blob_id kind content.bytes) (is_id-digest kind (blob_text content.bytes)) ∙ sized kind)
-    where
-      sized : (k : Kind) → id_len k ≡ 20
-      sized Sha1 = refl
+  id_formed : (content : Content) → IsTrue (is_id kind (id_of (object_id_of (blob_id kind content.bytes))))
+  id_formed content = ap (is_id kind) (named_id content) ∙ digest_is_id kind (blob_text content.bytes)
 
-  named_entries : (fs : List (Bytes × Content)) → list_all is_entry_name (map (λ (f : Bytes × Content). f.0) fs) ≡ true → list_all is_entry (map named_file fs) ≡ true
+  named_entries : (fs : List (Bytes × Content)) → list_all is_entry_name (map (λ (f : Bytes × Content). f.0) fs) ≡ true → list_all (is_entry kind) (map named_file fs) ≡ true
   unfolding named_file
   named_entries [] h = refl
   named_entries (f ∷ fs) h =
       let parts = and_of (is_entry_name f.0) (list_all is_entry_name (map (λ (f : Bytes × Content). f.0) fs)) h in
-      and_from _ _ (and_from _ _ parts.0 (id_size f.1)) (named_entries fs parts.1)
+      and_from _ _ (and_from _ _ parts.0 (id_formed f.1)) (named_entries fs parts.1)
 
   path_named : (path : Bytes) → IsTrue (is_path path) → IsTrue (is_offered_path path) → IsTrue (is_entry_name path)
   path_named [] h flat = cc
   path_named (b ∷ path) h flat = and_from _ _ flat (and_of _ _ h).1
 
-  tree_spells : (files : FileMap) → IsTrue (is_flat files) → IsFileMap files → Spells (root kind files) (tree_of files)
+  tree_spells : (files : FileMap) → IsTrue (is_flat files) → IsFileMap files → Spells kind (root kind files) (tree_of files)
   tree_spells files flat paths = record {
     text = sym (flat_content kind (tree_of files) files (is_tree_of files) flat);
-    entries_are = subst (λ es. IsTrue (list_all is_entry es)) (sym (entries-tree_of files))
+    entries_are = subst (λ es. IsTrue (list_all (is_entry kind) es)) (sym (entries-tree_of files))
         (named_entries (entries files) (all_keys is_entry_name files (λ q has. path_named q (paths.paths q has) (each_key is_offered_path files flat q has))));
   }
 
   -- the tree that the content of flat files spells is theirs
   pub flat_read : (files : FileMap) (content : Bytes) (parsed : Option Folder) → IsTrue (is_flat files) → IsFileMap files → content ≡ root kind files
-      → MatchOption parsed (SpellsNone content) (λ tree. Spells content tree) → IsSomeAnd parsed (λ tree. IsTreeOf kind tree files)
-  flat_read files content None flat paths is none = none (tree_of files) (subst (λ t. Spells t (tree_of files)) (sym is) (tree_spells files flat paths))
+      → MatchOption parsed (SpellsNone kind content) (λ tree. Spells kind content tree) → IsSomeAnd parsed (λ tree. IsTreeOf kind tree files)
+  flat_read files content None flat paths is none = none (tree_of files) (subst (λ t. Spells kind t (tree_of files)) (sym is) (tree_spells files flat paths))
   flat_read files content (Some tree) flat paths is told =
       let spells = tree_spells files flat paths in
-      spelled_once (entries tree) (entries (tree_of files)) told.entries_are spells.entries_are (sym told.text ∙ is ∙ spells.text) ∙ is_tree_of files
+      spelled_once kind (entries tree) (entries (tree_of files)) told.entries_are spells.entries_are (sym told.text ∙ is ∙ spells.text) ∙ is_tree_of files

@@ -1,14 +1,20 @@
 -- The folders of objects and names, below which their files stand.
-use Rattle.std.proofs.Common.{◌≡◌, ◌≢◌, ◌⊎◌, inl, inr, refl, sym, ◌∙◌, ap, ℕ, zero, suc, ◌<◌, ◌≤◌, ◌/◌, ◌%◌, Bool, true, false, ◌&&◌, ◌||◌, [], ◌∷◌, ◌++◌, take, drop, length, arith}
-use Rattle.std.specs.Prelude.{IsTrue, ◌==◌, nat_lt, Some, codes, slice_index}
+use Rattle.std.proofs.Common.{◌≡◌, ◌≢◌, ◌⊎◌, inl, inr, refl, sym, ◌∙◌, ap, ℕ, zero, suc, ◌<◌, ◌≤◌, Bool, true, false, ◌&&◌, ◌||◌, List, [], ◌∷◌, ◌++◌, take, drop, length, arith}
+use Rattle.std.specs.Prelude.{IsTrue, ◌==◌, nat_lt, Some, codes}
 use Rattle.std.specs.List.{list_all}
 use Rattle.std.specs.FinMap.{get}
 use Rattle.std.proofs.lemmas.Bool.Decides.{Decides-eqb}
 use borrow.Author.Tests.{ltb-true}
-use Rattle.hex.specs.Hex.{encode_with, lower_digits}
 use Rattle.gix_ref_file.specs.Tree.{Tree, folder}
 use Rattle.history_model.specs.Bytes.{Bytes, has_byte}
-use Rattle.history_model.specs.Objects.{Id, hex}
+use Rattle.history_model.specs.Objects.{hex}
+use Rattle.history_model.specs.Forms.{is_id}
+use Rattle.history_model.proofs.IdLemmas.{has_kind, id_digits, length-hex}
+use Rattle.gix_hash.specs.Id.{Id}
+use Rattle.gix_hash.specs.Kind.{hex_len}
+use Rattle.gix_hash.specs.Spelling.{hex_character, hex_text}
+use Rattle.gix_hash.specs.declared.kind.Kind.{Kind}
+use Rattle.gix_hash.specs.declared.kind.Kind.TheVariants.{Sha1, Sha256}
 use Rattle.history_model.specs.Places.{object_place, is_lower_hex, is_object_folder, is_name_folder, log_place}
 use Rattle.history_store.specs.Stores.{IsAbove, FoldersAbove}
 use Rattle.history_store.specs.References.{FoldersOfName}
@@ -58,7 +64,7 @@ none_above (p ∷ path) [] rest clear is =
 none_above (p ∷ path) (x ∷ place) rest clear is = none_above path place rest (neither (p == 47) (has_byte 47 path) clear).1 (tail_same p x path (place ++ 47 ∷ rest) is)
 
 -- ---- objects
-lower_digit : (d : ℕ) → d < 16 → is_lower_hex (slice_index lower_digits d) ≡ true
+lower_digit : (d : ℕ) → d < 16 → is_lower_hex (hex_character d) ≡ true
 lower_digit zero below = refl
 lower_digit (suc zero) below = refl
 lower_digit (suc (suc zero)) below = refl
@@ -77,15 +83,14 @@ lower_digit (suc (suc (suc (suc (suc (suc (suc (suc (suc (suc (suc (suc (suc (su
 lower_digit (suc (suc (suc (suc (suc (suc (suc (suc (suc (suc (suc (suc (suc (suc (suc zero))))))))))))))) below = refl
 lower_digit (suc (suc (suc (suc (suc (suc (suc (suc (suc (suc (suc (suc (suc (suc (suc (suc d)))))))))))))))) below = absurd (omega (arith, below))
 
-pub hex_lower : (id : Id) → list_all (λ b. nat_lt b 256) id ≡ true → list_all is_lower_hex (hex id) ≡ true
-unfolding encode_with
-hex_lower [] bytes = refl
-hex_lower (b ∷ id) bytes =
-    let parts = both (nat_lt b 256) (list_all (λ b. nat_lt b 256) id) bytes in
-    let below : b < 256 = ltb-true _ _ parts.0 in
-    let high : b / 16 < 16 = omega (arith, below) in
-    let low : b % 16 < 16 = omega arith in
-    (λ i. lower_digit (b / 16) high i && (lower_digit (b % 16) low i && hex_lower id parts.1 i))
+digits_lower : (digits : List ℕ) → list_all (λ d. nat_lt d 16) digits ≡ true → list_all is_lower_hex (hex_text digits) ≡ true
+digits_lower [] low = refl
+digits_lower (d ∷ digits) low =
+    let parts = both (nat_lt d 16) (list_all (λ d. nat_lt d 16) digits) low in
+    (λ i. lower_digit d (ltb-true _ _ parts.0) i && digits_lower digits parts.1 i)
+
+pub hex_lower : (kind : Kind) (id : Id) → is_id kind id ≡ true → list_all is_lower_hex (hex id) ≡ true
+hex_lower kind id is = digits_lower id.digits (id_digits kind id is)
 
 pub no_slash_lower : (h : Bytes) → list_all is_lower_hex h ≡ true → has_byte 47 h ≡ false
 no_slash_lower [] lower = refl
@@ -99,6 +104,13 @@ no_slash_lower (a ∷ h) lower =
         by_test : (b : Bool) → (a == 47) ≡ b → (a == 47) ≡ false
         by_test true slash = let wrong : false ≡ true = ap is_lower_hex (sym ((Decides-eqb a 47).0 slash)) ∙ lower in absurd (cc wrong)
         by_test false other = other
+
+pub two_digits : (kind : Kind) (id : Id) → is_id kind id ≡ true → 2 ≤ length (hex id)
+two_digits kind id is = at_least kind (length-hex id ∙ (has_kind kind id is).whole)
+  where
+    at_least : (kind : Kind) → length (hex id) ≡ hex_len kind → 2 ≤ length (hex id)
+    at_least Sha1 long = omega (arith, long)
+    at_least Sha256 long = omega (arith, long)
 
 pub object_above : (h place : Bytes) → 2 ≤ length h → list_all is_lower_hex h ≡ true → IsAbove place (codes "objects/" ++ take 2 h ++ 47 ∷ drop 2 h) → is_object_folder place ≡ true
 object_above [] place long lower above = absurd (omega (arith, long))
@@ -120,15 +132,13 @@ object_above (a ∷ b ∷ h) place long lower (rest, is) = from_first (behind (c
     from_first (inr (inner, same, left)) = ap is_object_folder same ∙ from_second inner (behind (a ∷ b ∷ []) h inner rest (no_slash_lower (a ∷ b ∷ []) two_lower) left)
 
 -- Where all folders were object folders, they are after a put.
-pub object_folders_stay : (id : Id) (old new : Tree) → 1 ≤ length id → list_all (λ b. nat_lt b 256) id ≡ true → FoldersAbove (object_place id) old new
+pub object_folders_stay : (kind : Kind) (id : Id) (old new : Tree) → is_id kind id ≡ true → FoldersAbove (object_place id) old new
     → ((path : Bytes) → get old path ≡ Some folder → IsTrue (is_object_folder path)) → (path : Bytes) → get new path ≡ Some folder → IsTrue (is_object_folder path)
-unfolding encode_with
-object_folders_stay [] old new long bytes above before path is = absurd (omega (arith, long))
-object_folders_stay (b ∷ id) old new long bytes above before path is = by_case (above path is)
+object_folders_stay kind id old new formed above before path is = by_case (above path is)
   where
-    by_case : (get old path ≡ Some folder) ⊎ IsAbove path (object_place (b ∷ id)) → IsTrue (is_object_folder path)
+    by_case : (get old path ≡ Some folder) ⊎ IsAbove path (object_place id) → IsTrue (is_object_folder path)
     by_case (inl stood) = before path stood
-    by_case (inr placed) = object_above (hex (b ∷ id)) path (omega arith) (hex_lower (b ∷ id) bytes) placed
+    by_case (inr placed) = object_above (hex id) path (two_digits kind id formed) (hex_lower kind id formed) placed
 
 -- ---- the branch main
 abbrev main : Bytes

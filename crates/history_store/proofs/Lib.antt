@@ -9,6 +9,7 @@ pub mod FlatTrees
 pub mod FolderPlaces
 mod FoldersMade
 pub mod FreshParts
+mod IdSets
 mod Made
 mod Moves
 pub mod NameFolders

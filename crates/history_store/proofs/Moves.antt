@@ -11,13 +11,14 @@ use Rattle.history_model.specs.Bytes.{Bytes, line}
 use Rattle.history_model.specs.Logs.{log_line}
 use Rattle.history_model.specs.Objects.{hex}
 use Rattle.history_model.specs.Places.{file_at, log_place}
-use Rattle.history_store.specs.Formats.{id_bytes, entry_of}
+use Rattle.history_store.specs.Formats.{entry_of}
 use Rattle.history_store.specs.Stores.{SameFiles, PutsFile}
 use Rattle.history_store.specs.References.{SpellsId, Logs, HasMoved}
 use Rattle.history_store.specs.declared.log_entry.LogEntry.{LogEntry}
-use Rattle.history_store.specs.declared.id.ObjectId.{ObjectId}
-use Rattle.history_model.specs.declared.Kind.{Kind}
+use Rattle.gix_hash.specs.declared.object_id.ObjectId.{ObjectId}
+use Rattle.gix_hash.specs.declared.kind.Kind.{Kind}
 use Rattle.history_store.proofs.Stored.{now_same, apart_from_inserted}
+use Rattle.gix_hash.specs.Id.{id_of}
 
 -- a front and a back that are there are what stands around the rest
 pub between : (text front rest back middle : Bytes) → text ≡ front ++ rest → text ≡ (front ++ middle) ++ back → rest ≡ middle ++ back
@@ -40,7 +41,7 @@ written path bytes old made new first may is = record {
 same_bytes : (old new : Tree) (path : Bytes) → SameFiles old new → bytes_at new path ≡ bytes_at old path
 same_bytes old new path same = ap (λ o. unwrap_or o []) (same path)
 
-pub appended : (name : Bytes) (entry : LogEntry) (log text : Bytes) (old made new : History) → id_bytes entry.before ≢ id_bytes entry.after → log ≡ log_place name → text ≡ log_line (entry_of entry)
+pub appended : (name : Bytes) (entry : LogEntry) (log text : Bytes) (old made new : History) → id_of entry.before ≢ id_of entry.after → log ≡ log_place name → text ≡ log_line (entry_of entry)
     → Adds (SameFiles old.tree) old made → IsTrue (allows made.tree (to_append log text)) → new.tree ≡ after (to_append log text) made.tree → Logs name entry old.tree new.tree
 appended name entry log text old made new moves is_log is_text first may is =
     let same = now_same old made first in
@@ -51,13 +52,13 @@ appended name entry log text old made new moves is_log is_text first may is =
       others = λ path apart. ap (λ t. file_at t path) is ∙ apart_from_inserted made.tree log (file (bytes_at made.tree log ++ text)) path (λ here. apart (here ∙ is_log)) ∙ same path;
     }
 
-pub not_logged : (name : Bytes) (entry : LogEntry) (t : Tree) → id_bytes entry.before ≡ id_bytes entry.after → Logs name entry t t
+pub not_logged : (name : Bytes) (entry : LogEntry) (t : Tree) → id_of entry.before ≡ id_of entry.after → Logs name entry t t
 not_logged name entry t same = record { appended = λ moves. absurd (moves same); unmoved = λ _. refl; others = λ path apart. refl }
 
 name_apart : (name : Bytes) → log_place name ≢ name
 name_apart name same = absurd (omega (arith, ap length same, length-append (codes "logs/") name))
 
-pub moved : (name : Bytes) (entry : LogEntry) (old mid new : Tree) → Logs name entry old mid → PutsFile name (line (hex (id_bytes entry.after))) mid new → HasMoved name entry old new
+pub moved : (name : Bytes) (entry : LogEntry) (old mid new : Tree) → Logs name entry old mid → PutsFile name (line (hex (id_of entry.after))) mid new → HasMoved name entry old new
 moved name entry old mid new logs puts = record {
   here = puts.here;
   appended = λ moves. puts.others (log_place name) (name_apart name) ∙ logs.appended moves;

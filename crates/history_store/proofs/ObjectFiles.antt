@@ -20,7 +20,7 @@ module _ (place : Bytes) (old made : History) (part : IsObjectPart old.tree) (pl
 
   pub object_fits : IsTrue (may_hold_file made.tree place)
   object_fits = may_hold made.tree place (object_place_is_path place placed) folders
-      (no_deep_folder made.tree (folders_after old.tree made.tree place part placed (now_above place old made above)) place (omega (arith, object_place_length place placed)))
+      (no_deep_folder made.tree (folders_after old.tree made.tree place part placed (now_above place old made above)) place (object_place_length place placed).0)
 
   module _ (header : Bytes) (written : Tree) (is_written : written ≡ after (to_write unfinished_place header) made.tree) where
     pub fits_when_written : (path : Bytes) → IsTrue (may_hold_file made.tree path) → IsTrue (may_hold_file written path)

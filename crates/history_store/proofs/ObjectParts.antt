@@ -1,5 +1,5 @@
 -- Where the objects part has files and folders.
-use Rattle.std.proofs.Common.{◌≡◌, ◌⊎◌, inl, inr, refl, sym, ◌∙◌, ap, ℕ, ◌<◌, ◌≤◌, Bool, true, false, cond, not, ◌&&◌, ◌||◌, List, [], ◌∷◌, ◌++◌, length, take, drop, bytes_eq, arith, length-append, length-take, length-drop}
+use Rattle.std.proofs.Common.{◌≡◌, ◌⊎◌, inl, inr, refl, sym, ◌∙◌, ap, subst, ℕ, ◌+◌, ◌<◌, ◌≤◌, Bool, true, false, cond, not, ◌&&◌, ◌||◌, List, [], ◌∷◌, ◌++◌, length, take, drop, bytes_eq, arith, tests, length-append, length-take, length-drop}
 use Rattle.std.specs.Prelude.{IsTrue, IsFalse, Option, Some, None, ◌==◌, nat_lt, nat_le, codes}
 use Rattle.std.specs.List.{list_all, list_any, slice_split, onto_first}
 use Rattle.std.specs.FinMap.{get}
@@ -8,15 +8,17 @@ use Rattle.std.proofs.lemmas.Slice.Eq.{bytes_eq-Decides}
 use borrow.Author.Tests.{eqb-true, ltb-false}
 use Rattle.gix_ref_file.specs.Tree.{Tree, Node, file, folder, node_at, is_folder, is_slash, is_component, is_path}
 use Rattle.history_model.specs.Bytes.{Bytes, begins}
-use Rattle.history_model.specs.Objects.{Id, hex, id_len}
+use Rattle.history_model.specs.Objects.{hex}
+use Rattle.gix_hash.specs.Id.{Id}
+use Rattle.gix_hash.specs.Kind.{hex_len}
 use Rattle.history_model.specs.Forms.{is_id}
-use Rattle.history_model.specs.Places.{file_at, unfinished_place, is_lower_hex, is_object_folder}
+use Rattle.history_model.specs.Places.{file_at, object_place, unfinished_place, is_lower_hex, is_object_folder}
 use Rattle.history_model.specs.TreeHalves.{Values, HoldsValues, HaveOwnIds}
-use Rattle.history_model.specs.declared.Kind.{Kind}
-use Rattle.history_model.specs.declared.Kind.TheVariants.{Sha1}
+use Rattle.gix_hash.specs.declared.kind.Kind.{Kind}
+use Rattle.gix_hash.specs.declared.kind.Kind.TheVariants.{Sha1, Sha256}
 use Rattle.history_model.proofs.TreePlaces.{length_hex, id_length, file_has_id}
 use Rattle.history_store.specs.Stores.{IsAbove, NoFileAbove, HasFoldersAbove, FoldersAbove, IsObjectPlace, IsObjectPart}
-use Rattle.history_store.proofs.FolderPlaces.{behind, none_above, object_above, hex_lower}
+use Rattle.history_store.proofs.FolderPlaces.{behind, none_above, object_above, two_digits, hex_lower}
 use Rattle.history_store.proofs.FoldersMade.{split_joined}
 
 both : (a b : Bool) → (a && b) ≡ true → (a ≡ true) × (b ≡ true)
@@ -31,14 +33,22 @@ values_are_objects kind tree values holds own = record {
 }
 
 -- ---- lengths
-hex_length : (kind : Kind) (id : Id) → is_id kind id ≡ true → length (hex id) ≡ 40
-hex_length Sha1 id h = omega (arith, length_hex id, id_length Sha1 id h)
+hex_length : (kind : Kind) (id : Id) → is_id kind id ≡ true → length (hex id) ≡ hex_len kind
+hex_length kind id h = length_hex id ∙ id_length kind id h
 
-place_length : (h : Bytes) → length h ≡ 40 → length (codes "objects/" ++ take 2 h ++ 47 ∷ drop 2 h) ≡ 49
+place_length : (h : Bytes) → 2 ≤ length h → length (codes "objects/" ++ take 2 h ++ 47 ∷ drop 2 h) ≡ length h + 9
 place_length h long = omega (arith, length-append (codes "objects/" ++ take 2 h) (47 ∷ drop 2 h), length-append (codes "objects/") (take 2 h), length-take 2 h, length-drop 2 h)
 
-pub object_place_length : (path : Bytes) → IsObjectPlace path → length path ≡ 49
-object_place_length path (kind, id, is, at) = ap length at ∙ place_length (hex id) (hex_length kind id is)
+placed_length : (kind : Kind) (id : Id) → is_id kind id ≡ true → length (object_place id) ≡ hex_len kind + 9
+placed_length kind id is = place_length (hex id) (two_digits kind id is) ∙ ap (λ n. n + 9) (hex_length kind id is)
+
+-- deeper than each folder of objects, and within the limit of paths
+pub object_place_length : (path : Bytes) → IsObjectPlace path → (10 < length path) × (length path ≤ 4096)
+object_place_length path (kind, id, is, at) = by_kind kind (ap length at ∙ placed_length kind id is)
+  where
+    by_kind : (kind : Kind) → length path ≡ hex_len kind + 9 → (10 < length path) × (length path ≤ 4096)
+    by_kind Sha1 long = (omega (arith, long), omega (arith, long))
+    by_kind Sha256 long = (omega (arith, long), omega (arith, long))
 
 folder_short : (path : Bytes) → is_object_folder path ≡ true → length path ≤ 10
 folder_short path is = by_root (bytes_eq path (codes "objects")) refl is
@@ -52,7 +62,7 @@ file_long : (tree : Tree) (path text : Bytes) → IsObjectPart tree → file_at 
 file_long tree path text part is = by_case (part.files path text is)
   where
     by_case : IsObjectPlace path ⊎ (path ≡ unfinished_place) → 10 < length path
-    by_case (inl placed) = omega (arith, object_place_length path placed)
+    by_case (inl placed) = (object_place_length path placed).0
     by_case (inr same) = omega (arith, ap length same)
 
 pub no_deep_folder : (tree : Tree) → ((path : Bytes) → get tree path ≡ Some folder → IsTrue (is_object_folder path)) → (path : Bytes) → 10 < length path → IsFalse (is_folder (node_at tree path))
@@ -67,7 +77,7 @@ no_deep_folder tree folders (b ∷ path) deep = by_case (get tree (b ∷ path)) 
 -- ---- what an object's place stands below
 pub place_above : (place path : Bytes) → IsObjectPlace path → IsAbove place path → IsTrue (is_object_folder place)
 place_above place path (kind, id, is, at) (rest, below) =
-    object_above (hex id) place (omega (arith, hex_length kind id is)) (hex_lower id (both (length id == id_len kind) (list_all (λ b. nat_lt b 256) id) is).1) (rest, sym at ∙ below)
+    object_above (hex id) place (two_digits kind id is) (hex_lower kind id is) (rest, sym at ∙ below)
 
 pub no_file_above : (tree : Tree) (path : Bytes) → IsObjectPart tree → IsObjectPlace path → NoFileAbove path tree
 no_file_above tree path part placed place above = by_case (file_at tree place) refl
@@ -145,14 +155,22 @@ lower_parts (a ∷ b ∷ h) lower =
     let second = both (is_lower_hex b) (list_all is_lower_hex h) first.1 in
     ((λ i. first.0 i && (second.0 i && true)), second.1)
 
+some_digits : (kind : Kind) (h : Bytes) → length h ≡ hex_len kind → (0 < length (take 2 h)) × (0 < length (drop 2 h))
+some_digits Sha1 h long = (omega (arith, long, length-take 2 h), omega (arith, long, length-drop 2 h))
+some_digits Sha256 h long = (omega (arith, long, length-take 2 h), omega (arith, long, length-drop 2 h))
+
 pub object_place_is_path : (path : Bytes) → IsObjectPlace path → IsTrue (is_path path)
 object_place_is_path path (kind, id, is, at) =
     let h = hex id in
-    let long = hex_length kind id is in
-    let lower = lower_parts h (hex_lower id (both (length id == id_len kind) (list_all (λ b. nat_lt b 256) id) is).1) in
-    let first = digits_component (take 2 h) (omega (arith, long, length-take 2 h)) lower.0 in
-    let second = digits_component (drop 2 h) (omega (arith, long, length-drop 2 h)) lower.1 in
+    let some = some_digits kind h (hex_length kind id is) in
+    let lower = lower_parts h (hex_lower kind id is) in
+    let first = digits_component (take 2 h) some.0 lower.0 in
+    let second = digits_component (drop 2 h) some.1 lower.1 in
     let cut : slice_split is_slash (codes "objects/" ++ take 2 h ++ 47 ∷ drop 2 h) ≡ codes "objects" ∷ take 2 h ∷ drop 2 h ∷ [] =
     split_joined (codes "objects") (take 2 h ++ 47 ∷ drop 2 h)
     ∙ ap (λ (parts : List Bytes). codes "objects" ∷ parts) (split_joined (take 2 h) (drop 2 h) ∙ (λ i. one_part (take 2 h) (no_byte 47 (take 2 h) refl lower.0) i ++ one_part (drop 2 h) (no_byte 47 (drop 2 h) refl lower.1) i)) in
-    ap is_path at ∙ (λ i. nat_le (place_length h long i) 4096 && list_all is_component (cut i)) ∙ (λ i. first i && (second i && true))
+    let short : nat_le (length (object_place id)) 4096 ≡ true = within (length (object_place id)) (subst (λ p. length p ≤ 4096) at (object_place_length path (kind, id, is, at)).1) in
+    ap is_path at ∙ (λ i. short i && list_all is_component (cut i)) ∙ (λ i. first i && (second i && true))
+  where
+    within : (n : ℕ) → n ≤ 4096 → nat_le n 4096 ≡ true
+    within n below = grind (arith, tests)

@@ -12,10 +12,16 @@ use Rattle.std.proofs.lemmas.Bool.Decides.{Decides-eqb}
 use Rattle.history_model.specs.declared.FileKind.{FileKind}
 use Rattle.history_model.specs.declared.FileKind.TheVariants.{File, Exec, Link}
 use Rattle.history_model.specs.Bytes.{Bytes, by_bytes, has_byte, is_empty}
+use Rattle.history_model.specs.Forms.{is_id}
 use Rattle.history_model.specs.Objects.{mode_of, entry_text}
+use Rattle.history_model.proofs.IdLemmas.{length-raw_bytes}
+use Rattle.gix_hash.specs.declared.kind.Kind.{Kind}
+use Rattle.gix_hash.specs.Kind.{byte_len}
 use Rattle.history_store.specs.declared.tree.TreeEntry.{TreeEntry}
-use Rattle.history_store.specs.Formats.{id_bytes}
 use Rattle.history_store.specs.Trees.{Folder, Named, named_text, folder_content, is_entry_name, is_entry, Spells, SpellsNone, BeginsWith, BeginsWithNone}
+use Rattle.gix_hash.specs.Id.{Id, id_of, bytes_from, raw_bytes}
+use Rattle.gix_hash.specs.Packed.{bytes_from-digits_of}
+use Rattle.gix_hash.specs.Views.{IsBytesOf}
 
 both_of : (a b : Bool) → T (a && b) → T a × T b
 both_of true b h = (tt, h)
@@ -91,20 +97,20 @@ no_empty_name : (name : Bytes) → IsTrue (is_entry_name name) → T (is_lt (by_
 no_empty_name [] h = cc
 no_empty_name (b ∷ name) h = tt
 
-below_entries : (es : List Named) → IsTrue (list_all is_entry es) → T (below_all by_bytes [] es)
-below_entries [] h = tt
-below_entries (e ∷ es) h =
+below_entries : (digests : Kind) (es : List Named) → IsTrue (list_all (is_entry digests) es) → T (below_all by_bytes [] es)
+below_entries digests [] h = tt
+below_entries digests (e ∷ es) h =
     let parts = and_of _ _ h in
-    both_from _ _ (no_empty_name e.0 (and_of _ _ parts.0).0) (below_entries es parts.1)
+    both_from _ _ (no_empty_name e.0 (and_of _ _ parts.0).0) (below_entries digests es parts.1)
 
-pub ascend_entries : (es : List Named) → IsTrue (list_all is_entry es) → T (is_sorted by_bytes es) → T (ascend [] es)
-ascend_entries es are order = ascend_from [] es (below_entries es are) order
+pub ascend_entries : (digests : Kind) (es : List Named) → IsTrue (list_all (is_entry digests) es) → T (is_sorted by_bytes es) → T (ascend [] es)
+ascend_entries digests es are order = ascend_from [] es (below_entries digests es are) order
 
-pub all_more : (es : List Named) (e : Named) → IsTrue (list_all is_entry es) → IsTrue (is_entry e) → IsTrue (list_all is_entry (es ++ e ∷ []))
-all_more [] e h is = and_from _ _ is refl
-all_more (d ∷ es) e h is =
+pub all_more : (digests : Kind) (es : List Named) (e : Named) → IsTrue (list_all (is_entry digests) es) → IsTrue (is_entry digests e) → IsTrue (list_all (is_entry digests) (es ++ e ∷ []))
+all_more digests [] e h is = and_from _ _ is refl
+all_more digests (d ∷ es) e h is =
     let parts = and_of _ _ h in
-    and_from _ _ parts.0 (all_more es e parts.1 is)
+    and_from _ _ parts.0 (all_more digests es e parts.1 is)
 
 pub content_more : (es : List Named) (e : Named) → flat_map named_text (es ++ e ∷ []) ≡ flat_map named_text es ++ named_text e
 content_more [] e = append_nil (named_text e)
@@ -158,54 +164,72 @@ no_space File = refl
 no_space Exec = refl
 no_space Link = refl
 
-pub cut_up : (mode name id rest : Bytes) → entry_text mode name id ++ rest ≡ mode ++ 32 ∷ (name ++ 0 ∷ (id ++ rest))
-cut_up mode name id rest = simp append_assoc
+pub cut_up : (mode name : Bytes) (id : Id) (rest : Bytes) → entry_text mode name id ++ rest ≡ mode ++ 32 ∷ (name ++ 0 ∷ (raw_bytes id ++ rest))
+cut_up mode name id rest = parts mode name (raw_bytes id) rest
+  where
+    parts : (mode name bytes rest : Bytes) → (mode ++ 32 ∷ name ++ 0 ∷ bytes) ++ rest ≡ mode ++ 32 ∷ (name ++ 0 ∷ (bytes ++ rest))
+    parts mode name bytes rest = simp append_assoc
+
+pub longer : (mode name : Bytes) (id : Id) (rest : Bytes) → 0 < length (entry_text mode name id ++ rest)
+longer mode name id rest = omega (arith, ap length (cut_up mode name id rest), length-append mode (32 ∷ (name ++ 0 ∷ (raw_bytes id ++ rest))))
+
+-- an id's bytes as a tree's entry holds them
+pub bytes_same : (bytes : Bytes) (id : Id) → IsBytesOf bytes id → raw_bytes id ≡ bytes
+bytes_same bytes id is = ap bytes_from (sym is.digits) ∙ bytes_from-digits_of bytes
 
 -- what stands before and behind the space, and then the zero byte, of a text that begins with an entry
-module _ (text mode behind_mode : Bytes) (cut : text ≡ mode ++ 32 ∷ behind_mode) (no : IsFalse (has_byte 32 mode)) (kind : FileKind) (name id rest : Bytes) (is : BeginsWith text kind name id rest) where
-  pub mode_cut : (mode ≡ mode_of kind) × (behind_mode ≡ name ++ 0 ∷ (id ++ rest))
+module _ (digests : Kind) (text mode behind_mode : Bytes) (cut : text ≡ mode ++ 32 ∷ behind_mode) (no : IsFalse (has_byte 32 mode)) (kind : FileKind) (name : Bytes) (id : Id) (rest : Bytes) (is : BeginsWith digests text kind name id rest) where
+  pub mode_cut : (mode ≡ mode_of kind) × (behind_mode ≡ name ++ 0 ∷ (raw_bytes id ++ rest))
   mode_cut = cut_same 32 mode (mode_of kind) behind_mode _ no (no_space kind) (sym cut ∙ is.spelled ∙ cut_up (mode_of kind) name id rest)
 
-  pub name_cut : (other behind_name : Bytes) → behind_mode ≡ other ++ 0 ∷ behind_name → IsFalse (has_byte 0 other) → (other ≡ name) × (behind_name ≡ id ++ rest)
+  pub name_cut : (other behind_name : Bytes) → behind_mode ≡ other ++ 0 ∷ behind_name → IsFalse (has_byte 0 other) → (other ≡ name) × (behind_name ≡ raw_bytes id ++ rest)
   name_cut other behind_name here none = cut_same 0 other name behind_name _ none is.no_zero (sym here ∙ mode_cut.1)
 
   pub zero_there : IsFalse (has_byte 0 behind_mode) → ⊥
-  zero_there none = cc (sym none ∙ ap (has_byte 0) mode_cut.1 ∙ has_it 0 name (id ++ rest))
+  zero_there none = cc (sym none ∙ ap (has_byte 0) mode_cut.1 ∙ has_it 0 name (raw_bytes id ++ rest))
 
-  pub digest_there : (other behind_name : Bytes) → behind_mode ≡ other ++ 0 ∷ behind_name → IsFalse (has_byte 0 other) → length behind_name < 20 → ⊥
-  digest_there other behind_name here none short = let cut = name_cut other behind_name here none in absurd (omega (arith, ap length cut.1, length-append id rest, is.id_length))
+  pub digest_there : (other behind_name : Bytes) → behind_mode ≡ other ++ 0 ∷ behind_name → IsFalse (has_byte 0 other) → length behind_name < byte_len digests → ⊥
+  digest_there other behind_name here none short =
+      let cut = name_cut other behind_name here none in absurd (omega (arith, ap length cut.1, length-append (raw_bytes id) rest, length-raw_bytes digests id is.id_formed))
 
--- two entries that a text begins with have one name, and one text stands behind them
-pub one_entry : (text : Bytes) (kind other : FileKind) (name id rest name_2 id_2 rest_2 : Bytes) → BeginsWith text kind name id rest → BeginsWith text other name_2 id_2 rest_2 → (name ≡ name_2) × (rest ≡ rest_2)
-one_entry text kind other name id rest name_2 id_2 rest_2 a b =
-    let cut = mode_cut text (mode_of kind) (name ++ 0 ∷ (id ++ rest)) (a.spelled ∙ cut_up (mode_of kind) name id rest) (no_space kind) other name_2 id_2 rest_2 b in
-    let behind = cut_same 0 name name_2 (id ++ rest) (id_2 ++ rest_2) a.no_zero b.no_zero cut.1 in
-    (behind.0, (front_same id id_2 rest rest_2 (a.id_length ∙ sym b.id_length) behind.1).1)
+-- ids of one kind have as many bytes
+module _ (digests : Kind) where
+  pub same_length : (a b : Id) → IsTrue (is_id digests a) → IsTrue (is_id digests b) → length (raw_bytes a) ≡ length (raw_bytes b)
+  same_length a b ha hb = length-raw_bytes digests a ha ∙ sym (length-raw_bytes digests b hb)
 
-pub begins_with : (e : Named) (rest : Bytes) → IsTrue (is_entry e) → BeginsWith (named_text e ++ rest) e.1.kind e.0 (id_bytes e.1.id) rest
-begins_with e rest is =
-    let parts = and_of _ _ is in
-    let name = and_of _ _ parts.0 in
-    let front = and_of _ _ name.0 in
-    record { spelled = refl; no_slash = not_of _ front.1; no_zero = not_of _ name.1; id_length = (Decides-eqb _ _).0 parts.1 }
+  -- two entries that a text begins with have one name, and one text stands behind them
+  pub one_entry : (text : Bytes) (kind other : FileKind) (name : Bytes) (id : Id) (rest name_2 : Bytes) (id_2 : Id) (rest_2 : Bytes) → BeginsWith digests text kind name id rest → BeginsWith digests text other name_2 id_2 rest_2
+      → (name ≡ name_2) × (rest ≡ rest_2)
+  one_entry text kind other name id rest name_2 id_2 rest_2 a b =
+      let cut = mode_cut digests text (mode_of kind) (name ++ 0 ∷ (raw_bytes id ++ rest)) (a.spelled ∙ cut_up (mode_of kind) name id rest) (no_space kind) other name_2 id_2 rest_2 b in
+      let behind = cut_same 0 name name_2 (raw_bytes id ++ rest) (raw_bytes id_2 ++ rest_2) a.no_zero b.no_zero cut.1 in
+      (behind.0, (front_same (raw_bytes id) (raw_bytes id_2) rest rest_2 (same_length id id_2 a.id_formed b.id_formed) behind.1).1)
 
--- the entries behind those that are known
-pub record Behind (last : Bytes) (rest : Bytes) : Type 0 where
-  pub others : List Named
-  pub ascending : T (ascend last others)
-  pub are : IsTrue (list_all is_entry others)
-  pub text : rest ≡ flat_map named_text others
+  pub begins_with : (e : Named) (rest : Bytes) → IsTrue (is_entry digests e) → BeginsWith digests (named_text e ++ rest) e.1.kind e.0 (id_of e.1.id) rest
+  begins_with e rest is =
+      let parts = and_of (is_entry_name e.0) (is_id digests (id_of e.1.id)) is in
+      let name = and_of _ _ parts.0 in
+      let front = and_of _ _ name.0 in
+      record { spelled = refl; no_slash = not_of _ front.1; no_zero = not_of _ name.1; id_formed = parts.1 }
 
-pub follow : (last : Bytes) (known es : List Named) (rest : Bytes) → IsTrue (list_all is_entry known) → IsTrue (list_all is_entry es) → T (ascend last es) → flat_map named_text known ++ rest ≡ flat_map named_text es → Behind (last_name last known) rest
-follow last [] es rest known_are are order is = record { others = es; ascending = order; are = are; text = is }
-follow last (d ∷ known) [] rest known_are are order is = absurd (omega (arith, ap length is, length-append (named_text d ++ flat_map named_text known) rest, length-append (named_text d) (flat_map named_text known), length-append (mode_of d.1.kind ++ 32 ∷ d.0) (0 ∷ id_bytes d.1.id), length-append (mode_of d.1.kind) (32 ∷ d.0)))
-follow last (d ∷ known) (e ∷ es) rest known_are are order is =
-    let d_parts = and_of _ _ known_are in
-    let e_parts = and_of _ _ are in
-    let first = begins_with d (flat_map named_text known ++ rest) d_parts.0 in
-    let second = begins_with e (flat_map named_text es) e_parts.0 in
-    let same = one_entry _ d.1.kind e.1.kind d.0 (id_bytes d.1.id) _ e.0 (id_bytes e.1.id) _ first (subst (λ t. BeginsWith t e.1.kind e.0 (id_bytes e.1.id) (flat_map named_text es)) (sym is ∙ append_assoc (named_text d) (flat_map named_text known) rest) second) in
-    follow d.0 known es rest d_parts.1 e_parts.1 (subst (λ name. T (ascend name es)) (sym same.0) (both_of _ _ order).1) same.1
+  -- the entries behind those that are known
+  pub record Behind (last : Bytes) (rest : Bytes) : Type 0 where
+    pub others : List Named
+    pub ascending : T (ascend last others)
+    pub are : IsTrue (list_all (is_entry digests) others)
+    pub text : rest ≡ flat_map named_text others
+
+  pub follow : (last : Bytes) (known es : List Named) (rest : Bytes) → IsTrue (list_all (is_entry digests) known) → IsTrue (list_all (is_entry digests) es) → T (ascend last es) → flat_map named_text known ++ rest ≡ flat_map named_text es → Behind (last_name last known) rest
+  follow last [] es rest known_are are order is = record { others = es; ascending = order; are = are; text = is }
+  follow last (d ∷ known) [] rest known_are are order is =
+      absurd (omega (arith, ap length is, ap length (append_assoc (named_text d) (flat_map named_text known) rest), longer (mode_of d.1.kind) d.0 (id_of d.1.id) (flat_map named_text known ++ rest)))
+  follow last (d ∷ known) (e ∷ es) rest known_are are order is =
+      let d_parts = and_of _ _ known_are in
+      let e_parts = and_of _ _ are in
+      let first = begins_with d (flat_map named_text known ++ rest) d_parts.0 in
+      let second = begins_with e (flat_map named_text es) e_parts.0 in
+      let same = one_entry _ d.1.kind e.1.kind d.0 (id_of d.1.id) _ e.0 (id_of e.1.id) _ first (subst (λ t. BeginsWith digests t e.1.kind e.0 (id_of e.1.id) (flat_map named_text es)) (sym is ∙ append_assoc (named_text d) (flat_map named_text known) rest) second) in
+      follow d.0 known es rest d_parts.1 e_parts.1 (subst (λ name. T (ascend name es)) (sym same.0) (both_of _ _ order).1) same.1
 
 -- ---- a text that is read entry by entry
 no_length : (es : List Named) → length es ≡ 0 → es ≡ []
@@ -221,12 +245,9 @@ behind_a_name [] [] h = cc
 behind_a_name (b ∷ last) [] h = cc
 behind_a_name last (b ∷ name) h = refl
 
-pub longer : (mode name id rest : Bytes) → 0 < length (entry_text mode name id ++ rest)
-longer mode name id rest = omega (arith, ap length (cut_up mode name id rest), length-append mode (32 ∷ (name ++ 0 ∷ (id ++ rest))))
-
-module _ (content : Bytes) (tree : Folder) (rest last : Bytes) (text : content ≡ folder_content tree ++ rest) (are : IsTrue (list_all is_entry (entries tree)))
+module _ (digests : Kind) (content : Bytes) (tree : Folder) (rest last : Bytes) (text : content ≡ folder_content tree ++ rest) (are : IsTrue (list_all (is_entry digests) (entries tree)))
     (ascending : T (ascend [] (entries tree))) (at_last : last ≡ last_name [] (entries tree)) where
-  module _ (name : Bytes) (entry : TreeEntry) (after : Bytes) (begins : BeginsWith rest entry.kind name (id_bytes entry.id) after) (less : by_bytes last name ≡ Less) (fresh : Folder) (is : fresh ≡ insert tree name entry) where
+  module _ (name : Bytes) (entry : TreeEntry) (after : Bytes) (begins : BeginsWith digests rest entry.kind name (id_of entry.id) after) (less : by_bytes last name ≡ Less) (fresh : Folder) (is : fresh ≡ insert tree name entry) where
     entries_more : entries fresh ≡ entries tree ++ (name, entry) ∷ []
     entries_more = ap entries is ∙ entries-insert nat_list_cmp_total tree name entry ∙ put_last [] (entries tree) name entry ascending (ap (λ l. by_bytes l name) (sym at_last) ∙ less)
 
@@ -235,11 +256,11 @@ module _ (content : Bytes) (tree : Folder) (rest last : Bytes) (text : content �
         text ∙ ap (λ r. folder_content tree ++ r) begins.spelled ∙ sym (append_assoc (folder_content tree) (named_text (name, entry)) after)
         ∙ ap (λ l. l ++ after) (sym (content_more (entries tree) (name, entry)) ∙ ap (flat_map named_text) (sym entries_more))
 
-    is_an_entry : IsTrue (is_entry (name, entry))
-    is_an_entry = and_from _ _ (and_from _ _ (and_from _ _ (behind_a_name last name less) (not_from _ begins.no_slash)) (not_from _ begins.no_zero)) ((Decides-eqb _ _).1 begins.id_length)
+    is_an_entry : IsTrue (is_entry digests (name, entry))
+    is_an_entry = and_from _ _ (and_from _ _ (and_from _ _ (behind_a_name last name less) (not_from _ begins.no_slash)) (not_from _ begins.no_zero)) begins.id_formed
 
-    pub are_more : IsTrue (list_all is_entry (entries fresh))
-    are_more = subst (λ es. IsTrue (list_all is_entry es)) (sym entries_more) (all_more (entries tree) (name, entry) are is_an_entry)
+    pub are_more : IsTrue (list_all (is_entry digests) (entries fresh))
+    are_more = subst (λ es. IsTrue (list_all (is_entry digests) es)) (sym entries_more) (all_more digests (entries tree) (name, entry) are is_an_entry)
 
     pub ascending_more : T (ascend [] (entries fresh))
     ascending_more = subst (λ es. T (ascend [] es)) (sym entries_more) (ascend_more [] (entries tree) (name, entry) ascending (ap (λ l. by_bytes l name) (sym at_last) ∙ less))
@@ -247,24 +268,24 @@ module _ (content : Bytes) (tree : Folder) (rest last : Bytes) (text : content �
     pub at_last_more : name ≡ last_name [] (entries fresh)
     at_last_more = sym (ap (last_name []) entries_more ∙ last_name_more [] (entries tree) (name, entry))
 
-  others_of : (folder : Folder) → Spells content folder → Behind (last_name [] (entries tree)) rest
-  others_of folder spells = follow [] (entries tree) (entries folder) rest are spells.entries_are (ascend_entries (entries folder) spells.entries_are (entries_sorted folder)) (sym text ∙ spells.text)
+  others_of : (folder : Folder) → Spells digests content folder → Behind digests (last_name [] (entries tree)) rest
+  others_of folder spells = follow digests [] (entries tree) (entries folder) rest are spells.entries_are (ascend_entries digests (entries folder) spells.entries_are (entries_sorted folder)) (sym text ∙ spells.text)
 
-  pub none_spelled : (rest ≡ [] → ⊥) → BeginsWithNone rest → SpellsNone content
+  pub none_spelled : (rest ≡ [] → ⊥) → BeginsWithNone digests rest → SpellsNone digests content
   none_spelled more none folder spells = let behind = others_of folder spells in by_others behind.others behind.are behind.text
     where
-      by_others : (es : List Named) → IsTrue (list_all is_entry es) → rest ≡ flat_map named_text es → ⊥
+      by_others : (es : List Named) → IsTrue (list_all (is_entry digests) es) → rest ≡ flat_map named_text es → ⊥
       by_others [] h is = more is
-      by_others (e ∷ es) h is = none e.1.kind e.0 (id_bytes e.1.id) (flat_map named_text es) (subst (λ t. BeginsWith t e.1.kind e.0 (id_bytes e.1.id) (flat_map named_text es)) (sym is) (begins_with e (flat_map named_text es) (and_of _ _ h).0))
+      by_others (e ∷ es) h is = none e.1.kind e.0 (id_of e.1.id) (flat_map named_text es) (subst (λ t. BeginsWith digests t e.1.kind e.0 (id_of e.1.id) (flat_map named_text es)) (sym is) (begins_with digests e (flat_map named_text es) (and_of _ _ h).0))
 
-  pub misplaced : (kind : FileKind) (name id after : Bytes) → BeginsWith rest kind name id after → (by_bytes last name ≡ Less → ⊥) → SpellsNone content
+  pub misplaced : (kind : FileKind) (name : Bytes) (id : Id) (after : Bytes) → BeginsWith digests rest kind name id after → (by_bytes last name ≡ Less → ⊥) → SpellsNone digests content
   misplaced kind name id after begins not_behind folder spells = let behind = others_of folder spells in by_others behind.others behind.ascending behind.are behind.text
     where
-      by_others : (es : List Named) → T (ascend (last_name [] (entries tree)) es) → IsTrue (list_all is_entry es) → rest ≡ flat_map named_text es → ⊥
+      by_others : (es : List Named) → T (ascend (last_name [] (entries tree)) es) → IsTrue (list_all (is_entry digests) es) → rest ≡ flat_map named_text es → ⊥
       by_others [] order h is = absurd (omega (arith, ap length is, ap length begins.spelled, longer (mode_of kind) name id after))
       by_others (e ∷ es) order h is =
-          let other = subst (λ t. BeginsWith t e.1.kind e.0 (id_bytes e.1.id) (flat_map named_text es)) (sym is) (begins_with e (flat_map named_text es) (and_of _ _ h).0) in
-          let same = one_entry rest kind e.1.kind name id after e.0 (id_bytes e.1.id) (flat_map named_text es) begins other in
+          let other = subst (λ t. BeginsWith digests t e.1.kind e.0 (id_of e.1.id) (flat_map named_text es)) (sym is) (begins_with digests e (flat_map named_text es) (and_of _ _ h).0) in
+          let same = one_entry digests rest kind e.1.kind name id after e.0 (id_of e.1.id) (flat_map named_text es) begins other in
           not_behind ((λ i. by_bytes (at_last i) (same.0 i)) ∙ is_less _ (both_of _ _ order).0)
 
 -- ---- how the code compares names

@@ -2,6 +2,7 @@ pub mod Actors
 pub mod Commits
 pub mod Creation
 pub mod Formats
+pub mod Ids
 pub mod Parts
 pub mod References
 pub mod Stores

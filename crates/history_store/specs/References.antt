@@ -7,11 +7,12 @@ use Rattle.history_model.specs.Objects.{hex}
 use Rattle.history_model.specs.Places.{file_at, head_place, log_place}
 use Rattle.history_model.specs.Logs.{log_line}
 use Rattle.history_model.specs.PackedNames.{id_from_hex}
-use Rattle.history_model.specs.declared.Kind.{Kind}
-use Rattle.history_store.specs.Formats.{id_bytes, entry_of}
+use Rattle.gix_hash.specs.declared.kind.Kind.{Kind}
+use Rattle.history_store.specs.Formats.{entry_of}
 use Rattle.history_store.specs.Stores.{SameFiles, IsAbove, NoFileAbove}
-use Rattle.history_store.specs.declared.id.ObjectId.{ObjectId}
+use Rattle.gix_hash.specs.declared.object_id.ObjectId.{ObjectId}
 use Rattle.history_store.specs.declared.log_entry.LogEntry.{LogEntry}
+use Rattle.gix_hash.specs.Id.{id_of}
 
 -- the text is `ref: <branch>` and a line feed, or is of no branch
 abbrev pub SpellsBranch : Bytes → Option Bytes → Type 0
@@ -24,7 +25,7 @@ HeadNames tree branch = MatchOption (file_at tree head_place) (branch ≡ None) 
 
 -- the text is an id's hex digits, of either letter case, and a line feed, or is no id's
 abbrev pub SpellsId : Kind → Bytes → Option ObjectId → Type 0
-SpellsId kind text (Some id) = (digits : Bytes) × (text ≡ line digits) × (id_from_hex kind digits ≡ Some (id_bytes id))
+SpellsId kind text (Some id) = (digits : Bytes) × (text ≡ line digits) × (id_from_hex kind digits ≡ Some (id_of id))
 SpellsId kind text None = (digits : Bytes) → text ≡ line digits → id_from_hex kind digits ≡ None
 
 -- the name's own file holds this id, or none
@@ -33,15 +34,15 @@ NameHolds kind tree name id = MatchOption (file_at tree name) (id ≡ None) (λ 
 
 -- the name's log has the entry's line more, unless the entry's two ids are one, and each other file is as before
 pub record Logs (name : Bytes) (entry : LogEntry) (old new : Tree) : Type 0 where
-  pub appended : id_bytes entry.before ≢ id_bytes entry.after → file_at new (log_place name) ≡ Some (bytes_at old (log_place name) ++ log_line (entry_of entry))
-  pub unmoved : id_bytes entry.before ≡ id_bytes entry.after → file_at new (log_place name) ≡ file_at old (log_place name)
+  pub appended : id_of entry.before ≢ id_of entry.after → file_at new (log_place name) ≡ Some (bytes_at old (log_place name) ++ log_line (entry_of entry))
+  pub unmoved : id_of entry.before ≡ id_of entry.after → file_at new (log_place name) ≡ file_at old (log_place name)
   pub others : (path : Bytes) → path ≢ log_place name → file_at new path ≡ file_at old path
 
 -- the same, and the name's file holds the id after
 pub record HasMoved (name : Bytes) (entry : LogEntry) (old new : Tree) : Type 0 where
-  pub here : file_at new name ≡ Some (line (hex (id_bytes entry.after)))
-  pub appended : id_bytes entry.before ≢ id_bytes entry.after → file_at new (log_place name) ≡ Some (bytes_at old (log_place name) ++ log_line (entry_of entry))
-  pub unmoved : id_bytes entry.before ≡ id_bytes entry.after → file_at new (log_place name) ≡ file_at old (log_place name)
+  pub here : file_at new name ≡ Some (line (hex (id_of entry.after)))
+  pub appended : id_of entry.before ≢ id_of entry.after → file_at new (log_place name) ≡ Some (bytes_at old (log_place name) ++ log_line (entry_of entry))
+  pub unmoved : id_of entry.before ≡ id_of entry.after → file_at new (log_place name) ≡ file_at old (log_place name)
   pub others : (path : Bytes) → path ≢ name → path ≢ log_place name → file_at new path ≡ file_at old path
 
 -- each folder that stands stood before, or is one that the name's file or its log stands in

@@ -1,17 +1,19 @@
 -- What the store of objects does to the files of its part.
-use Rattle.std.specs.Prelude.{◌≡◌, ◌≢◌, ◌⊎◌, Bool, true, false, ◌&&◌, ◌||◌, not, [], ◌∷◌, ◌++◌, Some, None, bytes_eq, IsTrue}
+use Rattle.std.specs.Prelude.{◌≡◌, ◌≢◌, ◌⊎◌, Bool, true, false, ◌&&◌, ◌||◌, not, [], ◌∷◌, ◌++◌, Some, None, IsTrue}
 use Rattle.std.specs.FinMap.{get}
 use Rattle.gix_ref_file.specs.Tree.{Tree, folder, node_at, is_folder}
 use Rattle.history_model.specs.Bytes.{Bytes}
 use Rattle.gix_ref_file.specs.declared.files.FileError.{FileError}
 use Rattle.gix_ref_file.specs.declared.files.FileError.TheVariants as files
-use Rattle.history_model.specs.Objects.{Id, digest, object_text, null_id, empty_tree_id}
-use Rattle.history_model.specs.declared.Kind.{Kind}
+use Rattle.history_model.specs.Objects.{digest, object_text, empty_tree_id}
+use Rattle.gix_hash.specs.Id.{Id, null_id}
+use Rattle.gix_hash.specs.declared.kind.Kind.{Kind}
 use Rattle.history_store.specs.Formats.{type_word}
 use Rattle.history_store.specs.declared.object.ObjectKind.{ObjectKind}
 use Rattle.history_store.specs.declared.object.ObjectKind.TheVariants as kinds
 use Rattle.history_store.specs.declared.objects.PutError.{PutError}
 use Rattle.history_store.specs.declared.objects.PutError.TheVariants as errors
+use Rattle.gix_hash.specs.Order.{id_eq}
 use Rattle.history_model.specs.Forms.{is_id}
 use Rattle.history_model.specs.Places.{file_at, object_place, unfinished_place, is_object_folder}
 
@@ -79,8 +81,8 @@ text_of object content = object_text (type_word object) content
 abbrev pub IsNoObject : Bytes → Type 0
 IsNoObject text = (object : ObjectKind) (content : Bytes) → text ≢ text_of object content
 
-abbrev pub id_of : Kind → ObjectKind → Bytes → Id
-id_of kind object content = digest kind (text_of object content)
+abbrev pub object_id : Kind → ObjectKind → Bytes → Id
+object_id kind object content = digest kind (text_of object content)
 
 abbrev pub is_empty_tree : ObjectKind → Bytes → Bool
 is_empty_tree kinds.Tree [] = true
@@ -90,13 +92,13 @@ is_empty_tree kinds.Commit content = false
 
 -- The null id is no object's, and the empty tree's id is its own alone.
 abbrev pub is_reserved : Kind → ObjectKind → Bytes → Id → Bool
-is_reserved kind object content id = bytes_eq id (null_id kind) || (bytes_eq id (empty_tree_id kind) && not (is_empty_tree object content))
+is_reserved kind object content id = id_eq id (null_id kind) || (id_eq id (empty_tree_id kind) && not (is_empty_tree object content))
 
 -- why an object can't have its id: it is reserved, or a file of other bytes stands at its place
 abbrev pub IsTaken : Kind → ObjectKind → Bytes → Tree → Type 0
 IsTaken kind object content tree =
-    (is_reserved kind object content (id_of kind object content) ≡ true)
-    ⊎ ((other : Bytes) × (file_at tree (object_place (id_of kind object content)) ≡ Some other) × (other ≢ text_of object content))
+    (is_reserved kind object content (object_id kind object content) ≡ true)
+    ⊎ ((other : Bytes) × (file_at tree (object_place (object_id kind object content)) ≡ Some other) × (other ≢ text_of object content))
 
 abbrev pub put_fault : FileError → PutError
 put_fault files.Failed = errors.File

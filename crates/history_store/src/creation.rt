@@ -14,8 +14,8 @@ ghost use Rattle.history_store.specs.declared.creation.CreateError.TheVariants.{
 use crate::names::HEAD;
 use crate::objects::UNFINISHED;
 use crate::parts::{Part, Stray, survey};
+use gix_hash::Kind;
 use gix_ref_file::{FileError, Files, Place};
-use history_model::Kind;
 use std::alloc::Global;
 
 const HEAD_LOCK: &[u8] = b"HEAD.lock";
@@ -71,9 +71,8 @@ pub fn create<F: Files>(
     ensures failed { F.is_honest objects.old → F.is_honest names.old → IsErrOf result File
         → HasRisen (F.failures objects.old) (F.failures objects.new) ⊎ HasRisen (F.failures names.old) (F.failures names.new) ⊎ F.reading_may_fail }
 {
-    match kind {
-        Kind::Sha1 => {}
-    }
+    // No file tells the kind: whoever opens the repository names it.
+    let _ = kind;
     refuse_others(alloc, objects, Part::Objects, UNFINISHED)?;
     refuse_others(alloc, names, Part::Names, HEAD_LOCK)?;
     remove_leftover(alloc, objects)?;

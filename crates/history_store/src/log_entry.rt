@@ -4,7 +4,8 @@ ghost use Rattle.history_model.specs.Logs.{log_line};
 ghost use Rattle.history_store.specs.Formats.{entry_of};
 
 use crate::actor::Actor;
-use crate::id::ObjectId;
+use crate::id_text::push_hex;
+use gix_hash::ObjectId;
 use std::alloc::{AllocError, Global};
 
 /// One move of a name. The id before is null where the name was made.
@@ -22,9 +23,10 @@ impl LogEntry {
     pub fn to_bytes(&self, alloc: Global) -> Result<Vec<u8>, AllocError>
         ensures { IfOk result (λ text. text.items ≡ log_line (entry_of self.now)) }
     {
-        let mut line = Vec::from_slice(alloc, &self.before.to_hex())?;
+        let mut line = Vec::new(alloc);
+        push_hex(&mut line, &self.before)?;
         line.push(b' ')?;
-        line.extend_from_slice(&self.after.to_hex())?;
+        push_hex(&mut line, &self.after)?;
         line.push(b' ')?;
         self.actor.write_to(&mut line)?;
         line.push(b'\t')?;

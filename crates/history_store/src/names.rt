@@ -7,17 +7,17 @@ ghost use Rattle.history_model.specs.Forms.{is_name};
 ghost use Rattle.history_model.specs.Bytes.{line};
 ghost use Rattle.history_model.specs.Objects.{hex};
 ghost use Rattle.history_model.specs.Places.{file_at, head_place, log_place};
-ghost use Rattle.history_model.specs.declared.Kind.{Kind};
-ghost use Rattle.history_store.specs.Formats.{id_bytes};
+ghost use Rattle.gix_hash.specs.declared.kind.Kind.{Kind};
 ghost use Rattle.history_store.specs.Stores.{PutsFile, FoldersAbove};
 ghost use Rattle.history_store.specs.References.{SpellsBranch, SpellsId, HeadNames, NameHolds, HasMoved, Logs, FoldersOfName, HasWay};
+ghost use Rattle.gix_hash.specs.Id.{id_of};
 
 use crate::bytes::{strip_prefix, strip_suffix};
-use crate::id::ObjectId;
+use crate::id_text::{parse_hex, push_hex};
 use crate::log_entry::LogEntry;
 use crate::way::make_way;
+use gix_hash::{Kind, ObjectId};
 use gix_ref_file::{FileError, Files};
-use history_model::Kind;
 use std::alloc::{AllocError, Global};
 
 /// Where the branch stands that is worked on.
@@ -72,16 +72,16 @@ impl<F: Files> Names<F> {
         }
     }
 
-    /// The id that a name holds; `None` where its file doesn't stand or isn't an id's hex digits and a line feed.
+    /// The id that a name holds, of the repository's kind; `None` where its file doesn't stand or isn't an id's hex digits and a line feed.
     pub fn read(&self, alloc: Global, name: &[u8]) -> Result<Option<ObjectId>, FileError>
-        ensures found { F.is_honest self.now.files → (kind : Kind) → IfOk result (λ found. NameHolds kind (F.history self.now.files).tree name.now found) }
+        ensures found { F.is_honest self.now.files → IfOk result (λ found. NameHolds self.now.kind (F.history self.now.files).tree name.now found) }
         ensures failed { IsErrOf result Failed → F.reading_may_fail }
     {
         let mut text = Vec::new(alloc);
         if self.files.read(name, &mut text)?.is_none() {
             return Ok(None);
         }
-        Ok(id_of(&text))
+        Ok(id_in(self.kind, &text))
     }
 
     /// Moves a name to the id after: appends the entry's line to the name's log, unless the two ids are one, and then writes the
@@ -119,7 +119,7 @@ impl<F: Files> Names<F> {
         ensures failed { F.is_honest self.old.files → IsTrue (is_name name.now) → HasWay (log_place name.now) (F.history self.old.files).tree
             → IsErrOf result Failed → HasRisen (F.failures self.old.files) (F.failures self.new.files) ⊎ F.reading_may_fail }
     {
-        if entry.before.as_bytes() == entry.after.as_bytes() {
+        if entry.before == entry.after {
             return Ok(());
         }
         let line = entry.to_bytes(alloc)?;
@@ -131,7 +131,7 @@ impl<F: Files> Names<F> {
     fn write_name(&mut self, alloc: Global, name: &[u8], id: &ObjectId) -> Result<(), FileError>
         ensures honest { F.is_honest self.old.files → F.is_honest self.new.files }
         ensures kind { self.new.kind ≡ self.old.kind }
-        ensures written { F.is_honest self.old.files → OnOk result (PutsFile name.now (line (hex (id_bytes id.now))) (F.history self.old.files).tree (F.history self.new.files).tree) }
+        ensures written { F.is_honest self.old.files → OnOk result (PutsFile name.now (line (hex (id_of id.now))) (F.history self.old.files).tree (F.history self.new.files).tree) }
         ensures folders { F.is_honest self.old.files → OnOk result (FoldersAbove name.now (F.history self.old.files).tree (F.history self.new.files).tree) }
         ensures later { F.failures self.old.files ≤ F.failures self.new.files }
         ensures failed { F.is_honest self.old.files → IsTrue (is_name name.now) → HasWay name.now (F.history self.old.files).tree
@@ -151,19 +151,20 @@ fn branch_of(text: &[u8]) -> Option<&[u8]>
     strip_suffix(rest, b"\n")
 }
 
-// The id in `<hex>` and a line feed.
-fn id_of(text: &[u8]) -> Option<ObjectId>
-    ensures { (kind : Kind) → SpellsId kind text.now result }
+// The id of this kind in `<hex>` and a line feed.
+fn id_in(kind: Kind, text: &[u8]) -> Option<ObjectId>
+    ensures { SpellsId kind text.now result }
 {
     let digits = strip_suffix(text, b"\n")?;
-    ObjectId::from_hex(digits)
+    parse_hex(kind, digits)
 }
 
 // What the file of a name that holds this id has in it.
 fn name_text(alloc: Global, id: &ObjectId) -> Result<Vec<u8>, AllocError>
-    ensures { IfOk result (λ text. text.items ≡ line (hex (id_bytes id.now))) }
+    ensures { IfOk result (λ text. text.items ≡ line (hex (id_of id.now))) }
 {
-    let mut text = Vec::from_slice(alloc, &id.to_hex())?;
+    let mut text = Vec::new(alloc);
+    push_hex(&mut text, id)?;
     text.push(b'\n')?;
     Ok(text)
 }

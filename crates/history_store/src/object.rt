@@ -1,14 +1,13 @@
 // The text of an object: its kind, the length of its content, a zero byte, and the content.
 ghost use Rattle.std.specs.Prelude.{◌≡◌, ◌≤◌, ◌++◌, ◌∷◌, [], ◌↔◌, length, drop, decimal, IfOk, IfSome, IfNone, IsTrue};
 ghost use Rattle.history_model.specs.Objects.{digest, object_text};
-ghost use Rattle.sha1.specs.Sha1.{sha1};
-ghost use Rattle.history_store.specs.Formats.{id_bytes, type_word};
+ghost use Rattle.history_store.specs.Formats.{type_word};
 ghost use Rattle.history_store.specs.Stores.{IsNoObject};
+ghost use Rattle.gix_hash.specs.Id.{id_of};
 
 use crate::bytes::{split_once, strip_prefix};
-use crate::id::ObjectId;
-use history_model::Kind;
-use sha1::Sha1;
+use gix_hash::hasher::hasher;
+use gix_hash::{Kind, ObjectId};
 use std::alloc::{AllocError, Global};
 
 #[derive(Clone, Copy, PartialEq, Eq, Debug)]
@@ -34,25 +33,17 @@ impl ObjectKind {
 /// The id of an object: the digest of its text, which is `<kind> <length>`, a zero byte and the content (Git's object format).
 /// It takes no memory.
 pub fn object_id(kind: Kind, object: ObjectKind, content: &[u8]) -> ObjectId
-    ensures { id_bytes result ≡ digest kind (object_text (type_word object) content.now) }
+    ensures { id_of result ≡ digest kind (object_text (type_word object) content.now) }
 {
-    match kind {
-        Kind::Sha1 => ObjectId::from_digest(sha1_digest(object, content)),
-    }
-}
-
-// The header is fed first and then the content, so that the text stands nowhere whole.
-fn sha1_digest(object: ObjectKind, content: &[u8]) -> [u8; 20]
-    ensures { result ≡ sha1 (object_text (type_word object) content.now) }
-{
+    // The header is fed first and then the content, so that the text stands nowhere whole.
     let mut digits = itoa::Buffer::new();
-    let mut hasher = Sha1::new();
+    let mut hasher = hasher(kind);
     hasher.update(object.word());
     hasher.update(b" ");
     hasher.update(digits.format(content.len()).as_bytes());
     hasher.update(b"\0");
     hasher.update(content);
-    hasher.finalize()
+    hasher.try_finalize()
 }
 
 /// What stands in an object's text before a content of this length.

@@ -1,21 +1,24 @@
 // The store of objects: each is one file, `objects/xx/rest` of its id's hex digits, which holds its text.
-ghost use Rattle.std.specs.Prelude.{◌≡◌, ◌≢◌, ◌⊎◌, ◌≤◌, ◌++◌, ◌↔◌, drop, vec_len, true, IfOk, OnOk, IsErrOf, MatchOption};
+ghost use Rattle.std.specs.FinMap.{contains_key, empty, keys};
+ghost use Rattle.std.specs.Prelude.{map, OnErr, ◌≡◌, ◌≢◌, ◌⊎◌, ◌≤◌, ◌++◌, ◌↔◌, drop, vec_len, true, IfOk, OnOk, IsErrOf, MatchOption};
 ghost use Rattle.history_model.specs.Places.{file_at, object_place, unfinished_place};
-ghost use Rattle.history_store.specs.Formats.{id_bytes};
 ghost use Rattle.history_store.specs.declared.objects.PutError.TheVariants.{File, Memory, IdTaken};
-ghost use Rattle.history_store.specs.declared.id.ObjectId.{ObjectId};
+ghost use Rattle.gix_hash.specs.declared.object_id.ObjectId.{ObjectId};
 ghost use Rattle.gix_ref_file.specs.declared.files.FileError.TheVariants.{Failed};
 ghost use Rattle.gix_ref_file.specs.Tree.{bytes_at};
 ghost use Rattle.gix_ref_file.specs.Changes.{is_file_at};
 ghost use Rattle.gix_ref_file.specs.History.{Adds, HasRisen};
-ghost use Rattle.history_store.specs.Stores.{HoldsFile, MayStand, FoldersAbove, IsObjectPlace, IsObjectPart, IsNoObject, IsTaken, id_of, text_of, is_reserved, put_fault};
+ghost use Rattle.history_store.specs.Stores.{HoldsFile, MayStand, FoldersAbove, IsObjectPlace, IsObjectPart, IsNoObject, IsTaken, object_id, text_of, is_empty_tree, is_reserved, put_fault};
+ghost use Rattle.gix_hash.specs.Id.{id_of};
+ghost use Rattle.history_store.specs.Ids.{with_id};
 
 use crate::bytes::strip_prefix;
 use crate::folders::make_folders;
-use crate::id::ObjectId;
+use crate::id_text::hex_digits;
+use crate::ids::Ids;
 use crate::object::{ObjectKind, header, object_id, parse_header};
+use gix_hash::{Kind, ObjectId};
 use gix_ref_file::{FileError, Files, Place};
-use history_model::Kind;
 use std::alloc::{AllocError, Global};
 
 /// Where an object is written before it is given its place.
@@ -58,25 +61,32 @@ impl From<FileError> for PutError {
     }
 }
 
-/// The objects of a repository, in its objects part.
+/// The objects of a repository, in its objects part, with the ids of all that is stored.
 #[derive(Drop)]
 pub struct Objects<F: Files> {
     files: F,
     kind: Kind,
+    ids: Ids,
 }
 
 impl<F: Files> Objects<F> {
-    pub fn new(files: F, kind: Kind) -> Self
+    /// The store in a part that holds no object yet.
+    pub fn new(alloc: Global, files: F, kind: Kind) -> Self
         ensures files { result.files ≡ files }
         ensures kind { result.kind ≡ kind }
+        ensures ids { result.ids ≡ empty }
     {
-        Objects { files, kind }
+        Objects {
+            files,
+            kind,
+            ids: Ids::new(alloc),
+        }
     }
 
     pub fn into_files(self) -> F
         ensures { result ≡ self.files }
     {
-        let Objects { files, kind: _ } = self;
+        let Objects { files, .. } = self;
         files
     }
 
@@ -101,22 +111,26 @@ impl<F: Files> Objects<F> {
     ) -> Result<ObjectId, PutError>
         ensures honest { F.is_honest self.old.files → F.is_honest self.new.files }
         ensures kind { self.new.kind ≡ self.old.kind }
-        ensures id { IfOk result (λ id. id_bytes id ≡ id_of self.old.kind object content.now) }
+        ensures id { IfOk result (λ id. id_of id ≡ object_id self.old.kind object content.now) }
 
         // The object's file is there, and each other file as before.
-        ensures stored { F.is_honest self.old.files → OnOk result (HoldsFile (object_place (id_of self.old.kind object content.now)) (text_of object content.now) (F.history self.old.files).tree (F.history self.new.files).tree) }
+        ensures stored { F.is_honest self.old.files → OnOk result (HoldsFile (object_place (object_id self.old.kind object content.now)) (text_of object content.now) (F.history self.old.files).tree (F.history self.new.files).tree) }
 
         // No file is left where it was written, and no folders are made but those that the object's file stands in.
         ensures unfinished { F.is_honest self.old.files → OnOk result ((file_at (F.history self.new.files).tree unfinished_place ≡ None) ⊎ (self.new.files ≡ self.old.files)) }
-        ensures folders { F.is_honest self.old.files → OnOk result (FoldersAbove (object_place (id_of self.old.kind object content.now)) (F.history self.old.files).tree (F.history self.new.files).tree) }
+        ensures folders { F.is_honest self.old.files → OnOk result (FoldersAbove (object_place (object_id self.old.kind object content.now)) (F.history self.old.files).tree (F.history self.new.files).tree) }
+
+        // The id is known from then on; else the ids are as before.
+        ensures known { OnOk result (self.new.ids ≡ with_id self.old.ids (object_id self.old.kind object content.now)) }
+        ensures unknown { OnErr result (self.new.ids ≡ self.old.ids) }
 
         // At each moment the object's file is as before, or there whole.
-        ensures moments { F.is_honest self.old.files → Adds (MayStand (object_place (id_of self.old.kind object content.now)) (text_of object content.now) (F.history self.old.files).tree) (F.history self.old.files) (F.history self.new.files) }
+        ensures moments { F.is_honest self.old.files → Adds (MayStand (object_place (object_id self.old.kind object content.now)) (text_of object content.now) (F.history self.old.files).tree) (F.history self.old.files) (F.history self.new.files) }
 
         // Where the object stands already, nothing is written.
-        ensures once { F.is_honest self.old.files → file_at (F.history self.old.files).tree (object_place (id_of self.old.kind object content.now)) ≡ Some (text_of object content.now) → self.new.files ≡ self.old.files }
+        ensures once { F.is_honest self.old.files → file_at (F.history self.old.files).tree (object_place (object_id self.old.kind object content.now)) ≡ Some (text_of object content.now) → self.new.files ≡ self.old.files }
 
-        ensures taken { (id : ObjectId) → IsErrOf result (IdTaken id) → (id_bytes id ≡ id_of self.old.kind object content.now) × (self.new.files ≡ self.old.files)
+        ensures taken { (id : ObjectId) → IsErrOf result (IdTaken id) → (id_of id ≡ object_id self.old.kind object content.now) × (self.new.files ≡ self.old.files)
             × (F.is_honest self.old.files → IsTaken self.old.kind object content.now (F.history self.old.files).tree) }
 
         // An object is stored only under an id that isn't taken.
@@ -137,9 +151,10 @@ impl<F: Files> Objects<F> {
             if !self.holds(alloc, &place, &header, content)? {
                 return Err(PutError::IdTaken(id));
             }
-            return Ok(id);
+        } else {
+            self.write(alloc, &place, &header, content)?;
         }
-        self.write(alloc, &place, &header, content)?;
+        self.ids.insert(id)?;
         Ok(id)
     }
 
@@ -182,6 +197,7 @@ impl<F: Files> Objects<F> {
     ) -> Result<(), FileError>
         ensures honest { F.is_honest self.old.files → F.is_honest self.new.files }
         ensures kind { self.new.kind ≡ self.old.kind }
+        ensures ids { self.new.ids ≡ self.old.ids }
         ensures stored { F.is_honest self.old.files → OnOk result (HoldsFile place.now (header.now ++ content.now) (F.history self.old.files).tree (F.history self.new.files).tree) }
         ensures unfinished { F.is_honest self.old.files → place.now ≢ unfinished_place → OnOk result (file_at (F.history self.new.files).tree unfinished_place ≡ None) }
         ensures folders { F.is_honest self.old.files → OnOk result (FoldersAbove place.now (F.history self.old.files).tree (F.history self.new.files).tree) }
@@ -199,8 +215,8 @@ impl<F: Files> Objects<F> {
     /// The object of this id; `None` where none stands or its file holds no object's text.
     pub fn read(&self, alloc: Global, id: &ObjectId) -> Result<Option<Object>, FileError>
         ensures found { F.is_honest self.now.files → IfOk result (λ found. MatchOption found
-            ((file_at (F.history self.now.files).tree (object_place (id_bytes id.now)) ≡ None) ⊎ IsNoObject (bytes_at (F.history self.now.files).tree (object_place (id_bytes id.now))))
-            (λ object. file_at (F.history self.now.files).tree (object_place (id_bytes id.now)) ≡ Some (text_of object.kind object.content.items))) }
+            ((file_at (F.history self.now.files).tree (object_place (id_of id.now)) ≡ None) ⊎ IsNoObject (bytes_at (F.history self.now.files).tree (object_place (id_of id.now))))
+            (λ object. file_at (F.history self.now.files).tree (object_place (id_of id.now)) ≡ Some (text_of object.kind object.content.items))) }
         ensures failed { IsErrOf result Failed → F.reading_may_fail }
     {
         let place = object_place(alloc, id)?;
@@ -217,35 +233,47 @@ impl<F: Files> Objects<F> {
         }
     }
 
-    /// Whether a file stands at this id's place.
-    pub fn contains(&self, alloc: Global, id: &ObjectId) -> Result<bool, FileError>
-        ensures told { F.is_honest self.now.files → IfOk result (λ is_file. is_file ≡ is_file_at (F.history self.now.files).tree (object_place (id_bytes id.now))) }
-        ensures failed { IsErrOf result Failed → F.reading_may_fail }
+    /// Whether an object of this id is stored. It takes no memory.
+    pub fn contains(&self, id: &ObjectId) -> bool
+        ensures { result ≡ contains_key self.now.ids (id_of id.now) }
     {
-        let place = object_place(alloc, id)?;
-        self.is_file(&place)
+        self.ids.contains(id)
+    }
+
+    /// The ids of what is stored, ascending.
+    pub fn ids(&self) -> std::collections::btree_set::Iter<'_, ObjectId>
+        ensures { map id_of result ≡ keys self.now.ids }
+    {
+        self.ids.iter()
     }
 }
 
 // Whether no object, or none but the empty tree, has this id.
 fn is_reserved(kind: Kind, id: &ObjectId, object: ObjectKind, content: &[u8]) -> bool
-    ensures { result ≡ is_reserved kind object content.now (id_bytes id.now) }
+    ensures { result ≡ is_reserved kind object content.now (id_of id.now) }
 {
-    let is_empty_tree = matches!(object, ObjectKind::Tree) && content.is_empty();
-    let empty_tree = object_id(kind, ObjectKind::Tree, b"");
-    id.as_bytes() == ObjectId::null(kind).as_bytes()
-        || (id.as_bytes() == empty_tree.as_bytes() && !is_empty_tree)
+    *id == ObjectId::null(kind)
+        || (*id == ObjectId::empty_tree(kind) && !is_empty_tree(object, content))
+}
+
+fn is_empty_tree(object: ObjectKind, content: &[u8]) -> bool
+    ensures { result ≡ is_empty_tree object content.now }
+{
+    matches!(object, ObjectKind::Tree) && content.is_empty()
 }
 
 /// The path of an object's file.
 pub fn object_place(alloc: Global, id: &ObjectId) -> Result<Vec<u8>, AllocError>
-    ensures { IfOk result (λ place. place.items ≡ object_place (id_bytes id.now)) }
+    ensures { IfOk result (λ place. place.items ≡ object_place (id_of id.now)) }
 {
-    let digits = id.to_hex();
+    // An id's digits are two for each of its bytes.
+    let _bytes = id.as_bytes();
+    let mut buffer = Kind::hex_buf();
+    let (folder, file) = hex_digits(id, &mut buffer).split_at(2);
     let mut place = Vec::from_slice(alloc, b"objects/")?;
-    place.extend_from_slice(&digits[..2])?;
+    place.extend_from_slice(folder)?;
     place.push(b'/')?;
-    place.extend_from_slice(&digits[2..])?;
+    place.extend_from_slice(file)?;
     Ok(place)
 }
 

@@ -3,11 +3,11 @@ ghost use Rattle.std.specs.Prelude.{◌≡◌, ◌≢◌, ◌==◌, ◌<◌, ◌
 ghost use Rattle.std.specs.FinMap as map;
 ghost use Rattle.history_model.specs.Objects.{mode_of, entry_text};
 ghost use Rattle.history_model.specs.declared.FileKind.{FileKind};
-ghost use Rattle.history_store.specs.Formats.{id_bytes};
 ghost use Rattle.history_store.specs.Trees.{all_named, folder_content, Spells, SpellsNone, BeginsWith, BeginsWithNone};
+ghost use Rattle.gix_hash.specs.Id.{id_of};
 
 use crate::bytes::split_once;
-use crate::id::ObjectId;
+use gix_hash::{Kind, ObjectId};
 use history_model::FileKind;
 use std::alloc::{AllocError, Global};
 use std::collections::BTreeMap;
@@ -95,15 +95,15 @@ impl Tree {
         Ok(content)
     }
 
-    /// The tree that a content spells; `None` where it spells none, as where its names don't ascend.
-    pub fn parse(alloc: Global, content: &[u8]) -> Result<Option<Tree>, AllocError>
-        ensures { IfOk result (λ parsed. MatchOption parsed (SpellsNone content.now) (λ tree. Spells content.now tree)) }
+    /// The tree that a content spells, with ids of this kind; `None` where it spells none, as where its names don't ascend.
+    pub fn parse(alloc: Global, kind: Kind, content: &[u8]) -> Result<Option<Tree>, AllocError>
+        ensures { IfOk result (λ parsed. MatchOption parsed (SpellsNone kind content.now) (λ tree. Spells kind content.now tree)) }
     {
         let mut tree = Tree::new(alloc);
         let mut last: &[u8] = b"";
         let mut rest = content;
         while !rest.is_empty() {
-            let Some((name, entry, after)) = parse_entry(rest) else {
+            let Some((name, entry, after)) = parse_entry(kind, rest) else {
                 return Ok(None)
             };
             if *name <= *last {
@@ -142,7 +142,7 @@ fn parse_mode(word: &[u8]) -> Option<FileKind>
 }
 
 fn write_entry(content: &mut Vec<u8>, name: &[u8], entry: &TreeEntry) -> Result<(), AllocError>
-    ensures { OnOk result (content.new.items ≡ content.old.items ++ entry_text (mode_of entry.now.kind) name.now (id_bytes entry.now.id)) }
+    ensures { OnOk result (content.new.items ≡ content.old.items ++ entry_text (mode_of entry.now.kind) name.now (id_of entry.now.id)) }
 {
     content.extend_from_slice(mode(entry.kind))?;
     content.push(b' ')?;
@@ -152,19 +152,19 @@ fn write_entry(content: &mut Vec<u8>, name: &[u8], entry: &TreeEntry) -> Result<
 }
 
 // The name and the entry that a text begins with, and the text behind them.
-fn parse_entry(text: &[u8]) -> Option<(&[u8], TreeEntry, &[u8])>
-    ensures spelled { MatchOption result (BeginsWithNone text.now) (λ r. BeginsWith text.now r.1.kind r.0.now (id_bytes r.1.id) r.2.now) }
+fn parse_entry(kind: Kind, text: &[u8]) -> Option<(&[u8], TreeEntry, &[u8])>
+    ensures spelled { MatchOption result (BeginsWithNone kind text.now) (λ r. BeginsWith kind text.now r.1.kind r.0.now (id_of r.1.id) r.2.now) }
     ensures shorter { IfSome result (λ r. length r.2.now < length text.now) }
 {
     let (mode, rest) = split_once(text, b' ')?;
     let (name, rest) = split_once(rest, 0)?;
-    let (digest, rest) = rest.split_at_checked(20)?;
+    let (digest, rest) = rest.split_at_checked(kind.len_in_bytes())?;
     if name.contains(&b'/') {
         return None;
     }
     let entry = TreeEntry {
         kind: parse_mode(mode)?,
-        id: ObjectId::from_bytes(digest)?,
+        id: ObjectId::try_from(digest).ok()?,
     };
     Some((name, entry, rest))
 }

@@ -1,8 +1,8 @@
 //! Commits, printed and read.
 
 use crate::common::{actor, all_hold, id, is_id};
-use history_model::Kind;
-use history_store::{Commit, ObjectId, ObjectKind, object_id};
+use gix_hash::{Kind, ObjectId};
+use history_store::{Commit, ObjectKind, object_id};
 use std::alloc::{AllocError, Global};
 use std::process::Abort;
 
@@ -24,8 +24,8 @@ fn id_of(kind: Kind, content: &[u8]) -> ObjectId {
     object_id(kind, ObjectKind::Commit, content)
 }
 
-fn read<R: Abort>(rt: &R, alloc: Global, content: &[u8]) -> Result<Commit, AllocError> {
-    match Commit::parse(alloc, content)? {
+fn read<R: Abort>(rt: &R, alloc: Global, kind: Kind, content: &[u8]) -> Result<Commit, AllocError> {
+    match Commit::parse(alloc, kind, content)? {
         Some(commit) => Ok(commit),
         None => panic!(rt; "no commit"),
     }
@@ -56,6 +56,13 @@ const SHA1_IDS: Ids = Ids {
     second: "cd2f83c1a6b8be7dad146275ff801a64c52660e7",
 };
 
+// The same in a repository made by `git init --object-format=sha256`.
+const SHA256_IDS: Ids = Ids {
+    tree: "c173b57088056919df5762555877c80dff25e3a15f807a437392dcb6b1859a5e",
+    first: "4203d7610a517992c656f8a7171e212c04b4bc313ab419f738dab3456a7f1778",
+    second: "39cc12209805c512e701aa78d48a09f9ed6fe7e24388239c89fb4d87bd2089b0",
+};
+
 fn check_commits<R: Abort>(rt: &R, alloc: Global, kind: Kind, ids: &Ids) -> Result<(), AllocError> {
     let tree = id(rt, ids.tree);
     let first = commit(alloc, tree, b"one")?;
@@ -65,7 +72,7 @@ fn check_commits<R: Abort>(rt: &R, alloc: Global, kind: Kind, ids: &Ids) -> Resu
     second.parents.push(first)?;
     let content = printed(alloc, &second)?;
     assert!(rt; is_id(&id_of(kind, content.as_slice()), ids.second));
-    let again = read(rt, alloc, content.as_slice())?;
+    let again = read(rt, alloc, kind, content.as_slice())?;
     all_hold(rt, &comparisons(&second, &again));
     assert!(rt; printed(alloc, &again)?.as_slice() == content.as_slice());
     Ok(())
@@ -73,7 +80,8 @@ fn check_commits<R: Abort>(rt: &R, alloc: Global, kind: Kind, ids: &Ids) -> Resu
 
 #[test]
 fn commits_are_those_of_git(rt: HostRuntime) -> Result<(), AllocError> {
-    check_commits(&rt, rt.alloc(), Kind::Sha1, &SHA1_IDS)
+    check_commits(&rt, rt.alloc(), Kind::Sha1, &SHA1_IDS)?;
+    check_commits(&rt, rt.alloc(), Kind::Sha256, &SHA256_IDS)
 }
 
 const SHA1_NO_COMMITS: [&str; 6] = [
@@ -85,13 +93,18 @@ const SHA1_NO_COMMITS: [&str; 6] = [
     "",
 ];
 
-fn is_no_commit(alloc: Global, text: &str) -> bool {
-    matches!(Commit::parse(alloc, text.as_bytes()), Ok(None))
+const OF_NO_FILES: &str =
+    "tree 4b825dc642cb6eb9a060e54bf8d69288fbee4904\nauthor A <a@b> 1 +0000\ncommitter A <a@b> 1 +0000\n\none";
+
+fn is_no_commit(alloc: Global, kind: Kind, text: &str) -> bool {
+    matches!(Commit::parse(alloc, kind, text.as_bytes()), Ok(None))
 }
 
 #[test]
 fn what_is_no_commit(rt: HostRuntime) {
     for text in SHA1_NO_COMMITS {
-        assert!(rt; is_no_commit(rt.alloc(), text), "at {text:?}");
+        assert!(rt; is_no_commit(rt.alloc(), Kind::Sha1, text), "at {text:?}");
     }
+    // Its tree is an id of the other kind.
+    assert!(rt; is_no_commit(rt.alloc(), Kind::Sha256, OF_NO_FILES));
 }

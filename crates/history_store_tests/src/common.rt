@@ -1,7 +1,8 @@
 //! The object `hello`, ids, actors, and what stands in a file.
 
+use gix_hash::ObjectId;
 use gix_ref_file::{Files, MemoryFiles};
-use history_store::{Actor, ObjectId};
+use history_store::Actor;
 use std::alloc::{AllocError, Global};
 use std::process::Abort;
 
@@ -23,15 +24,26 @@ pub const SHA1_HELLO: Hello = Hello {
 
 pub const SHA1_NULL: &str = "0000000000000000000000000000000000000000";
 
+pub const SHA256_HELLO_DIGITS: &str =
+    "8aec4e4876f854f688d0ebfc8f37598f38e5fd6903cccc850ca36591175aeb60";
+
+pub const SHA256_HELLO: Hello = Hello {
+    digits: SHA256_HELLO_DIGITS,
+    folder: "objects/8a",
+    place: "objects/8a/ec4e4876f854f688d0ebfc8f37598f38e5fd6903cccc850ca36591175aeb60",
+};
+
+pub const SHA256_NULL: &str = "0000000000000000000000000000000000000000000000000000000000000000";
+
 pub fn id<R: Abort>(rt: &R, digits: &str) -> ObjectId {
     match ObjectId::from_hex(digits.as_bytes()) {
-        Some(id) => id,
-        None => panic!(rt; "no id: {digits}"),
+        Ok(id) => id,
+        Err(_) => panic!(rt; "no id: {digits}"),
     }
 }
 
 pub fn is_id(id: &ObjectId, digits: &str) -> bool {
-    ObjectId::from_hex(digits.as_bytes()) == Some(*id)
+    ObjectId::from_hex(digits.as_bytes()) == Ok(*id)
 }
 
 // Stops at the first answer that doesn't hold.

@@ -1,8 +1,8 @@
 //! New repositories, and what keeps them from being made.
 
 use crate::common::holds;
+use gix_hash::Kind;
 use gix_ref_file::{FileError, Files, MemoryFiles};
-use history_model::Kind;
 use history_store::{CreateError, Names, Part, Stray, create, survey};
 use std::alloc::Global;
 use std::process::Abort;

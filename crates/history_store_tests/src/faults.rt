@@ -1,12 +1,10 @@
 //! Each call of the files fails in turn.
 
-use crate::common::{Hello, SHA1_HELLO, holds, id};
+use crate::common::{Hello, SHA1_HELLO, SHA256_HELLO, holds, id};
 use crate::names::entry;
+use gix_hash::{Kind, ObjectId};
 use gix_ref_file::{FileError, Fuse, MemoryFiles};
-use history_model::Kind;
-use history_store::{
-    CreateError, LogEntry, Names, ObjectId, ObjectKind, Objects, PutError, create,
-};
+use history_store::{CreateError, LogEntry, Names, ObjectKind, Objects, PutError, create};
 use std::alloc::{AllocError, Global};
 use std::process::Abort;
 
@@ -17,7 +15,7 @@ fn failing_put(
     call: u64,
 ) -> (Result<ObjectId, PutError>, Fuse<MemoryFiles>) {
     let fuse = Fuse::failing_at(MemoryFiles::new(alloc), call, Some(3));
-    let mut objects = Objects::new(fuse, kind);
+    let mut objects = Objects::new(alloc, fuse, kind);
     let stored = objects.put(alloc, ObjectKind::Blob, b"hello");
     (stored, objects.into_files())
 }
@@ -30,7 +28,7 @@ fn is_stored_later(
     id: ObjectId,
     hello: Hello,
 ) -> bool {
-    let mut objects = Objects::new(files, kind);
+    let mut objects = Objects::new(alloc, files, kind);
     objects.put(alloc, ObjectKind::Blob, b"hello") == Ok(id)
         && holds(alloc, objects.files(), hello.place, Some(b"blob 5\0hello"))
 }
@@ -63,6 +61,7 @@ fn check_put<R: Abort>(rt: &R, alloc: Global, kind: Kind, hello: Hello) {
 #[test]
 fn each_call_of_a_put_fails_once(rt: HostRuntime) {
     check_put(&rt, rt.alloc(), Kind::Sha1, SHA1_HELLO);
+    check_put(&rt, rt.alloc(), Kind::Sha256, SHA256_HELLO);
 }
 
 fn failing_move(
@@ -110,7 +109,8 @@ fn check_moves<R: Abort>(rt: &R, alloc: Global, kind: Kind, hello: &str) -> Resu
 
 #[test]
 fn each_call_of_a_move_fails_once(rt: HostRuntime) -> Result<(), AllocError> {
-    check_moves(&rt, rt.alloc(), Kind::Sha1, SHA1_HELLO.digits)
+    check_moves(&rt, rt.alloc(), Kind::Sha1, SHA1_HELLO.digits)?;
+    check_moves(&rt, rt.alloc(), Kind::Sha256, SHA256_HELLO.digits)
 }
 
 fn made_later(alloc: Global, kind: Kind, mut objects: MemoryFiles, mut names: MemoryFiles) -> bool {

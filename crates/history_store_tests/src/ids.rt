@@ -1,8 +1,8 @@
-//! Ids of objects, as digits and bytes.
+//! Ids of objects, and their digits.
 
-use crate::common::{SHA1_HELLO_DIGITS, SHA1_NULL, all_hold, id, is_id};
-use history_model::Kind;
-use history_store::{ObjectId, ObjectKind, object_id};
+use crate::common::{SHA1_HELLO_DIGITS, SHA256_HELLO_DIGITS, id, is_id};
+use gix_hash::{Kind, ObjectId};
+use history_store::{ObjectKind, hex_digits, object_id};
 use std::process::Abort;
 
 type Row = (ObjectKind, &'static [u8], &'static str);
@@ -31,6 +31,29 @@ const SHA1_ROWS: [Row; 4] = [
     ),
 ];
 
+const SHA256_COMMIT: &[u8] =
+    b"tree 6ef19b41225c5369f1c104d45d8d85efa9b057b53b14b4b9b939dd74decc5321\nauthor A <a@b> 1 +0000\ncommitter A <a@b> 1 +0000\n\none";
+
+// The same in a repository made by `git init --object-format=sha256`.
+const SHA256_ROWS: [Row; 4] = [
+    (
+        ObjectKind::Blob,
+        b"",
+        "473a0f4c3be8a93681a267e3b1e9a7dcda1185436fe141f7749120a303721813",
+    ),
+    (ObjectKind::Blob, b"hello", SHA256_HELLO_DIGITS),
+    (
+        ObjectKind::Tree,
+        b"",
+        "6ef19b41225c5369f1c104d45d8d85efa9b057b53b14b4b9b939dd74decc5321",
+    ),
+    (
+        ObjectKind::Commit,
+        SHA256_COMMIT,
+        "e7bb05180b0f928d95627a881ccd1c97107b1469dcc6d258215c5dfabfaea513",
+    ),
+];
+
 fn has_id(kind: Kind, row: Row) -> bool {
     let (object, content, digits) = row;
     is_id(&object_id(kind, object, content), digits)
@@ -45,29 +68,17 @@ fn have_ids<R: Abort>(rt: &R, kind: Kind, rows: &[Row]) {
 #[test]
 fn ids_are_those_of_git(rt: HostRuntime) {
     have_ids(&rt, Kind::Sha1, &SHA1_ROWS);
+    have_ids(&rt, Kind::Sha256, &SHA256_ROWS);
 }
 
-fn spellings(id: &ObjectId, digits: &str, capitals: &str) -> [bool; 3] {
-    [
-        ObjectId::from_hex(capitals.as_bytes()) == Some(*id),
-        id.to_hex().as_slice() == digits.as_bytes(),
-        ObjectId::from_bytes(id.as_bytes()) == Some(*id),
-    ]
-}
-
-fn refusals() -> [bool; 3] {
-    [
-        ObjectId::from_hex(b"b6fc").is_none(),
-        ObjectId::from_hex(b"x6fc4c620b67d95f953a5c1c1230aaab5db5a1b0").is_none(),
-        ObjectId::from_bytes(b"hello").is_none(),
-    ]
+fn prints(id: &ObjectId, digits: &str) -> bool {
+    let mut buffer = Kind::hex_buf();
+    hex_digits(id, &mut buffer) == digits.as_bytes()
 }
 
 #[test]
-fn hex_digits(rt: HostRuntime) {
-    let hello = id(&rt, SHA1_HELLO_DIGITS);
-    let capitals = "B6FC4C620B67D95F953A5C1C1230AAAB5DB5A1B0";
-    all_hold(&rt, &spellings(&hello, SHA1_HELLO_DIGITS, capitals));
-    all_hold(&rt, &refusals());
-    assert!(rt; is_id(&ObjectId::null(Kind::Sha1), SHA1_NULL));
+fn digits_of_ids(rt: HostRuntime) {
+    for digits in [SHA1_HELLO_DIGITS, SHA256_HELLO_DIGITS] {
+        assert!(rt; prints(&id(&rt, digits), digits), "at {digits}");
+    }
 }

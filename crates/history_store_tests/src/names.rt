@@ -1,9 +1,9 @@
 //! Names that move, their logs, and HEAD.
 
-use crate::common::{SHA1_HELLO, SHA1_NULL, actor, holds, id};
+use crate::common::{SHA1_HELLO, SHA256_HELLO, actor, holds, id};
+use gix_hash::{Kind, ObjectId};
 use gix_ref_file::{FileError, Files, MemoryFiles};
-use history_model::Kind;
-use history_store::{LogEntry, Names, ObjectId};
+use history_store::{LogEntry, Names};
 use std::alloc::{AllocError, Global};
 use std::process::Abort;
 
@@ -53,6 +53,13 @@ const SHA1_TEXTS: Texts = Texts {
     unended: b"b6fc4c620b67d95f953a5c1c1230aaab5db5a1b0",
 };
 
+const SHA256_TEXTS: Texts = Texts {
+    log: b"0000000000000000000000000000000000000000000000000000000000000000 8aec4e4876f854f688d0ebfc8f37598f38e5fd6903cccc850ca36591175aeb60 A <a@b> 1 +0000\tone\n\
+        8aec4e4876f854f688d0ebfc8f37598f38e5fd6903cccc850ca36591175aeb60 0000000000000000000000000000000000000000000000000000000000000000 A <a@b> 1 +0000\tone\n",
+    null: b"0000000000000000000000000000000000000000000000000000000000000000\n",
+    unended: b"8aec4e4876f854f688d0ebfc8f37598f38e5fd6903cccc850ca36591175aeb60",
+};
+
 fn moved<R: Abort>(
     rt: &R,
     alloc: Global,
@@ -92,5 +99,12 @@ fn check_moves<R: Abort>(
 
 #[test]
 fn names_move(rt: HostRuntime) -> Result<(), FileError> {
-    check_moves(&rt, rt.alloc(), Kind::Sha1, SHA1_HELLO.digits, &SHA1_TEXTS)
+    check_moves(&rt, rt.alloc(), Kind::Sha1, SHA1_HELLO.digits, &SHA1_TEXTS)?;
+    check_moves(
+        &rt,
+        rt.alloc(),
+        Kind::Sha256,
+        SHA256_HELLO.digits,
+        &SHA256_TEXTS,
+    )
 }

@@ -1,9 +1,9 @@
 //! Objects that are stored and read.
 
-use crate::common::{Hello, SHA1_HELLO, holds, id, is_id};
+use crate::common::{Hello, SHA1_HELLO, SHA256_HELLO, holds, id, is_id};
+use gix_hash::{Kind, ObjectId};
 use gix_ref_file::{FileError, Files, MemoryFiles};
-use history_model::Kind;
-use history_store::{ObjectId, ObjectKind, Objects, PutError, object_id};
+use history_store::{ObjectKind, Objects, PutError, object_id};
 use std::alloc::{AllocError, Global};
 use std::process::Abort;
 
@@ -35,10 +35,6 @@ fn is_absent(alloc: Global, objects: &Objects<MemoryFiles>, id: &ObjectId) -> bo
     matches!(objects.read(alloc, id), Ok(None))
 }
 
-fn contains(alloc: Global, objects: &Objects<MemoryFiles>, id: &ObjectId) -> Option<bool> {
-    objects.contains(alloc, id).ok()
-}
-
 // Whether this text stands at the place of `hello`, and nothing is left unfinished.
 fn stands(alloc: Global, objects: &Objects<MemoryFiles>, hello: Hello, text: &[u8]) -> bool {
     holds(alloc, objects.files(), hello.place, Some(text))
@@ -51,24 +47,26 @@ fn check_storing<R: Abort>(
     kind: Kind,
     hello: Hello,
 ) -> Result<(), PutError> {
-    let mut objects = Objects::new(MemoryFiles::new(alloc), kind);
+    let mut objects = Objects::new(alloc, MemoryFiles::new(alloc), kind);
     let stored = put(alloc, &mut objects, ObjectKind::Blob, b"hello")?;
     assert!(rt; is_id(&stored, hello.digits));
     assert!(rt; stands(alloc, &objects, hello, b"blob 5\0hello"));
     assert!(rt; put(alloc, &mut objects, ObjectKind::Blob, b"hello")? == stored);
-    assert!(rt; contains(alloc, &objects, &stored) == Some(true));
+    assert!(rt; objects.contains(&stored));
     assert!(rt; is_stored(alloc, &objects, &stored, ObjectKind::Blob, b"hello"));
     let empty_tree = put(alloc, &mut objects, ObjectKind::Tree, b"")?;
     assert!(rt; is_stored(alloc, &objects, &empty_tree, ObjectKind::Tree, b""));
+    assert!(rt; objects.ids().count() == 2);
     let null = ObjectId::null(kind);
-    assert!(rt; contains(alloc, &objects, &null) == Some(false));
+    assert!(rt; !objects.contains(&null));
     assert!(rt; is_absent(alloc, &objects, &null));
     Ok(())
 }
 
 #[test]
 fn objects_are_stored_once(rt: HostRuntime) -> Result<(), PutError> {
-    check_storing(&rt, rt.alloc(), Kind::Sha1, SHA1_HELLO)
+    check_storing(&rt, rt.alloc(), Kind::Sha1, SHA1_HELLO)?;
+    check_storing(&rt, rt.alloc(), Kind::Sha256, SHA256_HELLO)
 }
 
 // Objects with this text at the place of `hello`.
@@ -82,7 +80,7 @@ fn objects_with(
     files.make_folder(alloc, b"objects")?;
     files.make_folder(alloc, hello.folder.as_bytes())?;
     files.write(alloc, hello.place.as_bytes(), text)?;
-    Ok(Objects::new(files, kind))
+    Ok(Objects::new(alloc, files, kind))
 }
 
 fn check_taken_id<R: Abort>(
@@ -102,7 +100,8 @@ fn check_taken_id<R: Abort>(
 
 #[test]
 fn other_bytes_keep_their_id(rt: HostRuntime) -> Result<(), FileError> {
-    check_taken_id(&rt, rt.alloc(), Kind::Sha1, SHA1_HELLO)
+    check_taken_id(&rt, rt.alloc(), Kind::Sha1, SHA1_HELLO)?;
+    check_taken_id(&rt, rt.alloc(), Kind::Sha256, SHA256_HELLO)
 }
 
 const NO_OBJECTS: [&str; 7] = [
@@ -131,7 +130,8 @@ fn check_no_object<R: Abort>(
 
 #[test]
 fn what_is_no_object(rt: HostRuntime) -> Result<(), FileError> {
-    check_no_object(&rt, rt.alloc(), Kind::Sha1, SHA1_HELLO)
+    check_no_object(&rt, rt.alloc(), Kind::Sha1, SHA1_HELLO)?;
+    check_no_object(&rt, rt.alloc(), Kind::Sha256, SHA256_HELLO)
 }
 
 fn check_limit<R: Abort>(
@@ -142,7 +142,7 @@ fn check_limit<R: Abort>(
 ) -> Result<(), AllocError> {
     let content = vec![in alloc; b'x'; 16_777_216]?;
     let content = content.as_slice();
-    let mut objects = Objects::new(MemoryFiles::new(alloc), kind);
+    let mut objects = Objects::new(alloc, MemoryFiles::new(alloc), kind);
     let id = id(rt, digits);
     assert!(rt; put(alloc, &mut objects, ObjectKind::Blob, content) == Ok(id));
     assert!(rt; is_stored(alloc, &objects, &id, ObjectKind::Blob, content));
@@ -158,5 +158,11 @@ fn a_content_of_the_limit(rt: HostRuntime) -> Result<(), AllocError> {
         rt.alloc(),
         Kind::Sha1,
         "596e5fc205f68bdf56e877c897abacca62b4188a",
+    )?;
+    check_limit(
+        &rt,
+        rt.alloc(),
+        Kind::Sha256,
+        "52dfd35fd716b88092a5ed2d47cc86275ed5a9becba2384d3cd0b2c9937576c4",
     )
 }

@@ -1,7 +1,8 @@
 //! Trees, printed and read.
 
-use crate::common::{SHA1_HELLO_DIGITS, all_hold, id, is_id};
-use history_model::{FileKind, Kind};
+use crate::common::{SHA1_HELLO_DIGITS, SHA256_HELLO_DIGITS, SHA256_NULL, all_hold, id, is_id};
+use gix_hash::Kind;
+use history_model::FileKind;
 use history_store::{ObjectKind, Tree, TreeEntry, object_id};
 use std::alloc::{AllocError, Global};
 use std::process::Abort;
@@ -35,6 +36,27 @@ const SHA1_ROWS: [Row; 5] = [
     ("a", FileKind::File, SHA1_HELLO_DIGITS),
 ];
 
+// The same in a repository made by `git init --object-format=sha256`.
+const SHA256_ROWS: [Row; 5] = [
+    (
+        "run",
+        FileKind::Exec,
+        "01e29dbbd81da6e3dd52e3b1a2daf658f4f3dd1e3d2bddb1b421ccf8ea841363",
+    ),
+    ("a", FileKind::Link, SHA256_NULL),
+    (
+        "a.b",
+        FileKind::File,
+        "4b6cea43da6e13c24f191bcb97b51a58781d1ccdd8281d96291a2582f5177b78",
+    ),
+    (
+        "link",
+        FileKind::Link,
+        "eb337bcee2061c5313c9a1392116b6c76039e9e30d71467ae359b36277e17dc7",
+    ),
+    ("a", FileKind::File, SHA256_HELLO_DIGITS),
+];
+
 fn insert<R: Abort>(rt: &R, alloc: Global, tree: &mut Tree, row: Row) -> Result<(), AllocError> {
     let (name, kind, digits) = row;
     let id = id(rt, digits);
@@ -53,8 +75,8 @@ fn printed(alloc: Global, tree: &Tree) -> Result<Vec<u8>, AllocError> {
     tree.to_bytes(alloc)
 }
 
-fn read<R: Abort>(rt: &R, alloc: Global, content: &[u8]) -> Result<Tree, AllocError> {
-    match Tree::parse(alloc, content)? {
+fn read<R: Abort>(rt: &R, alloc: Global, kind: Kind, content: &[u8]) -> Result<Tree, AllocError> {
+    match Tree::parse(alloc, kind, content)? {
         Some(tree) => Ok(tree),
         None => panic!(rt; "no tree"),
     }
@@ -86,7 +108,7 @@ fn check_tree<R: Abort>(
     let tree = tree_of(rt, alloc, rows)?;
     let content = printed(alloc, &tree)?;
     assert!(rt; is_of_git(kind, content.as_slice(), digits));
-    let again = read(rt, alloc, content.as_slice())?;
+    let again = read(rt, alloc, kind, content.as_slice())?;
     let hello = TreeEntry {
         kind: FileKind::File,
         id: id(rt, hello),
@@ -105,6 +127,14 @@ fn trees_are_those_of_git(rt: HostRuntime) -> Result<(), AllocError> {
         &SHA1_ROWS,
         "493b995d7671277bcc987865fdf50c22ab90a54e",
         SHA1_HELLO_DIGITS,
+    )?;
+    check_tree(
+        &rt,
+        rt.alloc(),
+        Kind::Sha256,
+        &SHA256_ROWS,
+        "c173b57088056919df5762555877c80dff25e3a15f807a437392dcb6b1859a5e",
+        SHA256_HELLO_DIGITS,
     )
 }
 
@@ -119,15 +149,17 @@ const SHA1_NO_TREES: [&str; 8] = [
     "x",
 ];
 
-fn is_no_tree(alloc: Global, text: &str) -> bool {
-    matches!(Tree::parse(alloc, text.as_bytes()), Ok(None))
+fn is_no_tree(alloc: Global, kind: Kind, text: &str) -> bool {
+    matches!(Tree::parse(alloc, kind, text.as_bytes()), Ok(None))
 }
 
 #[test]
 fn what_is_no_tree(rt: HostRuntime) -> Result<(), AllocError> {
     for text in SHA1_NO_TREES {
-        assert!(rt; is_no_tree(rt.alloc(), text), "at {text:?}");
+        assert!(rt; is_no_tree(rt.alloc(), Kind::Sha1, text), "at {text:?}");
     }
-    assert!(rt; read(&rt, rt.alloc(), b"")?.is_empty());
+    // An id of 20 bytes is none of the other kind.
+    assert!(rt; is_no_tree(rt.alloc(), Kind::Sha256, "100644 a\0aaaaaaaaaaaaaaaaaaaa"));
+    assert!(rt; read(&rt, rt.alloc(), Kind::Sha256, b"")?.is_empty());
     Ok(())
 }

@@ -5,18 +5,35 @@ use history::{Bytes, Collected, End, Kind, Repository, RunError, create, run};
 use std::alloc::{AllocError, Global};
 use std::process::Abort;
 
-// The commit of the first row, behind its first line.
+/// The kinds of digest.
+pub const KINDS: [Kind; 2] = [Kind::Sha1, Kind::Sha256];
+
+/// A text with ids of each kind.
+pub struct ByKind {
+    pub sha1: &'static [u8],
+    pub sha256: &'static [u8],
+}
+
+impl ByKind {
+    pub fn of(&self, kind: Kind) -> &'static [u8] {
+        match kind {
+            Kind::Sha1 => self.sha1,
+            Kind::Sha256 => self.sha256,
+        }
+    }
+}
+
+/// The commit of the first row, behind its first line.
 pub const SIGNED: &[u8] =
     b"author 1 3 1 +0000\nA\na@b\ncommitter 1 3 1 +0000\nA\na@b\nmessage 3\none\nend\n";
 
-// A commit of one file, and readings of it.
-pub const STORED_RUN: &[u8] =
-    b"commit refs/heads/main new\nput file 1 5\na\nhello\nauthor 1 3 1 +0000\nA\na@b\ncommitter 1 3 1 +0000\nA\na@b\nmessage 3\none\nend\nfiles main\nshow main path 1\na\n";
+/// What answers the commit of no files.
+pub const NO_FILES_COMMITTED: ByKind = ByKind {
+    sha1: b"ok commit d39b036c797dcd9c0210b66a094ee846a3bc4fd9\n",
+    sha256: b"ok commit e7bb05180b0f928d95627a881ccd1c97107b1469dcc6d258215c5dfabfaea513\n",
+};
 
-pub const SHA1_STORED_REPLIES: &[u8] =
-    b"ok commit 66685e2ab14c48f6b22dfeca748179d40cfc74f0\nok files 1\nfile b6fc4c620b67d95f953a5c1c1230aaab5db5a1b0 1\na\nok show content file b6fc4c620b67d95f953a5c1c1230aaab5db5a1b0 5\nhello\n";
-
-// The texts, one behind the other.
+/// The texts, one behind the other.
 pub fn joined(alloc: Global, parts: &[&[u8]]) -> Result<Vec<u8>, AllocError> {
     let mut text = Vec::new(alloc);
     for part in parts {
@@ -25,26 +42,18 @@ pub fn joined(alloc: Global, parts: &[&[u8]]) -> Result<Vec<u8>, AllocError> {
     Ok(text)
 }
 
-// The two parts of a new repository.
-pub fn made<R: Abort>(rt: &R, alloc: Global, kind: Kind) -> (MemoryFiles, MemoryFiles) {
+/// A new repository in memory.
+pub fn fresh(rt: &impl Abort, alloc: Global, kind: Kind) -> Repository<MemoryFiles> {
     let mut objects = MemoryFiles::new(alloc);
     let mut names = MemoryFiles::new(alloc);
-    if create(alloc, &mut objects, &mut names, kind).is_err() {
-        panic!(rt; "not made");
-    }
-    (objects, names)
-}
-
-// A new repository in memory.
-pub fn fresh<R: Abort>(rt: &R, alloc: Global, kind: Kind) -> Repository<MemoryFiles> {
-    let (objects, names) = made(rt, alloc, kind);
+    assert!(rt; create(alloc, &mut objects, &mut names, kind) == Ok(()));
     match Repository::open(alloc, objects, names, kind) {
         Ok(repository) => repository,
         Err(_) => panic!(rt; "not opened"),
     }
 }
 
-// What a run over the input writes, and how it ends.
+/// What a run over the input writes.
 pub fn answered<F: Files>(
     alloc: Global,
     repository: &mut Repository<F>,
@@ -56,27 +65,27 @@ pub fn answered<F: Files>(
     (writer, end)
 }
 
-// Whether a run over the input writes just this and ends so.
+/// Whether a run over the input, in this repository, ends at its end and writes just this.
 pub fn replies<F: Files>(
     alloc: Global,
     repository: &mut Repository<F>,
     input: &[u8],
     wanted: &[u8],
-    end: End,
 ) -> bool {
     let (writer, ended) = answered(alloc, repository, input);
-    ended == Ok(end) && writer.as_slice() == wanted
+    ended == Ok(End::Input) && writer.as_slice() == wanted
 }
 
-// Whether a run over the input, in a new repository, writes just this and ends so.
-pub fn answers<R: Abort>(
-    rt: &R,
-    alloc: Global,
-    kind: Kind,
-    input: &[u8],
-    wanted: &[u8],
-    end: End,
-) -> bool {
+/// Whether a run over the input, in this repository, accepts one commit and ends.
+pub fn commits<F: Files>(alloc: Global, repository: &mut Repository<F>, input: &[u8]) -> bool {
+    let (writer, ended) = answered(alloc, repository, input);
+    ended == Ok(End::Input) && writer.as_slice().starts_with(b"ok commit ")
+}
+
+/// Stops where a run over the input, in a new repository of this kind, doesn't write just this or ends otherwise.
+pub fn answers(rt: &impl Abort, alloc: Global, kind: Kind, input: &[u8], wanted: &[u8], end: End) {
     let mut repository = fresh(rt, alloc, kind);
-    replies(alloc, &mut repository, input, wanted, end)
+    let (writer, ended) = answered(alloc, &mut repository, input);
+    assert!(rt; ended == Ok(end));
+    assert!(rt; writer.as_slice() == wanted);
 }

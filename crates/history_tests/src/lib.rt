@@ -1,4 +1,4 @@
-//! Tests of `history`, of what no contract says: outside vectors, printed texts, and faults at each call.
+//! Tests of `history`: outside vectors, printed texts, limits, and faults at each call, with each kind of digest.
 #![tactic(auto)]
 
 #[cfg(test)]
@@ -13,5 +13,7 @@ mod opening;
 mod refusals;
 #[cfg(test)]
 mod rows;
+#[cfg(test)]
+mod stored;
 #[cfg(test)]
 mod streams;

@@ -1,11 +1,15 @@
 //! Limits, at their last value and one beyond.
 
-use crate::common::{SIGNED, answered, answers, fresh, joined, replies};
-use history::files::MemoryFiles;
-use history::{End, Kind, Repository};
+use crate::common::{ByKind, KINDS, SIGNED, answers, commits, fresh, joined, replies};
+use history::End;
 use std::alloc::{AllocError, Global};
 
-// A commit whose actors have this name and email, and these words of time.
+const CONTENT_KEPT: ByKind = ByKind {
+    sha1: b"refused TooLarge\nok files 1\nfile 6cfb41404320ce6d1614f439e9aa656a15b03797 1\na\n",
+    sha256: b"refused TooLarge\nok files 1\nfile 7f71e07da5cd9cbe46b28e04b351d4fa1dc74f3df34a02688b8a2cfbe0524cb3 1\na\n",
+};
+
+/// A commit whose actors have this name and email, and these words of time.
 fn by(alloc: Global, name: &[u8], name_len: &[u8], time: &[u8]) -> Result<Vec<u8>, AllocError> {
     joined(
         alloc,
@@ -21,7 +25,7 @@ fn by(alloc: Global, name: &[u8], name_len: &[u8], time: &[u8]) -> Result<Vec<u8
     )
 }
 
-// A commit with this message.
+/// A commit with this message.
 fn saying(alloc: Global, message: &[u8], message_len: &[u8]) -> Result<Vec<u8>, AllocError> {
     joined(
         alloc,
@@ -35,7 +39,7 @@ fn saying(alloc: Global, message: &[u8], message_len: &[u8]) -> Result<Vec<u8>, 
     )
 }
 
-// A commit that puts this content.
+/// A commit that puts this content.
 fn putting(
     alloc: Global,
     path: &[u8],
@@ -60,116 +64,100 @@ fn putting(
     )
 }
 
-fn accepts(alloc: Global, repository: &mut Repository<MemoryFiles>, input: Vec<u8>) -> bool {
-    let (writer, _) = answered(alloc, repository, input.as_slice());
-    writer.as_slice().starts_with(b"ok commit ")
-}
-
-fn refuses(
-    alloc: Global,
-    repository: &mut Repository<MemoryFiles>,
-    input: Vec<u8>,
-    wanted: &[u8],
-) -> bool {
-    replies(alloc, repository, input.as_slice(), wanted, End::Input)
-}
-
 #[test]
 fn actors(rt: HostRuntime) -> Result<(), AllocError> {
     let alloc = rt.alloc();
-    let mut repository = fresh(&rt, alloc, Kind::Sha1);
     let name = [b'n'; 513];
-    let input = by(alloc, &name[..512], b"512", b"9223372036854775807 -1259")?;
-    assert!(rt; accepts(alloc, &mut repository, input));
-    let input = by(alloc, &name, b"513", b"1 +0000")?;
-    assert!(rt; refuses(alloc, &mut repository, input, b"refused BadActor\n"));
-    let input = by(alloc, b"A", b"1", b"9223372036854775808 +0000")?;
-    assert!(rt; refuses(alloc, &mut repository, input, b"refused BadTime\n"));
+    let longest = by(alloc, &name[..512], b"512", b"9223372036854775807 -1259")?;
+    let too_long = by(alloc, &name, b"513", b"1 +0000")?;
+    let too_late = by(alloc, b"A", b"1", b"9223372036854775808 +0000")?;
+    for kind in KINDS {
+        let mut repository = fresh(&rt, alloc, kind);
+        assert!(rt; commits(alloc, &mut repository, &longest));
+        assert!(rt; replies(alloc, &mut repository, &too_long, b"refused BadActor\n"));
+        assert!(rt; replies(alloc, &mut repository, &too_late, b"refused BadTime\n"));
+    }
     Ok(())
 }
 
 #[test]
 fn titles(rt: HostRuntime) -> Result<(), AllocError> {
     let alloc = rt.alloc();
-    let mut repository = fresh(&rt, alloc, Kind::Sha1);
     let title = [b't'; 1_025];
-    let input = saying(alloc, &title[..1_024], b"1024")?;
-    assert!(rt; accepts(alloc, &mut repository, input));
-    let input = saying(alloc, &title, b"1025")?;
-    assert!(rt; refuses(alloc, &mut repository, input, b"refused BadMessage\n"));
+    let longest = saying(alloc, &title[..1_024], b"1024")?;
+    let too_long = saying(alloc, &title, b"1025")?;
+    for kind in KINDS {
+        let mut repository = fresh(&rt, alloc, kind);
+        assert!(rt; commits(alloc, &mut repository, &longest));
+        assert!(rt; replies(alloc, &mut repository, &too_long, b"refused BadMessage\n"));
+    }
     Ok(())
 }
 
 #[test]
 fn paths(rt: HostRuntime) -> Result<(), AllocError> {
     let alloc = rt.alloc();
-    let mut repository = fresh(&rt, alloc, Kind::Sha1);
     let path = [b'p'; 4_097];
-    let input = putting(alloc, &path[..4_096], b"4096", b"", b"0")?;
-    assert!(rt; accepts(alloc, &mut repository, input));
-    let input = putting(alloc, &path, b"4097", b"", b"0")?;
-    assert!(rt; refuses(alloc, &mut repository, input, b"refused BadPath\n"));
+    let longest = putting(alloc, &path[..4_096], b"4096", b"", b"0")?;
+    let too_long = putting(alloc, &path, b"4097", b"", b"0")?;
+    for kind in KINDS {
+        let mut repository = fresh(&rt, alloc, kind);
+        assert!(rt; commits(alloc, &mut repository, &longest));
+        assert!(rt; replies(alloc, &mut repository, &too_long, b"refused BadPath\n"));
+    }
     Ok(())
 }
-
-// So many bytes, all the same.
-fn bytes(alloc: Global, byte: u8, len: usize) -> Result<Vec<u8>, AllocError> {
-    vec![in alloc; byte; len]
-}
-
-// A commit that puts a content of so many bytes, and then these commands.
-fn putting_bytes(
-    alloc: Global,
-    len: usize,
-    digits: &[u8],
-    rest: &[u8],
-) -> Result<Vec<u8>, AllocError> {
-    let content = bytes(alloc, b'c', len)?;
-    let commit = putting(alloc, b"a", b"1", content.as_slice(), digits)?;
-    joined(alloc, &[commit.as_slice(), rest])
-}
-
-const SHA1_LISTED: &[u8] =
-    b"refused TooLarge\nok files 1\nfile 6cfb41404320ce6d1614f439e9aa656a15b03797 1\na\n";
 
 #[test]
 fn contents(rt: HostRuntime) -> Result<(), AllocError> {
     let alloc = rt.alloc();
-    let mut repository = fresh(&rt, alloc, Kind::Sha1);
-    let input = putting_bytes(alloc, 16_777_216, b"16777216", b"")?;
-    assert!(rt; accepts(alloc, &mut repository, input));
-    let input = putting_bytes(alloc, 16_777_217, b"16777217", b"files main\n")?;
-    assert!(rt; refuses(alloc, &mut repository, input, SHA1_LISTED));
+    let content = vec![in alloc; b'c'; 16_777_217]?;
+    let (longest, _) = content.split_at(16_777_216);
+    let longest = putting(alloc, b"a", b"1", longest, b"16777216")?;
+    let too_long = putting(alloc, b"a", b"1", &content, b"16777217")?;
+    let later = joined(alloc, &[too_long.as_slice(), b"files main\n"])?;
+    for kind in KINDS {
+        let mut repository = fresh(&rt, alloc, kind);
+        assert!(rt; commits(alloc, &mut repository, &longest));
+        assert!(rt; replies(alloc, &mut repository, &later, CONTENT_KEPT.of(kind)));
+    }
     Ok(())
 }
 
-// What stands before so many bytes of a message, its length, and the refusal: a long message is refused for its title where
-// that is bad, and else for its length.
-const MESSAGES: [(&[u8], usize, &[u8], &[u8]); 3] = [
-    (b"", 16_777_217, b"16777217", b"refused BadMessage\n"),
-    (b"t\n", 16_777_215, b"16777217", b"refused TooLarge\n"),
-    (b"t\n", 16_777_214, b"16777216", b"refused TooLarge\n"),
-];
-
-fn message(alloc: Global, title: &[u8], len: usize, digits: &[u8]) -> Result<Vec<u8>, AllocError> {
-    let body = bytes(alloc, b'm', len)?;
-    let message = joined(alloc, &[title, body.as_slice()])?;
-    saying(alloc, message.as_slice(), digits)
-}
-
+// A long message is refused for its title where that is bad, and else for its length.
 #[test]
 fn messages(rt: HostRuntime) -> Result<(), AllocError> {
-    for (title, len, digits, wanted) in MESSAGES {
-        let input = message(rt.alloc(), title, len, digits)?;
-        assert!(rt;
-            answers(
-                &rt,
-                rt.alloc(),
-                Kind::Sha1,
-                input.as_slice(),
-                wanted,
-                End::Input
-            )
+    let alloc = rt.alloc();
+    let message = vec![in alloc; b'm'; 16_777_217]?;
+    let one_line = saying(alloc, &message, b"16777217")?;
+    let (body, _) = message.split_at(16_777_215);
+    let too_long = saying(alloc, &joined(alloc, &[b"t\n", body])?, b"16777217")?;
+    let (body, _) = message.split_at(16_777_214);
+    let too_much = saying(alloc, &joined(alloc, &[b"t\n", body])?, b"16777216")?;
+    for kind in KINDS {
+        answers(
+            &rt,
+            alloc,
+            kind,
+            &one_line,
+            b"refused BadMessage\n",
+            End::Input,
+        );
+        answers(
+            &rt,
+            alloc,
+            kind,
+            &too_long,
+            b"refused TooLarge\n",
+            End::Input,
+        );
+        answers(
+            &rt,
+            alloc,
+            kind,
+            &too_much,
+            b"refused TooLarge\n",
+            End::Input,
         );
     }
     Ok(())

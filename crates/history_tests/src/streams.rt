@@ -2,13 +2,14 @@
 
 ghost use Rattle.std.specs.Prelude.{None};
 
-use crate::common::{SHA1_STORED_REPLIES, STORED_RUN, fresh, replies};
+use crate::common::{KINDS, fresh};
+use crate::stored::{COMMIT_END, COMMITTED, FILES_END, INPUT, LISTED, REPLIES};
 use history::files::MemoryFiles;
 use history::{Broken, Bytes, Collected, End, Kind, Repository, RunError, Sink, Source, run};
 use std::alloc::Global;
 use std::process::Abort;
 
-// Gives one byte a reading, and fails where it has given so many.
+/// Gives one byte a reading, and fails where it has given so many.
 #[derive(Drop)]
 struct Dripping<'a> {
     rest: &'a [u8],
@@ -42,7 +43,7 @@ impl Source for Dripping<'_> {
     }
 }
 
-// Takes one byte a call, and fails where it has taken so many.
+/// Takes one byte a call, and fails where it has taken so many.
 #[derive(Drop)]
 struct Narrow {
     bytes: Vec<u8>,
@@ -69,14 +70,14 @@ impl Sink for Narrow {
     }
 }
 
-// Runs the stored run, of which so many bytes are given.
-fn run_from(
+/// A reader that gives so many bytes, and how the run over it ends.
+fn drip(
     alloc: Global,
     repository: &mut Repository<MemoryFiles>,
     room: usize,
 ) -> (Collected, Result<End, RunError>) {
     let mut reader = Dripping {
-        rest: STORED_RUN,
+        rest: INPUT,
         room,
         is_broken: false,
         readings: 0,
@@ -86,65 +87,49 @@ fn run_from(
     (writer, ended)
 }
 
-// Whether a run of which so many bytes are given writes this, ends so, and leaves a repository that hasn't failed.
-fn reads<R: Abort>(
-    rt: &R,
-    alloc: Global,
-    kind: Kind,
-    room: usize,
-    wanted: (&[u8], Result<End, RunError>),
-) -> bool {
-    let mut repository = fresh(rt, alloc, kind);
-    let (writer, ended) = run_from(alloc, &mut repository, room);
-    ended == wanted.1 && writer.as_slice() == wanted.0 && !repository.has_failed()
-}
-
-// Where the first two commands end, and where the replies to them end.
-#[derive(Clone, Copy)]
-struct Ends {
-    committed: usize,
-    listed: usize,
-    first: usize,
-    second: usize,
-}
-
-const SHA1_ENDS: Ends = Ends {
-    committed: 119,
-    listed: 130,
-    first: 51,
-    second: 112,
-};
-
-// The replies to the commands that stand whole in so many bytes.
-fn whole_replies<'a>(ends: &Ends, stored: &'a [u8], room: usize) -> &'a [u8] {
-    let end = if room < ends.committed {
+/// The number of bytes that answer the commands which stand whole in so many bytes.
+fn answered_of(kind: Kind, room: usize) -> usize {
+    let committed = COMMITTED.of(kind).len();
+    if room < COMMIT_END {
         0
-    } else if room < ends.listed {
-        ends.first
+    } else if room < FILES_END {
+        committed
     } else {
-        ends.second
-    };
-    stored.get(..end).unwrap_or(stored)
+        committed.saturating_add(LISTED.of(kind).len())
+    }
 }
 
-// The reader fails behind each byte: what is written is the replies to the commands that came whole.
+/// Stops where a reader that fails behind so many bytes isn't told, or the commands that came whole aren't answered.
+fn try_reader(rt: &impl Abort, alloc: Global, kind: Kind, room: usize) {
+    let mut repository = fresh(rt, alloc, kind);
+    let (writer, ended) = drip(alloc, &mut repository, room);
+    assert!(rt; ended == Err(RunError::Read), "at {room}");
+    assert!(rt; !repository.has_failed());
+    assert!(rt;
+        writer.as_slice().len() == answered_of(kind, room),
+        "at {room}"
+    );
+    assert!(rt;
+        REPLIES.of(kind).starts_with(writer.as_slice()),
+        "at {room}"
+    );
+}
+
 #[test]
 fn readers(rt: HostRuntime) {
-    let stored = SHA1_STORED_REPLIES;
-    for room in 0..STORED_RUN.len() {
-        let wanted = whole_replies(&SHA1_ENDS, stored, room);
-        let answer = (wanted, Err(RunError::Read));
-        assert!(rt;
-            reads(&rt, rt.alloc(), Kind::Sha1, room, answer),
-            "at {room}"
-        );
+    for kind in KINDS {
+        for room in 0..INPUT.len() {
+            try_reader(&rt, rt.alloc(), kind, room);
+        }
+        let mut repository = fresh(&rt, rt.alloc(), kind);
+        let (writer, ended) = drip(rt.alloc(), &mut repository, INPUT.len() + 1);
+        assert!(rt; ended == Ok(End::Input));
+        assert!(rt; writer.as_slice() == REPLIES.of(kind));
     }
-    let whole = (stored, Ok(End::Input));
-    assert!(rt; reads(&rt, rt.alloc(), Kind::Sha1, STORED_RUN.len() + 1, whole));
 }
 
-// Runs the stored run, of whose replies so many bytes are taken.
-fn run_into(
+/// What a writer that takes so many bytes holds, and how the run over it ends.
+fn squeeze(
     alloc: Global,
     repository: &mut Repository<MemoryFiles>,
     room: usize,
@@ -154,42 +139,43 @@ fn run_into(
         room,
         is_broken: false,
     };
-    let ended = run(alloc, &mut Bytes::new(STORED_RUN), &mut writer, repository);
-    (writer.bytes, ended)
+    let ended = run(alloc, &mut Bytes::new(INPUT), &mut writer, repository);
+    let Narrow { bytes, .. } = writer;
+    (bytes, ended)
 }
 
-// Whether a writer that takes so many bytes of the replies fails behind them, and the first command is done.
-fn writes_beginning<R: Abort>(
-    rt: &R,
-    alloc: Global,
-    kind: Kind,
-    taken: &[u8],
-    listed: &[u8],
-) -> bool {
+/// Stops where a writer that fails behind so many bytes isn't told, or the first command isn't done.
+fn try_writer(rt: &impl Abort, alloc: Global, kind: Kind, room: usize) {
     let mut repository = fresh(rt, alloc, kind);
-    let (bytes, ended) = run_into(alloc, &mut repository, taken.len());
-    ended == Err(RunError::Write)
-        && bytes.as_slice() == taken
-        && !repository.has_failed()
-        && replies(alloc, &mut repository, b"files main\n", listed, End::Input)
+    let (bytes, ended) = squeeze(alloc, &mut repository, room);
+    assert!(rt; ended == Err(RunError::Write), "at {room}");
+    assert!(rt;
+        bytes.len() == room && REPLIES.of(kind).starts_with(&bytes),
+        "at {room}"
+    );
+    assert!(rt; !repository.has_failed());
+    let mut later = Collected::new(alloc);
+    let ended = run(
+        alloc,
+        &mut Bytes::new(b"files main\n"),
+        &mut later,
+        &mut repository,
+    );
+    assert!(rt;
+        ended == Ok(End::Input) && later.as_slice() == LISTED.of(kind),
+        "at {room}"
+    );
 }
 
-fn writes_all<R: Abort>(rt: &R, alloc: Global, kind: Kind, stored: &[u8]) -> bool {
-    let mut repository = fresh(rt, alloc, kind);
-    let (bytes, ended) = run_into(alloc, &mut repository, stored.len());
-    ended == Ok(End::Input) && bytes.as_slice() == stored
-}
-
-// The writer fails behind each byte: a beginning of the replies is written, and the first command is done.
+// A beginning of the replies is written, and the first command is done.
 #[test]
 fn writers(rt: HostRuntime) {
-    let stored = SHA1_STORED_REPLIES;
-    let Some(listed) = stored.get(SHA1_ENDS.first..SHA1_ENDS.second) else {
-        panic!(rt; "no such part");
-    };
-    for room in 0..stored.len() {
-        let is_right = writes_beginning(&rt, rt.alloc(), Kind::Sha1, &stored[..room], listed);
-        assert!(rt; is_right, "at {room}");
+    for kind in KINDS {
+        for room in 0..REPLIES.of(kind).len() {
+            try_writer(&rt, rt.alloc(), kind, room);
+        }
+        let mut repository = fresh(&rt, rt.alloc(), kind);
+        let (bytes, ended) = squeeze(rt.alloc(), &mut repository, REPLIES.of(kind).len());
+        assert!(rt; ended == Ok(End::Input) && bytes.as_slice() == REPLIES.of(kind));
     }
-    assert!(rt; writes_all(&rt, rt.alloc(), Kind::Sha1, stored));
 }

@@ -1,4 +1,4 @@
-use Rattle.history_model.proofs.RowLemmas.{blob_text_hello, empty_blob, hello_blob, empty_tree_computed, first_length, first_id, three_tree}
+use Rattle.history_model.proofs.RowLemmas.{blob_text_hello, empty_blob, hello_blob, empty_tree_computed, empty_blob_sha256, hello_blob_sha256, empty_tree_sha256, first_length, first_id, three_tree}
 use Rattle.history_model.proofs.rows.ids.Goals as goal
 
 pub returns-clause-hello : goal.returns-clause-hello
@@ -21,3 +21,12 @@ returns-clause-commit_id c = first_id
 
 pub returns-clause-tree : goal.returns-clause-tree
 returns-clause-tree c = three_tree
+
+pub returns-clause-blob_sha256 : goal.returns-clause-blob_sha256
+returns-clause-blob_sha256 c = empty_blob_sha256
+
+pub returns-clause-hello_blob_sha256 : goal.returns-clause-hello_blob_sha256
+returns-clause-hello_blob_sha256 c = hello_blob_sha256
+
+pub returns-clause-empty_tree_sha256 : goal.returns-clause-empty_tree_sha256
+returns-clause-empty_tree_sha256 c = empty_tree_sha256

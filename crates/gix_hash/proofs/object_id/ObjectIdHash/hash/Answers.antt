@@ -1,5 +1,6 @@
 use Rattle.std.proofs.Common.{ap, sym, ◌∙◌}
-use Rattle.gix_hash.specs.Packed.{bytes_from, bytes_from-digits_of}
+use Rattle.gix_hash.specs.Packed.{bytes_from-digits_of}
+use Rattle.gix_hash.specs.Id.{bytes_from}
 use Rattle.gix_hash.proofs.object_id.ObjectIdHash.hash.Goals as goal
 
 pub returns : goal.returns

@@ -35,9 +35,9 @@ returns-clause-acts g c = λ r order h is ours.
     let id = id_of r.kind (StoredCommit (new_commit r order)) in (
       Committed id,
       after r (Commit order),
-      committed_text id c.new-text.result.items c.line.new.text.items c.as_slice.result.now c.as_slice-2.result.now c.as_slice-3.result.now c.new-text.ensures.items c.as_slice.ensures c.as_slice-2.ensures
-          (c.as_slice-3.ensures ∙ c.to_hex.ensures.digits ∙ ap hex (moved_to r order c.in_ok-moves.moves stores.3)) c.in_ok-line.ensures,
+      committed_text id c.new-text.result.items c.line.new.text.items c.as_slice.result.now c.as_slice-2.result.now c.hex_digits.result.now c.new-text.ensures.items c.as_slice.ensures c.as_slice-2.ensures
+          (c.hex_digits.ensures ∙ ap hex (moved_to r order c.in_ok-moves.moves stores.3)) c.in_ok-line.ensures,
       accepted r order stores.0 stores.1,
-      commit_stands g.F.Files.is_honest g.F.Files.history old mid new r order h ours stores.0 stores.1 c.store_objects.ensures.kept (c.store_objects.ensures.honest h.honest_objects) c.store_objects.ensures.kind stores.2
+      commit_stands g.F.Files.is_honest g.F.Files.history old mid new r order h ours stores.0 stores.1 c.store_objects.ensures.kept (c.store_objects.ensures.honest h.honest_objects) c.store_objects.ensures.kind stores.2 (c.in_ok-moves.ensures.known r order h is ours)
           c.move_names.ensures.kept (c.move_names.ensures.honest stand.honest) c.move_names.ensures.kind (c.in_ok-move_names.ensures.moves r order stand ours stores.3),
     )

@@ -1,7 +1,7 @@
 use Rattle.history_model.specs.Commands.{Files}
-use Rattle.history_store.specs.Formats.{id_bytes}
 use Rattle.history.proofs.Answered.{reading_fault, unread, handed_on, files_refused, reads_commit, files_answered, folder_at}
 use Rattle.history.proofs.repository.Repository.list_files.Goals as goal
+use Rattle.gix_hash.specs.Id.{id_of}
 
 pub returns-in_err-id : goal.returns-in_err-id
 returns-in_err-id g c = λ r s.
@@ -12,23 +12,23 @@ returns-in_err-id g c = λ r s.
 pub returns-in_err-commit : goal.returns-in_err-commit
 returns-in_err-commit g c = λ r s.
     let order = Files c.args.word.now in
-    let read = reads_commit r s.offered s.whole.whole.names c.args.word.now (id_bytes c.in_ok-id.id) (c.in_ok-id.ensures r s) in
+    let read = reads_commit r s.offered s.whole.whole.names c.args.word.now (id_of c.in_ok-id.id) (c.in_ok-id.ensures r s) in
     handed_on g.F.Files.reading_may_fail r order c.from_residual-in_err-commit.result _ c.from_residual-in_err-commit.ensures.1
     (reading_fault g.F.Files.reading_may_fail r order _ (c.in_err-commit.ensures r read.0 s read.1))
 
 pub returns-in_err-tree : goal.returns-in_err-tree
 returns-in_err-tree g c = λ r s.
     let order = Files c.args.word.now in
-    let read = reads_commit r s.offered s.whole.whole.names c.args.word.now (id_bytes c.in_ok-id.id) (c.in_ok-id.ensures r s) in
+    let read = reads_commit r s.offered s.whole.whole.names c.args.word.now (id_of c.in_ok-id.id) (c.in_ok-id.ensures r s) in
     let commit = c.in_ok-commit.ensures r read.0 s read.1 in
-    let folder = folder_at r s.whole.whole.store (id_bytes c.in_ok-id.id) read.0 c.in_ok-commit.commit read.1 commit in
+    let folder = folder_at r s.whole.whole.store (id_of c.in_ok-id.id) read.0 c.in_ok-commit.commit read.1 commit in
     handed_on g.F.Files.reading_may_fail r order c.from_residual-in_err-tree.result _ c.from_residual-in_err-tree.ensures.1
     (reading_fault g.F.Files.reading_may_fail r order _ (c.in_err-tree.ensures r read.0.files s folder))
 
 pub returns : goal.returns
 returns g c = λ r s.
-    let read = reads_commit r s.offered s.whole.whole.names c.args.word.now (id_bytes c.in_ok-id.id) (c.in_ok-id.ensures r s) in
+    let read = reads_commit r s.offered s.whole.whole.names c.args.word.now (id_of c.in_ok-id.id) (c.in_ok-id.ensures r s) in
     let commit = c.in_ok-commit.ensures r read.0 s read.1 in
-    let folder = folder_at r s.whole.whole.store (id_bytes c.in_ok-id.id) read.0 c.in_ok-commit.commit read.1 commit in
-    files_answered r s.offered s.whole.whole.names g.F.Files.reading_may_fail c.args.word.now (id_bytes c.in_ok-id.id) read.0 c.in_ok-tree.tree c.in_ok-files_text.field-0
+    let folder = folder_at r s.whole.whole.store (id_of c.in_ok-id.id) read.0 c.in_ok-commit.commit read.1 commit in
+    files_answered r s.offered s.whole.whole.names g.F.Files.reading_may_fail c.args.word.now (id_of c.in_ok-id.id) read.0 c.in_ok-tree.tree c.in_ok-files_text.field-0
     (c.in_ok-id.ensures r s) read.1 (c.in_ok-tree.ensures r read.0.files s folder) c.in_ok-files_text.ensures

@@ -8,4 +8,4 @@ returns-in-Ok-clause-stands g c = λ objects names.
     let honest = subst g.F.Files.is_honest (sym c.new-names.ensures.files) names in
     let found = c.in-Ok.ensures.first objects honest in
     let new = subst (λ files. IsNew (g.F.Files.history files).tree (g.F.Files.history c.new-names.result.files).tree) (sym c.new.ensures.files) found.1 in
-    opened_stands g.F.Files.is_honest g.F.Files.history _ c.args.kind (subst g.F.Files.is_honest (sym c.new.ensures.files) objects) honest c.new.ensures.kind c.new-names.ensures.kind found.0 new
+    opened_stands g.F.Files.is_honest g.F.Files.history _ c.args.kind (subst g.F.Files.is_honest (sym c.new.ensures.files) objects) honest c.new.ensures.kind c.new-names.ensures.kind found.0 c.new.ensures.ids new

@@ -3,10 +3,9 @@ use Rattle.std.proofs.lemmas.Result.{err_from_is_err_and}
 use Rattle.history_model.specs.Bytes.{Bytes}
 use Rattle.history_model.specs.Forms.{title, max_content}
 use Rattle.history_model.specs.Meaning.{branch_or_name, new_commit}
-use Rattle.history_model.specs.Objects.{null_id}
+use Rattle.gix_hash.specs.Id.{null_id, id_of}
 use Rattle.history_model.specs.declared.Cause.TheVariants.{TooLarge}
-use Rattle.history_model.specs.declared.Kind.{Kind}
-use Rattle.history_store.specs.Formats.{id_bytes}
+use Rattle.gix_hash.specs.declared.kind.Kind.{Kind}
 use Rattle.history_store.specs.Trees.{IsTreeOf}
 use Rattle.history_store.specs.declared.commit.Commit.{Commit}
 use Rattle.history_store.specs.declared.log_entry.LogEntry.{LogEntry}
@@ -125,7 +124,7 @@ returns g c = λ r order h is ours.
         moves = record {
           name = name_is;
           entry = entry_is r order h.offered w ours entry kind c.deref-5.result.now h.objects_kind
-              (ap id_bytes c.unwrap_or.ensures ∙ before_is r order h.offered w ours c.in_ok-parent.parent c.null.result parent.0 (c.null.ensures ∙ ap null_id (c.kind.ensures ∙ h.objects_kind)))
+              (ap id_of c.unwrap_or.ensures ∙ before_is r order h.offered w ours c.in_ok-parent.parent c.null.result parent.0 (c.null.ensures ∙ ap null_id (c.kind.ensures ∙ h.objects_kind)))
               c.id_of-2.ensures (c.deref-5.ensures.value ∙ commit_bytes) (c.in_ok-log_actor.ensures ∙ committer)
               (c.in_ok-title.ensures.items ∙ c.title.ensures ∙ ap title (c.deref-3.ensures.value ∙ message));
         };

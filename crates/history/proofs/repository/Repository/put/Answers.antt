@@ -1,6 +1,6 @@
 use Rattle.std.proofs.lemmas.Result.{err_from_is_err_and}
 use Rattle.std.proofs.Common.{◌≡◌, Err, [], ◌∷◌, ◌⊎◌, ap, refl, inl, inr, arith, ◌∙◌}
-use Rattle.history.proofs.Puts.{value_put, value_free, value_taken, put_stopped}
+use Rattle.history.proofs.Puts.{same_id, value_put, value_free, value_taken, value_known, put_stopped}
 use Rattle.history_store.proofs.ObjectParts.{values_are_objects}
 use Rattle.history.proofs.repository.Repository.put.Goals as goal
 
@@ -43,3 +43,9 @@ returns-clause-stores g c = λ values value stand typed same.
         refl,
       ),
     )
+
+pub returns-clause-known : goal.returns-clause-known
+returns-clause-known g c = λ values value known typed same.
+    let kind = c.args.self.now.objects.kind in
+    let tree = (g.F.Files.history c.args.self.now.objects.files).tree in
+    value_known kind c.args.self.now.objects.ids c.put.new.self.ids values value _ (same_id kind tree value c.args.object c.args.content.now typed same) c.in_ok-put.ensures.known known

@@ -19,6 +19,7 @@ loop-blob-preserved g c =
       honest = c.put.ensures.honest;
       kind = c.put.ensures.kind;
       stores = λ values stand. c.in_ok-put.ensures.stores values (blob_value blob) stand refl (sym c.deref.ensures.value);
+      known = λ values known. c.in_ok-put.ensures.known values (blob_value blob) known refl (sym c.deref.ensures.value);
     })
 
 pub returns-in_err-put-clause-kept : goal.returns-in_err-put-clause-kept
@@ -56,3 +57,10 @@ returns-clause-stores g c =
     let all : take c.loop-blob.blob-index blobs ≡ blobs = take_all c.loop-blob.blob-index blobs c.loop-blob-test.false in
     let stored = subst (λ (these : List (Vec ℕ Global)). HasStored g.F.Files.is_honest g.F.Files.history (map blob_value these) c.args.self.now c.loop-blob.self) all c.loop-blob.invariant.stored in
     stored.stores
+
+pub returns-clause-known : goal.returns-clause-known
+returns-clause-known g c =
+    let blobs = c.args.blobs.now in
+    let all : take c.loop-blob.blob-index blobs ≡ blobs = take_all c.loop-blob.blob-index blobs c.loop-blob-test.false in
+    let stored = subst (λ (these : List (Vec ℕ Global)). HasStored g.F.Files.is_honest g.F.Files.history (map blob_value these) c.args.self.now c.loop-blob.self) all c.loop-blob.invariant.stored in
+    stored.known

@@ -1,18 +1,24 @@
-use Rattle.std.proofs.Common.{◌∙◌, refl}
-use Rattle.history_model.specs.Objects.{StoredCommit}
-use Rattle.history_store.specs.Formats.{id_bytes}
+use Rattle.std.proofs.Common.{◌≡◌, ◌∙◌, refl, subst, MatchOption, IsTrue}
+use Rattle.history_model.specs.Forms.{is_commit_form}
+use Rattle.history_model.specs.Objects.{StoredCommit, commit_content}
+use Rattle.history_store.specs.Commits.{IsCommitOf}
 use Rattle.history.proofs.StoredValues.{commit_formed}
 use Rattle.history.proofs.repository.Repository.read_commit.Goals as goal
+use Rattle.gix_hash.specs.Id.{id_of}
 
 pub returns : goal.returns
 returns g c r value stands at =
     let spelled = c.deref.ensures.value ∙ c.in_ok-content.ensures r (StoredCommit value) stands at refl in
-    let read = c.in_ok-parse.ensures.read r.kind value (commit_formed _ _ c.args.self.now r stands (id_bytes c.args.id.now) value at) spelled in
+    let reads = subst (λ kind. IsTrue (is_commit_form kind value) → c.deref.result.now ≡ commit_content kind value → MatchOption c.in_ok-parse.field-0 ⊥ (λ commit. IsCommitOf kind commit value))
+    (c.kind.ensures ∙ stands.objects_kind) (c.in_ok-parse.ensures.read value) in
+    let read = reads (commit_formed _ _ c.args.self.now r stands (id_of c.args.id.now) value at) spelled in
     rw c.in_ok-ok_or.ensures.ok_part at read
 
 pub returns-in_err-ok_or : goal.returns-in_err-ok_or
 returns-in_err-ok_or g c r value stands at =
     let spelled = c.deref.ensures.value ∙ c.in_ok-content.ensures r (StoredCommit value) stands at refl in
-    let read = c.in_ok-parse.ensures.read r.kind value (commit_formed _ _ c.args.self.now r stands (id_bytes c.args.id.now) value at) spelled in
+    let reads = subst (λ kind. IsTrue (is_commit_form kind value) → c.deref.result.now ≡ commit_content kind value → MatchOption c.in_ok-parse.field-0 ⊥ (λ commit. IsCommitOf kind commit value))
+    (c.kind.ensures ∙ stands.objects_kind) (c.in_ok-parse.ensures.read value) in
+    let read = reads (commit_formed _ _ c.args.self.now r stands (id_of c.args.id.now) value at) spelled in
     let none = rw c.in_err-ok_or.ensures.ok_part at read in
     absurd none

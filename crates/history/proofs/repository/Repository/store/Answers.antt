@@ -8,7 +8,7 @@ use Rattle.history.specs.Halves.{objects_tree, StoresValues}
 use Rattle.history.proofs.Commits.{objects_stand}
 use Rattle.history.proofs.Counts.{failed_before, counts_joined}
 use Rattle.history.proofs.Puts.{blob_value, HasStored}
-use Rattle.history.proofs.Storing.{folder_content, planned_content, contents_stopped, folder_stopped, all_stored}
+use Rattle.history.proofs.Storing.{folder_content, planned_content, contents_stopped, folder_stopped, all_stored, all_known}
 use Rattle.history.proofs.repository.Repository.store.Goals as goal
 
 pub returns-in_err-put_blobs-clause-stores : goal.returns-in_err-put_blobs-clause-stores
@@ -30,7 +30,7 @@ returns-in_err-put-clause-stores g c = λ r order h none is.
     let stopped = err_from_is_err_and c.from_residual-in_err-put.result c.from_residual-in_err-put.ensures.1 in
     let first : HasStored g.F.Files.is_honest g.F.Files.history (map blob_value c.args.plan.now.blobs.items) old mid =
     subst (λ (blobs : List (Vec ℕ Global)). HasStored g.F.Files.is_honest g.F.Files.history (map blob_value blobs) old mid) c.deref.ensures.value
-    (record { honest = c.put_blobs.ensures.honest; kind = c.put_blobs.ensures.kind; stores = c.in_ok-put_blobs.ensures.stores }) in
+    (record { honest = c.put_blobs.ensures.honest; kind = c.put_blobs.ensures.kind; stores = c.in_ok-put_blobs.ensures.stores; known = c.in_ok-put_blobs.ensures.known }) in
     folder_stopped r order c.args.plan.now h.offered none is g.F.Files.is_honest g.F.Files.history old h mid first new
     (HasFailedCall g.F.Files.failures g.F.Files.reading_may_fail mid new) (HasFailedCall g.F.Files.failures g.F.Files.reading_may_fail old new)
     c.put.result c.from_residual-in_err-put.result c.in_err-put.field-0.0 c.in_err-put.was (stopped.1 ∙ ap Err stopped.2)
@@ -46,12 +46,14 @@ returns-clause-stores g c = λ r order h none is.
     let new = c.put-2.new.self in
     let first : HasStored g.F.Files.is_honest g.F.Files.history (map blob_value c.args.plan.now.blobs.items) old mid =
     subst (λ (blobs : List (Vec ℕ Global)). HasStored g.F.Files.is_honest g.F.Files.history (map blob_value blobs) old mid) c.deref.ensures.value
-    (record { honest = c.put_blobs.ensures.honest; kind = c.put_blobs.ensures.kind; stores = c.in_ok-put_blobs.ensures.stores }) in
+    (record { honest = c.put_blobs.ensures.honest; kind = c.put_blobs.ensures.kind; stores = c.in_ok-put_blobs.ensures.stores; known = c.in_ok-put_blobs.ensures.known }) in
     let mid_kind = c.put_blobs.ensures.kind ∙ h.objects_kind in
     let second : HasStored g.F.Files.is_honest g.F.Files.history (StoredFolder (new_commit r order).files ∷ []) mid late = record {
       honest = c.put.ensures.honest;
       kind = c.put.ensures.kind;
       stores = λ values stand. c.in_ok-put.ensures.stores values (StoredFolder (new_commit r order).files) stand refl
+          (folder_content r order c.args.plan.now h.offered none is mid.objects.kind mid_kind ∙ sym c.deref-2.ensures.value);
+      known = λ values known. c.in_ok-put.ensures.known values (StoredFolder (new_commit r order).files) known refl
           (folder_content r order c.args.plan.now h.offered none is mid.objects.kind mid_kind ∙ sym c.deref-2.ensures.value);
     } in
     all_stored r order c.args.plan.now h.offered none is g.F.Files.is_honest g.F.Files.history old h mid first late
@@ -59,4 +61,25 @@ returns-clause-stores g c = λ r order h none is.
     (failed_before g.F.Files.failures g.F.Files.reading_may_fail old late new (counts_joined g.F.Files.failures old mid late c.put_blobs.ensures.counts c.put.ensures.counts))
     second
     (λ values stand. c.put-2.ensures.stores values (StoredCommit (new_commit r order)) stand refl
+    (planned_content r order c.args.plan.now h.offered none is late.objects.kind (c.put.ensures.kind ∙ mid_kind) ∙ sym c.deref-3.ensures.value))
+
+pub returns-clause-known : goal.returns-clause-known
+returns-clause-known g c = λ r order h none is.
+    let old = c.args.self.now in
+    let mid = c.put_blobs.new.self in
+    let late = c.put.new.self in
+    let first : HasStored g.F.Files.is_honest g.F.Files.history (map blob_value c.args.plan.now.blobs.items) old mid =
+    subst (λ (blobs : List (Vec ℕ Global)). HasStored g.F.Files.is_honest g.F.Files.history (map blob_value blobs) old mid) c.deref.ensures.value
+    (record { honest = c.put_blobs.ensures.honest; kind = c.put_blobs.ensures.kind; stores = c.in_ok-put_blobs.ensures.stores; known = c.in_ok-put_blobs.ensures.known }) in
+    let mid_kind = c.put_blobs.ensures.kind ∙ h.objects_kind in
+    let second : HasStored g.F.Files.is_honest g.F.Files.history (StoredFolder (new_commit r order).files ∷ []) mid late = record {
+      honest = c.put.ensures.honest;
+      kind = c.put.ensures.kind;
+      stores = λ values stand. c.in_ok-put.ensures.stores values (StoredFolder (new_commit r order).files) stand refl
+          (folder_content r order c.args.plan.now h.offered none is mid.objects.kind mid_kind ∙ sym c.deref-2.ensures.value);
+      known = λ values known. c.in_ok-put.ensures.known values (StoredFolder (new_commit r order).files) known refl
+          (folder_content r order c.args.plan.now h.offered none is mid.objects.kind mid_kind ∙ sym c.deref-2.ensures.value);
+    } in
+    all_known r order c.args.plan.now h.offered none is g.F.Files.is_honest g.F.Files.history old h mid first late c.put-2.new.self c.put-2.result second
+    (λ values known. c.put-2.ensures.known values (StoredCommit (new_commit r order)) known refl
     (planned_content r order c.args.plan.now h.offered none is late.objects.kind (c.put.ensures.kind ∙ mid_kind) ∙ sym c.deref-3.ensures.value))

@@ -20,3 +20,8 @@ returns-clause-stores g c = λ r order h is ours.
     let plan = c.in_ok-plan.ensures r order h is ours in
     let stored = c.in_ok-store.ensures.stores r order h plan.0 plan.1 in
     (plan.0, stored.0, stored.1, plan.1.moves)
+
+pub returns-clause-known : goal.returns-clause-known
+returns-clause-known g c = λ r order h is ours.
+    let plan = c.in_ok-plan.ensures r order h is ours in
+    c.in_ok-store.ensures.known r order h plan.0 plan.1

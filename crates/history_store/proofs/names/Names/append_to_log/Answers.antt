@@ -1,7 +1,4 @@
 use Rattle.std.proofs.Common.{◌≡◌, ◌≢◌, ◌∙◌, ◌++◌, sym, subst, rules}
-use Rattle.std.proofs.lemmas.Bool.Decides.{Decides-eqb}
-use Rattle.std.proofs.lemmas.Slice.Eq.{slice_eq-Decides}
-use Rattle.history_store.specs.Formats.{id_bytes}
 use Rattle.history_store.proofs.Stored.{on_ok_both}
 use Rattle.history_store.specs.Stores.{FoldersAbove}
 use Rattle.history_store.specs.References.{HasWay}
@@ -10,21 +7,25 @@ use Rattle.std.specs.Prelude.{IsTrue}
 use Rattle.gix_ref_file.specs.Tree.{bytes_at, is_path}
 use Rattle.gix_ref_file.specs.Changes.{may_hold_file}
 use Rattle.history_model.specs.Places.{log_place}
-use Rattle.history_store.proofs.Moves.{appended}
+use Rattle.history_model.proofs.IdLemmas.{one_id, apart_ids}
+use Rattle.history_store.proofs.Moves.{appended, not_logged}
 use Rattle.history_store.proofs.Above.{now_above, put_above}
 use Rattle.history_store.proofs.Clearings.{caused, later_risen}
 use Rattle.history_store.proofs.Ways.{log_path}
 use Rattle.history_store.proofs.names.Names.append_to_log.Goals as goal
+use Rattle.gix_hash.specs.Id.{id_of}
+
+pub returns-then-eq-clause-logged : goal.returns-then-eq-clause-logged
+returns-then-eq-clause-logged g c = λ honest.
+    let entry = c.args.entry.now in
+    not_logged c.args.name.now entry (g.F.Files.history c.args.self.now.files).tree (one_id (id_of entry.before) (id_of entry.after) (sym c.eq.ensures ∙ c.if-eq.true))
 
 pub returns-clause-logged : goal.returns-clause-logged
 returns-clause-logged g c = λ honest.
     let entry = c.args.entry.now in
     let made = c.make_way.ensures.moments honest in
     let change = c.append.ensures.change (c.make_way.ensures.honest honest) in
-    let moves : id_bytes entry.before ≢ id_bytes entry.after = λ same.
-    let equal = (slice_eq-Decides Decides-eqb _ _ _ c.eq.ensures).1 (c.as_bytes.ensures.value ∙ same ∙ sym c.as_bytes-2.ensures.value) in
-    let unlike = c.if-eq.false in
-    absurd (cc) in
+    let moves : id_of entry.before ≢ id_of entry.after = apart_ids (id_of entry.before) (id_of entry.after) (sym c.eq.ensures ∙ c.if-eq.false) in
     on_ok_both c.append.result
     (appended c.args.name.now entry c.deref-2.result.now c.deref-3.result.now (g.F.Files.history c.args.self.now.files) (g.F.Files.history c.make_way.new.files) (g.F.Files.history c.append.new.self) moves
     (c.deref-2.ensures.value ∙ c.in_ok-log.ensures) (c.deref-3.ensures.value ∙ c.in_ok-line.ensures) made)

@@ -12,7 +12,7 @@ pub loop-last-init : goal.loop-last-init
 loop-last-init c =
     let none = sym (no_entries _ c.new-tree.ensures) in record {
       text = ap (λ es. flat_map named_text es ++ c.args.content.now) none;
-      entries_are = subst (λ es. IsTrue (list_all is_entry es)) none refl;
+      entries_are = subst (λ es. IsTrue (list_all (is_entry c.args.kind) es)) none refl;
       ascending = subst (λ es. T (ascend [] es)) none tt;
       at_last = ap (last_name []) none;
     }
@@ -24,18 +24,18 @@ loop-last-preserved c =
     let name : c.in_ok-from_slice.field-0.items ≡ c.in-Some.name.now = search rules in
     let is = c.in_ok-insert.ensures.ok ∙ ap (λ n. map.insert c.loop-last.tree n c.in-Some.entry) name in
     let less : by_bytes c.loop-last.last.now c.in-Some.name.now ≡ Less = behind c.in-Some.name.now c.loop-last.last.now c.if-le.ensures in record {
-      text = text_more _ _ _ _ inv.text inv.entries_are inv.ascending inv.at_last _ _ _ begins less _ is;
-      entries_are = are_more _ _ _ _ inv.text inv.entries_are inv.ascending inv.at_last _ _ _ begins less _ is;
-      ascending = ascending_more _ _ _ _ inv.text inv.entries_are inv.ascending inv.at_last _ _ _ begins less _ is;
-      at_last = at_last_more _ _ _ _ inv.text inv.entries_are inv.ascending inv.at_last _ _ _ begins less _ is;
+      text = text_more c.args.kind _ _ _ _ inv.text inv.entries_are inv.ascending inv.at_last _ _ _ begins less _ is;
+      entries_are = are_more c.args.kind _ _ _ _ inv.text inv.entries_are inv.ascending inv.at_last _ _ _ begins less _ is;
+      ascending = ascending_more c.args.kind _ _ _ _ inv.text inv.entries_are inv.ascending inv.at_last _ _ _ begins less _ is;
+      at_last = at_last_more c.args.kind _ _ _ _ inv.text inv.entries_are inv.ascending inv.at_last _ _ _ begins less _ is;
     }
 
 pub returns-in_default : goal.returns-in_default
 returns-in_default c =
     let inv = c.loop-last.invariant in
-    none_spelled _ _ _ _ inv.text inv.entries_are inv.ascending inv.at_last (λ no. cc (c.loop-last-test.ensures ∙ ap (λ r. length r == 0) no)) c.in_default.ensures.spelled
+    none_spelled c.args.kind _ _ _ _ inv.text inv.entries_are inv.ascending inv.at_last (λ no. cc (c.loop-last-test.ensures ∙ ap (λ r. length r == 0) no)) c.in_default.ensures.spelled
 
 pub returns-then-le : goal.returns-then-le
 returns-then-le c =
     let inv = c.loop-last.invariant in
-    misplaced _ _ _ _ inv.text inv.entries_are inv.ascending inv.at_last _ _ _ _ c.in-Some.ensures.spelled (not_behind c.in-Some.name.now c.loop-last.last.now c.if-le.ensures)
+    misplaced c.args.kind _ _ _ _ inv.text inv.entries_are inv.ascending inv.at_last _ _ _ _ c.in-Some.ensures.spelled (not_behind c.in-Some.name.now c.loop-last.last.now c.if-le.ensures)

@@ -10,7 +10,7 @@ use Rattle.history_store.proofs.tree.Tree.parse.Given as goal
 abbrev pub invariant-loop-last : goal.invariant-loop-last
 invariant-loop-last l = record {
   text : l.content ≡ folder_content l.tree ++ l.rest;
-  entries_are : IsTrue (list_all is_entry (entries l.tree));
+  entries_are : IsTrue (list_all (is_entry l.fn.kind) (entries l.tree));
   ascending : T (ascend [] (entries l.tree));
   at_last : l.last ≡ last_name [] (entries l.tree);
 }

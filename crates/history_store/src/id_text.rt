@@ -1,0 +1,31 @@
+// Ids as Git's texts spell them: in lower-case hexadecimal, and read in either letter case.
+ghost use Rattle.std.specs.Prelude.{◌≡◌, ◌++◌, OnOk, option_map};
+ghost use Rattle.gix_hash.specs.Id.{id_of};
+ghost use Rattle.history_model.specs.Objects.{hex};
+ghost use Rattle.history_model.specs.PackedNames.{id_from_hex};
+
+use gix_hash::{Kind, ObjectId};
+use std::alloc::AllocError;
+
+/// Writes an id's lower-case hex digits to the start of a buffer, which `Kind::hex_buf` makes, and returns them.
+pub fn hex_digits<'b>(id: &ObjectId, buffer: &'b mut [u8; 64]) -> &'b [u8]
+    ensures { result.now ≡ hex (id_of id.now) }
+{
+    id.hex_to_buf(buffer).as_bytes()
+}
+
+/// Appends an id's lower-case hex digits.
+pub fn push_hex(text: &mut Vec<u8>, id: &ObjectId) -> Result<(), AllocError>
+    ensures { OnOk result (text.new.items ≡ text.old.items ++ hex (id_of id.now)) }
+{
+    let mut digits = Kind::hex_buf();
+    text.extend_from_slice(hex_digits(id, &mut digits))
+}
+
+/// The id of this kind that hex digits of either letter case spell; `None` where they spell none.
+pub fn parse_hex(kind: Kind, digits: &[u8]) -> Option<ObjectId>
+    ensures { option_map id_of result ≡ id_from_hex kind digits.now }
+{
+    let id = ObjectId::from_hex(digits).ok()?;
+    if id.kind() == kind { Some(id) } else { None }
+}

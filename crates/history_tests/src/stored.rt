@@ -1,0 +1,31 @@
+//! The stored run: a commit of one file, and what reads it.
+
+use crate::common::ByKind;
+
+pub const INPUT: &[u8] =
+    b"commit refs/heads/main new\nput file 1 5\na\nhello\nauthor 1 3 1 +0000\nA\na@b\ncommitter 1 3 1 +0000\nA\na@b\nmessage 3\none\nend\nfiles main\nshow main path 1\na\n";
+
+/// Where its commands end.
+pub const COMMIT_END: usize = 119;
+
+pub const FILES_END: usize = 130;
+
+pub const COMMITTED: ByKind = ByKind {
+    sha1: b"ok commit 66685e2ab14c48f6b22dfeca748179d40cfc74f0\n",
+    sha256: b"ok commit 81c6fcd6b041c1d6f5e62076e03094f5af903b3e3a10c1860742675b69f1184b\n",
+};
+
+pub const LISTED: ByKind = ByKind {
+    sha1: b"ok files 1\nfile b6fc4c620b67d95f953a5c1c1230aaab5db5a1b0 1\na\n",
+    sha256: b"ok files 1\nfile 8aec4e4876f854f688d0ebfc8f37598f38e5fd6903cccc850ca36591175aeb60 1\na\n",
+};
+
+pub const SHOWN: ByKind = ByKind {
+    sha1: b"ok show content file b6fc4c620b67d95f953a5c1c1230aaab5db5a1b0 5\nhello\n",
+    sha256: b"ok show content file 8aec4e4876f854f688d0ebfc8f37598f38e5fd6903cccc850ca36591175aeb60 5\nhello\n",
+};
+
+pub const REPLIES: ByKind = ByKind {
+    sha1: b"ok commit 66685e2ab14c48f6b22dfeca748179d40cfc74f0\nok files 1\nfile b6fc4c620b67d95f953a5c1c1230aaab5db5a1b0 1\na\nok show content file b6fc4c620b67d95f953a5c1c1230aaab5db5a1b0 5\nhello\n",
+    sha256: b"ok commit 81c6fcd6b041c1d6f5e62076e03094f5af903b3e3a10c1860742675b69f1184b\nok files 1\nfile 8aec4e4876f854f688d0ebfc8f37598f38e5fd6903cccc850ca36591175aeb60 1\na\nok show content file 8aec4e4876f854f688d0ebfc8f37598f38e5fd6903cccc850ca36591175aeb60 5\nhello\n",
+};
