@@ -1,10 +1,10 @@
 #!/usr/bin/env python3
-"""Writes src/actors.rt, src/names.rt and src/times.rt: run as `python3 scripts/line_tables.py` in the folder of this crate, with git 2.39.
+"""Writes src/actors.rt, src/names.rt, src/offsets.rt and src/seconds.rt: run as `python3 scripts/line_tables.py` in the folder of this crate, with git 2.39.
 
 Actors: what `git var GIT_AUTHOR_IDENT` prints for chosen names, emails and dates, and, for what it refuses to make (negative
 seconds, an empty name), the author lines that `git cat-file` gives back of commits that `git hash-object` stored.
-Times: every text of up to four bytes of an alphabet in the place of the seconds, and in the place of the offset's digits,
-with what git-fast-import's description of the raw form says of it, as a regular expression.
+Times: every text of up to four bytes of an alphabet in the place of the seconds, and in the place of the offset or of its
+digits, with what git-fast-import's description of the raw form says of it, as a regular expression.
 Names: what `git check-ref-format --allow-onelevel` says.
 """
 import itertools
@@ -90,9 +90,14 @@ def texts(alphabet):
 
 write("actors", "Author lines that git printed: the line, its name, its email, its time, and the line as it is written.",
       ["|".join(row) for row in actor_rows()])
-write("times", "Texts, and the time that each spells, in seconds and seconds.",
-      [f"{text}|{shown(time_of(text))}" for text in
-       [f"{part} +0100" for part in texts("-019 ")] + [f"7 {part}" for part in texts("-+06")] + [f"7 -{part}" for part in texts("0569")]
-       + ["9223372036854775807 +0000", "9223372036854775808 +0000", "-9223372036854775808 +0000", "-9223372036854775809 +0000", "+1 +0000", "1 +00000", "1 +000", "1  +0000", "1 +0000 "]])
+def times(parts):
+    return [f"{text}|{shown(time_of(text))}" for text in parts]
+
+
+write("seconds", "Texts that differ in their seconds, and the time that each spells, in seconds and seconds.",
+      times(f"{part} +0100" for part in texts("-019 ")))
+write("offsets", "Texts that differ in their offset or at a limit, and the time that each spells, in seconds and seconds.",
+      times([f"7 {part}" for part in texts("-+06")] + [f"7 -{part}" for part in texts("0569")]
+            + ["9223372036854775807 +0000", "9223372036854775808 +0000", "-9223372036854775808 +0000", "-9223372036854775809 +0000", "+1 +0000", "1 +00000", "1 +000", "1  +0000", "1 +0000 "]))
 write("names", "Names, and whether `git check-ref-format --allow-onelevel` takes them.",
       [f"{name}|{'yes' if git('check-ref-format', '--allow-onelevel', name)[0] == 0 else 'no'}" for name in names()])

@@ -1,11 +1,12 @@
 //! Each row of a table is read, and written again.
 
-use crate::{actors, names, times};
+use crate::{actors, names, offsets, seconds};
 use gix_object_lines::lines::{
     Actor, Time, is_partial_name, read_actor, read_time, write_actor, write_actor_parts, write_time,
 };
 use gix_object_lines::{ByteString, decode, encode, write};
 use std::alloc::{AllocError, Global};
+use std::process::Abort;
 use std::test::Fail;
 
 // The time as its row has it.
@@ -67,18 +68,29 @@ fn is_written(alloc: Global, row: &Row<'_>) -> bool {
     }
 }
 
-#[test]
-fn times_are_read(rt: HostRuntime) -> Result<(), Fail> {
+// How many times are read as their rows have them; it stops at the first that isn't.
+fn times_read<R: Abort>(rt: &R, alloc: Global, rows: &str) -> Result<u64, Fail> {
     let mut count = 0u64;
-    for row in times::ROWS.lines() {
+    for row in rows.lines() {
         let Some((text, expected)) = row.split_once('|') else {
             panic!(rt; "no row: {row}")
         };
-        let found = shown(rt.alloc(), text)?;
+        let found = shown(alloc, text)?;
         assert!(rt; found.as_str() == expected, "{text}");
         count = count.wrapping_add(1);
     }
-    assert_eq!(rt; count, 1_472);
+    Ok(count)
+}
+
+#[test]
+fn seconds_are_read(rt: HostRuntime) -> Result<(), Fail> {
+    assert_eq!(rt; times_read(&rt, rt.alloc(), seconds::ROWS)?, 781);
+    Ok(())
+}
+
+#[test]
+fn offsets_are_read(rt: HostRuntime) -> Result<(), Fail> {
+    assert_eq!(rt; times_read(&rt, rt.alloc(), offsets::ROWS)?, 691);
     Ok(())
 }
 

@@ -11,10 +11,12 @@ mod headers;
 #[cfg(test)]
 mod names;
 #[cfg(test)]
+mod offsets;
+#[cfg(test)]
 mod rows;
 #[cfg(test)]
-mod table;
+mod seconds;
 #[cfg(test)]
-mod times;
+mod table;
 #[cfg(test)]
 mod writing;
