@@ -32,48 +32,60 @@ fn kinds(rt: HostRuntime) -> Result<(), Fail> {
     Ok(())
 }
 
+const UNSIGNED: [(&str, u64); 4] = [
+    ("0", 0),
+    ("7", 7),
+    ("10", 10),
+    ("18446744073709551615", u64::MAX),
+];
+
+const NO_UNSIGNED: [&str; 10] = [
+    "",
+    "00",
+    "01",
+    "+1",
+    "-0",
+    "-1",
+    " 1",
+    "1 ",
+    "1a",
+    "18446744073709551616",
+];
+
 #[test]
-fn numbers(rt: HostRuntime) {
-    for (text, number) in [
-        ("0", 0),
-        ("7", 7),
-        ("10", 10),
-        ("18446744073709551615", u64::MAX),
-    ] {
+fn unsigned_numbers(rt: HostRuntime) {
+    for (text, number) in UNSIGNED {
         assert_eq!(rt; read_unsigned(text.as_bytes()), Some(number));
     }
-    for text in [
-        "",
-        "00",
-        "01",
-        "+1",
-        "-0",
-        "-1",
-        " 1",
-        "1 ",
-        "1a",
-        "18446744073709551616",
-    ] {
+    for text in NO_UNSIGNED {
         assert_eq!(rt; read_unsigned(text.as_bytes()), None, "at {text}");
     }
-    for (text, number) in [
-        ("0", 0),
-        ("-7", -7),
-        ("-9223372036854775808", i64::MIN),
-        ("9223372036854775807", i64::MAX),
-    ] {
+}
+
+const SIGNED: [(&str, i64); 4] = [
+    ("0", 0),
+    ("-7", -7),
+    ("-9223372036854775808", i64::MIN),
+    ("9223372036854775807", i64::MAX),
+];
+
+const NO_SIGNED: [&str; 8] = [
+    "",
+    "-",
+    "-0",
+    "-01",
+    "+1",
+    "--1",
+    "9223372036854775808",
+    "-9223372036854775809",
+];
+
+#[test]
+fn signed_numbers(rt: HostRuntime) {
+    for (text, number) in SIGNED {
         assert_eq!(rt; read_signed(text.as_bytes()), Some(number));
     }
-    for text in [
-        "",
-        "-",
-        "-0",
-        "-01",
-        "+1",
-        "--1",
-        "9223372036854775808",
-        "-9223372036854775809",
-    ] {
+    for text in NO_SIGNED {
         assert_eq!(rt; read_signed(text.as_bytes()), None, "at {text}");
     }
 }
@@ -115,50 +127,57 @@ fn tells<E: Display + Debug, R: Abort>(
 }
 
 #[test]
-fn errors(rt: HostRuntime) -> Result<(), Fail> {
-    let alloc = rt.alloc();
+fn errors_of_reading(rt: HostRuntime) -> Result<(), Fail> {
     let kind = kind::Error::InvalidObjectKind;
     tells(
         &rt,
-        alloc,
+        rt.alloc(),
         &kind,
         "the word names no kind of object",
         "InvalidObjectKind",
     )?;
     tells(
         &rt,
-        alloc,
+        rt.alloc(),
         &decode::LooseHeaderDecodeError::from(kind),
         "the word names no kind of object",
         "ObjectHeader(InvalidObjectKind)",
-    )?;
+    )
+}
+
+#[test]
+fn errors_of_writing(rt: HostRuntime) -> Result<(), Fail> {
     tells(
         &rt,
-        alloc,
+        rt.alloc(),
         &encode::Error::Unspellable,
         "the value has no written form",
         "Unspellable",
     )?;
     tells(
         &rt,
-        alloc,
+        rt.alloc(),
         &tag::write::Error::StartsWithDash,
         "a tag's name must not begin with a dash",
         "StartsWithDash",
     )?;
     tells(
         &rt,
-        alloc,
+        rt.alloc(),
         &tree::write::Error::NullbyteInFilename,
         "a name in a tree must not hold a zero byte",
         "NullbyteInFilename",
-    )?;
+    )
+}
+
+#[test]
+fn headers_print(rt: HostRuntime) -> Result<(), Fail> {
     let header = Header {
         kind: Kind::Tag,
         size: 7,
     };
     assert_eq!(rt;
-        format!(in alloc; "{header:?}")?.as_str(),
+        format!(in rt.alloc(); "{header:?}")?.as_str(),
         "Header { kind: Tag, size: 7 }"
     );
     Ok(())

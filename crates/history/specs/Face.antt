@@ -1,19 +1,20 @@
 -- What callers see of a repository.
 use Rattle.std.specs.Prelude.{◌≡◌, Bool}
 use Rattle.history_store.specs.Ids.{IdSet}
+use Rattle.history_store.specs.Face.{files_of_objects, files_of_names, ids_of_objects}
 use Rattle.history.specs.declared.repository.Repository.{Repository}
 
 -- the files of the part that holds the objects
 abbrev pub objects_part : {F : Type 0} → Repository F → F
-objects_part repository = repository.objects.files
+objects_part repository = files_of_objects repository.objects
 
 -- the files of the part that holds HEAD, the names and their logs
 abbrev pub names_part : {F : Type 0} → Repository F → F
-names_part repository = repository.names.files
+names_part repository = files_of_names repository.names
 
 -- the ids that are known to be stored
 abbrev pub known_ids : {F : Type 0} → Repository F → IdSet
-known_ids repository = repository.objects.ids
+known_ids repository = ids_of_objects repository.objects
 
 -- whether a command that changes files met a fault
 abbrev pub has_failed : {F : Type 0} → Repository F → Bool

@@ -18,6 +18,7 @@ use Rattle.history.specs.Face.{objects_part, names_part, known_ids}
 use Rattle.history.specs.declared.repository.Repository.{Repository}
 use Rattle.history.specs.declared.stopped.Stopped.{Stopped}
 use Rattle.history.specs.declared.stopped.Stopped.TheVariants.{Refused, Fault}
+use Rattle.history_store.specs.Face.{kind_of_objects}
 
 -- the tree that stands in a part
 abbrev pub objects_tree : {F : Type 0} → (F → History) → Repository F → Tree
@@ -29,8 +30,8 @@ names_tree history repository = (history (names_part repository)).tree
 -- The objects part is honest and holds these values, each under its own id.
 pub record ObjectsStand {F : Type 0} (IsHonest : F → Type 0) (history : F → History) (repository : Repository F) (values : Values) : Type 0 where
   pub honest : IsHonest (objects_part repository)
-  pub holds : HoldsValues repository.objects.kind (objects_tree history repository) values
-  pub own_ids : HaveOwnIds repository.objects.kind values
+  pub holds : HoldsValues (kind_of_objects repository.objects) (objects_tree history repository) values
+  pub own_ids : HaveOwnIds (kind_of_objects repository.objects) values
 
 -- The ids that are known are those of these values.
 abbrev pub KnowsIds : {F : Type 0} → Repository F → Values → Type 0

@@ -9,6 +9,7 @@ use Rattle.history.specs.declared.repository.Repository.{Repository}
 use Rattle.std.specs.FinMap.{contains_key}
 use Rattle.gix_hash.specs.Id.{Id}
 use Rattle.history.specs.Face.{objects_part, names_part, known_ids}
+use Rattle.history_store.specs.Face.{kind_of_names, kind_of_objects}
 
 -- the two trees that stand
 abbrev pub pair_of : {F : Type 0} → (F → History) → Repository F → Pair
@@ -20,8 +21,8 @@ pub record Stands {F : Type 0} (IsHonest : F → Type 0) (history : F → Histor
   pub honest_objects : IsHonest (objects_part repository)
   pub honest_names : IsHonest (names_part repository)
   pub whole : StandsWhole r.kind (pair_of history repository) r
-  pub objects_kind : repository.objects.kind ≡ r.kind
-  pub names_kind : repository.names.kind ≡ r.kind
+  pub objects_kind : kind_of_objects repository.objects ≡ r.kind
+  pub names_kind : kind_of_names repository.names ≡ r.kind
   pub branch : repository.branch.items ≡ r.branch
   -- the ids that are known are those of what is stored
   pub known : (id : Id) → contains_key (known_ids repository) id ≡ contains_key r.objects id

@@ -12,6 +12,7 @@ ghost use Rattle.history_model.specs.Stage.{is_offered};
 ghost use Rattle.history_model.specs.TreeHalves.{Values};
 ghost use Rattle.history_word.specs.Commands.{IsCommit};
 ghost use Rattle.history_store.specs.Formats.{type_word};
+ghost use Rattle.history_store.specs.Face.{kind_of_names, kind_of_objects};
 ghost use Rattle.history.specs.Acts.{Acts, CountsRise, HasFailedCall};
 ghost use Rattle.history.specs.Face.{has_failed, objects_part, names_part, KeepsAllButObjects, KeepsAllButNames};
 ghost use Rattle.history.specs.Faults.{IsRefusal, IsFault};
@@ -34,13 +35,13 @@ impl<F: Files> Repository<F> {
     fn put(&mut self, alloc: Global, object: ObjectKind, content: &[u8]) -> Result<(), Stopped>
         ensures kept { KeepsAllButObjects self.old self.new }
         ensures honest { F.is_honest (objects_part self.old) → F.is_honest (objects_part self.new) }
-        ensures kind { self.new.objects.kind ≡ self.old.objects.kind }
+        ensures kind { kind_of_objects self.new.objects ≡ kind_of_objects self.old.objects }
         ensures counts { CountsRise F.failures self.old self.new }
         ensures fault { IfErr result IsFault }
-        ensures stores { (values : Values) (value : Value) → ObjectsStand F.is_honest F.history self.old values → model.type_word value ≡ type_word object → content_of self.old.objects.kind value ≡ content.now
-            → StoresValues (HasFailedCall F.failures F.reading_may_fail self.old self.new) self.old.objects.kind values (value ∷ []) (objects_tree F.history self.old) (objects_tree F.history self.new) result }
-        ensures known { (values : Values) (value : Value) → KnowsIds self.old values → model.type_word value ≡ type_word object → content_of self.old.objects.kind value ≡ content.now
-            → OnOk result (KnowsIds self.new (store_one self.old.objects.kind values value)) }
+        ensures stores { (values : Values) (value : Value) → ObjectsStand F.is_honest F.history self.old values → model.type_word value ≡ type_word object → content_of (kind_of_objects self.old.objects) value ≡ content.now
+            → StoresValues (HasFailedCall F.failures F.reading_may_fail self.old self.new) (kind_of_objects self.old.objects) values (value ∷ []) (objects_tree F.history self.old) (objects_tree F.history self.new) result }
+        ensures known { (values : Values) (value : Value) → KnowsIds self.old values → model.type_word value ≡ type_word object → content_of (kind_of_objects self.old.objects) value ≡ content.now
+            → OnOk result (KnowsIds self.new (store_one (kind_of_objects self.old.objects) values value)) }
     {
         self.objects.put(alloc, object, content)?;
         Ok(())
@@ -50,13 +51,13 @@ impl<F: Files> Repository<F> {
     fn put_blobs(&mut self, alloc: Global, blobs: &[Vec<u8>]) -> Result<(), Stopped>
         ensures kept { KeepsAllButObjects self.old self.new }
         ensures honest { F.is_honest (objects_part self.old) → F.is_honest (objects_part self.new) }
-        ensures kind { self.new.objects.kind ≡ self.old.objects.kind }
+        ensures kind { kind_of_objects self.new.objects ≡ kind_of_objects self.old.objects }
         ensures counts { CountsRise F.failures self.old self.new }
         ensures fault { IfErr result IsFault }
         ensures stores { (values : Values) → ObjectsStand F.is_honest F.history self.old values
-            → StoresValues (HasFailedCall F.failures F.reading_may_fail self.old self.new) self.old.objects.kind values (map (λ blob. StoredBytes blob.items) blobs.now) (objects_tree F.history self.old) (objects_tree F.history self.new) result }
+            → StoresValues (HasFailedCall F.failures F.reading_may_fail self.old self.new) (kind_of_objects self.old.objects) values (map (λ blob. StoredBytes blob.items) blobs.now) (objects_tree F.history self.old) (objects_tree F.history self.new) result }
         ensures known { (values : Values) → KnowsIds self.old values
-            → OnOk result (KnowsIds self.new (store_all self.old.objects.kind values (map (λ blob. StoredBytes blob.items) blobs.now))) }
+            → OnOk result (KnowsIds self.new (store_all (kind_of_objects self.old.objects) values (map (λ blob. StoredBytes blob.items) blobs.now))) }
     {
         for blob in blobs {
             self.put(alloc, ObjectKind::Blob, blob)?;
@@ -68,7 +69,7 @@ impl<F: Files> Repository<F> {
     fn store(&mut self, alloc: Global, plan: &Plan) -> Result<(), Stopped>
         ensures kept { KeepsAllButObjects self.old self.new }
         ensures honest { F.is_honest (objects_part self.old) → F.is_honest (objects_part self.new) }
-        ensures kind { self.new.objects.kind ≡ self.old.objects.kind }
+        ensures kind { kind_of_objects self.new.objects ≡ kind_of_objects self.old.objects }
         ensures counts { CountsRise F.failures self.old self.new }
         ensures fault { IfErr result IsFault }
         ensures stores { (r : plain.Repository) (order : orders.CommitCommand) → Stands F.is_honest F.history self.old r → first_cause r (CommitOf order) ≡ None → IsPlan r order plan.now
@@ -87,7 +88,7 @@ impl<F: Files> Repository<F> {
         ensures refused { IfErr result (λ stopped. IsRefusal stopped → self.new ≡ self.old) }
         ensures kept { KeepsAllButObjects self.old self.new }
         ensures honest { F.is_honest (objects_part self.old) → F.is_honest (objects_part self.new) }
-        ensures kind { self.new.objects.kind ≡ self.old.objects.kind }
+        ensures kind { kind_of_objects self.new.objects ≡ kind_of_objects self.old.objects }
         ensures counts { CountsRise F.failures self.old self.new }
         ensures stores { (r : plain.Repository) (order : orders.CommitCommand) → Stands F.is_honest F.history self.old r → IsCommit command order → IsTrue (is_offered (CommitOf order))
             → StoresObjects (HasFailedCall F.failures F.reading_may_fail self.old self.new) (F.history (objects_part self.old)).tree (F.history (objects_part self.new)).tree r order result }
@@ -103,7 +104,7 @@ impl<F: Files> Repository<F> {
     fn move_names(&mut self, alloc: Global, moves: &Moves) -> Result<(), Stopped>
         ensures kept { KeepsAllButNames self.old self.new }
         ensures honest { F.is_honest (names_part self.old) → F.is_honest (names_part self.new) }
-        ensures kind { self.new.names.kind ≡ self.old.names.kind }
+        ensures kind { kind_of_names self.new.names ≡ kind_of_names self.old.names }
         ensures counts { CountsRise F.failures self.old self.new }
         ensures fault { IfErr result IsFault }
         ensures moves { (r : plain.Repository) (order : orders.CommitCommand) → NamesStand F.is_honest F.history self.old r → IsTrue (is_offered (CommitOf order)) → IsMove r order moves.now

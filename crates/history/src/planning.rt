@@ -15,6 +15,7 @@ ghost use Rattle.history_word.specs.Commands.{IsCommit, IsEdit, AreEdits};
 ghost use Rattle.history_word.specs.declared.command.Edit.TheVariants as edits;
 ghost use Rattle.history_store.specs.Formats.{type_word};
 ghost use Rattle.history_store.specs.Trees.{IsTreeOf};
+ghost use Rattle.history_store.specs.Face.{kind_of_objects};
 ghost use Rattle.history.specs.Acts.{Gives};
 ghost use Rattle.history.specs.Files.{files_of_main, AreWithin, HasEdited};
 ghost use Rattle.history.specs.Plans.{Plans};
@@ -78,7 +79,7 @@ fn parents(alloc: Global, parent: Option<ObjectId>) -> Result<Vec<ObjectId>, All
 impl<F: Files> Repository<F> {
     /// The id of this content.
     fn id_of(&self, object: ObjectKind, content: &[u8]) -> ObjectId
-        ensures { id_of result ≡ digest self.now.objects.kind (object_text (type_word object) content.now) }
+        ensures { id_of result ≡ digest (kind_of_objects self.now.objects) (object_text (type_word object) content.now) }
     {
         object_id(self.objects.kind(), object, content)
     }
@@ -99,8 +100,8 @@ impl<F: Files> Repository<F> {
 
     /// Puts a file, and gives the content to be stored.
     fn put_file(&self, tree: &mut Tree, put: Put) -> Result<Vec<u8>, AllocError>
-        ensures { (r : plain.Repository) (files : FileMap) (line : orders.EditLine) → IsEdit (edits.Put put) line → AreWithin (line ∷ []) → IsTrue (is_flat files) → IsTreeOf self.now.objects.kind tree.old files
-            → IfOk result (λ blob. HasEdited r self.now.objects.kind files (line ∷ []) (blob ∷ []) tree.new) }
+        ensures { (r : plain.Repository) (files : FileMap) (line : orders.EditLine) → IsEdit (edits.Put put) line → AreWithin (line ∷ []) → IsTrue (is_flat files) → IsTreeOf (kind_of_objects self.now.objects) tree.old files
+            → IfOk result (λ blob. HasEdited r (kind_of_objects self.now.objects) files (line ∷ []) (blob ∷ []) tree.new) }
     {
         let content = into_kept(put.content);
         let id = self.id_of(ObjectKind::Blob, &content);
@@ -115,8 +116,8 @@ impl<F: Files> Repository<F> {
         tree: &mut Tree,
         edits: Vec<Edit>,
     ) -> Result<Vec<Vec<u8>>, AllocError>
-        ensures { (r : plain.Repository) (files : FileMap) (lines : List orders.EditLine) → AreEdits edits.items lines → AreWithin lines → IsTrue (is_flat files) → IsTreeOf self.now.objects.kind tree.old files
-            → IfOk result (λ blobs. HasEdited r self.now.objects.kind files lines blobs.items tree.new) }
+        ensures { (r : plain.Repository) (files : FileMap) (lines : List orders.EditLine) → AreEdits edits.items lines → AreWithin lines → IsTrue (is_flat files) → IsTreeOf (kind_of_objects self.now.objects) tree.old files
+            → IfOk result (λ blobs. HasEdited r (kind_of_objects self.now.objects) files lines blobs.items tree.new) }
     {
         let mut blobs = Vec::with_capacity(alloc, edits.len())?;
         for edit in edits {

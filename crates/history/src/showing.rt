@@ -62,7 +62,6 @@ fn commit_text(alloc: Global, id: &ObjectId, commit: &Commit) -> Result<Vec<u8>,
     let mut text = Vec::new(alloc);
     let mut count = itoa::Buffer::new();
     let mut digits = Kind::hex_buf();
-    let mut tree_digits = Kind::hex_buf();
     line(
         &mut text,
         &[
@@ -74,10 +73,7 @@ fn commit_text(alloc: Global, id: &ObjectId, commit: &Commit) -> Result<Vec<u8>,
     )?;
     line(
         &mut text,
-        &[
-            b"tree".as_slice(),
-            hex_digits(&commit.tree, &mut tree_digits),
-        ],
+        &[b"tree".as_slice(), hex_digits(&commit.tree, &mut digits)],
     )?;
     line(
         &mut text,

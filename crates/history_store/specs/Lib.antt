@@ -1,6 +1,7 @@
 pub mod Actors
 pub mod Commits
 pub mod Creation
+pub mod Face
 pub mod Formats
 pub mod Ids
 pub mod Parts

@@ -1,10 +1,12 @@
 //! The object `hello`, ids, actors, and what stands in a file.
 
-use gix_hash::ObjectId;
+use gix_hash::{Kind, ObjectId};
 use gix_ref_file::{Files, MemoryFiles};
 use history_store::Actor;
 use std::alloc::{AllocError, Global};
 use std::process::Abort;
+
+pub const KINDS: [Kind; 2] = [Kind::Sha1, Kind::Sha256];
 
 // The id of the blob `hello` of one kind of digest, and where it is stored.
 #[derive(Clone, Copy)]

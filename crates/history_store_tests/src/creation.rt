@@ -1,6 +1,6 @@
 //! New repositories, and what keeps them from being made.
 
-use crate::common::holds;
+use crate::common::{KINDS, holds};
 use gix_hash::Kind;
 use gix_ref_file::{FileError, Files, MemoryFiles};
 use history_store::{CreateError, Names, Part, Stray, create, survey};
@@ -61,7 +61,9 @@ fn check_new<R: Abort>(rt: &R, alloc: Global, kind: Kind) {
 
 #[test]
 fn a_new_repository(rt: HostRuntime) {
-    check_new(&rt, rt.alloc(), Kind::Sha1);
+    for kind in KINDS {
+        check_new(&rt, rt.alloc(), kind);
+    }
 }
 
 // Files with these folders alone, each behind those that it stands in.
@@ -90,7 +92,10 @@ fn check_leftovers<R: Abort>(rt: &R, alloc: Global, kind: Kind) -> Result<(), Fi
 
 #[test]
 fn leftovers_go(rt: HostRuntime) -> Result<(), FileError> {
-    check_leftovers(&rt, rt.alloc(), Kind::Sha1)
+    for kind in KINDS {
+        check_leftovers(&rt, rt.alloc(), kind)?;
+    }
+    Ok(())
 }
 
 // The folders of the objects part, and the file that is in the way.
@@ -123,7 +128,9 @@ fn check_objects<R: Abort>(
 #[test]
 fn objects_in_the_way(rt: HostRuntime) -> Result<(), FileError> {
     for row in OBJECTS {
-        check_objects(&rt, rt.alloc(), Kind::Sha1, row)?;
+        for kind in KINDS {
+            check_objects(&rt, rt.alloc(), kind, row)?;
+        }
     }
     Ok(())
 }
@@ -154,7 +161,9 @@ fn check_names<R: Abort>(
 #[test]
 fn names_in_the_way(rt: HostRuntime) -> Result<(), FileError> {
     for row in NAMES {
-        check_names(&rt, rt.alloc(), Kind::Sha1, row)?;
+        for kind in KINDS {
+            check_names(&rt, rt.alloc(), kind, row)?;
+        }
     }
     Ok(())
 }

@@ -1,6 +1,6 @@
 //! Each call of the files fails in turn.
 
-use crate::common::{Hello, SHA1_HELLO, SHA256_HELLO, holds, id};
+use crate::common::{Hello, KINDS, SHA1_HELLO, SHA256_HELLO, holds, id};
 use crate::names::entry;
 use gix_hash::{Kind, ObjectId};
 use gix_ref_file::{FileError, Fuse, MemoryFiles};
@@ -148,5 +148,7 @@ fn check_create<R: Abort>(rt: &R, alloc: Global, kind: Kind) {
 
 #[test]
 fn each_call_of_create_fails_once(rt: HostRuntime) {
-    check_create(&rt, rt.alloc(), Kind::Sha1);
+    for kind in KINDS {
+        check_create(&rt, rt.alloc(), kind);
+    }
 }

@@ -18,6 +18,3 @@ pub use memory::{Bytes, Collected};
 pub use reader::{Reading, Stop, read_command};
 pub use stream::Stream;
 pub use streams::{Broken, Sink, Source, write_all};
-
-#[cfg(test)]
-mod tests;
