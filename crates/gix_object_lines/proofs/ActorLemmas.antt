@@ -62,10 +62,10 @@ two_lack : (n : ℕ) → n < 100 → Lacks 62 (two_digits n)
 two_lack n below = lacks_cons 62 (48 + n / 10) ((48 + n % 10) ∷ []) (λ e. omega arith) (lacks_cons 62 (48 + n % 10) [] (λ e. omega arith) refl)
 
 offset_lacks : (text : List ℕ) (z : ℤ) → SpellsOffset text z → Lacks 62 text
-offset_lacks text z (Ahead h m hl ml spelled is) = subst (Lacks 62) (sym spelled) (lacks_cons 62 43 (two_digits h ++ two_digits m) (λ e. omega arith) (lacks_both 62 (two_digits h) (two_digits m) (two_lack h hl) (two_lack m (omega arith))))
-offset_lacks text z (Behind h m hl ml spelled is) = subst (Lacks 62) (sym spelled) (lacks_cons 62 45 (two_digits h ++ two_digits m) (λ e. omega arith) (lacks_both 62 (two_digits h) (two_digits m) (two_lack h hl) (two_lack m (omega arith))))
+offset_lacks text z (Ahead h m hl ml spelled is) = subst (Lacks 62) (sym spelled) (lacks_cons 62 43 (two_digits h ++ two_digits m) (λ e. omega arith) (lacks_both 62 (two_digits h) (two_digits m) (two_lack h hl) (two_lack m ml)))
+offset_lacks text z (Behind h m hl ml spelled is) = subst (Lacks 62) (sym spelled) (lacks_cons 62 45 (two_digits h ++ two_digits m) (λ e. omega arith) (lacks_both 62 (two_digits h) (two_digits m) (two_lack h hl) (two_lack m ml)))
 
-time_lacks : (text : List ℕ) (time : Time) → SpellsTime text time → Lacks 62 text
+pub time_lacks : (text : List ℕ) (time : Time) → SpellsTime text time → Lacks 62 text
 time_lacks text time is = subst (Lacks 62) (sym is.spelled)
     (lacks_both 62 is.front (32 ∷ is.back) (seconds_lack 62 is.front time.seconds (λ e. omega arith) (λ d r e. omega arith) is.seconds)
     (lacks_cons 62 32 is.back (λ e. omega arith) (offset_lacks is.back time.offset is.offset)))

@@ -18,12 +18,6 @@ use Rattle.gix_object_lines.proofs.CutLemmas.{lacks_cons, lacks_both}
 
 -- ---- digits
 
-pub two_digits_once : (m n : ℕ) → two_digits m ≡ two_digits n → m ≡ n
-two_digits_once m n e =
-    let tens : 48 + m / 10 ≡ 48 + n / 10 = cc in
-    let ones : 48 + m % 10 ≡ 48 + n % 10 = cc in
-    omega arith
-
 pub digits_lack : (byte : ℕ) (digits : List ℕ) → ((d : ℕ) → IsInRange 48 57 d → d ≡ byte → ⊥) → AllDigits 10 digits → Lacks byte digits
 digits_lack byte [] none all = refl
 digits_lack byte (d ∷ digits) none all = lacks_cons byte d digits (none d (digit_from_value d all.0)) (digits_lack byte digits none all.1)
@@ -116,7 +110,7 @@ abbrev pub last_four : List ℕ → List ℕ
 last_four text = get_or text 1 0 ∷ get_or text 2 0 ∷ get_or text 3 0 ∷ get_or text 4 0 ∷ []
 
 abbrev pub NoClock : List ℕ → Type 0
-NoClock digits = (hours minutes : ℕ) → hours < 100 → minutes < 60 → digits ≡ two_digits hours ++ two_digits minutes → ⊥
+NoClock digits = (hours minutes : ℕ) → hours < 100 → minutes < 100 → digits ≡ two_digits hours ++ two_digits minutes → ⊥
 
 pub no_offset : (text : List ℕ) (z : ℤ) → NoClock (last_four text) → SpellsOffset text z → ⊥
 no_offset text z none (Ahead h m hl ml spelled is) = none h m hl ml (ap last_four spelled)

@@ -7,6 +7,6 @@ pub record SpellsClock (digits : List ℕ) (amount : ℤ) : Type 0 where
   pub hours : ℕ
   pub minutes : ℕ
   pub hours_low : hours < 100
-  pub minutes_low : minutes < 60
+  pub minutes_low : minutes < 100
   pub spelled : digits ≡ two_digits hours ++ two_digits minutes
   pub amount_is : amount ≡ pos (3600 * hours + 60 * minutes)

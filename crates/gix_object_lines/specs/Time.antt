@@ -16,10 +16,10 @@ pub data SpellsSeconds (text : List ℕ) (seconds : ℤ) : Type 0 where
 abbrev pub two_digits : ℕ → List ℕ
 two_digits n = (48 + n / 10) ∷ (48 + n % 10) ∷ []
 
--- `+` or `-`, hours and minutes; `-0000` is no offset
+-- `+` or `-`, two digits of hours and two of minutes, any four: `+0060` is an hour. `-0000` is no offset.
 pub data SpellsOffset (text : List ℕ) (offset : ℤ) : Type 0 where
-  Ahead : (hours minutes : ℕ) → hours < 100 → minutes < 60 → text ≡ 43 ∷ two_digits hours ++ two_digits minutes → offset ≡ pos (3600 * hours + 60 * minutes) → SpellsOffset text offset
-  Behind : (hours minutes : ℕ) → hours < 100 → minutes < 60 → text ≡ 45 ∷ two_digits hours ++ two_digits minutes → offset ≡ neg_ℤ (pos (3600 * hours + 60 * minutes)) → SpellsOffset text offset
+  Ahead : (hours minutes : ℕ) → hours < 100 → minutes < 100 → text ≡ 43 ∷ two_digits hours ++ two_digits minutes → offset ≡ pos (3600 * hours + 60 * minutes) → SpellsOffset text offset
+  Behind : (hours minutes : ℕ) → hours < 100 → minutes < 100 → text ≡ 45 ∷ two_digits hours ++ two_digits minutes → offset ≡ neg_ℤ (pos (3600 * hours + 60 * minutes)) → SpellsOffset text offset
 
 -- the text spells the time
 pub record SpellsTime (text : List ℕ) (time : Time) : Type 0 where
@@ -36,7 +36,7 @@ pub record SpellsTime (text : List ℕ) (time : Time) : Type 0 where
 abbrev pub IsSpellableOffset : ℤ → Type 0
 IsSpellableOffset offset = (unsigned_abs offset % 60 ≡ 0) × (unsigned_abs offset < 360_000)
 
--- so many seconds as hours and minutes
+-- so many seconds as hours and minutes, which are below 60
 abbrev pub clock_text : ℕ → List ℕ
 clock_text seconds = two_digits (seconds / 3600) ++ two_digits (seconds / 60 % 60)
 

@@ -25,7 +25,7 @@ pub enum Error {
     /// The line isn't a name, an email between `<` and `>` and a time, or a line feed stands in name or email.
     #[error("a name, an email between angle brackets and a time were expected")]
     InvalidActor,
-    /// The text isn't seconds, a space, a sign, two digits of hours and two of minutes below 60.
+    /// The text isn't seconds, a space, a sign, two digits of hours and two of minutes.
     #[error("seconds and an offset were expected")]
     InvalidTime,
     /// No memory is left.

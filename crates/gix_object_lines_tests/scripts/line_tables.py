@@ -2,11 +2,13 @@
 """Writes src/actors.rt, src/names.rt, src/offsets.rt and src/seconds.rt: run as `python3 scripts/line_tables.py` in the folder of this crate, with git 2.39.
 
 Actors: what `git var GIT_AUTHOR_IDENT` prints for chosen names, emails and dates, and, for what it refuses to make (negative
-seconds, an empty name), the author lines that `git cat-file` gives back of commits that `git hash-object` stored.
+seconds, an empty name, minutes of 60), the author lines that `git cat-file` gives back of commits that `git hash-object` stored.
+Of offsets with minutes of 60 and above also what `git fsck` says of them, and the clock that `git show` prints.
 Times: every text of up to four bytes of an alphabet in the place of the seconds, and in the place of the offset or of its
 digits, with what git-fast-import's description of the raw form says of it, as a regular expression.
 Names: what `git check-ref-format --allow-onelevel` says.
 """
+import datetime
 import itertools
 import os
 import re
@@ -22,7 +24,7 @@ def git(*words, stdin=None, env=None):
 
 
 def time_of(text):
-    match = re.fullmatch(r"(-?[0-9]+) ([+-])([0-9]{2})([0-5][0-9])", text)
+    match = re.fullmatch(r"(-?[0-9]+) ([+-])([0-9]{2})([0-9]{2})", text)
     if not match or not -(2**63) <= int(match[1]) < 2**63:
         return None
     offset = 3600 * int(match[3]) + 60 * int(match[4])
@@ -46,9 +48,24 @@ def stored(line):
         git("init", "-q", folder)
         code, out = git("-C", folder, "hash-object", "-t", "commit", "-w", "--stdin", "--literally", stdin=commit)
         assert code == 0
-        code, out = git("-C", folder, "cat-file", "commit", out.decode().strip())
+        name = out.decode().strip()
+        code, out = git("-C", folder, "cat-file", "commit", name)
         assert code == 0
-        return out.decode().split("\n")[1].removeprefix("author ")
+        kept = out.decode().split("\n")[1].removeprefix("author ")
+        if int(kept[-2:]) > 59:
+            assert_git_takes(folder, name, kept)
+        return kept
+
+
+def assert_git_takes(folder, commit, line):
+    """Git's check finds no fault in the commit, and its clock is as far ahead as we read the line's offset."""
+    git("-C", folder, "mktree", stdin=b"")
+    assert git("-C", folder, "fsck", "--strict")[0] == 0, line
+    code, out = git("-C", folder, "show", "-s", "--date=format:%Y-%m-%d %H:%M:%S", "--format=%ad", commit)
+    assert code == 0
+    seconds, offset = time_of(line.rpartition("> ")[2])
+    clock = datetime.datetime.strptime(out.decode().strip(), "%Y-%m-%d %H:%M:%S")
+    assert clock == datetime.datetime(1970, 1, 1) + datetime.timedelta(seconds=seconds + offset), line
 
 
 def actor_rows():
@@ -57,6 +74,7 @@ def actor_rows():
     lines += [stored(line) for line in [
         "A <a@b> -1 +0000", "A <a@b> -9223372036854775808 -9959", " <a@b> 5 +0000", "A > B <a <b> c> 12 +0100",
         "A <a@b> 0 -0000", "A <a@b> 007 +0000", "A <> 1 +0000", "A  <a@b> 1 +0000",
+        "A <a@b> 1000000 +0060", "A <a@b> 1000000 -0099", "A <a@b> 1000000 +9999",
     ]]
     for line in lines:
         front, back = line.index("<"), line.rindex(">")
@@ -65,7 +83,8 @@ def actor_rows():
         seconds, offset = time_of(time)
         minutes = abs(offset) // 60
         written = f"{name} <{email}> {seconds} {'-' if offset < 0 else '+'}{minutes // 60:02}{minutes % 60:02}"
-        yield line, name, email, time, "refused" if set("<>") & set(name + email) else written
+        refused = set("<>") & set(name + email) or minutes >= 6000
+        yield line, name, email, time, "refused" if refused else written
 
 
 def names():
@@ -98,6 +117,7 @@ write("seconds", "Texts that differ in their seconds, and the time that each spe
       times(f"{part} +0100" for part in texts("-019 ")))
 write("offsets", "Texts that differ in their offset or at a limit, and the time that each spells, in seconds and seconds.",
       times([f"7 {part}" for part in texts("-+06")] + [f"7 -{part}" for part in texts("0569")]
+            + [f"7 {sign}{digits}" for sign in "+-" for digits in ["0060", "0099", "9960", "9999"]]
             + ["9223372036854775807 +0000", "9223372036854775808 +0000", "-9223372036854775808 +0000", "-9223372036854775809 +0000", "+1 +0000", "1 +00000", "1 +000", "1  +0000", "1 +0000 "]))
 write("names", "Names, and whether `git check-ref-format --allow-onelevel` takes them.",
       [f"{name}|{'yes' if git('check-ref-format', '--allow-onelevel', name)[0] == 0 else 'no'}" for name in names()])

@@ -90,7 +90,7 @@ fn seconds_are_read(rt: HostRuntime) -> Result<(), Fail> {
 
 #[test]
 fn offsets_are_read(rt: HostRuntime) -> Result<(), Fail> {
-    assert_eq!(rt; times_read(&rt, rt.alloc(), offsets::ROWS)?, 691);
+    assert_eq!(rt; times_read(&rt, rt.alloc(), offsets::ROWS)?, 699);
     Ok(())
 }
 
@@ -105,7 +105,7 @@ fn actors_are_read_and_written(rt: HostRuntime) -> Result<(), Fail> {
         assert!(rt; is_written(rt.alloc(), &row), "{}", row.line);
         count = count.wrapping_add(1);
     }
-    assert_eq!(rt; count, 24);
+    assert_eq!(rt; count, 27);
     Ok(())
 }
 

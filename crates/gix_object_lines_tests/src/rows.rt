@@ -2,7 +2,7 @@
 
 use crate::table::COMMIT;
 use gix_object::{Header, Kind, decode, encode, kind, tag, tree};
-use gix_object_lines::decimal::{read_signed, read_unsigned};
+use gix_object_lines::decimal::read_unsigned;
 use gix_object_lines::hex_line::{read_hex_line, write_hex_line};
 use std::alloc::Global;
 use std::fmt::{Debug, Display};
@@ -59,34 +59,6 @@ fn unsigned_numbers(rt: HostRuntime) {
     }
     for text in NO_UNSIGNED {
         assert_eq!(rt; read_unsigned(text.as_bytes()), None, "at {text}");
-    }
-}
-
-const SIGNED: [(&str, i64); 4] = [
-    ("0", 0),
-    ("-7", -7),
-    ("-9223372036854775808", i64::MIN),
-    ("9223372036854775807", i64::MAX),
-];
-
-const NO_SIGNED: [&str; 8] = [
-    "",
-    "-",
-    "-0",
-    "-01",
-    "+1",
-    "--1",
-    "9223372036854775808",
-    "-9223372036854775809",
-];
-
-#[test]
-fn signed_numbers(rt: HostRuntime) {
-    for (text, number) in SIGNED {
-        assert_eq!(rt; read_signed(text.as_bytes()), Some(number));
-    }
-    for text in NO_SIGNED {
-        assert_eq!(rt; read_signed(text.as_bytes()), None, "at {text}");
     }
 }
 

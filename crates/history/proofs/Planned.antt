@@ -23,6 +23,7 @@ use Rattle.history_model.specs.TreeSteps.{move_entry}
 use Rattle.history_model.specs.declared.Cause.{Cause}
 use Rattle.history_model.specs.declared.Cause.TheVariants.{TooLarge}
 use Rattle.gix_hash.specs.declared.kind.Kind.{Kind}
+use Rattle.gix_object_lines.specs.declared.kind.Kind.TheVariants as kinds
 use Rattle.history_model.proofs.OfferedReads.{commits_follow_main, commits_name_main, commits_store_flat}
 use Rattle.history_model.proofs.OfferedSteps.{first_flat}
 use Rattle.history_store.specs.Formats.{actor_of, entry_of}
@@ -149,11 +150,11 @@ module _ (r : plain.Repository) (order : CommitCommand) (o : IsOffered r) (w : H
       before_told parent null
       ∙ (λ i. unwrap_or (at i) (is_null i)) ∙ ap (λ name. unwrap_or (id_at r name) (null_id r.kind)) (sym (commits_name_main r order o offered))
 
-  pub commit_is : (commit : stored.Commit) (kind : Kind) (tree : Bytes) → kind ≡ r.kind → id_of commit.tree ≡ digest kind (object_text (codes "tree") tree) → tree ≡ root r.kind (new_commit r order).files
+  pub commit_is : (commit : stored.Commit) (kind : Kind) (tree : Bytes) → kind ≡ r.kind → id_of commit.tree ≡ digest kind (object_text kinds.Tree tree) → tree ≡ root r.kind (new_commit r order).files
       → map id_of commit.parents.items ≡ parents_of r order → actor_of commit.author ≡ read_actor order.author → actor_of commit.committer ≡ read_actor order.committer → commit.message.items ≡ order.message
       → IsCommitOf r.kind commit (new_commit r order)
   commit_is commit kind tree same id is_tree parents author committer message = record {
-    tree = id ∙ (λ i. digest (same i) (object_text (codes "tree") (is_tree i)));
+    tree = id ∙ (λ i. digest (same i) (object_text kinds.Tree (is_tree i)));
     parents = parents;
     author = author;
     committer = committer;
@@ -161,8 +162,8 @@ module _ (r : plain.Repository) (order : CommitCommand) (o : IsOffered r) (w : H
   }
 
   pub entry_is : (entry : LogEntry) (kind : Kind) (commit : Bytes) → kind ≡ r.kind → id_of entry.before ≡ unwrap_or (id_at r (branch_or_name r order.name)) (null_id r.kind)
-      → id_of entry.after ≡ digest kind (object_text (codes "commit") commit) → commit ≡ commit_content r.kind (new_commit r order) → actor_of entry.actor ≡ read_actor order.committer → entry.message.items ≡ title order.message
+      → id_of entry.after ≡ digest kind (object_text kinds.Commit commit) → commit ≡ commit_content r.kind (new_commit r order) → actor_of entry.actor ≡ read_actor order.committer → entry.message.items ≡ title order.message
       → entry_of entry ≡ move_entry r (branch_or_name r order.name) (value_id r.kind (StoredCommit (new_commit r order))) (read_actor order.committer) (title order.message)
   entry_is entry kind commit same before after is_commit actor message =
-      let after_is = after ∙ (λ i. digest (same i) (object_text (codes "commit") (is_commit i))) in
+      let after_is = after ∙ (λ i. digest (same i) (object_text kinds.Commit (is_commit i))) in
       λ i. record { before = before i; after = after_is i; actor = actor i; message = message i }

@@ -10,7 +10,7 @@ use Rattle.gix_ref_file.specs.Tree.{Tree}
 use Rattle.history_model.specs.Bytes.{Bytes, by_bytes}
 use Rattle.history_model.specs.FileMap.{Content}
 use Rattle.history_model.specs.Offered.{file_entry_text}
-use Rattle.history_model.specs.Objects.{by_id, Value, StoredBytes, StoredFolder, digest, root_within, object_text, value_text, content_of, root, id_of, empty_tree_id}
+use Rattle.history_model.specs.Objects.{by_id, Value, StoredBytes, StoredFolder, digest, root_within, object_text, object_kind, value_text, content_of, root, id_of, empty_tree_id}
 use Rattle.gix_hash.specs.Id.{Id, null_id}
 use Rattle.history_model.specs.Objects as model
 use Rattle.history_model.specs.Meaning.{store_one, store_all, is_taken, some_taken, is_other}
@@ -27,12 +27,11 @@ use Rattle.history_model.proofs.TreePuts.{own_ids_stay, trees_tell_taken, rename
 use Rattle.history_model.proofs.CommitStands.{puts_store_all}
 use Rattle.history_model.proofs.OfferedFiles.{flat_roots, empty_flat}
 use Rattle.history_model.proofs.WholeTexts.{object_same}
-use Rattle.history_store.specs.Formats.{type_word}
 use Rattle.history_store.specs.Ids.{IdSet, with_id}
 use Rattle.history_store.specs.Stores as store
 use Rattle.history_store.specs.Stores.{HoldsFile, FoldersAbove, IsTaken, IsObjectPart, is_empty_tree}
-use Rattle.history_store.specs.declared.object.ObjectKind.{ObjectKind}
-use Rattle.history_store.specs.declared.object.ObjectKind.TheVariants as kinds
+use Rattle.gix_object_lines.specs.declared.kind.Kind.{Kind as ObjectKind}
+use Rattle.gix_object_lines.specs.declared.kind.Kind.TheVariants as kinds
 use Rattle.history_store.specs.declared.objects.PutError.{PutError}
 use Rattle.history_store.specs.declared.objects.PutError.TheVariants as errors
 use Rattle.gix_hash.specs.declared.object_id.ObjectId.{ObjectId}
@@ -74,11 +73,12 @@ not_true false h = refl
 -- ---- whether an id is taken
 
 -- the empty tree's text is that of no other object
-empty_told : (object : ObjectKind) (content : Bytes) → is_empty_tree object content ≡ bytes_eq (object_text (codes "tree") []) (object_text (type_word object) content)
-empty_told kinds.Tree [] = sym (text_itself (object_text (codes "tree") []))
-empty_told kinds.Tree (b ∷ content) = sym (texts_apart (object_text (codes "tree") []) (object_text (codes "tree") (b ∷ content)) (λ same. let wrong = (object_same (codes "tree") (codes "tree") [] (b ∷ content) refl refl same).1 in absurd (cc wrong)))
+empty_told : (object : ObjectKind) (content : Bytes) → is_empty_tree object content ≡ bytes_eq (object_text kinds.Tree []) (object_text object content)
+empty_told kinds.Tree [] = sym (text_itself (object_text kinds.Tree []))
+empty_told kinds.Tree (b ∷ content) = sym (texts_apart (object_text kinds.Tree []) (object_text kinds.Tree (b ∷ content)) (λ same. let wrong = (object_same kinds.Tree kinds.Tree [] (b ∷ content) same).1 in absurd (cc wrong)))
 empty_told kinds.Blob content = refl
 empty_told kinds.Commit content = refl
+empty_told kinds.Tag content = refl
 
 -- no files have an empty tree
 no_entries : (files : List (Bytes × Content)) → length files ≡ 0 → files ≡ []
@@ -91,8 +91,8 @@ empty_root kind =
     ∙ ap (flat_map (file_entry_text kind)) (no_entries (entries (empty {X = Content} {R = by_bytes})) (sym (len-entries (empty {X = Content} {R = by_bytes})) ∙ len-empty by_bytes Content))
 
 -- An object is a value's where it has its type and its content.
-module _ (kind : Kind) (tree : Tree) (value : Value) (object : ObjectKind) (content : Bytes) (typed : model.type_word value ≡ type_word object) (same : content_of kind value ≡ content) where
-  pub same_text : value_text kind value ≡ store.text_of object content
+module _ (kind : Kind) (tree : Tree) (value : Value) (object : ObjectKind) (content : Bytes) (typed : object_kind value ≡ object) (same : content_of kind value ≡ content) where
+  pub same_text : value_text kind value ≡ object_text object content
   same_text = λ i. object_text (typed i) (same i)
 
   pub same_id : id_of kind value ≡ store.object_id kind object content
@@ -105,7 +105,7 @@ module _ (kind : Kind) (tree : Tree) (value : Value) (object : ObjectKind) (cont
       let text = sym same_text in
       let no_content = sym (empty_root kind) in
       let others : not (is_empty_tree object content) ≡ is_other kind (value_text kind (StoredFolder empty)) value =
-      ap not (empty_told object content ∙ (λ i. bytes_eq (object_text (codes "tree") (no_content i)) (text i))) in
+      ap not (empty_told object content ∙ (λ i. bytes_eq (object_text kinds.Tree (no_content i)) (text i))) in
       λ i. id_eq (id i) (null_id kind) || (id_eq (id i) (empty_tree_id kind) && others i)
 
   abbrev differs : Option Bytes → Bool
@@ -139,9 +139,9 @@ module _ (kind : Kind) (tree : Tree) (value : Value) (object : ObjectKind) (cont
 -- ---- one put
 
 module _ (kind : Kind) (old new : Tree) (values : Values) (value : Value) (object : ObjectKind) (content : Bytes)
-    (typed : model.type_word value ≡ type_word object) (same : content_of kind value ≡ content) (holds : HoldsValues kind old values) (own : HaveOwnIds kind values) where
+    (typed : object_kind value ≡ object) (same : content_of kind value ≡ content) (holds : HoldsValues kind old values) (own : HaveOwnIds kind values) where
   -- the contract of a put, in the words of the store
-  pub value_put : HoldsFile (object_place (store.object_id kind object content)) (store.text_of object content) old new
+  pub value_put : HoldsFile (object_place (store.object_id kind object content)) (object_text object content) old new
       → FoldersAbove (object_place (store.object_id kind object content)) old new
       → (file_at new unfinished_place ≡ None) ⊎ (new ≡ old)
       → PutsValue kind value old new ⊎ ((file_at old (object_place (id_of kind value)) ≡ Some (value_text kind value)) × (new ≡ old))
@@ -149,7 +149,7 @@ module _ (kind : Kind) (old new : Tree) (values : Values) (value : Value) (objec
     here = ap (λ id. file_at new (object_place id)) (same_id kind old value object content typed same) ∙ file.here ∙ ap Some (sym (same_text kind old value object content typed same));
     gone = gone;
     others = λ path apart other. file.others path apart (λ one. other (one ∙ ap object_place (sym (same_id kind old value object content typed same))));
-    folders = folders_after old new (object_place (store.object_id kind object content)) (values_are_objects kind old values holds own) (kind, store.object_id kind object content, digest_is_id kind (store.text_of object content), refl) folders;
+    folders = folders_after old new (object_place (store.object_id kind object content)) (values_are_objects kind old values holds own) (kind, store.object_id kind object content, digest_is_id kind (object_text object content), refl) folders;
   }))
   value_put file folders (inr unchanged) = inr (
     ap (λ id. file_at old (object_place id)) (same_id kind old value object content typed same) ∙ ap (λ tree. file_at tree (object_place (store.object_id kind object content))) (sym unchanged)

@@ -5,10 +5,10 @@ use Rattle.std.specs.FinMap.{get}
 use Rattle.gix_ref_file.specs.History.{History}
 use Rattle.gix_ref_file.specs.declared.files.FileError.{FileError}
 use Rattle.gix_ref_file.specs.declared.files.FileError.TheVariants.{Failed, Memory}
-use Rattle.history_model.specs.Bytes.{Bytes, has_byte}
+use Rattle.history_model.specs.Bytes.{Bytes}
 use Rattle.history_model.specs.FileMap.{FileMap, IsFileMap}
 use Rattle.history_model.specs.Forms.{is_commit_form}
-use Rattle.history_model.specs.Objects.{CommitValue, Value, StoredCommit, StoredFolder, type_word, content_of, value_text, object_text}
+use Rattle.history_model.specs.Objects.{CommitValue, Value, StoredCommit, StoredFolder, object_kind, content_of, value_text, object_text}
 use Rattle.gix_hash.specs.Id.{Id}
 use Rattle.history_model.specs.Offered.{is_flat}
 use Rattle.history_model.specs.Places.{file_at, object_place}
@@ -18,10 +18,8 @@ use Rattle.gix_hash.specs.declared.kind.Kind.{Kind}
 use Rattle.history_model.proofs.TreePlaces.{values_have_ids}
 use Rattle.history_model.proofs.TreePuts.{halves_stand, places_tell_values}
 use Rattle.history_model.proofs.WholeTexts.{object_same}
-use Rattle.history_store.specs.Formats as store
-use Rattle.history_store.specs.Stores.{text_of, IsNoObject}
-use Rattle.history_store.specs.declared.object.ObjectKind.{ObjectKind}
-use Rattle.history_store.specs.declared.object.ObjectKind.TheVariants.{Blob, Tree, Commit}
+use Rattle.history_store.specs.Stores.{IsNoObject}
+use Rattle.gix_object_lines.specs.declared.kind.Kind.{Kind as ObjectKind}
 use Rattle.history_store.specs.declared.objects.Object.{Object}
 use Rattle.history.specs.Acts.{Gives, IsReadingFault}
 use Rattle.history.specs.Face.{objects_part}
@@ -55,30 +53,15 @@ module _ {F : Type 0} (IsHonest : F → Type 0) (history : F → History) (repos
 
 -- ---- an object that is read
 
-module _ (kind : Kind) (value : Value) (object : ObjectKind) (word : type_word value ≡ store.type_word object) (stored : Option Bytes) (stands : stored ≡ Some (value_text kind value)) where
-  plain_word : (other : ObjectKind) → has_byte 32 (store.type_word other) ≡ false
-  plain_word Blob = refl
-  plain_word Tree = refl
-  plain_word Commit = refl
-
-  -- the object of a word
-  of_word : Bytes → ObjectKind
-  of_word text = cond (bytes_eq text (codes "tree")) Tree (cond (bytes_eq text (codes "commit")) Commit Blob)
-
-  of_word-type_word : (other : ObjectKind) → of_word (store.type_word other) ≡ other
-  unfolding of_word
-  of_word-type_word Blob = refl
-  of_word-type_word Tree = refl
-  of_word-type_word Commit = refl
-
-  told : (other : ObjectKind) (content : Bytes) → stored ≡ Some (text_of other content) → (other ≡ object) × (content ≡ content_of kind value)
+module _ (kind : Kind) (value : Value) (object : ObjectKind) (same_kind : object_kind value ≡ object) (stored : Option Bytes) (stands : stored ≡ Some (value_text kind value)) where
+  told : (other : ObjectKind) (content : Bytes) → stored ≡ Some (object_text other content) → (other ≡ object) × (content ≡ content_of kind value)
   told other content is =
-      let text : text_of other content ≡ value_text kind value = cc in
-      let same = object_same (store.type_word other) (type_word value) content (content_of kind value) (plain_word other) (ap (has_byte 32) word ∙ plain_word object) text in
-      (sym (of_word-type_word other) ∙ ap of_word (same.0 ∙ word) ∙ of_word-type_word object, same.1)
+      let text : object_text other content ≡ value_text kind value = cc in
+      let same = object_same other (object_kind value) content (content_of kind value) text in
+      (same.0 ∙ same_kind, same.1)
 
   abbrev Read : Option Object → Type 0
-  Read found = MatchOption found ((stored ≡ None) ⊎ IsNoObject (unwrap_or stored [])) (λ other. stored ≡ Some (text_of other.kind other.content.items))
+  Read found = MatchOption found ((stored ≡ None) ⊎ IsNoObject (unwrap_or stored [])) (λ other. stored ≡ Some (object_text other.kind other.content.items))
 
   -- it has the value's type and content
   pub object_told : (found : Option Object) (other : Object) → found ≡ Some other → Read found → (other.kind ≡ object) × (other.content.items ≡ content_of kind value)
@@ -88,7 +71,7 @@ module _ (kind : Kind) (value : Value) (object : ObjectKind) (word : type_word v
   pub object_found : (found : Option Object) → found ≡ None → Read found → ⊥
   object_found found is read = elim (subst Read is read) [
     | inl none ↦ cc
-    | inr other ↦ other object (content_of kind value) (ap (λ text. unwrap_or text []) stands ∙ ap (λ w. object_text w (content_of kind value)) word)
+    | inr other ↦ other object (content_of kind value) (ap (λ text. unwrap_or text []) stands ∙ ap (λ k. object_text k (content_of kind value)) same_kind)
   ]
 
 -- a call of the files that failed is a fault of reading

@@ -13,7 +13,7 @@ use Rattle.history_model.specs.declared.Cause.TheVariants.{BadPath, BadActor, Ba
 use Rattle.history_word.specs.Commands.{IsEdit, AreEdits}
 use Rattle.history_word.specs.declared.command.Edit.{Edit}
 use Rattle.history.specs.CommitCauses.{first_among, form_causes, IsTime, AreTimes}
-use Rattle.history.specs.declared.actors.Time.{Time}
+use Rattle.gix_object_lines.specs.declared.lines.time.Time.{Time}
 use Rattle.history.proofs.FirstCauses.{here, passed}
 
 or_true : (a : Bool) → (a || true) ≡ true

@@ -1,5 +1,5 @@
 -- What a commit is refused for by itself and by the name that it moves, and what is read of it where it isn't.
-use Rattle.std.specs.Prelude.{◌≡◌, ◌≤◌, Bool, List, [], ◌∷◌, ◌++◌, find, length, Option, Some, None, option_map, Result, Ok, Err, IsTrue, IsFalse, not, ◌||◌, nat_lt}
+use Rattle.std.specs.Prelude.{pos, ◌≡◌, ◌≤◌, Bool, List, [], ◌∷◌, ◌++◌, find, length, Option, Some, None, option_map, Result, Ok, Err, IsTrue, IsFalse, not, ◌||◌, nat_lt}
 use Rattle.std.specs.List.{list_any}
 use Rattle.history_model.specs.Repository as plain
 use Rattle.history_model.specs.Repository.{id_at}
@@ -13,7 +13,8 @@ use Rattle.history_model.specs.declared.Cause.{Cause}
 use Rattle.history_model.specs.declared.Cause.TheVariants.{UnknownWord, UnbornHead, Taken, BadPath, NoSuchPath, BadActor, BadTime, BadMessage, TooLarge}
 use Rattle.gix_hash.specs.declared.object_id.ObjectId.{ObjectId}
 use Rattle.history.specs.Acts.{IsReadingFault}
-use Rattle.history.specs.declared.actors.Time.{Time}
+use Rattle.gix_object_lines.specs.Time.{IsSpellableOffset, offset_text}
+use Rattle.gix_object_lines.specs.declared.lines.time.Time.{Time}
 use Rattle.history.specs.declared.causes.Times.{Times}
 use Rattle.history.specs.declared.stopped.Stopped.{Stopped}
 use Rattle.history.specs.declared.stopped.Stopped.TheVariants.{Refused, Fault}
@@ -41,8 +42,9 @@ IsParent MayFail r order (Err (Fault fault)) = IsReadingFault MayFail (Fault fau
 pub record IsTime (line : ActorLine) (time : Time) : Type 0 where
   pub good_seconds : IsTrue (is_seconds line.seconds)
   pub good_offset : IsTrue (is_offset line.offset)
-  pub seconds : time.seconds ≡ digits_value line.seconds
-  pub offset : time.offset ≡ line.offset
+  pub seconds : time.seconds ≡ pos (digits_value line.seconds)
+  pub whole : IsSpellableOffset time.offset
+  pub offset : offset_text time.offset ≡ line.offset
 
 -- the line's time, where both of its words can stand in an actor's line
 abbrev pub ReadsTime : ActorLine → Option Time → Type 0

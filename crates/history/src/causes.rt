@@ -13,12 +13,13 @@ ghost use Rattle.history_word.specs.Commands.{AreEdits, IsCommit, IsEdit, IsExpe
 ghost use Rattle.history.specs.CommitCauses.{AreTimes, IsParent, is_long};
 ghost use Rattle.history.specs.Stands.{Stands};
 
-use crate::actors::{Time, has_good_names, time_of};
+use crate::actors::{has_good_names, time_of};
 use crate::fields::{is_bad_path, is_too_long, kept};
 use crate::repository::Repository;
 use crate::stopped::Stopped;
 use crate::words::HEAD;
 use gix_hash::ObjectId;
+use gix_object::lines::Time;
 use gix_ref_file::Files;
 use history_model::Cause;
 use history_word::{Commit, Edit, Expect};

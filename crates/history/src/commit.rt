@@ -1,8 +1,7 @@
 //! The command `commit`: the objects that it stores, and the name that it moves.
 
 ghost use Rattle.std.specs.Prelude.{◌≡◌, ◌∷◌, [], map, None, IfErr, OnOk, IsTrue};
-ghost use Rattle.history_model.specs.Objects.{Value, StoredBytes, content_of};
-ghost use Rattle.history_model.specs.Objects as model;
+ghost use Rattle.history_model.specs.Objects.{Value, StoredBytes, content_of, object_kind};
 ghost use Rattle.history_model.specs.Repository as plain;
 ghost use Rattle.history_model.specs.Commands as orders;
 ghost use Rattle.history_model.specs.Commands.{Commit as CommitOf};
@@ -11,7 +10,6 @@ ghost use Rattle.history_model.specs.Meaning.{store_one, store_all, stored_by};
 ghost use Rattle.history_model.specs.Stage.{is_offered};
 ghost use Rattle.history_model.specs.TreeHalves.{Values};
 ghost use Rattle.history_word.specs.Commands.{IsCommit};
-ghost use Rattle.history_store.specs.Formats.{type_word};
 ghost use Rattle.history_store.specs.Face.{kind_of_names, kind_of_objects};
 ghost use Rattle.history.specs.Acts.{Acts, CountsRise, HasFailedCall};
 ghost use Rattle.history.specs.Face.{has_failed, objects_part, names_part, KeepsAllButObjects, KeepsAllButNames};
@@ -38,9 +36,9 @@ impl<F: Files> Repository<F> {
         ensures kind { kind_of_objects self.new.objects ≡ kind_of_objects self.old.objects }
         ensures counts { CountsRise F.failures self.old self.new }
         ensures fault { IfErr result IsFault }
-        ensures stores { (values : Values) (value : Value) → ObjectsStand F.is_honest F.history self.old values → model.type_word value ≡ type_word object → content_of (kind_of_objects self.old.objects) value ≡ content.now
+        ensures stores { (values : Values) (value : Value) → ObjectsStand F.is_honest F.history self.old values → object_kind value ≡ object → content_of (kind_of_objects self.old.objects) value ≡ content.now
             → StoresValues (HasFailedCall F.failures F.reading_may_fail self.old self.new) (kind_of_objects self.old.objects) values (value ∷ []) (objects_tree F.history self.old) (objects_tree F.history self.new) result }
-        ensures known { (values : Values) (value : Value) → KnowsIds self.old values → model.type_word value ≡ type_word object → content_of (kind_of_objects self.old.objects) value ≡ content.now
+        ensures known { (values : Values) (value : Value) → KnowsIds self.old values → object_kind value ≡ object → content_of (kind_of_objects self.old.objects) value ≡ content.now
             → OnOk result (KnowsIds self.new (store_one (kind_of_objects self.old.objects) values value)) }
     {
         self.objects.put(alloc, object, content)?;

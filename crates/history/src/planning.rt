@@ -13,7 +13,6 @@ ghost use Rattle.history_model.specs.Offered.{is_flat, main_name};
 ghost use Rattle.history_model.specs.declared.Cause.TheVariants.{TooLarge};
 ghost use Rattle.history_word.specs.Commands.{IsCommit, IsEdit, AreEdits};
 ghost use Rattle.history_word.specs.declared.command.Edit.TheVariants as edits;
-ghost use Rattle.history_store.specs.Formats.{type_word};
 ghost use Rattle.history_store.specs.Trees.{IsTreeOf};
 ghost use Rattle.history_store.specs.Face.{kind_of_objects};
 ghost use Rattle.history.specs.Acts.{Gives};
@@ -77,11 +76,11 @@ fn parents(alloc: Global, parent: Option<ObjectId>) -> Result<Vec<ObjectId>, All
 }
 
 impl<F: Files> Repository<F> {
-    /// The id of this content.
-    fn id_of(&self, object: ObjectKind, content: &[u8]) -> ObjectId
-        ensures { id_of result ≡ digest (kind_of_objects self.now.objects) (object_text (type_word object) content.now) }
+    /// The id of this content. It takes no memory.
+    fn id_of(&self, alloc: Global, object: ObjectKind, content: &[u8]) -> ObjectId
+        ensures { id_of result ≡ digest (kind_of_objects self.now.objects) (object_text object content.now) }
     {
-        object_id(self.objects.kind(), object, content)
+        object_id(alloc, self.objects.kind(), object, content)
     }
 
     /// The files of a commit's parent, none without one.
@@ -99,12 +98,12 @@ impl<F: Files> Repository<F> {
     }
 
     /// Puts a file, and gives the content to be stored.
-    fn put_file(&self, tree: &mut Tree, put: Put) -> Result<Vec<u8>, AllocError>
+    fn put_file(&self, alloc: Global, tree: &mut Tree, put: Put) -> Result<Vec<u8>, AllocError>
         ensures { (r : plain.Repository) (files : FileMap) (line : orders.EditLine) → IsEdit (edits.Put put) line → AreWithin (line ∷ []) → IsTrue (is_flat files) → IsTreeOf (kind_of_objects self.now.objects) tree.old files
             → IfOk result (λ blob. HasEdited r (kind_of_objects self.now.objects) files (line ∷ []) (blob ∷ []) tree.new) }
     {
         let content = into_kept(put.content);
-        let id = self.id_of(ObjectKind::Blob, &content);
+        let id = self.id_of(alloc, ObjectKind::Blob, &content);
         tree.insert(into_kept(put.path), TreeEntry { kind: put.kind, id })?;
         Ok(content)
     }
@@ -122,7 +121,7 @@ impl<F: Files> Repository<F> {
         let mut blobs = Vec::with_capacity(alloc, edits.len())?;
         for edit in edits {
             let Edit::Put(put) = edit;
-            blobs.push(self.put_file(tree, put)?)?;
+            blobs.push(self.put_file(alloc, tree, put)?)?;
         }
         Ok(blobs)
     }
@@ -139,21 +138,22 @@ impl<F: Files> Repository<F> {
         let blobs = self.edit(alloc, &mut tree, command.edits)?;
         let tree = within_limit(tree.to_bytes(alloc)?)?;
 
-        let committer = actor_at(command.committer, times.committer);
+        let author = actor_at(command.author, times.author).ok_or(Cause::BadActor)?;
+        let committer = actor_at(command.committer, times.committer).ok_or(Cause::BadActor)?;
         let message = into_kept(command.message);
         let title = Vec::from_slice(alloc, title(&message))?;
         let log_actor = committer.try_clone()?;
         let commit = Commit {
-            tree: self.id_of(ObjectKind::Tree, &tree),
+            tree: self.id_of(alloc, ObjectKind::Tree, &tree),
             parents: parents(alloc, parent)?,
-            author: actor_at(command.author, times.author),
+            author,
             committer,
             message,
         };
         let commit = within_limit(commit.to_bytes(alloc)?)?;
         let entry = LogEntry {
             before: parent.unwrap_or(ObjectId::null(self.objects.kind())),
-            after: self.id_of(ObjectKind::Commit, &commit),
+            after: self.id_of(alloc, ObjectKind::Commit, &commit),
             actor: log_actor,
             message: title,
         };

@@ -14,6 +14,7 @@ use crate::reply::{field, kind_word, line};
 use crate::repository::Repository;
 use crate::stopped::Stopped;
 use gix_hash::{Kind, ObjectId};
+use gix_object::lines::write_time;
 use gix_ref_file::Files;
 use history_model::Cause;
 use history_store::{Actor, Commit, ObjectKind, TreeEntry, hex_digits};
@@ -35,20 +36,21 @@ fn parent_lines(text: &mut Vec<u8>, parents: &[ObjectId]) -> Result<(), AllocErr
 }
 
 /// Appends an actor as a command spells it.
-fn actor(text: &mut Vec<u8>, role: &[u8], actor: &Actor) -> Result<(), AllocError>
+fn actor(alloc: Global, text: &mut Vec<u8>, role: &[u8], actor: &Actor) -> Result<(), AllocError>
     ensures { OnOk result (text.new.items ≡ text.old.items ++ parts_text (actor_parts role.now (spelled_actor (actor_of actor.now)))) }
 {
     let mut name_len = itoa::Buffer::new();
     let mut email_len = itoa::Buffer::new();
-    let mut seconds = itoa::Buffer::new();
+    // The seconds, a space and the offset, as two words of the line.
+    let mut time = Vec::new(alloc);
+    write_time(actor.time, &mut time).map_err(|_| AllocError)?;
     line(
         text,
         &[
             role,
             name_len.format(actor.name.len()).as_bytes(),
             email_len.format(actor.email.len()).as_bytes(),
-            seconds.format(actor.seconds).as_bytes(),
-            actor.offset.as_slice(),
+            &time,
         ],
     )?;
     field(text, &actor.name)?;
@@ -83,8 +85,8 @@ fn commit_text(alloc: Global, id: &ObjectId, commit: &Commit) -> Result<Vec<u8>,
         ],
     )?;
     parent_lines(&mut text, &commit.parents)?;
-    actor(&mut text, b"author", &commit.author)?;
-    actor(&mut text, b"committer", &commit.committer)?;
+    actor(alloc, &mut text, b"author", &commit.author)?;
+    actor(alloc, &mut text, b"committer", &commit.committer)?;
     let mut size = itoa::Buffer::new();
     line(
         &mut text,

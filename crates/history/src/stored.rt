@@ -3,9 +3,7 @@
 ghost use Rattle.std.specs.Prelude.{◌≡◌, Some};
 ghost use Rattle.std.specs.FinMap.{get};
 ghost use Rattle.history_model.specs.FileMap.{FileMap};
-ghost use Rattle.history_model.specs.Objects.{CommitValue, Value, StoredCommit, StoredFolder, content_of};
-ghost use Rattle.history_model.specs.Objects as model;
-ghost use Rattle.history_store.specs.Formats.{type_word};
+ghost use Rattle.history_model.specs.Objects.{CommitValue, Value, StoredCommit, StoredFolder, content_of, object_kind};
 ghost use Rattle.history_store.specs.Commits.{IsCommitOf};
 ghost use Rattle.history_store.specs.Trees.{IsTreeOf};
 ghost use Rattle.gix_hash.specs.Id.{id_of};
@@ -31,7 +29,7 @@ impl<F: Files> Repository<F> {
         kind: ObjectKind,
         id: &ObjectId,
     ) -> Result<Vec<u8>, Stopped>
-        ensures { (r : plain.Repository) (value : Value) → Stands F.is_honest F.history self.now r → get r.objects (id_of id.now) ≡ Some value → model.type_word value ≡ type_word kind
+        ensures { (r : plain.Repository) (value : Value) → Stands F.is_honest F.history self.now r → get r.objects (id_of id.now) ≡ Some value → object_kind value ≡ kind
             → Gives F.reading_may_fail (λ content. content.items ≡ content_of r.kind value) result }
     {
         match self.objects.read(alloc, id)? {

@@ -8,6 +8,7 @@ use Rattle.std.specs.FinMap.{FinMap, get, insert, empty, entries, retain_keys, g
 use Rattle.std.specs.FinMap.Entries.{put}
 use Rattle.std.proofs.lemmas.Cmp.{nat_list_cmp_total}
 use Rattle.sha1.specs.Sha1.{sha1, digest_bytes}
+use Rattle.gix_object_lines.specs.declared.kind.Kind.TheVariants as kinds
 use Rattle.history_model.specs.Bytes.{Bytes, by_bytes, has_twice}
 use Rattle.history_model.specs.FileMap.{FileMap, Content, Put, edited_by, folders_of, inside, beginnings, has_below, is_below}
 use Rattle.history_model.specs.Objects.{by_id, CommitValue, Value, StoredCommit, StoredFolder, StoredBytes, empty_tree_id, hex, digest, blob_id, tree_text, object_text, entry_text, root, root_within, folder_id, commit_content, content_of, id_of}
@@ -90,7 +91,7 @@ pub record AreIds (text : Bytes) (blob tree commit none : Id) : Type 0 where
   pub none_is : empty_tree_id Sha1 ≡ none
   pub blob_is : blob_id Sha1 text ≡ blob
   pub tree_is : digest Sha1 (tree_text (entry_text (codes "100644") (codes "a") blob)) ≡ tree
-  pub commit_is : digest Sha1 (object_text (codes "commit") (text_with (hex tree))) ≡ commit
+  pub commit_is : digest Sha1 (object_text kinds.Commit (text_with (hex tree))) ≡ commit
   pub blob_null : id_eq blob (null_id Sha1) ≡ false
   pub tree_null : id_eq tree (null_id Sha1) ≡ false
   pub commit_null : id_eq commit (null_id Sha1) ≡ false
@@ -118,7 +119,7 @@ module _ (text : Bytes) (blob tree commit none : Id) (h : AreIds text blob tree 
   content_told = content_shown (one_file text) ∙ ap (λ t. text_with (hex t)) tree_id
 
   commit_id : id_of Sha1 (StoredCommit (commit_with (one_file text))) ≡ commit
-  commit_id = ap (λ c. digest Sha1 (object_text (codes "commit") c)) content_told ∙ h.commit_is
+  commit_id = ap (λ c. digest Sha1 (object_text kinds.Commit c)) content_told ∙ h.commit_is
 
   -- a new key finds nothing
   apart : (map : FinMap by_id Value) (key q : Id) (v : Value) → id_eq q key ≡ false → get map q ≡ None → get (insert map key v) q ≡ None

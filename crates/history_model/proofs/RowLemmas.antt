@@ -6,6 +6,7 @@ use Rattle.sha1.specs.Sha1.{sha1, hash_after, compress, rounds, schedule, first_
 use Rattle.sha2.specs.Sha256.{sha256, hash_after as sha256_after, compress as sha256_compress, rounds as sha256_rounds, schedule as sha256_schedule, first_words as sha256_words, digest_bytes as sha256_bytes}
 use Rattle.std.specs.Fmt.{digits}
 use Rattle.std.specs.declared.cmp.Ordering.{Ordering}
+use Rattle.gix_object_lines.specs.declared.kind.Kind.TheVariants as kinds
 use Rattle.history_model.specs.Bytes.{Bytes, by_bytes, line}
 use Rattle.history_model.specs.FileMap.{Content}
 use Rattle.history_model.specs.Objects.{hex, digest, blob_text, blob_id, empty_tree_id, tree_text, object_text, root, root_within, folder_id, commit_content, id_of, StoredCommit}
@@ -82,12 +83,12 @@ first_length_counted = refl
 pub first_length : length (commit_content Sha1 first_commit) ≡ 99
 first_length = ap length first_content ∙ first_length_counted
 
-first_id_computed : hex (digest Sha1 (object_text (codes "commit") (text_with (codes "4b825dc642cb6eb9a060e54bf8d69288fbee4904")))) ≡ codes "d39b036c797dcd9c0210b66a094ee846a3bc4fd9"
+first_id_computed : hex (digest Sha1 (object_text kinds.Commit (text_with (codes "4b825dc642cb6eb9a060e54bf8d69288fbee4904")))) ≡ codes "d39b036c797dcd9c0210b66a094ee846a3bc4fd9"
 unfolding digest sha1 hash_after compress rounds schedule first_words digest_bytes digits text_with
 first_id_computed = refl
 
 pub first_id : hex (id_of Sha1 (StoredCommit first_commit)) ≡ codes "d39b036c797dcd9c0210b66a094ee846a3bc4fd9"
-first_id = ap (λ content. hex (digest Sha1 (object_text (codes "commit") content))) first_content ∙ first_id_computed
+first_id = ap (λ content. hex (digest Sha1 (object_text kinds.Commit content))) first_content ∙ first_id_computed
 
 -- ---- three files
 

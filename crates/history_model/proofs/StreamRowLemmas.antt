@@ -5,6 +5,7 @@ use Rattle.std.specs.Fmt.{digits}
 use Rattle.std.specs.FinMap.{empty, get-empty}
 use Rattle.std.proofs.lemmas.Slice.Eq.{bytes_eq-Decides}
 use Rattle.sha1.specs.Sha1.{sha1, hash_after, compress, rounds, schedule, first_words, digest_bytes}
+use Rattle.gix_object_lines.specs.declared.kind.Kind.TheVariants as kinds
 use Rattle.history_model.specs.Bytes.{Bytes}
 use Rattle.history_model.specs.FileMap.{Content}
 use Rattle.history_model.specs.Objects.{by_id, Value, StoredCommit, StoredFolder, hex, digest, blob_id, empty_tree_id, tree_text, object_text, entry_text, value_text, folder_id}
@@ -48,7 +49,7 @@ none_tree_is = refl
 none_folder_is : folder_id Sha1 empty ≡ none_tree
 none_folder_is = ap (λ c. digest Sha1 (tree_text c)) (root-empty Sha1) ∙ none_tree_is
 
-none_commit_computed : digest Sha1 (object_text (codes "commit") (text_with (codes "4b825dc642cb6eb9a060e54bf8d69288fbee4904"))) ≡ none_commit
+none_commit_computed : digest Sha1 (object_text kinds.Commit (text_with (codes "4b825dc642cb6eb9a060e54bf8d69288fbee4904"))) ≡ none_commit
 unfolding digest sha1 hash_after compress rounds schedule first_words digest_bytes digits text_with
 none_commit_computed = refl
 
@@ -73,7 +74,7 @@ none_free = (
   and_right _ _ (not_other (value_text Sha1 (StoredFolder empty))),
   get-empty by_id none_tree,
   (
-    ap (λ c. digest Sha1 (object_text (codes "commit") c)) first_content ∙ none_commit_computed,
+    ap (λ c. digest Sha1 (object_text kinds.Commit c)) first_content ∙ none_commit_computed,
     refl,
     no_empty_tree none_commit _ refl,
     get_with_id empty none_tree (StoredFolder empty) none_commit ∙ get-empty by_id none_commit,
@@ -87,7 +88,7 @@ none_is_first = record {
   commit = first_new_commit;
   stored = first_stored;
   free = none_free;
-  id_is = ap (λ c. digest Sha1 (object_text (codes "commit") c)) first_content ∙ none_commit_computed;
+  id_is = ap (λ c. digest Sha1 (object_text kinds.Commit c)) first_content ∙ none_commit_computed;
   accepted = first_is_accepted;
   held = found_there _ none_commit _;
 }
@@ -153,7 +154,7 @@ empty_tree_is : digest Sha1 (tree_text (entry_text (codes "100644") (codes "a") 
 unfolding digest sha1 hash_after compress rounds schedule first_words digest_bytes digits
 empty_tree_is = refl
 
-empty_commit_is : digest Sha1 (object_text (codes "commit") (text_with (hex empty_tree))) ≡ empty_commit
+empty_commit_is : digest Sha1 (object_text kinds.Commit (text_with (hex empty_tree))) ≡ empty_commit
 unfolding digest sha1 hash_after compress rounds schedule first_words digest_bytes digits text_with
 empty_commit_is = refl
 
@@ -247,7 +248,7 @@ hello_tree_is : digest Sha1 (tree_text (entry_text (codes "100644") (codes "a") 
 unfolding digest sha1 hash_after compress rounds schedule first_words digest_bytes digits
 hello_tree_is = refl
 
-hello_commit_is : digest Sha1 (object_text (codes "commit") (text_with (hex hello_tree))) ≡ hello_commit
+hello_commit_is : digest Sha1 (object_text kinds.Commit (text_with (hex hello_tree))) ≡ hello_commit
 unfolding digest sha1 hash_after compress rounds schedule first_words digest_bytes digits text_with
 hello_commit_is = refl
 

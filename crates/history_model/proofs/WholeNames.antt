@@ -4,7 +4,7 @@ use Rattle.std.specs.List.{list_any, flat_map}
 use Rattle.std.specs.FinMap.{FinMap, entries, keys, get, remove}
 use Rattle.history_model.specs.Bytes.{Bytes}
 use Rattle.history_model.specs.FileMap.{is_below, folders_of}
-use Rattle.history_model.specs.Objects.{by_id, Actor, Value, StoredCommit, StoredTag, StoredBytes, StoredFolder, type_word, id_of}
+use Rattle.history_model.specs.Objects.{by_id, Actor, Value, StoredCommit, StoredTag, StoredBytes, StoredFolder, id_of}
 use Rattle.gix_hash.specs.Id.{Id, null_id}
 use Rattle.history_model.specs.Repository.{Repository, Reference, HoldsCommit, peeled_value, id_at, stands, HasWholeNames, IsWhole}
 use Rattle.history_model.specs.Forms.{IsWritten, title}
@@ -15,7 +15,7 @@ use Rattle.history_model.specs.CommandParts.{words_in, at_word, targets}
 use Rattle.history_model.specs.Causes.{first_cause, do_collide}
 use Rattle.history_model.specs.declared.Cause.TheVariants.{NoSuchName, Collides}
 use Rattle.history_model.proofs.WholeLists.{In, in_left, in_right, in_map, in_flat, or_none, either, clash, same_text, some_inside, none_is_some, none_passes, not_false, texts_differ}
-use Rattle.history_model.proofs.WholeTexts.{text_same}
+use Rattle.history_model.proofs.WholeTexts.{text_same, type_word}
 use Rattle.history_model.proofs.WholeStores.{Near, get_in, get_inserted, get_removed, all_keep, all_near}
 use Rattle.history_model.proofs.WholeGrowth.{holds_value}
 use Rattle.history_model.proofs.WholeReads.{no_cause, tests_collides, tests_no_such_name, read_holds}

@@ -1,8 +1,11 @@
 -- One text has one kind's word and one content; ids of one kind have one length.
-use Rattle.std.proofs.Common.{◌≡◌, ℕ, zero, suc, ◌+◌, ◌<◌, ◌%◌, ◌/◌, Bool, true, false, cond, [], ◌∷◌, ◌++◌, length, refl, sym, ◌∙◌, arith, tests, nat_lt, ◌==◌, append_assoc, decimal}
+use Rattle.std.proofs.Common.{ap, ◌≡◌, ℕ, zero, suc, ◌+◌, ◌<◌, ◌%◌, ◌/◌, Bool, true, false, cond, [], ◌∷◌, ◌++◌, length, refl, sym, ◌∙◌, arith, tests, nat_lt, ◌==◌, append_assoc, decimal}
 use Rattle.std.specs.Fmt.{digits_onto, digit_glyph, digits}
+use Rattle.gix_object_lines.specs.Kind.{kind_word}
+use Rattle.gix_object_lines.specs.declared.kind.Kind.{Kind as ObjectKind}
+use Rattle.gix_object_lines.proofs.Headers.{word_lacks_space, kind_word-injective}
 use Rattle.history_model.specs.Bytes.{Bytes, has_byte}
-use Rattle.history_model.specs.Objects.{digest, object_text, Value, StoredCommit, StoredTag, StoredBytes, StoredFolder, type_word, content_of, value_text}
+use Rattle.history_model.specs.Objects.{digest, object_text, Value, StoredCommit, StoredTag, StoredBytes, StoredFolder, object_kind, content_of, value_text}
 use Rattle.gix_hash.specs.Id.{Id}
 use Rattle.gix_hash.specs.Kind.{hex_len}
 use Rattle.history_model.specs.Forms.{is_id}
@@ -37,21 +40,29 @@ pub decimal_high : (d : ℕ) → d < 48 → (n : ℕ) → has_byte d (decimal n)
 unfolding digits
 decimal_high d h n = digits_high d h 64 10 n [] refl
 
-pub object_same : (v w a b : Bytes) → has_byte 32 v ≡ false → has_byte 32 w ≡ false → object_text v a ≡ object_text w b → (v ≡ w) × (a ≡ b)
-object_same v w a b hv hw e =
+-- a text of a word and a content tells both
+pub word_same : (v w a b : Bytes) → has_byte 32 v ≡ false → has_byte 32 w ≡ false → v ++ 32 ∷ decimal (length a) ++ 0 ∷ a ≡ w ++ 32 ∷ decimal (length b) ++ 0 ∷ b → (v ≡ w) × (a ≡ b)
+word_same v w a b hv hw e =
     let cut = split_at 32 v w (decimal (length a) ++ 0 ∷ a) (decimal (length b) ++ 0 ∷ b) hv hw
     (sym (append_assoc v (32 ∷ decimal (length a)) (0 ∷ a)) ∙ e ∙ append_assoc w (32 ∷ decimal (length b)) (0 ∷ b)) in
     let rest = split_at 0 (decimal (length a)) (decimal (length b)) a b (decimal_high 0 (omega arith) (length a)) (decimal_high 0 (omega arith) (length b)) cut.1 in
     (cut.0, rest.1)
 
-word_plain : (v : Value) → has_byte 32 (type_word v) ≡ false
-word_plain (StoredCommit c) = refl
-word_plain (StoredTag t) = refl
-word_plain (StoredBytes b) = refl
-word_plain (StoredFolder f) = refl
+-- an object's text is one of its kind's word
+pub object_cut : (object : ObjectKind) (content : Bytes) → object_text object content ≡ kind_word object ++ 32 ∷ decimal (length content) ++ 0 ∷ content
+object_cut object content = append_assoc (kind_word object ++ 32 ∷ decimal (length content)) (0 ∷ []) content
+
+pub object_same : (v w : ObjectKind) (a b : Bytes) → object_text v a ≡ object_text w b → (v ≡ w) × (a ≡ b)
+object_same v w a b e =
+    let same = word_same (kind_word v) (kind_word w) a b (word_lacks_space v) (word_lacks_space w) (sym (object_cut v a) ∙ e ∙ object_cut w b) in
+    (kind_word-injective v w same.0, same.1)
+
+-- the word that a value's text begins with
+abbrev pub type_word : Value → Bytes
+type_word value = kind_word (object_kind value)
 
 pub text_same : (kind : Kind) (v w : Value) → value_text kind v ≡ value_text kind w → (type_word v ≡ type_word w) × (content_of kind v ≡ content_of kind w)
-text_same kind v w e = object_same (type_word v) (type_word w) (content_of kind v) (content_of kind w) (word_plain v) (word_plain w) e
+text_same kind v w e = let same = object_same (object_kind v) (object_kind w) (content_of kind v) (content_of kind w) e in (ap kind_word same.0, same.1)
 
 -- ---- ids
 

@@ -9,6 +9,9 @@ use Rattle.gix_hash.specs.Id.{Id, raw_bytes}
 use Rattle.gix_hash.specs.Order.{id_cmp}
 use Rattle.gix_hash.specs.Spelling.{hex_text}
 use Rattle.gix_hash.specs.Hasher.{id_of_message}
+use Rattle.gix_object_lines.specs.Header.{header_text}
+use Rattle.gix_object_lines.specs.declared.kind.Kind.{Kind as ObjectKind}
+use Rattle.gix_object_lines.specs.declared.kind.Kind.TheVariants as objects
 use Rattle.history_model.specs.Bytes.{Bytes, line, has_byte}
 use Rattle.history_model.specs.FileMap.{FileMap, Content, has_below, inside}
 use Rattle.history_model.specs.declared.FileKind.{FileKind}
@@ -26,15 +29,15 @@ by_id = id_cmp
 abbrev pub hex : Id → Bytes
 hex id = hex_text id.digits
 
--- the word of the object's type, the content's length, a zero byte and the content
-abbrev pub object_text : Bytes → Bytes → Bytes
-object_text word content = word ++ 32 ∷ decimal (length content) ++ 0 ∷ content
+-- the header of the object's kind and the content's length, and the content
+abbrev pub object_text : ObjectKind → Bytes → Bytes
+object_text object content = header_text object (length content) ++ content
 
 abbrev pub blob_text : Bytes → Bytes
-blob_text content = object_text (codes "blob") content
+blob_text content = object_text objects.Blob content
 
 abbrev pub tree_text : Bytes → Bytes
-tree_text content = object_text (codes "tree") content
+tree_text content = object_text objects.Tree content
 
 -- ---- trees
 
@@ -156,11 +159,12 @@ pub data Value : Type 0 where
   StoredBytes : Bytes → Value
   StoredFolder : FileMap → Value
 
-abbrev pub type_word : Value → Bytes
-type_word (StoredCommit commit) = codes "commit"
-type_word (StoredTag tag) = codes "tag"
-type_word (StoredBytes bytes) = codes "blob"
-type_word (StoredFolder files) = codes "tree"
+-- the kind of the object that holds the value
+abbrev pub object_kind : Value → ObjectKind
+object_kind (StoredCommit commit) = objects.Commit
+object_kind (StoredTag tag) = objects.Tag
+object_kind (StoredBytes bytes) = objects.Blob
+object_kind (StoredFolder files) = objects.Tree
 
 abbrev pub content_of : Kind → Value → Bytes
 content_of kind (StoredCommit commit) = commit_content kind commit
@@ -169,7 +173,7 @@ content_of kind (StoredBytes bytes) = bytes
 content_of kind (StoredFolder files) = root kind files
 
 abbrev pub value_text : Kind → Value → Bytes
-value_text kind value = object_text (type_word value) (content_of kind value)
+value_text kind value = object_text (object_kind value) (content_of kind value)
 
 abbrev pub id_of : Kind → Value → Id
 id_of kind value = digest kind (value_text kind value)

@@ -17,7 +17,7 @@ pub mod NameMoves
 mod News
 mod ObjectFiles
 pub mod ObjectParts
-mod ObjectTexts
+pub mod Offsets
 mod Spelled
 mod Stored
 mod Surveys

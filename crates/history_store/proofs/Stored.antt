@@ -10,12 +10,13 @@ use Rattle.gix_ref_file.specs.History.{History, Adds}
 use Rattle.gix_ref_file.proofs.Histories.{adds_weaker, adds_joined}
 use Rattle.gix_ref_file.proofs.Rooted.{adds_now}
 use Rattle.gix_ref_file.proofs.Trees.{get-inserted, get-removed, get_inserted, one_path}
+use Rattle.history_model.specs.Objects.{object_text}
 use Rattle.history_model.specs.Bytes.{Bytes}
 use Rattle.gix_hash.specs.Id.{Id}
 use Rattle.history_model.specs.Places.{file_at, object_place, unfinished_place}
 use Rattle.gix_hash.specs.declared.kind.Kind.{Kind}
-use Rattle.history_store.specs.Stores.{SameFiles, KeepsFiles, HoldsFile, MayStand, IsTaken, is_reserved, object_id, text_of}
-use Rattle.history_store.specs.declared.object.ObjectKind.{ObjectKind}
+use Rattle.history_store.specs.Stores.{SameFiles, KeepsFiles, HoldsFile, MayStand, IsTaken, is_reserved, object_id}
+use Rattle.gix_object_lines.specs.declared.kind.Kind.{Kind as ObjectKind}
 
 -- ---- one after another
 pub same_then_same : (old mid new : Tree) → SameFiles old mid → SameFiles mid new → SameFiles old new
@@ -193,6 +194,6 @@ same_other tree stands place header content bytes same text is (other, at, unlik
 
 -- What is not reserved and has no file of other bytes at its place is not taken.
 pub untaken : (kind : Kind) (object : ObjectKind) (content : Bytes) (tree : Tree) (id : Id) (reserved : Bool) → id ≡ object_id kind object content → reserved ≡ is_reserved kind object content id → reserved ≡ false
-    → ((other : Bytes) × (file_at tree (object_place (object_id kind object content)) ≡ Some other) × (other ≢ text_of object content) → ⊥) → IsTaken kind object content tree → ⊥
+    → ((other : Bytes) × (file_at tree (object_place (object_id kind object content)) ≡ Some other) × (other ≢ object_text object content) → ⊥) → IsTaken kind object content tree → ⊥
 untaken kind object content tree id reserved same told free alone (inl taken) = absurd (cc (sym free ∙ told ∙ ap (is_reserved kind object content) same ∙ taken))
 untaken kind object content tree id reserved same told free alone (inr other) = alone other

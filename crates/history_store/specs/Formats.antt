@@ -7,20 +7,13 @@ use Rattle.gix_hash.specs.Id.{id_of}
 use Rattle.history_model.specs.Objects as model
 use Rattle.history_model.specs.Repository as repository
 use Rattle.gix_hash.specs.declared.object_id.ObjectId.{ObjectId}
-use Rattle.history_store.specs.declared.object.ObjectKind.{ObjectKind}
-use Rattle.history_store.specs.declared.object.ObjectKind.TheVariants.{Blob, Tree, Commit}
+use Rattle.history_store.specs.Actors.{plain_actor}
 use Rattle.history_store.specs.declared.actor.Actor as actors
 use Rattle.history_store.specs.declared.commit.Commit as commits
 use Rattle.history_store.specs.declared.log_entry.LogEntry as entries
 
--- the word of an object's type
-abbrev pub type_word : ObjectKind → Bytes
-type_word Blob = codes "blob"
-type_word Tree = codes "tree"
-type_word Commit = codes "commit"
-
 abbrev pub actor_of : actors.Actor → model.Actor
-actor_of actor = record { name = actor.name.items; email = actor.email.items; seconds = actor.seconds; offset = actor.offset }
+actor_of actor = plain_actor actor.name.items actor.email.items actor.time
 
 -- a line of a word and an id, and one of a word and an actor
 abbrev pub id_line : Bytes → ObjectId → Bytes

@@ -8,9 +8,8 @@ use Rattle.gix_ref_file.specs.declared.files.FileError.TheVariants as files
 use Rattle.history_model.specs.Objects.{digest, object_text, empty_tree_id}
 use Rattle.gix_hash.specs.Id.{Id, null_id}
 use Rattle.gix_hash.specs.declared.kind.Kind.{Kind}
-use Rattle.history_store.specs.Formats.{type_word}
-use Rattle.history_store.specs.declared.object.ObjectKind.{ObjectKind}
-use Rattle.history_store.specs.declared.object.ObjectKind.TheVariants as kinds
+use Rattle.gix_object_lines.specs.declared.kind.Kind.{Kind as ObjectKind}
+use Rattle.gix_object_lines.specs.declared.kind.Kind.TheVariants as kinds
 use Rattle.history_store.specs.declared.objects.PutError.{PutError}
 use Rattle.history_store.specs.declared.objects.PutError.TheVariants as errors
 use Rattle.gix_hash.specs.Order.{id_eq}
@@ -74,21 +73,19 @@ pub record IsObjectPart (tree : Tree) : Type 0 where
   pub files : (path text : Bytes) → file_at tree path ≡ Some text → IsObjectPlace path ⊎ (path ≡ unfinished_place)
   pub folders : (path : Bytes) → get tree path ≡ Some folder → IsTrue (is_object_folder path)
 
-abbrev pub text_of : ObjectKind → Bytes → Bytes
-text_of object content = object_text (type_word object) content
-
 -- a text that is no object's
 abbrev pub IsNoObject : Bytes → Type 0
-IsNoObject text = (object : ObjectKind) (content : Bytes) → text ≢ text_of object content
+IsNoObject text = (object : ObjectKind) (content : Bytes) → text ≢ object_text object content
 
 abbrev pub object_id : Kind → ObjectKind → Bytes → Id
-object_id kind object content = digest kind (text_of object content)
+object_id kind object content = digest kind (object_text object content)
 
 abbrev pub is_empty_tree : ObjectKind → Bytes → Bool
 is_empty_tree kinds.Tree [] = true
 is_empty_tree kinds.Tree (b ∷ content) = false
 is_empty_tree kinds.Blob content = false
 is_empty_tree kinds.Commit content = false
+is_empty_tree kinds.Tag content = false
 
 -- The null id is no object's, and the empty tree's id is its own alone.
 abbrev pub is_reserved : Kind → ObjectKind → Bytes → Id → Bool
@@ -98,7 +95,7 @@ is_reserved kind object content id = id_eq id (null_id kind) || (id_eq id (empty
 abbrev pub IsTaken : Kind → ObjectKind → Bytes → Tree → Type 0
 IsTaken kind object content tree =
     (is_reserved kind object content (object_id kind object content) ≡ true)
-    ⊎ ((other : Bytes) × (file_at tree (object_place (object_id kind object content)) ≡ Some other) × (other ≢ text_of object content))
+    ⊎ ((other : Bytes) × (file_at tree (object_place (object_id kind object content)) ≡ Some other) × (other ≢ object_text object content))
 
 abbrev pub put_fault : FileError → PutError
 put_fault files.Failed = errors.File

@@ -16,13 +16,14 @@ mod parts;
 mod tree;
 mod way;
 
-pub use actor::Actor;
+pub use actor::{Actor, is_actor_part, parse_time};
 pub use commit::Commit;
 pub use creation::{CreateError, create};
+pub use gix_object::Kind as ObjectKind;
 pub use id_text::hex_digits;
 pub use log_entry::LogEntry;
 pub use names::Names;
-pub use object::{ObjectKind, object_id};
+pub use object::object_id;
 pub use objects::{Object, Objects, PutError};
 pub use parts::{Part, Stray, survey};
 pub use tree::{Tree, TreeEntry};

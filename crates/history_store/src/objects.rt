@@ -1,6 +1,7 @@
 // The store of objects: each is one file, `objects/xx/rest` of its id's hex digits, which holds its text.
 ghost use Rattle.std.specs.FinMap.{contains_key, empty, keys};
 ghost use Rattle.std.specs.Prelude.{map, OnErr, ◌≡◌, ◌≢◌, ◌⊎◌, ◌≤◌, ◌++◌, ◌↔◌, drop, vec_len, true, IfOk, OnOk, IsErrOf, MatchOption};
+ghost use Rattle.history_model.specs.Objects.{object_text};
 ghost use Rattle.history_model.specs.Places.{file_at, object_place, unfinished_place};
 ghost use Rattle.history_store.specs.declared.objects.PutError.TheVariants.{File, Memory, IdTaken};
 ghost use Rattle.gix_hash.specs.declared.object_id.ObjectId.{ObjectId};
@@ -8,7 +9,7 @@ ghost use Rattle.gix_ref_file.specs.declared.files.FileError.TheVariants.{Failed
 ghost use Rattle.gix_ref_file.specs.Tree.{bytes_at};
 ghost use Rattle.gix_ref_file.specs.Changes.{is_file_at};
 ghost use Rattle.gix_ref_file.specs.History.{Adds, HasRisen};
-ghost use Rattle.history_store.specs.Stores.{HoldsFile, MayStand, FoldersAbove, IsObjectPlace, IsObjectPart, IsNoObject, IsTaken, object_id, text_of, is_empty_tree, is_reserved, put_fault};
+ghost use Rattle.history_store.specs.Stores.{HoldsFile, MayStand, FoldersAbove, IsObjectPlace, IsObjectPart, IsNoObject, IsTaken, object_id, is_empty_tree, is_reserved, put_fault};
 ghost use Rattle.gix_hash.specs.Id.{id_of};
 ghost use Rattle.history_store.specs.Ids.{with_id};
 
@@ -16,8 +17,9 @@ use crate::bytes::strip_prefix;
 use crate::folders::make_folders;
 use crate::id_text::hex_digits;
 use crate::ids::Ids;
-use crate::object::{ObjectKind, header, object_id, parse_header};
+use crate::object::{object_id, parse_header};
 use gix_hash::{Kind, ObjectId};
+use gix_object::{Kind as ObjectKind, encode};
 use gix_ref_file::{FileError, Files, Place};
 use std::alloc::{AllocError, Global};
 
@@ -114,7 +116,7 @@ impl<F: Files> Objects<F> {
         ensures id { IfOk result (λ id. id_of id ≡ object_id self.old.kind object content.now) }
 
         // The object's file is there, and each other file as before.
-        ensures stored { F.is_honest self.old.files → OnOk result (HoldsFile (object_place (object_id self.old.kind object content.now)) (text_of object content.now) (F.history self.old.files).tree (F.history self.new.files).tree) }
+        ensures stored { F.is_honest self.old.files → OnOk result (HoldsFile (object_place (object_id self.old.kind object content.now)) (object_text object content.now) (F.history self.old.files).tree (F.history self.new.files).tree) }
 
         // No file is left where it was written, and no folders are made but those that the object's file stands in.
         ensures unfinished { F.is_honest self.old.files → OnOk result ((file_at (F.history self.new.files).tree unfinished_place ≡ None) ⊎ (self.new.files ≡ self.old.files)) }
@@ -125,10 +127,10 @@ impl<F: Files> Objects<F> {
         ensures unknown { OnErr result (self.new.ids ≡ self.old.ids) }
 
         // At each moment the object's file is as before, or there whole.
-        ensures moments { F.is_honest self.old.files → Adds (MayStand (object_place (object_id self.old.kind object content.now)) (text_of object content.now) (F.history self.old.files).tree) (F.history self.old.files) (F.history self.new.files) }
+        ensures moments { F.is_honest self.old.files → Adds (MayStand (object_place (object_id self.old.kind object content.now)) (object_text object content.now) (F.history self.old.files).tree) (F.history self.old.files) (F.history self.new.files) }
 
         // Where the object stands already, nothing is written.
-        ensures once { F.is_honest self.old.files → file_at (F.history self.old.files).tree (object_place (object_id self.old.kind object content.now)) ≡ Some (text_of object content.now) → self.new.files ≡ self.old.files }
+        ensures once { F.is_honest self.old.files → file_at (F.history self.old.files).tree (object_place (object_id self.old.kind object content.now)) ≡ Some (object_text object content.now) → self.new.files ≡ self.old.files }
 
         ensures taken { (id : ObjectId) → IsErrOf result (IdTaken id) → (id_of id ≡ object_id self.old.kind object content.now) × (self.new.files ≡ self.old.files)
             × (F.is_honest self.old.files → IsTaken self.old.kind object content.now (F.history self.old.files).tree) }
@@ -141,12 +143,12 @@ impl<F: Files> Objects<F> {
         ensures failed { F.is_honest self.old.files → IsObjectPart (F.history self.old.files).tree
             → IsErrOf result File → HasRisen (F.failures self.old.files) (F.failures self.new.files) ⊎ F.reading_may_fail }
     {
-        let id = object_id(self.kind, object, content);
+        let id = object_id(alloc, self.kind, object, content);
         if is_reserved(self.kind, &id, object, content) {
             return Err(PutError::IdTaken(id));
         }
         let place = object_place(alloc, &id)?;
-        let header = header(alloc, object, content.len())?;
+        let header = encode::loose_header(alloc, object, content.len() as u64);
         if self.is_file(&place)? {
             if !self.holds(alloc, &place, &header, content)? {
                 return Err(PutError::IdTaken(id));
@@ -216,7 +218,7 @@ impl<F: Files> Objects<F> {
     pub fn read(&self, alloc: Global, id: &ObjectId) -> Result<Option<Object>, FileError>
         ensures found { F.is_honest self.now.files → IfOk result (λ found. MatchOption found
             ((file_at (F.history self.now.files).tree (object_place (id_of id.now)) ≡ None) ⊎ IsNoObject (bytes_at (F.history self.now.files).tree (object_place (id_of id.now))))
-            (λ object. file_at (F.history self.now.files).tree (object_place (id_of id.now)) ≡ Some (text_of object.kind object.content.items))) }
+            (λ object. file_at (F.history self.now.files).tree (object_place (id_of id.now)) ≡ Some (object_text object.kind object.content.items))) }
         ensures failed { IsErrOf result Failed → F.reading_may_fail }
     {
         let place = object_place(alloc, id)?;

@@ -1,6 +1,7 @@
 //! The object `hello`, ids, actors, and what stands in a file.
 
 use gix_hash::{Kind, ObjectId};
+use gix_object::lines::Time;
 use gix_ref_file::{Files, MemoryFiles};
 use history_store::Actor;
 use std::alloc::{AllocError, Global};
@@ -55,19 +56,20 @@ pub fn all_hold<R: Abort>(rt: &R, answers: &[bool]) {
     }
 }
 
+// An actor; one that has no written form is told as want of memory, and the test fails.
 pub fn actor(
     alloc: Global,
     name: &str,
     email: &str,
-    seconds: u64,
-    offset: [u8; 5],
+    seconds: i64,
+    offset: i32,
 ) -> Result<Actor, AllocError> {
-    Ok(Actor {
-        name: name.as_bytes().to_vec(alloc)?,
-        email: email.as_bytes().to_vec(alloc)?,
-        seconds,
-        offset,
-    })
+    Actor::new(
+        name.as_bytes().to_vec(alloc)?,
+        email.as_bytes().to_vec(alloc)?,
+        Time { seconds, offset },
+    )
+    .ok_or(AllocError)
 }
 
 // Whether this text stands in the file, or no file where none is wanted.

@@ -13,7 +13,7 @@ pub fn entry(alloc: Global, before: ObjectId, after: ObjectId) -> Result<LogEntr
     Ok(LogEntry {
         before,
         after,
-        actor: actor(alloc, "A", "a@b", 1, *b"+0000")?,
+        actor: actor(alloc, "A", "a@b", 1, 0)?,
         message: b"one".to_vec(alloc)?,
     })
 }

@@ -94,7 +94,7 @@ fn check_taken_id<R: Abort>(
     assert!(rt; refused == Err(PutError::IdTaken(id(rt, hello.digits))));
     assert!(rt; stands(alloc, &objects, hello, b"blob 5\0jello"));
     let stored = put(alloc, &mut objects, ObjectKind::Blob, b"jello");
-    assert!(rt; stored == Ok(object_id(kind, ObjectKind::Blob, b"jello")));
+    assert!(rt; stored == Ok(object_id(alloc, kind, ObjectKind::Blob, b"jello")));
     Ok(())
 }
 
@@ -111,7 +111,7 @@ const NO_OBJECTS: [&str; 7] = [
     "blob 05\0hello",
     "blob 5 \0hello",
     "bulb 5\0hello",
-    "tag 5\0hello",
+    "tags 5\0hello",
 ];
 
 fn check_no_object<R: Abort>(
@@ -126,6 +126,19 @@ fn check_no_object<R: Abort>(
         assert!(rt; is_absent(alloc, &objects, &id), "at {text:?}");
     }
     Ok(())
+}
+
+fn check_tag<R: Abort>(rt: &R, alloc: Global, kind: Kind, hello: Hello) -> Result<(), FileError> {
+    let id = id(rt, hello.digits);
+    let objects = objects_with(alloc, kind, hello, b"tag 5\0hello")?;
+    assert!(rt; is_stored(alloc, &objects, &id, ObjectKind::Tag, b"hello"));
+    Ok(())
+}
+
+#[test]
+fn a_tag_is_an_object(rt: HostRuntime) -> Result<(), FileError> {
+    check_tag(&rt, rt.alloc(), Kind::Sha1, SHA1_HELLO)?;
+    check_tag(&rt, rt.alloc(), Kind::Sha256, SHA256_HELLO)
 }
 
 #[test]

@@ -71,11 +71,13 @@ fn actors(rt: HostRuntime) -> Result<(), AllocError> {
     let longest = by(alloc, &name[..512], b"512", b"9223372036854775807 -1259")?;
     let too_long = by(alloc, &name, b"513", b"1 +0000")?;
     let too_late = by(alloc, b"A", b"1", b"9223372036854775808 +0000")?;
+    let sixty = by(alloc, b"A", b"1", b"1 +0060")?;
     for kind in KINDS {
         let mut repository = fresh(&rt, alloc, kind);
         assert!(rt; commits(alloc, &mut repository, &longest));
         assert!(rt; replies(alloc, &mut repository, &too_long, b"refused BadActor\n"));
         assert!(rt; replies(alloc, &mut repository, &too_late, b"refused BadTime\n"));
+        assert!(rt; replies(alloc, &mut repository, &sixty, b"refused BadTime\n"));
     }
     Ok(())
 }

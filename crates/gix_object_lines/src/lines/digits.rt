@@ -1,6 +1,6 @@
 //! The digits of a time.
 
-ghost use Rattle.std.specs.Prelude.{ℕ, ℤ, [], ◌∷◌, ◌++◌, ◌≡◌, ◌≢◌, ◌<◌, ◌↔◌, IsTrue, MatchOption, FitsSigned};
+ghost use Rattle.std.specs.Prelude.{ℕ, ℤ, [], ◌∷◌, ◌++◌, ◌≡◌, ◌≢◌, ◌<◌, MatchOption, FitsSigned};
 ghost use Rattle.std.specs.Int.{w64};
 ghost use Rattle.gix_object_lines.specs.Time.{SpellsSeconds, SpellsOffset, IsSpellableOffset, two_digits, offset_text};
 ghost use Rattle.gix_object_lines.specs.Clock.{SpellsClock};
@@ -36,25 +36,15 @@ pub(crate) fn read_offset(text: &[u8]) -> Option<i32>
     }
 }
 
-// Two digits of hours and two of minutes below 60, in seconds.
+// Two digits of hours and two of minutes, in seconds.
 fn read_clock(a: u8, b: u8, c: u8, d: u8) -> Option<i32>
     ensures { MatchOption result
-        ((hours minutes : ℕ) → hours < 100 → minutes < 60 → a ∷ b ∷ c ∷ d ∷ [] ≢ two_digits hours ++ two_digits minutes)
+        ((hours minutes : ℕ) → hours < 100 → minutes < 100 → a ∷ b ∷ c ∷ d ∷ [] ≢ two_digits hours ++ two_digits minutes)
         (λ amount. SpellsClock (a ∷ b ∷ c ∷ d ∷ []) amount) }
 {
     let hours = read_two_digits(a, b)?;
     let minutes = read_two_digits(c, d)?;
-    if !is_minute(minutes) {
-        return None;
-    }
     Some((SECONDS_PER_HOUR * u32::from(hours) + SECONDS_PER_MINUTE * u32::from(minutes)) as i32)
-}
-
-// Whether an hour has this minute.
-fn is_minute(n: u8) -> bool
-    ensures { IsTrue result ↔ (n < 60) }
-{
-    n < 60
 }
 
 fn read_two_digits(tens: u8, ones: u8) -> Option<u8>
@@ -76,8 +66,10 @@ pub(crate) fn spell_offset(offset: i32) -> Option<[u8; 5]>
         return None;
     }
     let sign = if offset < 0 { b'-' } else { b'+' };
-    let [a, b] = two_digits((amount / SECONDS_PER_HOUR) as u8);
-    let [c, d] = two_digits((amount / SECONDS_PER_MINUTE % 60) as u8);
+    let hours = amount / SECONDS_PER_HOUR;
+    let minutes = (amount - SECONDS_PER_HOUR * hours) / SECONDS_PER_MINUTE;
+    let [a, b] = two_digits(hours as u8);
+    let [c, d] = two_digits(minutes as u8);
     Some([sign, a, b, c, d])
 }
 

@@ -25,9 +25,9 @@ pub struct Time {
 }
 
 /// The time that a text spells: seconds in decimal, perhaps behind a `-`, one space, and the offset as a sign, two digits
-/// of hours and two of minutes below 60.
+/// of hours and two of minutes.
 ///
-/// Leading zeros and `-0000` are read. Any other text, also one of seconds beyond 64 bits, is `InvalidTime`.
+/// Leading zeros and `-0000` are read, and minutes of 60 and above: `+0060` is 3,600 seconds. Any other text, also one of seconds beyond 64 bits, is `InvalidTime`.
 pub fn read_time(text: &[u8]) -> Result<Time, decode::Error>
     ensures read { IfOk result (SpellsTime text.now) }
     ensures every { (time : Time) → SpellsTime text.now time → result ≡ Ok time }
@@ -45,7 +45,7 @@ fn parse(text: &[u8]) -> Option<Time>
     Some(Time { seconds, offset })
 }
 
-/// Appends the time's text: seconds without leading zeros, a space, and the offset, with `+` where it is zero.
+/// Appends the time's text: seconds without leading zeros, a space, and the offset with minutes below 60, and `+` where it is zero.
 ///
 /// An offset that isn't whole minutes below 100 hours is `Header(Unspellable)`, and nothing is written. A writer that fails
 /// has taken a beginning of the text.

@@ -7,7 +7,7 @@ use Rattle.gix_hash.specs.declared.kind.Kind.{Kind}
 use Rattle.history_model.specs.Bytes.{Bytes}
 use Rattle.history_model.specs.Objects.{digest, empty_tree_id}
 use Rattle.history_store.specs.Stores.{is_empty_tree, is_reserved}
-use Rattle.history_store.specs.declared.object.ObjectKind.{ObjectKind}
+use Rattle.gix_object_lines.specs.declared.kind.Kind.{Kind as ObjectKind}
 use Rattle.history_store.proofs.objects.is_reserved.Goals as goal
 
 empty_tree : (kind : Kind) → id_of_message kind empty_tree_text ≡ empty_tree_id kind

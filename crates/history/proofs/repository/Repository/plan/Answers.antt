@@ -4,18 +4,25 @@ use Rattle.history_model.specs.Bytes.{Bytes}
 use Rattle.history_model.specs.Forms.{title, max_content}
 use Rattle.history_model.specs.Meaning.{branch_or_name, new_commit}
 use Rattle.gix_hash.specs.Id.{null_id, id_of}
-use Rattle.history_model.specs.declared.Cause.TheVariants.{TooLarge}
+use Rattle.history_model.specs.declared.Cause.TheVariants.{BadActor, TooLarge}
 use Rattle.gix_hash.specs.declared.kind.Kind.{Kind}
 use Rattle.history_store.specs.Trees.{IsTreeOf}
 use Rattle.history_store.specs.declared.commit.Commit.{Commit}
 use Rattle.history_store.specs.declared.log_entry.LogEntry.{LogEntry}
 use Rattle.history_store.proofs.CommitTexts.{text_of_commit}
 use Rattle.history.specs.Files.{files_of_main}
+use Rattle.history.specs.Plans.{Plans}
 use Rattle.history.specs.declared.stopped.Stopped.TheVariants.{Refused}
 use Rattle.history.proofs.FieldLemmas.{kept_whole}
 use Rattle.history.proofs.FirstCauses.{refused_by_form, good_paths, good_actors}
+use Rattle.std.specs.Prelude.{Option, MatchOption}
+use Rattle.std.specs.Option.{ok_or}
+use Rattle.history.proofs.TimesLemmas.{absent}
 use Rattle.history.proofs.Planned.{fault_planned, refusal_planned, parent_planned, main_flat, tree_content, tree_refused, commit_refused, none_refused, parents_are, before_is, commit_is, entry_is}
 use Rattle.history.proofs.repository.Repository.plan.Goals as goal
+
+no_actor : {A E : Type 0} (P : A → Type 0) (found : Option A) (given error : E) → Err given ≡ ok_or found error → MatchOption found ⊥ P → ⊥
+no_actor P found given error is there = rw (absent found given error is).1 at there
 
 pub returns-in_err-parent : goal.returns-in_err-parent
 returns-in_err-parent g c = λ r order h is ours.
@@ -70,18 +77,19 @@ returns-in_err-commit g c = λ r order h is ours.
     let tree_is = c.in_ok-to_bytes.ensures ∙ tree_content r order h.offered w ours kind c.in_ok-blobs.blobs.items c.edit.new.tree h.objects_kind edited in
     let kept_tree = c.in_ok-tree-2.ensures in
     let actors = good_actors r order c.in_ok-times.times times in
-    let committer = c.actor_at-committer.ensures order.committer is.committer actors.1 times.committer in
+    let author = rw c.in_ok-author.ensures.ok_part at (c.actor_at.ensures order.author is.author actors.0 times.author) in
+    let committer = rw c.in_ok-committer.ensures.ok_part at (c.actor_at-2.ensures order.committer is.committer actors.1 times.committer) in
     let message = c.into_kept-message.ensures ∙ kept_whole max_content c.args.command.message order.message is.message times.message in
     let commit : Commit = record {
       tree = c.id_of.result;
       parents = c.in_ok-parents.field-0;
-      author = c.actor_at.result;
-      committer = c.actor_at-committer.result;
+      author = c.in_ok-author.author;
+      committer = c.in_ok-committer.committer;
       message = c.into_kept-message.result;
     } in
     let commit_told = commit_is r order h.offered w ours commit kind c.deref-4.result.now h.objects_kind c.id_of.ensures (c.deref-4.ensures.value ∙ ap (λ bytes. bytes.items) kept_tree.0 ∙ tree_is)
     (parents_are r order h.offered w ours c.in_ok-parent.parent c.in_ok-parents.field-0.items parent.0 c.in_ok-parents.ensures)
-    (c.actor_at.ensures order.author is.author actors.0 times.author) committer message in
+    author committer message in
     let commit_text_is = c.in_ok-to_bytes-2.ensures ∙ text_of_commit r.kind commit (new_commit r order) commit_told in
     let stopped = err_from_is_err_and c.from_residual-in_err-commit.result c.from_residual-in_err-commit.ensures.1 in
     let large = c.in_err-commit.ensures in
@@ -100,18 +108,19 @@ returns g c = λ r order h is ours.
     let tree_is = c.in_ok-to_bytes.ensures ∙ tree_content r order h.offered w ours kind c.in_ok-blobs.blobs.items c.edit.new.tree h.objects_kind edited in
     let kept_tree = c.in_ok-tree-2.ensures in
     let actors = good_actors r order c.in_ok-times.times times in
-    let committer = c.actor_at-committer.ensures order.committer is.committer actors.1 times.committer in
+    let author = rw c.in_ok-author.ensures.ok_part at (c.actor_at.ensures order.author is.author actors.0 times.author) in
+    let committer = rw c.in_ok-committer.ensures.ok_part at (c.actor_at-2.ensures order.committer is.committer actors.1 times.committer) in
     let message = c.into_kept-message.ensures ∙ kept_whole max_content c.args.command.message order.message is.message times.message in
     let commit : Commit = record {
       tree = c.id_of.result;
       parents = c.in_ok-parents.field-0;
-      author = c.actor_at.result;
-      committer = c.actor_at-committer.result;
+      author = c.in_ok-author.author;
+      committer = c.in_ok-committer.committer;
       message = c.into_kept-message.result;
     } in
     let commit_told = commit_is r order h.offered w ours commit kind c.deref-4.result.now h.objects_kind c.id_of.ensures (c.deref-4.ensures.value ∙ ap (λ bytes. bytes.items) kept_tree.0 ∙ tree_is)
     (parents_are r order h.offered w ours c.in_ok-parent.parent c.in_ok-parents.field-0.items parent.0 c.in_ok-parents.ensures)
-    (c.actor_at.ensures order.author is.author actors.0 times.author) committer message in
+    author committer message in
     let commit_text_is = c.in_ok-to_bytes-2.ensures ∙ text_of_commit r.kind commit (new_commit r order) commit_told in
     let kept_commit = c.in_ok-commit.ensures in
     let commit_bytes = ap (λ bytes. bytes.items) kept_commit.0 ∙ commit_text_is in
@@ -130,3 +139,31 @@ returns g c = λ r order h is ours.
         };
       },
     )
+
+-- the parts were tested before, so each actor is there
+pub returns-in_err-author : goal.returns-in_err-author
+returns-in_err-author g c = λ r order h is ours.
+    let times = c.in_ok-times.ensures r order is in
+    let actors = good_actors r order c.in_ok-times.times times in
+    absurd (no_actor _ c.actor_at.result c.in_err-author.field-0.0 BadActor c.in_err-author.ensures.value (c.actor_at.ensures order.author is.author actors.0 times.author))
+
+pub returns-in_err-committer : goal.returns-in_err-committer
+returns-in_err-committer g c = λ r order h is ours.
+    let times = c.in_ok-times.ensures r order is in
+    let actors = good_actors r order c.in_ok-times.times times in
+    absurd (no_actor _ c.actor_at-2.result c.in_err-committer.field-0.0 BadActor c.in_err-committer.ensures.value (c.actor_at-2.ensures order.committer is.committer actors.1 times.committer))
+
+pub returns-in_err-log_actor : goal.returns-in_err-log_actor
+returns-in_err-log_actor g c = λ r order h is ours.
+    let stopped = err_from_is_err_and c.from_residual-in_err-log_actor.result c.from_residual-in_err-log_actor.ensures.1 in
+    subst (Plans g.F.Files.reading_may_fail r order) (sym (stopped.1 ∙ ap Err stopped.2)) tt
+
+pub returns-in_err-parents : goal.returns-in_err-parents
+returns-in_err-parents g c = λ r order h is ours.
+    let stopped = err_from_is_err_and c.from_residual-in_err-parents.result c.from_residual-in_err-parents.ensures.1 in
+    subst (Plans g.F.Files.reading_may_fail r order) (sym (stopped.1 ∙ ap Err stopped.2)) tt
+
+pub returns-in_err-to_bytes-2 : goal.returns-in_err-to_bytes-2
+returns-in_err-to_bytes-2 g c = λ r order h is ours.
+    let stopped = err_from_is_err_and c.from_residual-in_err-to_bytes-2.result c.from_residual-in_err-to_bytes-2.ensures.1 in
+    subst (Plans g.F.Files.reading_may_fail r order) (sym (stopped.1 ∙ ap Err stopped.2)) tt

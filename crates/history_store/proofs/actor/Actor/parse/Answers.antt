@@ -1,29 +1,33 @@
-use Rattle.std.proofs.Common.{◌∙◌, sym, ap}
-use Rattle.std.specs.Prelude.{decimal}
-use Rattle.history_model.specs.Forms.{is_offset}
-use Rattle.history_store.proofs.ActorTexts.{cut_of_actor, one_cut, actor_parts, not_empty, no_part}
+use Rattle.std.proofs.Common.{◌≡◌, ◌∙◌, ap, sym, subst}
+use Rattle.std.specs.Prelude.{IsTrue}
+use Rattle.gix_object_lines.specs.Actor.{SpellsActor}
+use Rattle.history_model.specs.Bytes.{Bytes}
+use Rattle.history_model.specs.Forms.{is_actor}
+use Rattle.history_model.specs.Objects.{Actor, actor_text}
+use Rattle.history_store.specs.Actors.{plain_actor}
+use Rattle.history_store.proofs.ActorTexts.{actor_spelled, answered, formed_there, plain_is, text_of_parts, time_there, time_words, words_same}
 use Rattle.history_store.proofs.actor.Actor.parse.Goals as goal
-use Rattle.history_store.proofs.actor.Actor.parse.Goals.{then-is_empty-via-then-is_empty, then-is_empty-via-else-is_empty+then-not-is_part, then-is_empty-via-else-is_empty+else-not-is_part+then-not-is_part-2}
+
+spelled : (text : Bytes) (actor : Actor) → IsTrue (is_actor actor) → text ≡ actor_text actor → SpellsActor text actor.name actor.email (time_words actor)
+spelled text actor formed is = subst (λ t. SpellsActor t actor.name actor.email (time_words actor)) (sym is) (actor_spelled actor formed)
 
 pub returns-in_default : goal.returns-in_default
-returns-in_default c actor formed is = c.in_default.ensures actor.name actor.email (decimal actor.seconds) actor.offset (cut_of_actor c.args.text.now actor formed is)
+returns-in_default c actor formed is = c.in_default.ensures.every actor.name actor.email (time_words actor) (spelled c.args.text.now actor formed is)
 
-pub returns-in_default-parse_seconds : goal.returns-in_default-parse_seconds
-returns-in_default-parse_seconds c actor formed is =
-    let same = one_cut c.args.text.now _ _ _ _ _ _ _ _ c.in-Some.ensures (cut_of_actor c.args.text.now actor formed is) in
-    c.in_default-parse_seconds.ensures actor.seconds (actor_parts actor formed).seconds same.times
+pub returns-in_default-parse_time : goal.returns-in_default-parse_time
+returns-in_default-parse_time c actor formed is =
+    let parts = c.in-Ok.ensures.every actor.name actor.email (time_words actor) (spelled c.args.text.now actor formed is) in
+    time_there actor _ _ formed (words_same actor c.as_bytes.result.now _ _ (c.as_bytes.ensures ∙ parts.2) c.in-Some.ensures.0 c.in-Some.ensures.1) c.in_default-parse_time.ensures
 
-pub returns-in_default-parse_offset : goal.returns-in_default-parse_offset
-returns-in_default-parse_offset c actor formed is =
-    let same = one_cut c.args.text.now _ _ _ _ _ _ _ _ c.in-Some.ensures (cut_of_actor c.args.text.now actor formed is) in
-    cc (sym c.in_default-parse_offset.ensures ∙ ap is_offset same.offsets ∙ (actor_parts actor formed).offset)
-
-pub returns-then-is_empty : goal.returns-then-is_empty
-returns-then-is_empty c actor formed is =
-    let same = one_cut c.args.text.now _ _ _ _ _ _ _ _ c.in-Some.ensures (cut_of_actor c.args.text.now actor formed is) in
-    let parts = actor_parts actor formed in
-    elim c.then-is_empty.branch [
-      | then-is_empty-via-then-is_empty w ↦ not_empty _ actor.name same.names (sym c.is_empty.ensures ∙ w.if-is_empty.true) parts.named
-      | then-is_empty-via-else-is_empty+then-not-is_part w ↦ no_part _ actor.name same.names (sym w.is_part.ensures ∙ w.if-not-is_part.true) parts.name
-      | then-is_empty-via-else-is_empty+else-not-is_part+then-not-is_part-2 w ↦ no_part _ actor.email same.emails (sym w.is_part-else-not-is_part.ensures ∙ w.if-not-is_part-2.true) parts.email
-    ]
+pub returns : goal.returns
+returns c =
+    let time = c.in-Some-parse_time.ensures in
+    let name = c.in_ok-name.ensures.items ∙ c.as_bytes-2.ensures in
+    let email = c.in_ok-email.ensures.items ∙ c.as_bytes-3.ensures in
+    let cut = (c.in-Ok.ensures.read).cut in
+    answered c.args.text.now _ _ _ c.new.result c.new.ensures
+    (text_of_parts c.args.text.now _ _ _ _ _ c.in-Some-parse_time.time cut (sym c.as_bytes.ensures ∙ c.in-Some.ensures.0) time ∙ (λ i. actor_text (plain_actor (sym name i) (sym email i) c.in-Some-parse_time.time)))
+    (λ actor formed is.
+    let parts = c.in-Ok.ensures.every actor.name actor.email (time_words actor) (spelled c.args.text.now actor formed is) in
+    let words = words_same actor c.as_bytes.result.now _ _ (c.as_bytes.ensures ∙ parts.2) c.in-Some.ensures.0 c.in-Some.ensures.1 in
+    formed_there actor _ _ _ _ _ formed (plain_is actor _ _ _ _ c.in-Some-parse_time.time formed (name ∙ parts.0) (email ∙ parts.1) words time) time)
