@@ -1,9 +1,9 @@
 -- What was taken through a buffer, and how many readings that took.
-use Rattle.std.proofs.Common.{refl, ◌≡◌, ℕ, ◌+◌, ◌-◌, ◌^◌, ◌<◌, ◌≤◌, Option, List, [], ◌∷◌, ◌++◌, length, subst, sym, arith}
+use Rattle.std.proofs.Common.{refl, ◌≡◌, ◌∙◌, ℕ, ◌+◌, ◌-◌, ◌^◌, ◌<◌, ◌≤◌, Option, List, [], ◌∷◌, ◌++◌, length, subst, sym, arith}
 use Rattle.std.proofs.lemmas.List.{length-append}
 use Rattle.history_word.specs.declared.buffer.Buffer.{Buffer}
-use Rattle.history_word.specs.Buffer.{readings_made, work}
-use Rattle.history_word.specs.Taking.{Took, Came}
+use Rattle.history_word.specs.Buffer.{readings_made, unread, work}
+use Rattle.history_word.specs.Taking.{AsksForMore, Took, Came}
 use Rattle.std.specs.List.{join_with_byte}
 use Rattle.history_model.specs.Commands.{Command, Commit, Tag, Move, Rename, Delete, Switch, Pack, Index, Names, Files, Past, Log, Show}
 use Rattle.history_model.specs.Spelling.{Part, Line, parts_of, parts_text, spelling}
@@ -56,3 +56,12 @@ less_by_command left readings s b t c taken command h k =
 
 pub no_more_by_nothing : {S : Type 0} (left : S → Option (List ℕ)) (readings : S → ℕ) (s : S) (b : Buffer) (t : S) (c : Buffer) → Took left readings s b t c [] → work c ≤ work b
 no_more_by_nothing left readings s b t c h = omega (arith, h.less_work)
+
+-- Whether a byte follows is asked of the source only where none stands in the buffer; and a command takes one.
+pub asks_when_empty : {S : Type 0} (left : S → Option (List ℕ)) (readings : S → ℕ) (s : S) (b : Buffer) (t : S) (c : Buffer) (u : S) (taken : List ℕ) (command : Command)
+    → Took left readings s b t c [] → (0 < length (unread b) → (t ≡ s) × (c ≡ b)) → Spells taken command → AsksForMore t c u taken → AsksForMore s b u taken
+asks_when_empty left readings s b t c u taken command took idle spells asks all =
+    let some : 0 < length taken = let P : List ℕ → Type 0 = λ xs. 0 < length xs in subst P (sym spells.1) (spelling_some command) in
+    let stays = idle (omega (arith, some, all)) in
+    let there : length taken ≤ length (unread c) = subst (λ d. length taken ≤ length (unread d)) (sym stays.1) all in
+    asks there ∙ stays.0

@@ -7,7 +7,7 @@ ghost use Rattle.history_model.specs.Repository as plain;
 ghost use Rattle.history_model.specs.declared.End.TheVariants.{Input};
 ghost use Rattle.history_word.specs.Buffer.{work, readings_made};
 ghost use Rattle.history_word.specs.Streams.{AppendsFront};
-ghost use Rattle.history_word.specs.Taking.{Took, Came, IsLast};
+ghost use Rattle.history_word.specs.Taking.{AsksForMore, Took, Came, IsLast};
 ghost use Rattle.history.specs.declared.running.RunError.TheVariants.{Read, Write};
 ghost use Rattle.history.specs.Acts.{CountsRise, HasFailedCall};
 ghost use Rattle.history.specs.Face.{has_failed};
@@ -58,7 +58,7 @@ fn turn<R: Source, W: Sink, F: Files>(
     ensures failed { has_failed repository.old ≡ false → IfOk result (λ end. has_failed repository.new ≡ is_last_fault end) }
     ensures counts { CountsRise F.failures repository.old repository.new }
     ensures turns { (r : plain.Repository) → has_failed repository.old ≡ false → Stands F.is_honest F.history repository.old r
-        → Turns (Took R.left R.readings reader.old buffer.old reader.new buffer.new) (Came R.left R.readings reader.old buffer.old reader.new buffer.new)
+        → Turns (λ taken. Took R.left R.readings reader.old buffer.old reader.new buffer.new taken × AsksForMore reader.old buffer.old reader.new taken) (Came R.left R.readings reader.old buffer.old reader.new buffer.new)
         (Appends (W.contents writer.old) (W.contents writer.new)) (Stands F.is_honest F.history repository.new)
         (IsAtEnd (R.left reader.new)) (IsLast buffer.new) (HasFailedCall F.failures F.reading_may_fail repository.old repository.new)
         r result (has_failed repository.new) }

@@ -7,10 +7,13 @@ mod Cuts
 mod Entries
 pub mod FlatTrees
 pub mod FolderPlaces
+mod FoldersKept
 mod FoldersMade
 pub mod FreshParts
+mod HeadMoments
 mod IdSets
 mod Made
+mod MoveMoments
 mod Moves
 pub mod NameFolders
 pub mod NameMoves

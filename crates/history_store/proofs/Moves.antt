@@ -55,7 +55,7 @@ appended name entry log text old made new moves is_log is_text first may is =
 pub not_logged : (name : Bytes) (entry : LogEntry) (t : Tree) → id_of entry.before ≡ id_of entry.after → Logs name entry t t
 not_logged name entry t same = record { appended = λ moves. absurd (moves same); unmoved = λ _. refl; others = λ path apart. refl }
 
-name_apart : (name : Bytes) → log_place name ≢ name
+pub name_apart : (name : Bytes) → log_place name ≢ name
 name_apart name same = absurd (omega (arith, ap length same, length-append (codes "logs/") name))
 
 pub moved : (name : Bytes) (entry : LogEntry) (old mid new : Tree) → Logs name entry old mid → PutsFile name (line (hex (id_of entry.after))) mid new → HasMoved name entry old new

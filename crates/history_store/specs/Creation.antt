@@ -1,5 +1,5 @@
 -- What making a repository does to the files of its two parts.
-use Rattle.std.specs.Prelude.{◌≡◌, ◌≢◌, Some, None, IsTrue, codes}
+use Rattle.std.specs.Prelude.{◌≡◌, ◌≢◌, ◌⊎◌, Some, None, IsTrue, codes}
 use Rattle.std.specs.FinMap.{get}
 use Rattle.gix_ref_file.specs.Tree.{Tree, is_folder}
 use Rattle.gix_ref_file.specs.declared.files.FileError.{FileError}
@@ -27,6 +27,10 @@ pub record HasHead (old new : Tree) : Type 0 where
 -- folders stand where they stood before
 abbrev pub SameFolders : Tree → Tree → Type 0
 SameFolders old new = (path : Bytes) → is_folder (get new path) ≡ is_folder (get old path)
+
+-- what stands while HEAD is made: HEAD as before, or made, with folders where they stood before
+abbrev pub HeadMayStand : Tree → Tree → Type 0
+HeadMayStand old tree = (file_at tree head_place ≡ file_at old head_place) ⊎ (HasHead old tree × SameFolders old tree)
 
 -- The two parts of a new repository: HEAD, which names the branch main, is the one file, and each folder is one of a repository.
 pub record IsNew (objects names : Tree) : Type 0 where

@@ -1,7 +1,7 @@
 -- What the files of names and logs say (gitrepository-layout(5), git-update-ref(1)), and what a move does to them.
-use Rattle.std.specs.Prelude.{◌≡◌, ◌≢◌, ◌⊎◌, ◌++◌, Option, Some, None, MatchOption, codes}
+use Rattle.std.specs.Prelude.{◌≡◌, ◌≢◌, ◌⊎◌, ◌++◌, Option, Some, None, MatchOption, IsTrue, codes}
 use Rattle.std.specs.FinMap.{get}
-use Rattle.gix_ref_file.specs.Tree.{Tree, folder, bytes_at}
+use Rattle.gix_ref_file.specs.Tree.{Tree, folder, node_at, is_folder, bytes_at}
 use Rattle.history_model.specs.Bytes.{Bytes, line}
 use Rattle.history_model.specs.Objects.{hex}
 use Rattle.history_model.specs.Places.{file_at, head_place, log_place}
@@ -45,6 +45,16 @@ pub record HasMoved (name : Bytes) (entry : LogEntry) (old new : Tree) : Type 0 
   pub unmoved : id_of entry.before ≡ id_of entry.after → file_at new (log_place name) ≡ file_at old (log_place name)
   pub others : (path : Bytes) → path ≢ name → path ≢ log_place name → file_at new path ≡ file_at old path
 
+-- each file but the one at this path stands as before
+abbrev pub OthersStay : Bytes → Tree → Tree → Type 0
+OthersStay path old new = (other : Bytes) → other ≢ path → file_at new other ≡ file_at old other
+
+-- What stands while a name moves: its file is as before until its log has the entry's line (where the entry's two ids aren't one),
+-- and each file but these two is as before.
+pub record MayMove (name : Bytes) (entry : LogEntry) (old tree : Tree) : Type 0 where
+  pub log_first : (file_at tree name ≡ file_at old name) ⊎ (id_of entry.before ≢ id_of entry.after → file_at tree (log_place name) ≡ Some (bytes_at old (log_place name) ++ log_line (entry_of entry)))
+  pub others : (path : Bytes) → path ≢ name → path ≢ log_place name → file_at tree path ≡ file_at old path
+
 -- each folder that stands stood before, or is one that the name's file or its log stands in
 abbrev pub FoldersOfName : Bytes → Tree → Tree → Type 0
 FoldersOfName name old new = (place : Bytes) → get new place ≡ Some folder → (get old place ≡ Some folder) ⊎ IsAbove place name ⊎ IsAbove place (log_place name)
@@ -59,6 +69,18 @@ NoFileBelow path tree = (other : Bytes) → IsAbove path other → file_at tree 
 pub record HasWay (path : Bytes) (tree : Tree) : Type 0 where
   pub above : NoFileAbove path tree
   pub below : NoFileBelow path tree
+
+-- the place is this path, or stands below it
+abbrev pub IsAtOrBelow : Bytes → Bytes → Type 0
+IsAtOrBelow path place = (place ≡ path) ⊎ IsAbove path place
+
+-- each folder that stood stands, but perhaps the one at this path and those below it
+abbrev pub KeepsOtherFolders : Bytes → Tree → Tree → Type 0
+KeepsOtherFolders path old new = (place : Bytes) → IsTrue (is_folder (node_at old place)) → IsTrue (is_folder (node_at new place)) ⊎ IsAtOrBelow path place
+
+-- each folder that stood stands, but perhaps those in the way of the name's file and of its log
+abbrev pub KeepsFoldersOfOthers : Bytes → Tree → Tree → Type 0
+KeepsFoldersOfOthers name old new = (place : Bytes) → IsTrue (is_folder (node_at old place)) → IsTrue (is_folder (node_at new place)) ⊎ IsAtOrBelow name place ⊎ IsAtOrBelow (log_place name) place
 
 -- Each file stands as before, no folder came, and none went but the one at this path and those below it.
 pub record ClearsWay (path : Bytes) (old new : Tree) : Type 0 where

@@ -1,12 +1,12 @@
 // Makes a new repository.
-ghost use Rattle.std.specs.Prelude.{◌≡◌, ◌⊎◌, ◌≤◌, OnOk, IsErrOf, Vec, ℕ};
+ghost use Rattle.std.specs.Prelude.{◌≡◌, ◌⊎◌, ◌≤◌, OnOk, OnErr, IsErrOf, Vec, ℕ};
 ghost use Rattle.std.specs.declared.alloc.Global.{Global};
-ghost use Rattle.history_store.specs.Creation.{HasHead, IsCleared, IsNew, SameFolders, create_fault, head_lock};
+ghost use Rattle.history_store.specs.Creation.{HasHead, HeadMayStand, IsCleared, IsNew, SameFolders, create_fault, head_lock};
 ghost use Rattle.history_store.specs.Parts.{IsClear, IsStrayAt};
 ghost use Rattle.history_store.specs.declared.parts.Part.TheVariants.{Objects, Names};
-ghost use Rattle.gix_ref_file.specs.History.{HasRisen};
+ghost use Rattle.gix_ref_file.specs.History.{Adds, HasRisen};
 ghost use Rattle.gix_ref_file.specs.declared.files.FileError.TheVariants.{Failed};
-ghost use Rattle.history_model.specs.Places.{unfinished_place};
+ghost use Rattle.history_model.specs.Places.{file_at, head_place, unfinished_place};
 ghost use Rattle.history_model.specs.Repository.{fresh};
 ghost use Rattle.history_model.specs.StandsFor.{StandsFor};
 ghost use Rattle.history_store.specs.declared.creation.CreateError.TheVariants.{NotEmpty, File};
@@ -65,6 +65,10 @@ pub fn create<F: Files>(
     ensures stands { F.is_honest objects.old → F.is_honest names.old
         → OnOk result (StandsFor kind (record { objects = (F.history objects.new).tree; names = (F.history names.new).tree }) (fresh kind)) }
 
+    // At each moment HEAD is as before or there whole, and it comes last: after an error it is as before, or the repository is made.
+    ensures whole { F.is_honest names.old → Adds (HeadMayStand (F.history names.old).tree) (F.history names.old) (F.history names.new) }
+    ensures last { F.is_honest objects.old → F.is_honest names.old → OnErr result ((file_at (F.history names.new).tree head_place ≡ file_at (F.history names.old).tree head_place) ⊎ IsNew (F.history objects.new).tree (F.history names.new).tree) }
+
     // A call of the files fails only of itself.
     ensures objects_later { F.failures objects.old ≤ F.failures objects.new }
     ensures names_later { F.failures names.old ≤ F.failures names.new }
@@ -117,6 +121,7 @@ fn write_head<F: Files>(alloc: Global, names: &mut F) -> Result<(), FileError>
     ensures honest { F.is_honest names.old → F.is_honest names.new }
     ensures written { F.is_honest names.old → OnOk result (HasHead (F.history names.old).tree (F.history names.new).tree) }
     ensures folders { F.is_honest names.old → OnOk result (SameFolders (F.history names.old).tree (F.history names.new).tree) }
+    ensures moments { F.is_honest names.old → Adds (HeadMayStand (F.history names.old).tree) (F.history names.old) (F.history names.new) }
     ensures later { F.failures names.old ≤ F.failures names.new }
     ensures failed { F.is_honest names.old → IsClear Names head_lock (F.history names.old).tree
         → IsErrOf result Failed → HasRisen (F.failures names.old) (F.failures names.new) }

@@ -14,6 +14,7 @@ pub fn make_folders<F: Files>(alloc: Global, files: &mut F, path: &[u8]) -> Resu
     ensures honest { F.is_honest files.old → F.is_honest files.new }
     ensures moments { F.is_honest files.old → Adds (SameFiles (F.history files.old).tree) (F.history files.old) (F.history files.new) }
     ensures folders { F.is_honest files.old → Adds (FoldersAbove path.now (F.history files.old).tree) (F.history files.old) (F.history files.new) }
+    ensures stay { F.is_honest files.old → Adds (KeepsFolders (F.history files.old).tree) (F.history files.old) (F.history files.new) }
     ensures later { F.failures files.old ≤ F.failures files.new }
     ensures made { F.is_honest files.old → NoFileAbove path.now (F.history files.old).tree → OnOk result (HasFoldersAbove path.now (F.history files.new).tree) }
     ensures failed { F.is_honest files.old → NoFileAbove path.now (F.history files.old).tree → IsTrue (is_path path.now)
@@ -33,6 +34,7 @@ fn make_folder<F: Files>(alloc: Global, files: &mut F, folder: &[u8]) -> Result<
     ensures moments { F.is_honest files.old → Adds (SameFiles (F.history files.old).tree) (F.history files.old) (F.history files.new) }
     ensures folders { F.is_honest files.old → Adds (OneFolderMore folder.now (F.history files.old).tree) (F.history files.old) (F.history files.new) }
     ensures later { F.failures files.old ≤ F.failures files.new }
+    ensures stay { F.is_honest files.old → Adds (KeepsFolders (F.history files.old).tree) (F.history files.old) (F.history files.new) }
     ensures kept { F.is_honest files.old → OnOk result (KeepsFolders (F.history files.old).tree (F.history files.new).tree) }
     ensures made { F.is_honest files.old → file_at (F.history files.old).tree folder.now ≡ None → OnOk result (IsTrue (is_folder (node_at (F.history files.new).tree folder.now))) }
     ensures failed { F.is_honest files.old → IsTrue (is_path folder.now) → IsTrue (is_folder (node_at (F.history files.old).tree (parent folder.now)))

@@ -1,7 +1,7 @@
 // The names of a repository: each is a file of its id, and its moves are a log.
 ghost use Rattle.std.specs.Prelude.{◌≡◌, ◌≢◌, ◌≤◌, ◌⊎◌, ◌++◌, IfOk, OnOk, IsErrOf, IsTrue, option_map, option_copied};
 ghost use Rattle.gix_ref_file.specs.Tree.{bytes_at};
-ghost use Rattle.gix_ref_file.specs.History.{HasRisen};
+ghost use Rattle.gix_ref_file.specs.History.{Adds, HasRisen};
 ghost use Rattle.gix_ref_file.specs.declared.files.FileError.TheVariants.{Failed};
 ghost use Rattle.history_model.specs.Forms.{is_name};
 ghost use Rattle.history_model.specs.Bytes.{line};
@@ -9,7 +9,7 @@ ghost use Rattle.history_model.specs.Objects.{hex};
 ghost use Rattle.history_model.specs.Places.{file_at, head_place, log_place};
 ghost use Rattle.gix_hash.specs.declared.kind.Kind.{Kind};
 ghost use Rattle.history_store.specs.Stores.{PutsFile, FoldersAbove};
-ghost use Rattle.history_store.specs.References.{SpellsBranch, SpellsId, HeadNames, NameHolds, HasMoved, Logs, FoldersOfName, HasWay};
+ghost use Rattle.history_store.specs.References.{SpellsBranch, SpellsId, HeadNames, NameHolds, HasMoved, OthersStay, KeepsOtherFolders, KeepsFoldersOfOthers, MayMove, Logs, FoldersOfName, HasWay};
 ghost use Rattle.gix_hash.specs.Id.{id_of};
 
 use crate::bytes::{strip_prefix, strip_suffix};
@@ -96,6 +96,8 @@ impl<F: Files> Names<F> {
         ensures honest { F.is_honest self.old.files → F.is_honest self.new.files }
         ensures kind { self.new.kind ≡ self.old.kind }
         ensures moved { F.is_honest self.old.files → OnOk result (HasMoved name.now entry.now (F.history self.old.files).tree (F.history self.new.files).tree) }
+        ensures moments { F.is_honest self.old.files → Adds (MayMove name.now entry.now (F.history self.old.files).tree) (F.history self.old.files) (F.history self.new.files) }
+        ensures stay { F.is_honest self.old.files → Adds (KeepsFoldersOfOthers name.now (F.history self.old.files).tree) (F.history self.old.files) (F.history self.new.files) }
         ensures folders { F.is_honest self.old.files → OnOk result (FoldersOfName name.now (F.history self.old.files).tree (F.history self.new.files).tree) }
         ensures later { F.failures self.old.files ≤ F.failures self.new.files }
         ensures failed { F.is_honest self.old.files → IsTrue (is_name name.now) → HasWay name.now (F.history self.old.files).tree → HasWay (log_place name.now) (F.history self.old.files).tree
@@ -114,6 +116,8 @@ impl<F: Files> Names<F> {
         ensures honest { F.is_honest self.old.files → F.is_honest self.new.files }
         ensures kind { self.new.kind ≡ self.old.kind }
         ensures logged { F.is_honest self.old.files → OnOk result (Logs name.now entry.now (F.history self.old.files).tree (F.history self.new.files).tree) }
+        ensures moments { F.is_honest self.old.files → Adds (OthersStay (log_place name.now) (F.history self.old.files).tree) (F.history self.old.files) (F.history self.new.files) }
+        ensures stay { F.is_honest self.old.files → Adds (KeepsOtherFolders (log_place name.now) (F.history self.old.files).tree) (F.history self.old.files) (F.history self.new.files) }
         ensures folders { F.is_honest self.old.files → OnOk result (FoldersAbove (log_place name.now) (F.history self.old.files).tree (F.history self.new.files).tree) }
         ensures later { F.failures self.old.files ≤ F.failures self.new.files }
         ensures failed { F.is_honest self.old.files → IsTrue (is_name name.now) → HasWay (log_place name.now) (F.history self.old.files).tree
@@ -132,6 +136,8 @@ impl<F: Files> Names<F> {
         ensures honest { F.is_honest self.old.files → F.is_honest self.new.files }
         ensures kind { self.new.kind ≡ self.old.kind }
         ensures written { F.is_honest self.old.files → OnOk result (PutsFile name.now (line (hex (id_of id.now))) (F.history self.old.files).tree (F.history self.new.files).tree) }
+        ensures moments { F.is_honest self.old.files → Adds (OthersStay name.now (F.history self.old.files).tree) (F.history self.old.files) (F.history self.new.files) }
+        ensures stay { F.is_honest self.old.files → Adds (KeepsOtherFolders name.now (F.history self.old.files).tree) (F.history self.old.files) (F.history self.new.files) }
         ensures folders { F.is_honest self.old.files → OnOk result (FoldersAbove name.now (F.history self.old.files).tree (F.history self.new.files).tree) }
         ensures later { F.failures self.old.files ≤ F.failures self.new.files }
         ensures failed { F.is_honest self.old.files → IsTrue (is_name name.now) → HasWay name.now (F.history self.old.files).tree

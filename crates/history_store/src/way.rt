@@ -6,7 +6,7 @@ ghost use Rattle.gix_ref_file.specs.Changes.{may_hold_file};
 ghost use Rattle.gix_ref_file.specs.History.{Adds, HasRisen};
 ghost use Rattle.gix_ref_file.specs.declared.files.FileError.TheVariants.{Failed};
 ghost use Rattle.history_store.specs.Stores.{SameFiles, FoldersAbove};
-ghost use Rattle.history_store.specs.References.{ClearsWay, HasWay, NoFileBelow};
+ghost use Rattle.history_store.specs.References.{ClearsWay, KeepsOtherFolders, HasWay, NoFileBelow};
 
 use crate::folders::make_folders;
 use crate::parts::{is_deeper, joined};
@@ -18,6 +18,7 @@ pub fn make_way<F: Files>(alloc: Global, files: &mut F, path: &[u8]) -> Result<(
     ensures honest { F.is_honest files.old → F.is_honest files.new }
     ensures moments { F.is_honest files.old → Adds (SameFiles (F.history files.old).tree) (F.history files.old) (F.history files.new) }
     ensures folders { F.is_honest files.old → Adds (FoldersAbove path.now (F.history files.old).tree) (F.history files.old) (F.history files.new) }
+    ensures stay { F.is_honest files.old → Adds (KeepsOtherFolders path.now (F.history files.old).tree) (F.history files.old) (F.history files.new) }
     ensures later { F.failures files.old ≤ F.failures files.new }
     ensures room { F.is_honest files.old → IsTrue (is_path path.now) → HasWay path.now (F.history files.old).tree
         → OnOk result (IsTrue (may_hold_file (F.history files.new).tree path.now)) }

@@ -5,7 +5,7 @@ use Rattle.std.proofs.lemmas.Bool.Decides.{nat_tests}
 use Rattle.std.specs.Io.KnownBytes.{Consumes, Keeps}
 use Rattle.history_word.specs.declared.buffer.Buffer.{Buffer}
 use Rattle.history_word.specs.Buffer.{unread, work, readings_made}
-use Rattle.history_word.specs.Taking.{Took, Came}
+use Rattle.history_word.specs.Taking.{Took, Came, AsksForMore}
 
 pub consumes_none : (a b : Option (List ℕ)) → Keeps a b → Consumes a b []
 consumes_none None b h = tt
@@ -113,3 +113,12 @@ came_unread left readings s b t c xs h e = subst (λ ys. Came left readings s b 
 pub unread_failed : (Failed Last : Type 0) (old new : List ℕ) (Bad : List ℕ → Type 0) → Bad old → (Failed × (new ≡ old)) ⊎ Last → (Failed × Bad new) ⊎ Last
 unread_failed Failed Last old new Bad h (inl (f, e)) = inl (f, subst Bad (sym e) h)
 unread_failed Failed Last old new Bad h (inr l) = inr l
+
+-- one call asks for what is missing, and then another
+pub asks_then : {S : Type 0} (left : S → Option (List ℕ)) (readings : S → ℕ) (s : S) (b : Buffer) (t : S) (c : Buffer) (u : S) (xs ys : List ℕ)
+    → Took left readings s b t c xs → AsksForMore s b t xs → AsksForMore t c u ys → AsksForMore s b u (xs ++ ys)
+asks_then left readings s b t c u xs ys took first second all =
+    let sizes = ap length took.same in
+    let here : length xs ≤ length (unread b) = omega (arith, all, length-append xs ys) in
+    let there : length ys ≤ length (unread c) = omega (arith, all, sizes, length-append xs ys, length-append (unread b) took.more, length-append xs (unread c)) in
+    second there ∙ first here

@@ -1,6 +1,9 @@
 -- Bytes without a line feed, and the line that stands first.
-use Rattle.std.proofs.Common.{◌≡◌, ℕ, zero, suc, ◌+◌, ◌-◌, ◌≤◌, ◌<◌, Bool, true, false, ◌||◌, ◌==◌, List, [], ◌∷◌, ◌++◌, length, take, drop, get_or, min, refl, sym, ap, subst, ◌∙◌, arith}
-use Rattle.std.proofs.lemmas.List.{take-append-drop, length-take, length-drop, get_or-take, get_or-drop}
+use Rattle.std.proofs.Common.{◌≡◌, ◌⊎◌, inl, inr, ℕ, zero, suc, ◌+◌, ◌-◌, ◌≤◌, ◌<◌, Bool, true, false, ◌||◌, ◌==◌, List, [], ◌∷◌, ◌++◌, length, take, drop, get_or, min, refl, sym, ap, subst, ◌∙◌, arith}
+use Rattle.std.specs.Prelude.{nat_le}
+use borrow.Author.Tests.{leb-true}
+use Rattle.std.proofs.Math.ListN.{get_or-append}
+use Rattle.std.proofs.lemmas.List.{take-append-drop, take-append-le, take_all, length-take, length-drop, get_or-take, get_or-drop}
 use Rattle.std.proofs.Math.Seq.{take-add}
 use Rattle.std.proofs.lemmas.Bool.Decides.{nat_tests}
 use Rattle.history_model.specs.Bytes.{has_byte}
@@ -90,3 +93,34 @@ unbroken_all known limit xs l h = cut_unbroken known limit xs l h
 
     cut_unbroken : (known limit : ℕ) (xs : List ℕ) → min (length xs) limit ≤ known → IsUnbroken (take known xs) → IsUnbroken (take limit xs)
     cut_unbroken known limit xs l h = subst IsUnbroken (cut limit xs) (unbroken_less (min (length xs) limit) known xs l h)
+
+-- ---- what stood already, before more came behind it
+
+pub unbroken_old : (old new more : List ℕ) → old ++ more ≡ new → IsUnbroken (take 4097 new) → IsUnbroken (take 4097 old)
+unbroken_old old new more same none = by_test (nat_le (length old) 4097) refl
+  where
+    by_test : (b : Bool) → nat_le (length old) 4097 ≡ b → IsUnbroken (take 4097 old)
+    by_test true short =
+        let fits : length old ≤ 4097 = leb-true _ _ short in
+        let front : take (length old) new ≡ old = ap (take (length old)) (sym same) ∙ take-append-le (length old) old more (omega arith) ∙ take_all (length old) old (omega arith) in
+        subst IsUnbroken (sym (take_all 4097 old fits)) (subst IsUnbroken front (unbroken_less (length old) 4097 new fits none))
+    by_test false long =
+        let over : 4097 ≤ length old = grind (arith, nat_tests) in
+        subst IsUnbroken (ap (take 4097) (sym same) ∙ take-append-le 4097 old more over) none
+
+holds_at : (xs : List ℕ) (k : ℕ) → k < length xs → get_or xs k 0 ≡ 10 → has_byte 10 xs ≡ true
+holds_at [] k l e = absurd (omega (arith, l))
+holds_at (x ∷ xs) zero l e = ap (λ b. (b == 10) || has_byte 10 xs) e
+holds_at (x ∷ xs) (suc k) l e = ap (λ o. (x == 10) || o) (holds_at xs k (omega (arith, l)) e) ∙ or_true (x == 10)
+  where
+    or_true : (b : Bool) → (b || true) ≡ true
+    or_true true = refl
+    or_true false = refl
+
+-- a line that stands in the old bytes is found at once
+pub stands_already : {S : Type 0} (s t : S) (old new more : List ℕ) (n : ℕ) → old ++ more ≡ new → IsLineOf n new → (t ≡ s) ⊎ IsUnbroken (take 4097 old) → n < length old → t ≡ s
+stands_already s t old new more n same line (inl idle) here = idle
+stands_already s t old new more n same line (inr none) here =
+    let ends : get_or old n 0 ≡ 10 = sym (get_or-append old more 0 n here) ∙ ap (λ xs. get_or xs n 0) same ∙ line.ends in
+    let inside : get_or (take 4097 old) n 0 ≡ 10 = get_or-take 4097 old n 0 (omega (arith, line.short)) ∙ ends in
+    absurd (cc (sym none ∙ holds_at (take 4097 old) n (omega (arith, here, line.short, length-take 4097 old)) inside))

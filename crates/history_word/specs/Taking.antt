@@ -25,6 +25,10 @@ pub record Came {S : Type 0} (left : S → Option (List ℕ)) (readings : S → 
   pub made_through : readings_made c ≡ readings_made b + made
   pub counted : min (readings s + made) (2 ^ 64 - 1) ≤ readings t
 
+-- The source was asked only where what was taken didn't stand in the buffer yet.
+abbrev pub AsksForMore : {S : Type 0} → S → Buffer → S → List ℕ → Type 0
+AsksForMore s b t taken = length taken ≤ length (unread b) → t ≡ s
+
 -- all the readings that a `u64` counts were made through the buffer
 abbrev pub IsLast : Buffer → Type 0
 IsLast c = readings_made c ≡ 2 ^ 64 - 1

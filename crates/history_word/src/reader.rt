@@ -1,4 +1,4 @@
-ghost use Rattle.std.specs.Prelude.{◌≡◌, ◌≢◌, ℕ, List, [], ◌++◌, length, IfSome};
+ghost use Rattle.std.specs.Prelude.{◌≡◌, ◌≢◌, ◌<◌, ℕ, List, [], ◌++◌, length, IfSome};
 ghost use Rattle.history_model.specs.Bytes.{Bytes, line};
 ghost use Rattle.history_model.specs.Commands as model;
 ghost use Rattle.history_model.specs.Spelling.{spelling};
@@ -12,6 +12,7 @@ ghost use Rattle.history_word.specs.Commands.{IsReading};
 ghost use Rattle.history_word.specs.Drafts.{place_of, TakesLine, TakesParts};
 ghost use Rattle.history_word.specs.Progress.{IsEndless, IsNoField, StopsFrom, IsCauseOf};
 ghost use Rattle.history_word.specs.Reading.{Reads};
+ghost use Rattle.history_word.specs.Taking.{AsksForMore};
 ghost use Rattle.history_word.specs.declared.reader.Stop.TheVariants.{Broken as broken};
 
 use crate::buffer::{Buffer, MAX_LINE};
@@ -51,7 +52,7 @@ pub enum Reading {
 /// Reads until a whole line stands first, and says how long it is without its line feed.
 fn read_line<R: Source>(buffer: &mut Buffer, source: &mut R) -> Result<usize, Stop>
     ensures { Reads R.left R.has_failed R.readings source.old buffer.old source.new buffer.new
-        (λ n taken. (taken ≡ []) × IsLineOf n (unread buffer.new)) IsEndless result }
+        (λ n taken. (taken ≡ []) × IsLineOf n (unread buffer.new) × (n < length (unread buffer.old) → source.new ≡ source.old)) IsEndless result }
 {
     loop {
         if let Some(length) = buffer.line() {
@@ -75,7 +76,7 @@ fn read_heading<R: Source>(
 ) -> Result<(Heading, Place), Stop>
     requires { place_of place ≢ table.Done }
     ensures { Reads R.left R.has_failed R.readings source.old buffer.old source.new buffer.new
-        (λ read taken. TakesLine place read.0 read.1 taken) (StopsAt [] (place_of place)) result }
+        (λ read taken. TakesLine place read.0 read.1 taken × AsksForMore source.old buffer.old source.new taken) (StopsAt [] (place_of place)) result }
 {
     let length = read_line(buffer, source)?;
     let Some(heading) = parse(alloc, &buffer.unread()[..length]) else {
@@ -97,7 +98,7 @@ fn read_field<R: Source>(
     limit: u64,
 ) -> Result<Option<Field>, Stop>
     ensures { Reads R.left R.has_failed R.readings source.old buffer.old source.new buffer.new
-        (λ field taken. (bytes : Bytes) × (length bytes ≡ size) × (taken ≡ line bytes) × IfSome field (λ kept. Keeps limit kept bytes)) (IsNoField size) result }
+        (λ field taken. (bytes : Bytes) × (length bytes ≡ size) × (taken ≡ line bytes) × IfSome field (λ kept. Keeps limit kept bytes) × AsksForMore source.old buffer.old source.new taken) (IsNoField size) result }
 {
     let mut field = Some(Field::new(alloc, size, limit));
     let mut rest = size;
@@ -140,7 +141,7 @@ fn read_part<R: Source>(
 ) -> Result<Place, Stop>
     requires { place_of place ≢ table.Done }
     ensures { Reads R.left R.has_failed R.readings source.old buffer.old source.new buffer.new
-        (λ next taken. TakesParts place draft.old next draft.new taken) (StopsFrom [] (place_of place)) result }
+        (λ next taken. TakesParts place draft.old next draft.new taken × AsksForMore source.old buffer.old source.new taken) (StopsFrom [] (place_of place)) result }
 {
     let (heading, next) = read_heading(alloc, buffer, source, place)?;
     match heading {
@@ -179,7 +180,7 @@ fn read_part<R: Source>(
     Ok(next)
 }
 
-/// Reads a whole command.
+/// Reads a whole command, and asks the source for no byte where the command stands in the buffer already.
 ///
 /// `Refused` is answered where what came begins with no command: `LineTooLong` where 4,097 bytes come without a line
 /// feed in the place of a line, `Truncated` where the input ends inside a command, after which nothing is left unread,
@@ -191,7 +192,7 @@ pub fn read_command<R: Source>(
     source: &mut R,
 ) -> Result<Reading, Stop>
     ensures { Reads R.left R.has_failed R.readings source.old buffer.old source.new buffer.new
-        (λ reading taken. (order : model.Command) × Spells taken order × IsReading reading order) IsCauseOf result }
+        (λ reading taken. (order : model.Command) × Spells taken order × IsReading reading order × AsksForMore source.old buffer.old source.new taken) IsCauseOf result }
 {
     let mut draft = Draft::Empty;
     let mut place = Place::Start;

@@ -23,7 +23,7 @@ loop-end-preserved g c =
           let h = i.goes_on r stands in
           let none : c.in_ok-end.field-0 ≡ None = search rules in
           let k = rw none at (c.in_ok-end.ensures.turns h.new i.unfailed h.stands) in
-          goes_then _ _ _ _ _ _ _ _ _ _ _ r (λ xs ys a b. took_then g.R.Source.left g.R.Source.readings _ _ _ _ _ _ xs ys a b) (λ xs ys a b. appends_then _ _ _ xs ys a b)
+          goes_then _ _ _ _ _ _ _ _ _ _ _ r (λ xs ys a b. took_then g.R.Source.left g.R.Source.readings _ _ _ _ _ _ xs ys a b.0) (λ xs ys a b. appends_then _ _ _ xs ys a b)
           (λ f. failed_first g.F.Files.failures _ c.args.repository.now c.loop-end.repository c.turn.new.repository c.turn.ensures.counts f) (λ f. failed_then g.F.Files.failures _ c.args.repository.now c.loop-end.repository c.turn.new.repository i.counts f) h k;
     }
 

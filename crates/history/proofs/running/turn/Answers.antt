@@ -1,7 +1,7 @@
 use Rattle.std.proofs.Common.{◌≡◌, ◌⊎◌, inl, inr, true, false, [], Ok, Err, ap, sym, ◌∙◌, subst, rules}
 use Rattle.std.specs.Io.KnownBytes.{Appends, IsAtEnd}
 use Rattle.history_word.specs.Buffer.{unread}
-use Rattle.history_word.specs.Taking.{Took, Came, IsLast}
+use Rattle.history_word.specs.Taking.{AsksForMore, Took, Came, IsLast}
 use Rattle.history_word.proofs.TakingLemmas.{came_all, came_then, took_then}
 use Rattle.history.specs.declared.running.RunError.TheVariants.{Read, Write}
 use Rattle.history.specs.Acts.{HasFailedCall}
@@ -9,7 +9,7 @@ use Rattle.history.specs.Face.{has_failed}
 use Rattle.history.specs.Runs.{Turns}
 use Rattle.history.specs.Stands.{Stands}
 use Rattle.history.proofs.RunLemmas.{appends_same, turn_told, more_from, some_came, known_offered, turn_goes_on, turn_fails, turn_cut, turn_refused, turn_refusal_cut, turn_broken, nothing_short, turn_ends}
-use Rattle.history.proofs.Turns.{made_by_taking, made_by_coming, made_then}
+use Rattle.history.proofs.Turns.{asks_when_empty, made_by_taking, made_by_coming, made_then}
 use Rattle.history.proofs.running.turn.Goals as goal
 use Rattle.history.proofs.running.turn.Goals.{then-has_failed, else-has_failed}
 
@@ -45,7 +45,7 @@ pub returns-in_err-map_err-clause-turns : goal.returns-in_err-map_err-clause-tur
 returns-in_err-map_err-clause-turns g c = λ r unfailed stands.
     let told : c.from_residual.result ≡ Err Read = search rules in
     let why : ((g.R.Source.has_failed c.has_more.new.source ≡ true) × (unread c.has_more.new.self ≡ [])) ⊎ IsLast c.has_more.new.self = search rules in
-    subst (λ x. Turns (Took g.R.Source.left g.R.Source.readings c.args.reader.now c.args.buffer.now c.has_more.new.source c.has_more.new.self)
+    subst (λ x. Turns (λ taken. Took g.R.Source.left g.R.Source.readings c.args.reader.now c.args.buffer.now c.has_more.new.source c.has_more.new.self taken × AsksForMore c.args.reader.now c.args.buffer.now c.has_more.new.source taken)
     (Came g.R.Source.left g.R.Source.readings c.args.reader.now c.args.buffer.now c.has_more.new.source c.has_more.new.self)
     (Appends (g.W.Sink.contents c.args.writer.now) (g.W.Sink.contents c.args.writer.now)) (Stands g.F.Files.is_honest g.F.Files.history c.args.repository.now)
     (IsAtEnd (g.R.Source.left c.has_more.new.source)) (IsLast c.has_more.new.self)
@@ -82,7 +82,7 @@ returns-in_err-send-in-Ok-clause-turns g c = λ r unfailed stands.
     let cut = c.in_err-send-in-Ok.ensures.err.2 in
     let told : c.from_residual-in_err-send-in-Ok.result ≡ Err Write = search rules in
     let came = came_all g.R.Source.left g.R.Source.readings _ _ _ _ read.0 (took_then g.R.Source.left g.R.Source.readings _ _ _ _ _ _ [] read.0 c.has_more.ensures.took read.1) in
-    subst (λ x. Turns (Took g.R.Source.left g.R.Source.readings c.args.reader.now c.args.buffer.now c.read_command.new.source c.read_command.new.buffer)
+    subst (λ x. Turns (λ taken. Took g.R.Source.left g.R.Source.readings c.args.reader.now c.args.buffer.now c.read_command.new.source c.read_command.new.buffer taken × AsksForMore c.args.reader.now c.args.buffer.now c.read_command.new.source taken)
     (Came g.R.Source.left g.R.Source.readings c.args.reader.now c.args.buffer.now c.read_command.new.source c.read_command.new.buffer)
     (Appends (g.W.Sink.contents c.args.writer.now) (g.W.Sink.contents c.send.new.writer)) (Stands g.F.Files.is_honest g.F.Files.history c.answer-reply.new.self)
     (IsAtEnd (g.R.Source.left c.read_command.new.source)) (IsLast c.read_command.new.buffer)
@@ -97,7 +97,7 @@ returns-in_err-send-in-Err-Refused-clause-turns g c = λ r unfailed stands.
     let came = came_then g.R.Source.left g.R.Source.readings _ _ _ _ _ _ [] stop.0 c.has_more.ensures.took stop.1 in
     let told : c.from_residual-in_err-send-in-Err-Refused.result ≡ Err Write = search rules in
     let cut = rw c.in-Err-Refused.field-0-is at c.in_err-send-in-Err-Refused.ensures.err.2 in
-    subst (λ x. Turns (Took g.R.Source.left g.R.Source.readings c.args.reader.now c.args.buffer.now c.read_command.new.source c.read_command.new.buffer)
+    subst (λ x. Turns (λ taken. Took g.R.Source.left g.R.Source.readings c.args.reader.now c.args.buffer.now c.read_command.new.source c.read_command.new.buffer taken × AsksForMore c.args.reader.now c.args.buffer.now c.read_command.new.source taken)
     (Came g.R.Source.left g.R.Source.readings c.args.reader.now c.args.buffer.now c.read_command.new.source c.read_command.new.buffer)
     (Appends (g.W.Sink.contents c.args.writer.now) (g.W.Sink.contents c.send-in-Err-Refused.new.writer)) (Stands g.F.Files.is_honest g.F.Files.history c.args.repository.now)
     (IsAtEnd (g.R.Source.left c.read_command.new.source)) (IsLast c.read_command.new.buffer)
@@ -110,6 +110,7 @@ returns-after-has_failed-clause-turns g c = λ r unfailed stands.
     let read = c.in-Ok.ensures in
     let order = read.2.0 in
     let took = took_then g.R.Source.left g.R.Source.readings _ _ _ _ _ _ [] read.0 c.has_more.ensures.took read.1 in
+    let asks : AsksForMore c.args.reader.now c.args.buffer.now c.read_command.new.source read.0 = asks_when_empty g.R.Source.left g.R.Source.readings _ _ _ _ _ read.0 order c.has_more.ensures.took c.has_more.ensures.idle read.2.1 read.2.3 in
     let wrote = c.in_ok-send-in-Ok.ensures.ok in
     let answered = c.answer-reply.ensures.step r order unfailed stands read.2.2 (known_offered order read.2.1.0) in
     elim c.if-has_failed.branch [
@@ -122,5 +123,5 @@ returns-after-has_failed-clause-turns g c = λ r unfailed stands.
           ))
       | else-has_failed w ↦
           let whole : has_failed c.answer-reply.new.self ≡ false = sym c.has_failed.ensures ∙ w.if-has_failed.false in
-          turn_told _ _ _ _ _ _ _ r c.if-has_failed.result _ (inl (w.result-is, turn_goes_on _ _ _ _ r order c.answer-reply.result _ read.0 read.2.1 answered whole took wrote))
+          turn_told _ _ _ _ _ _ _ r c.if-has_failed.result _ (inl (w.result-is, turn_goes_on _ _ _ _ r order c.answer-reply.result _ read.0 read.2.1 answered whole (took, asks) wrote))
     ]

@@ -5,6 +5,7 @@ use Rattle.history_model.specs.Places.{head_place}
 use Rattle.history_store.specs.Creation.{head_lock}
 use Rattle.history_store.proofs.Cleared.{head_may_follow, lock_fits}
 use Rattle.history_store.proofs.FoldersMade.{caused}
+use Rattle.history_store.proofs.HeadMoments.{lock_moments, head_moments}
 use Rattle.history_store.proofs.Made.{head_written}
 use Rattle.history_store.proofs.News.{renamed_ok}
 use Rattle.history_store.proofs.creation.write_head.Goals as goal
@@ -33,3 +34,13 @@ returns-clause-failed g c = λ honest clear failed.
     ⊎_elim (λ risen. risen) (λ (never : ⊥). absurd never)
     (caused _ _ _ _ c.rename.result (c.rename.ensures.cause (c.write.ensures.honest honest))
     (head_may_follow _ (g.F.Files.history c.args.names.now).tree (g.F.Files.history c.write.new.self).tree clear written.made) failed c.write.ensures.later)
+
+pub returns-in_err-write-clause-moments : goal.returns-in_err-write-clause-moments
+returns-in_err-write-clause-moments g c = λ honest.
+    lock_moments _ (g.F.Files.history c.args.names.now) (g.F.Files.history c.write.new.self) (c.write.ensures.change honest).moments
+
+pub returns-clause-moments : goal.returns-clause-moments
+returns-clause-moments g c = λ honest.
+    let written = c.in_ok-write.ensures.change honest in
+    let renamed = c.rename.ensures.change (c.write.ensures.honest honest) in
+    head_moments _ (g.F.Files.history c.args.names.now) (g.F.Files.history c.write.new.self) (g.F.Files.history c.rename.new.self) refl written.allowed written.made written.moments renamed.moments

@@ -3,6 +3,7 @@ use Rattle.std.proofs.lemmas.Result.{on_ok_weaker}
 use Rattle.gix_ref_file.proofs.Histories.{adds_weaker}
 use Rattle.history_store.proofs.Stored.{same_joined}
 use Rattle.history_store.proofs.Above.{now_above}
+use Rattle.history_store.proofs.FoldersKept.{clear_stay, way_stay}
 use Rattle.history_store.proofs.Clearings.{way_now, cleared_above, room_made, later_risen}
 use Rattle.history_store.proofs.way.make_way.Goals as goal
 
@@ -28,3 +29,11 @@ returns-clause-failed g c = λ honest whole way failed.
     let clears = way_now c.args.path.now (g.F.Files.history c.args.files.now) (g.F.Files.history c.clear_way.new.files) (c.clear_way.ensures.moments honest) in
     later_risen _ _ _ c.clear_way.ensures.later
     (c.make_folders.ensures.failed (c.clear_way.ensures.honest honest) (λ place above. clears.files place ∙ way.above place above) whole failed)
+
+pub returns-in_err-clear_way-clause-stay : goal.returns-in_err-clear_way-clause-stay
+returns-in_err-clear_way-clause-stay g c = λ honest.
+    clear_stay c.args.path.now (g.F.Files.history c.args.files.now) (g.F.Files.history c.clear_way.new.files) (c.clear_way.ensures.moments honest)
+
+pub returns-clause-stay : goal.returns-clause-stay
+returns-clause-stay g c = λ honest.
+    way_stay c.args.path.now (g.F.Files.history c.args.files.now) (g.F.Files.history c.clear_way.new.files) (g.F.Files.history c.make_folders.new.files) (c.clear_way.ensures.moments honest) (c.make_folders.ensures.stay (c.clear_way.ensures.honest honest))

@@ -3,30 +3,32 @@ use Rattle.std.proofs.lemmas.Result.{err_from_is_err_and}
 use Rattle.history_model.specs.LineTable as table
 use Rattle.history_model.specs.Spelling.{parts_text}
 use Rattle.history_model.proofs.TableLaws.{at, run_on}
-use Rattle.history_word.specs.Taking.{Took}
+use Rattle.history_word.specs.Taking.{Took, AsksForMore}
 use Rattle.history_word.specs.Progress.{StopsFrom, IsCauseOf}
 use Rattle.history_word.specs.Drafts.{place_of, HasCome}
 use Rattle.history_word.specs.declared.place.Place.TheVariants as place
-use Rattle.history_word.proofs.TakingLemmas.{took_then, took_none}
+use Rattle.history_word.proofs.TakingLemmas.{asks_then, took_then, took_none}
 use Rattle.history_word.proofs.StopLemmas.{stops_then}
 use Rattle.history_word.proofs.ProgressLemmas.{stops_after, cause_is, text_then}
 use Rattle.history_word.proofs.CommandLemmas.{spells}
 use Rattle.history_word.proofs.reader.read_command.Goals as goal
 
 pub loop-alloc-init : goal.loop-alloc-init
-loop-alloc-init g c = ([], took_none g.R.Source.left g.R.Source.readings c.args.source.now c.args.buffer.now, refl, refl)
+loop-alloc-init g c = ([], took_none g.R.Source.left g.R.Source.readings c.args.source.now c.args.buffer.now, refl, refl, λ _. refl)
 
 pub loop-alloc-preserved : goal.loop-alloc-preserved
 loop-alloc-preserved g c =
     let i = c.loop-alloc.invariant in
     let r = c.in_ok-place.ensures in
-    let t = r.2 in (
+    let t = r.2.0 in
+    let spelled = ap (λ x. parts_text i.0 ++ x) t.spelled ∙ sym (text_then i.0 t.parts) in (
       i.0 ++ t.parts,
       subst (Took g.R.Source.left g.R.Source.readings c.args.source.now c.args.buffer.now c.read_part.new.source c.read_part.new.buffer)
-          (ap (λ x. parts_text i.0 ++ x) t.spelled ∙ sym (text_then i.0 t.parts))
+          spelled
           (took_then g.R.Source.left g.R.Source.readings _ _ _ _ _ _ (parts_text i.0) r.0 i.1 r.1),
       run_on i.0 t.parts (at [] (place_of c.loop-alloc.place)) i.2 ∙ t.leads,
       t.come i.0 i.3,
+      subst (AsksForMore c.args.source.now c.args.buffer.now c.read_part.new.source) spelled (asks_then g.R.Source.left g.R.Source.readings _ _ _ _ _ (parts_text i.0) r.0 i.1 i.4 r.2.1),
     )
 
 pub returns-in_err-place : goal.returns-in_err-place
@@ -43,11 +45,11 @@ returns-in-Some g c =
     let i = c.loop-alloc.invariant in
     let done : c.loop-alloc.place ≡ place.Done = search rules in
     let come = subst (λ p. HasCome p c.loop-alloc.draft i.0) done i.3 in
-    (parts_text i.0, i.1, (come.0, spells i.0 (place_of c.loop-alloc.place) c.loop-alloc.draft come.0 i.2 come.1 come.2, c.in-Some.ensures come.0 come.2))
+    (parts_text i.0, i.1, (come.0, spells i.0 (place_of c.loop-alloc.place) c.loop-alloc.draft come.0 i.2 come.1 come.2, c.in-Some.ensures come.0 come.2, i.4))
 
 pub returns-in-None : goal.returns-in-None
 returns-in-None g c =
     let i = c.loop-alloc.invariant in
     let done : c.loop-alloc.place ≡ place.Done = search rules in
     let come = subst (λ p. HasCome p c.loop-alloc.draft i.0) done i.3 in
-    (parts_text i.0, i.1, (come.0, spells i.0 (place_of c.loop-alloc.place) c.loop-alloc.draft come.0 i.2 come.1 come.2, c.is_changing-is_changing.ensures come.0 come.2))
+    (parts_text i.0, i.1, (come.0, spells i.0 (place_of c.loop-alloc.place) c.loop-alloc.draft come.0 i.2 come.1 come.2, c.is_changing-is_changing.ensures come.0 come.2, i.4))

@@ -6,7 +6,7 @@ use Rattle.history_word.specs.Buffer.{unread}
 use Rattle.history_word.specs.Taking.{Took}
 use Rattle.history_word.specs.Fields.{KeepsFront}
 use Rattle.history_model.specs.Bytes.{line}
-use Rattle.history_word.proofs.TakingLemmas.{came_all, took_then, took_same, skipped, first_byte}
+use Rattle.history_word.proofs.TakingLemmas.{asks_then, came_all, took_then, took_same, skipped, first_byte}
 use Rattle.history_word.proofs.reader.read_field.Goals as goal
 
 -- where nothing more than a front of the field is there
@@ -36,6 +36,7 @@ returns-then-not-branch g c =
 pub loop-rest-preserved : goal.loop-rest-preserved
 loop-rest-preserved g c =
     let inv = c.loop-rest.invariant in
+    let more = rw c.if-not-branch.false at c.in_ok-has_more.ensures.ok in
     let b = c.has_more.new.self in
     let n = c.min-count.result in
     let within : n ≤ length (unread b) = omega (arith, ap length c.unread.ensures, c.min-count.ensures) in (
@@ -45,6 +46,8 @@ loop-rest-preserved g c =
           (took_same g.R.Source.left g.R.Source.readings _ _ _ _ _ _ _ inv.2 c.has_more.ensures.took)
           (skipped g.R.Source.left g.R.Source.readings _ b c.skip.new.self n within c.skip.ensures.rest c.skip.ensures.readings c.skip.ensures.work),
       subst (λ xs. IfSome c.added-field.result (λ kept. KeepsFront c.args.limit c.args.size kept (inv.0 ++ take n xs))) c.unread-in-loop-rest.ensures (c.added-field.ensures c.args.limit c.args.size inv.0 inv.3),
+      asks_then g.R.Source.left g.R.Source.readings _ _ _ _ _ inv.0 (take n (unread b)) inv.2 inv.4
+          (λ all. (c.has_more.ensures.idle (omega (arith, all, length-take n (unread b), ap length c.unread.ensures, c.min-count.ensures, more))).0),
     )
 
 pub returns-in_err-has_more-2 : goal.returns-in_err-has_more-2
@@ -90,5 +93,11 @@ returns g c =
     let size : length inv.0 ≡ c.args.size = omega (arith, inv.1) in (
       line inv.0,
       subst (λ xs. Took g.R.Source.left g.R.Source.readings c.args.source.now c.args.buffer.now c.has_more-2.new.source c.skip-2.new.self (inv.0 ++ xs)) first taken,
-      (inv.0, size, refl, subst (λ n. IfSome c.loop-rest.field (λ kept. KeepsFront c.args.limit n kept inv.0)) (sym size) inv.3),
+      (
+        inv.0,
+        size,
+        refl,
+        subst (λ n. IfSome c.loop-rest.field (λ kept. KeepsFront c.args.limit n kept inv.0)) (sym size) inv.3,
+        asks_then g.R.Source.left g.R.Source.readings _ _ _ _ _ inv.0 (10 ∷ []) inv.2 inv.4 (λ (all : 1 ≤ length (unread c.loop-rest.buffer)). (c.has_more-2.ensures.idle (omega (arith, all))).0),
+      ),
     )

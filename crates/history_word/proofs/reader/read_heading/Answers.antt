@@ -1,5 +1,6 @@
 use Rattle.std.proofs.Common.{◌≡◌, ◌+◌, ◌++◌, take, None, subst, arith, ap, sym, ◌∙◌}
 use Rattle.std.specs.Option.{option_map}
+use Rattle.std.proofs.lemmas.List.{length-append, length-take}
 use Rattle.history_model.specs.Bytes.{line}
 use Rattle.history_model.specs.LineTable as table
 use Rattle.history_model.specs.TableRuns.{IsLineAt}
@@ -49,12 +50,15 @@ returns g c =
       w.0 ++ take (n + 1) (unread b),
       took_then g.R.Source.left g.R.Source.readings _ _ _ _ _ _ w.0 (take (n + 1) (unread b)) w.1
           (skipped g.R.Source.left g.R.Source.readings _ b c.skip.new.self (n + 1) (omega (arith, s.within)) c.skip.ensures.rest c.skip.ensures.readings c.skip.ensures.work),
-      record {
-        heading = l.heading;
-        spelled = ap (λ xs. xs ++ take (n + 1) (unread b)) w.2.0 ∙ line_taken n (unread b) s ∙ ap line (ap (take n) (sym c.unread.ensures) ∙ l.spelled);
-        known = l.known;
-        sized = l.sized;
-        stands = sym (c.next.ensures l.heading l.is) ∙ ap (option_map place_of) c.in-Some-next.is;
-        is = l.is;
-      },
+      (
+        record {
+          heading = l.heading;
+          spelled = ap (λ xs. xs ++ take (n + 1) (unread b)) w.2.0 ∙ line_taken n (unread b) s ∙ ap line (ap (take n) (sym c.unread.ensures) ∙ l.spelled);
+          known = l.known;
+          sized = l.sized;
+          stands = sym (c.next.ensures l.heading l.is) ∙ ap (option_map place_of) c.in-Some-next.is;
+          is = l.is;
+        },
+        λ all. w.2.2 (omega (arith, all, length-append w.0 (take (n + 1) (unread b)), length-take (n + 1) (unread b), s.within)),
+      ),
     )

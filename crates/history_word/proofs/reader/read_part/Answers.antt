@@ -5,7 +5,7 @@ use Rattle.std.specs.Prelude.{IfSome}
 use Rattle.history_word.specs.Fields.{Keeps}
 use Rattle.history_word.specs.Progress.{IsNoField, StopsFrom}
 use Rattle.history_word.specs.Drafts.{place_of}
-use Rattle.history_word.proofs.TakingLemmas.{took_then, took_none}
+use Rattle.history_word.proofs.TakingLemmas.{asks_then, took_then, took_none}
 use Rattle.history_word.proofs.StopLemmas.{stops_then}
 use Rattle.history_word.proofs.ProgressLemmas.{stops_here}
 use Rattle.history_word.proofs.LineEndLemmas.{first_stops, second_stops, put_sizes, actor_sizes, message_sizes, path_sizes, commit_parts, put_parts, actor_parts, message_parts, end_parts, files_parts, show_parts, path_parts}
@@ -23,7 +23,7 @@ returns-in_err-path-in-Put g c =
     let p = err_from_is_err_and c.from_residual-in_err-path-in-Put.result c.from_residual-in_err-path-in-Put.ensures.1 in
     let h = rw c.in-Put.is at c.in_ok-heading.ensures in
     rw (p.1, p.2) (stops_then g.R.Source.left g.R.Source.has_failed g.R.Source.readings _ _ _ _ _ _ h.0 (IsNoField c.in-Put.path) (StopsFrom [] (place_of c.args.place))
-    (first_stops c.args.place c.in_ok-heading.next _ h.0 h.2 c.in-Put.path (c.in-Put.content ∷ []) (put_sizes c.in-Put.kind c.in-Put.path c.in-Put.content h.2.heading h.2.is))
+    (first_stops c.args.place c.in_ok-heading.next _ h.0 h.2.0 c.in-Put.path (c.in-Put.content ∷ []) (put_sizes c.in-Put.kind c.in-Put.path c.in-Put.content h.2.0.heading h.2.0.is))
     c.in_err-path-in-Put.field-0.0 h.1 c.in_err-path-in-Put.ensures)
 
 pub returns-in_err-content-in-Put : goal.returns-in_err-content-in-Put
@@ -32,7 +32,7 @@ returns-in_err-content-in-Put g c =
     let h = rw c.in-Put.is at c.in_ok-heading.ensures in
     let a = c.in_ok-path-in-Put.ensures in
     rw (p.1, p.2) (stops_then g.R.Source.left g.R.Source.has_failed g.R.Source.readings _ _ _ _ _ _ (h.0 ++ a.0) (IsNoField c.in-Put.content) (StopsFrom [] (place_of c.args.place))
-    (second_stops c.args.place c.in_ok-heading.next _ h.0 a.0 h.2 c.in-Put.path c.in-Put.content [] (put_sizes c.in-Put.kind c.in-Put.path c.in-Put.content h.2.heading h.2.is) a.2.0 a.2.1 a.2.2)
+    (second_stops c.args.place c.in_ok-heading.next _ h.0 a.0 h.2.0 c.in-Put.path c.in-Put.content [] (put_sizes c.in-Put.kind c.in-Put.path c.in-Put.content h.2.0.heading h.2.0.is) a.2.0 a.2.1 a.2.2)
     c.in_err-content-in-Put.field-0.0 (took_then g.R.Source.left g.R.Source.readings _ _ _ _ _ _ h.0 a.0 h.1 a.1) c.in_err-content-in-Put.ensures)
 
 pub returns-in_err-name-in-Actor : goal.returns-in_err-name-in-Actor
@@ -40,7 +40,7 @@ returns-in_err-name-in-Actor g c =
     let p = err_from_is_err_and c.from_residual-in_err-name-in-Actor.result c.from_residual-in_err-name-in-Actor.ensures.1 in
     let h = rw c.in-Actor.is at c.in_ok-heading.ensures in
     rw (p.1, p.2) (stops_then g.R.Source.left g.R.Source.has_failed g.R.Source.readings _ _ _ _ _ _ h.0 (IsNoField c.in-Actor.name) (StopsFrom [] (place_of c.args.place))
-    (first_stops c.args.place c.in_ok-heading.next _ h.0 h.2 c.in-Actor.name (c.in-Actor.email ∷ []) (actor_sizes c.in-Actor.role c.in-Actor.name c.in-Actor.email c.in-Actor.seconds c.in-Actor.offset h.2.heading h.2.is))
+    (first_stops c.args.place c.in_ok-heading.next _ h.0 h.2.0 c.in-Actor.name (c.in-Actor.email ∷ []) (actor_sizes c.in-Actor.role c.in-Actor.name c.in-Actor.email c.in-Actor.seconds c.in-Actor.offset h.2.0.heading h.2.0.is))
     c.in_err-name-in-Actor.field-0.0 h.1 c.in_err-name-in-Actor.ensures)
 
 pub returns-in_err-email-in-Actor : goal.returns-in_err-email-in-Actor
@@ -49,7 +49,7 @@ returns-in_err-email-in-Actor g c =
     let h = rw c.in-Actor.is at c.in_ok-heading.ensures in
     let a = c.in_ok-name-in-Actor.ensures in
     rw (p.1, p.2) (stops_then g.R.Source.left g.R.Source.has_failed g.R.Source.readings _ _ _ _ _ _ (h.0 ++ a.0) (IsNoField c.in-Actor.email) (StopsFrom [] (place_of c.args.place))
-    (second_stops c.args.place c.in_ok-heading.next _ h.0 a.0 h.2 c.in-Actor.name c.in-Actor.email [] (actor_sizes c.in-Actor.role c.in-Actor.name c.in-Actor.email c.in-Actor.seconds c.in-Actor.offset h.2.heading h.2.is) a.2.0 a.2.1 a.2.2)
+    (second_stops c.args.place c.in_ok-heading.next _ h.0 a.0 h.2.0 c.in-Actor.name c.in-Actor.email [] (actor_sizes c.in-Actor.role c.in-Actor.name c.in-Actor.email c.in-Actor.seconds c.in-Actor.offset h.2.0.heading h.2.0.is) a.2.0 a.2.1 a.2.2)
     c.in_err-email-in-Actor.field-0.0 (took_then g.R.Source.left g.R.Source.readings _ _ _ _ _ _ h.0 a.0 h.1 a.1) c.in_err-email-in-Actor.ensures)
 
 pub returns-in_err-read_field-in-Message : goal.returns-in_err-read_field-in-Message
@@ -57,7 +57,7 @@ returns-in_err-read_field-in-Message g c =
     let p = err_from_is_err_and c.from_residual-in_err-read_field-in-Message.result c.from_residual-in_err-read_field-in-Message.ensures.1 in
     let h = rw c.in-Message.is at c.in_ok-heading.ensures in
     rw (p.1, p.2) (stops_then g.R.Source.left g.R.Source.has_failed g.R.Source.readings _ _ _ _ _ _ h.0 (IsNoField c.in-Message.size) (StopsFrom [] (place_of c.args.place))
-    (first_stops c.args.place c.in_ok-heading.next _ h.0 h.2 c.in-Message.size [] (message_sizes c.in-Message.size h.2.heading h.2.is))
+    (first_stops c.args.place c.in_ok-heading.next _ h.0 h.2.0 c.in-Message.size [] (message_sizes c.in-Message.size h.2.0.heading h.2.0.is))
     c.in_err-read_field-in-Message.field-0.0 h.1 c.in_err-read_field-in-Message.ensures)
 
 pub returns-in_err-path-in-ShowPath : goal.returns-in_err-path-in-ShowPath
@@ -65,13 +65,13 @@ returns-in_err-path-in-ShowPath g c =
     let p = err_from_is_err_and c.from_residual-in_err-path-in-ShowPath.result c.from_residual-in_err-path-in-ShowPath.ensures.1 in
     let h = rw c.in-ShowPath.is at c.in_ok-heading.ensures in
     rw (p.1, p.2) (stops_then g.R.Source.left g.R.Source.has_failed g.R.Source.readings _ _ _ _ _ _ h.0 (IsNoField c.in-ShowPath.path) (StopsFrom [] (place_of c.args.place))
-    (first_stops c.args.place c.in_ok-heading.next _ h.0 h.2 c.in-ShowPath.path [] (path_sizes c.in-ShowPath.word c.in-ShowPath.path h.2.heading h.2.is))
+    (first_stops c.args.place c.in_ok-heading.next _ h.0 h.2.0 c.in-ShowPath.path [] (path_sizes c.in-ShowPath.word c.in-ShowPath.path h.2.0.heading h.2.0.is))
     c.in_err-path-in-ShowPath.field-0.0 h.1 c.in_err-path-in-ShowPath.ensures)
 
 pub returns-in-Commit : goal.returns-in-Commit
 returns-in-Commit g c =
     let h = rw c.in-Commit.is at c.in_ok-heading.ensures in
-    (h.0, h.1, commit_parts c.args.place c.in_ok-heading.next c.in-Commit.name c.in-Commit.expect h.0 _ _ h.2 c.commit.ensures)
+    (h.0, h.1, (commit_parts c.args.place c.in_ok-heading.next c.in-Commit.name c.in-Commit.expect h.0 _ _ h.2.0 c.commit.ensures, h.2.1))
 
 pub returns-in_ok-content-in-Put : goal.returns-in_ok-content-in-Put
 returns-in_ok-content-in-Put g c =
@@ -80,8 +80,11 @@ returns-in_ok-content-in-Put g c =
     let b = c.in_ok-content-in-Put.ensures in (
       (h.0 ++ a.0) ++ b.0,
       took_then g.R.Source.left g.R.Source.readings _ _ _ _ _ _ (h.0 ++ a.0) b.0 (took_then g.R.Source.left g.R.Source.readings _ _ _ _ _ _ h.0 a.0 h.1 a.1) b.1,
-      put_parts c.args.place c.in_ok-heading.next c.in-Put.kind c.in-Put.path c.in-Put.content h.0 a.0 b.0 _ _ h.2 a.2.0 b.2.0 a.2.1 a.2.2 b.2.1 b.2.2
-          (λ order d. c.add_put.ensures order a.2.0 b.2.0 d a.2.3 b.2.3),
+      (
+        put_parts c.args.place c.in_ok-heading.next c.in-Put.kind c.in-Put.path c.in-Put.content h.0 a.0 b.0 _ _ h.2.0 a.2.0 b.2.0 a.2.1 a.2.2 b.2.1 b.2.2
+            (λ order d. c.add_put.ensures order a.2.0 b.2.0 d a.2.3 b.2.3),
+        asks_then g.R.Source.left g.R.Source.readings _ _ _ _ _ (h.0 ++ a.0) b.0 (took_then g.R.Source.left g.R.Source.readings _ _ _ _ _ _ h.0 a.0 h.1 a.1) (asks_then g.R.Source.left g.R.Source.readings _ _ _ _ _ h.0 a.0 h.1 h.2.1 a.2.4) b.2.4,
+      ),
     )
 
 pub returns-in_ok-email-in-Actor : goal.returns-in_ok-email-in-Actor
@@ -91,9 +94,12 @@ returns-in_ok-email-in-Actor g c =
     let b = c.in_ok-email-in-Actor.ensures in (
       (h.0 ++ a.0) ++ b.0,
       took_then g.R.Source.left g.R.Source.readings _ _ _ _ _ _ (h.0 ++ a.0) b.0 (took_then g.R.Source.left g.R.Source.readings _ _ _ _ _ _ h.0 a.0 h.1 a.1) b.1,
-      actor_parts c.args.place c.in_ok-heading.next c.in-Actor.role c.in-Actor.name c.in-Actor.email c.in-Actor.seconds c.in-Actor.offset h.0 a.0 b.0 _ _ h.2 a.2.0 b.2.0 a.2.1 a.2.2 b.2.1 b.2.2
-          (λ n. IfSome c.in_ok-name-in-Actor.name (λ x. Keeps 512 x n)) (λ n. IfSome c.in_ok-email-in-Actor.email (λ x. Keeps 512 x n))
-          (λ line order d n e s o. c.set_actor.ensures order line d (c.actor_line.ensures line n e s o)) a.2.3 b.2.3,
+      (
+        actor_parts c.args.place c.in_ok-heading.next c.in-Actor.role c.in-Actor.name c.in-Actor.email c.in-Actor.seconds c.in-Actor.offset h.0 a.0 b.0 _ _ h.2.0 a.2.0 b.2.0 a.2.1 a.2.2 b.2.1 b.2.2
+            (λ n. IfSome c.in_ok-name-in-Actor.name (λ x. Keeps 512 x n)) (λ n. IfSome c.in_ok-email-in-Actor.email (λ x. Keeps 512 x n))
+            (λ line order d n e s o. c.set_actor.ensures order line d (c.actor_line.ensures line n e s o)) a.2.3 b.2.3,
+        asks_then g.R.Source.left g.R.Source.readings _ _ _ _ _ (h.0 ++ a.0) b.0 (took_then g.R.Source.left g.R.Source.readings _ _ _ _ _ _ h.0 a.0 h.1 a.1) (asks_then g.R.Source.left g.R.Source.readings _ _ _ _ _ h.0 a.0 h.1 h.2.1 a.2.4) b.2.4,
+      ),
     )
 
 pub returns-in_ok-read_field-in-Message : goal.returns-in_ok-read_field-in-Message
@@ -102,23 +108,23 @@ returns-in_ok-read_field-in-Message g c =
     let a = c.in_ok-read_field-in-Message.ensures in (
       h.0 ++ a.0,
       took_then g.R.Source.left g.R.Source.readings _ _ _ _ _ _ h.0 a.0 h.1 a.1,
-      message_parts c.args.place c.in_ok-heading.next c.in-Message.size h.0 a.0 _ _ h.2 a.2.0 a.2.1 a.2.2 (λ order d. c.set_message.ensures order a.2.0 d a.2.3),
+      (message_parts c.args.place c.in_ok-heading.next c.in-Message.size h.0 a.0 _ _ h.2.0 a.2.0 a.2.1 a.2.2 (λ order d. c.set_message.ensures order a.2.0 d a.2.3), asks_then g.R.Source.left g.R.Source.readings _ _ _ _ _ h.0 a.0 h.1 h.2.1 a.2.4),
     )
 
 pub returns-in-End : goal.returns-in-End
 returns-in-End g c =
     let h = rw c.in-End.is at c.in_ok-heading.ensures in
-    (h.0, h.1, end_parts c.args.place c.in_ok-heading.next h.0 _ h.2)
+    (h.0, h.1, (end_parts c.args.place c.in_ok-heading.next h.0 _ h.2.0, h.2.1))
 
 pub returns-in-Files : goal.returns-in-Files
 returns-in-Files g c =
     let h = rw c.in-Files.is at c.in_ok-heading.ensures in
-    (h.0, h.1, files_parts c.args.place c.in_ok-heading.next c.in-Files.word h.0 _ h.2)
+    (h.0, h.1, (files_parts c.args.place c.in_ok-heading.next c.in-Files.word h.0 _ h.2.0, h.2.1))
 
 pub returns-in-Show : goal.returns-in-Show
 returns-in-Show g c =
     let h = rw c.in-Show.is at c.in_ok-heading.ensures in
-    (h.0, h.1, show_parts c.args.place c.in_ok-heading.next c.in-Show.word h.0 _ _ h.2 c.show.ensures)
+    (h.0, h.1, (show_parts c.args.place c.in_ok-heading.next c.in-Show.word h.0 _ _ h.2.0 c.show.ensures, h.2.1))
 
 pub returns-in_ok-path-in-ShowPath : goal.returns-in_ok-path-in-ShowPath
 returns-in_ok-path-in-ShowPath g c =
@@ -126,5 +132,5 @@ returns-in_ok-path-in-ShowPath g c =
     let a = c.in_ok-path-in-ShowPath.ensures in (
       h.0 ++ a.0,
       took_then g.R.Source.left g.R.Source.readings _ _ _ _ _ _ h.0 a.0 h.1 a.1,
-      path_parts c.args.place c.in_ok-heading.next c.in-ShowPath.word c.in-ShowPath.path h.0 a.0 _ _ h.2 a.2.0 a.2.1 a.2.2 (λ w x. c.show_path.ensures w a.2.0 x a.2.3),
+      (path_parts c.args.place c.in_ok-heading.next c.in-ShowPath.word c.in-ShowPath.path h.0 a.0 _ _ h.2.0 a.2.0 a.2.1 a.2.2 (λ w x. c.show_path.ensures w a.2.0 x a.2.3), asks_then g.R.Source.left g.R.Source.readings _ _ _ _ _ h.0 a.0 h.1 h.2.1 a.2.4),
     )

@@ -1,13 +1,16 @@
 use Rattle.std.proofs.Common.{◌≡◌, ◌≢◌, ◌∙◌, ◌++◌, sym, subst, rules}
 use Rattle.history_store.proofs.Stored.{on_ok_both}
 use Rattle.history_store.specs.Stores.{FoldersAbove}
-use Rattle.history_store.specs.References.{HasWay}
+use Rattle.history_store.specs.References.{HasWay, KeepsOtherFolders}
+use Rattle.gix_ref_file.specs.History.{Adds}
 use Rattle.std.proofs.lemmas.Result.{on_ok_weaker}
 use Rattle.std.specs.Prelude.{IsTrue}
 use Rattle.gix_ref_file.specs.Tree.{bytes_at, is_path}
 use Rattle.gix_ref_file.specs.Changes.{may_hold_file}
 use Rattle.history_model.specs.Places.{log_place}
 use Rattle.history_model.proofs.IdLemmas.{one_id, apart_ids}
+use Rattle.history_store.proofs.FoldersKept.{file_stay, while_appended}
+use Rattle.history_store.proofs.MoveMoments.{way_moments, append_moments}
 use Rattle.history_store.proofs.Moves.{appended, not_logged}
 use Rattle.history_store.proofs.Above.{now_above, put_above}
 use Rattle.history_store.proofs.Clearings.{caused, later_risen}
@@ -61,3 +64,27 @@ returns-clause-failed g c = λ honest named way failed.
     let room = c.in_ok-make_way.ensures.room honest whole (subst (λ p. HasWay p old) log way) in
     let may = subst (λ p. IsTrue (may_hold_file made p)) (c.deref.ensures.value ∙ sym c.deref-2.ensures.value) room in
     later_risen _ _ _ c.make_way.ensures.later (caused _ _ _ _ may (c.append.ensures.cause (c.make_way.ensures.honest honest)) failed)
+
+pub returns-in_err-make_way-clause-moments : goal.returns-in_err-make_way-clause-moments
+returns-in_err-make_way-clause-moments g c = λ honest.
+    way_moments (log_place c.args.name.now) (g.F.Files.history c.args.self.now.files) (g.F.Files.history c.make_way.new.files) (c.make_way.ensures.moments honest)
+
+pub returns-clause-moments : goal.returns-clause-moments
+returns-clause-moments g c = λ honest.
+    let change = c.append.ensures.change (c.make_way.ensures.honest honest) in
+    append_moments (log_place c.args.name.now) c.deref-2.result.now c.deref-3.result.now (g.F.Files.history c.args.self.now.files) (g.F.Files.history c.make_way.new.files) (g.F.Files.history c.append.new.self)
+    (c.deref-2.ensures.value ∙ c.in_ok-log.ensures) (c.make_way.ensures.moments honest) change.moments
+
+pub returns-in_err-make_way-clause-stay : goal.returns-in_err-make_way-clause-stay
+returns-in_err-make_way-clause-stay g c = λ honest.
+    let old = g.F.Files.history c.args.self.now.files in
+    subst (λ path. Adds (KeepsOtherFolders path old.tree) old (g.F.Files.history c.make_way.new.files)) (c.deref.ensures.value ∙ c.in_ok-log.ensures) (c.make_way.ensures.stay honest)
+
+pub returns-clause-stay : goal.returns-clause-stay
+returns-clause-stay g c = λ honest.
+    let old = g.F.Files.history c.args.self.now.files in
+    let made = g.F.Files.history c.make_way.new.files in
+    let new = g.F.Files.history c.append.new.self in
+    let change = c.append.ensures.change (c.make_way.ensures.honest honest) in
+    subst (λ path. Adds (KeepsOtherFolders path old.tree) old new) (c.deref.ensures.value ∙ c.in_ok-log.ensures)
+    (file_stay c.deref.result.now old made new (c.make_way.ensures.stay honest) change.moments (λ x left. while_appended c.deref-2.result.now c.deref-3.result.now made.tree x left))

@@ -2,6 +2,8 @@ use Rattle.std.proofs.Common.{◌∙◌, subst, rules}
 use Rattle.std.proofs.lemmas.Result.{on_ok_weaker}
 use Rattle.history_store.specs.Stores.{PutsFile}
 use Rattle.history_store.proofs.Stored.{on_ok_both}
+use Rattle.history_store.proofs.FoldersKept.{file_stay, while_written}
+use Rattle.history_store.proofs.MoveMoments.{way_moments, write_moments}
 use Rattle.history_store.proofs.Moves.{written}
 use Rattle.history_store.proofs.Above.{now_above, put_above}
 use Rattle.history_store.proofs.Clearings.{caused, later_risen}
@@ -35,3 +37,21 @@ pub returns-clause-failed : goal.returns-clause-failed
 returns-clause-failed g c = λ honest named way failed.
     let room = c.in_ok-make_way.ensures.room honest (name_path c.args.name.now named) way in
     later_risen _ _ _ c.make_way.ensures.later (caused _ _ _ _ room (c.write.ensures.cause (c.make_way.ensures.honest honest)) failed)
+
+pub returns-in_err-make_way-clause-moments : goal.returns-in_err-make_way-clause-moments
+returns-in_err-make_way-clause-moments g c = λ honest.
+    way_moments c.args.name.now (g.F.Files.history c.args.self.now.files) (g.F.Files.history c.make_way.new.files) (c.make_way.ensures.moments honest)
+
+pub returns-clause-moments : goal.returns-clause-moments
+returns-clause-moments g c = λ honest.
+    let change = c.write.ensures.change (c.make_way.ensures.honest honest) in
+    write_moments c.args.name.now c.deref.result.now (g.F.Files.history c.args.self.now.files) (g.F.Files.history c.make_way.new.files) (g.F.Files.history c.write.new.self) (c.make_way.ensures.moments honest) change.moments
+
+pub returns-in_err-make_way-clause-stay : goal.returns-in_err-make_way-clause-stay
+returns-in_err-make_way-clause-stay g c = λ honest. c.make_way.ensures.stay honest
+
+pub returns-clause-stay : goal.returns-clause-stay
+returns-clause-stay g c = λ honest.
+    let made = g.F.Files.history c.make_way.new.files in
+    let change = c.write.ensures.change (c.make_way.ensures.honest honest) in
+    file_stay c.args.name.now (g.F.Files.history c.args.self.now.files) made (g.F.Files.history c.write.new.self) (c.make_way.ensures.stay honest) change.moments (λ x left. while_written c.args.name.now c.deref.result.now made.tree x left)

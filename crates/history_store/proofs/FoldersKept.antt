@@ -1,0 +1,107 @@
+-- Which folders stay while files and folders come and go.
+use Rattle.std.proofs.Common.{◌≡◌, ◌⊎◌, inl, inr, refl, sym, ◌∙◌, ap, subst, [], ◌∷◌, ◌++◌, take}
+use Rattle.std.specs.Prelude.{IsTrue, Option, Some, None}
+use Rattle.std.specs.FinMap.{get, insert}
+use Rattle.gix_ref_file.specs.Tree.{Tree, Node, file, folder, node_at, is_folder, bytes_at}
+use Rattle.gix_ref_file.specs.Changes.{to_write, to_append, to_make_folder, may_hold_file, MayLeave}
+use Rattle.gix_ref_file.specs.History.{History, Adds}
+use Rattle.gix_ref_file.proofs.Histories.{adds_weaker, adds_joined}
+use Rattle.gix_ref_file.proofs.Rooted.{adds_now}
+use Rattle.gix_ref_file.proofs.Trees.{folders_stay, get-inserted}
+use Rattle.history_model.specs.Bytes.{Bytes}
+use Rattle.history_model.specs.Places.{log_place}
+use Rattle.history_store.specs.Stores.{KeepsFolders}
+use Rattle.history_store.specs.References.{ClearsWay, IsAtOrBelow, KeepsOtherFolders, KeepsFoldersOfOthers}
+use Rattle.history_store.proofs.Clearings.{way_now}
+use Rattle.history_store.proofs.FoldersMade.{folder_put}
+
+-- ---- all folders
+same_keeps : (t x : Tree) → x ≡ t → KeepsFolders t x
+same_keeps t x same place is = ap (λ y. is_folder (node_at y place)) same ∙ is
+
+keeps_now : (old new : History) → Adds (KeepsFolders old.tree) old new → KeepsFolders old.tree new.tree
+keeps_now old new adds = from_now (adds_now _ old new adds)
+  where
+    from_now : (new.tree ≡ old.tree) ⊎ KeepsFolders old.tree new.tree → KeepsFolders old.tree new.tree
+    from_now (inl same) = same_keeps old.tree new.tree same
+    from_now (inr keeps) = keeps
+
+pub keeps_joined : (old mid new : History) → Adds (KeepsFolders old.tree) old mid → Adds (KeepsFolders mid.tree) mid new → Adds (KeepsFolders old.tree) old new
+keeps_joined old mid new first second = adds_joined old mid new first (adds_weaker mid new second (λ x keeps place is. keeps place (keeps_now old mid first place is)))
+
+pub while_folder_made : (k : Bytes) (t x : Tree) → MayLeave (to_make_folder k) t x → KeepsFolders t x
+while_folder_made k t x (inl same) = same_keeps t x same
+while_folder_made k t x (inr (n, may, is)) = subst (KeepsFolders t) (sym is) (folder_put t k)
+
+file_keeps : (t : Tree) (path bytes : Bytes) → IsTrue (may_hold_file t path) → KeepsFolders t (insert t path (file bytes))
+file_keeps t path bytes may place is = folders_stay t (insert t path (file bytes)) path (Some (file bytes)) may refl (get-inserted t path (file bytes)) place ∙ is
+
+pub while_appended : (path bytes : Bytes) (t x : Tree) → MayLeave (to_append path bytes) t x → KeepsFolders t x
+while_appended path bytes t x (inl same) = same_keeps t x same
+while_appended path bytes t x (inr (n, may, is)) = subst (KeepsFolders t) (sym is) (file_keeps t path (bytes_at t path ++ take n bytes) may)
+
+pub while_written : (path bytes : Bytes) (t x : Tree) → MayLeave (to_write path bytes) t x → KeepsFolders t x
+while_written path bytes t x (inl same) = same_keeps t x same
+while_written path bytes t x (inr (n, may, is)) = subst (KeepsFolders t) (sym is) (file_keeps t path (take n bytes) may)
+
+-- ---- all but those in a file's way
+clears_keeps : (path : Bytes) (t x : Tree) → ClearsWay path t x → KeepsOtherFolders path t x
+clears_keeps path t x clears [] is = inl refl
+clears_keeps path t x clears (b ∷ place) is = still (clears.others (b ∷ place) (stood (get t (b ∷ place)) is))
+  where
+    stood : (o : Option Node) → IsTrue (is_folder o) → o ≡ Some folder
+    stood None h = cc
+    stood (Some (file bytes)) h = cc
+    stood (Some folder) h = refl
+
+    still : (get x (b ∷ place) ≡ Some folder) ⊎ IsAtOrBelow path (b ∷ place) → IsTrue (is_folder (get x (b ∷ place))) ⊎ IsAtOrBelow path (b ∷ place)
+    still (inl stands) = inl (ap is_folder stands)
+    still (inr gone) = inr gone
+
+then_keeps : (path : Bytes) (t u x : Tree) → KeepsOtherFolders path t u → KeepsFolders u x → KeepsOtherFolders path t x
+then_keeps path t u x first second place is = on (first place is)
+  where
+    on : IsTrue (is_folder (node_at u place)) ⊎ IsAtOrBelow path place → IsTrue (is_folder (node_at x place)) ⊎ IsAtOrBelow path place
+    on (inl stands) = inl (second place stands)
+    on (inr gone) = inr gone
+
+others_now : (path : Bytes) (old new : History) → Adds (KeepsOtherFolders path old.tree) old new → KeepsOtherFolders path old.tree new.tree
+others_now path old new adds = from_now (adds_now _ old new adds)
+  where
+    from_now : (new.tree ≡ old.tree) ⊎ KeepsOtherFolders path old.tree new.tree → KeepsOtherFolders path old.tree new.tree
+    from_now (inl same) place is = inl (same_keeps old.tree new.tree same place is)
+    from_now (inr keeps) place is = keeps place is
+
+pub clear_stay : (path : Bytes) (old cleared : History) → Adds (ClearsWay path old.tree) old cleared → Adds (KeepsOtherFolders path old.tree) old cleared
+clear_stay path old cleared first = adds_weaker old cleared first (λ x clears. clears_keeps path old.tree x clears)
+
+pub way_stay : (path : Bytes) (old cleared made : History) → Adds (ClearsWay path old.tree) old cleared → Adds (KeepsFolders cleared.tree) cleared made → Adds (KeepsOtherFolders path old.tree) old made
+way_stay path old cleared made first second =
+    adds_joined old cleared made (clear_stay path old cleared first)
+    (adds_weaker cleared made second (λ x keeps. then_keeps path old.tree cleared.tree x (clears_keeps path old.tree cleared.tree (way_now path old cleared first)) keeps))
+
+pub file_stay : {P : Tree → Type 0} (path : Bytes) (old made new : History) → Adds (KeepsOtherFolders path old.tree) old made → Adds P made new → ((x : Tree) → P x → KeepsFolders made.tree x)
+    → Adds (KeepsOtherFolders path old.tree) old new
+file_stay path old made new first second keeps =
+    adds_joined old made new first (adds_weaker made new second (λ x p. then_keeps path old.tree made.tree x (others_now path old made first) (keeps x p)))
+
+-- ---- a move's two files
+pub log_stay : (name : Bytes) (old mid : History) → Adds (KeepsOtherFolders (log_place name) old.tree) old mid → Adds (KeepsFoldersOfOthers name old.tree) old mid
+log_stay name old mid adds = adds_weaker old mid adds (λ x keeps place is. out (keeps place is))
+  where
+    out : {A B C : Type 0} → A ⊎ C → A ⊎ B ⊎ C
+    out (inl a) = inl a
+    out (inr c) = inr (inr c)
+
+pub move_stay : (name : Bytes) (old mid new : History) → Adds (KeepsOtherFolders (log_place name) old.tree) old mid → Adds (KeepsOtherFolders name mid.tree) mid new → Adds (KeepsFoldersOfOthers name old.tree) old new
+move_stay name old mid new first second =
+    adds_joined old mid new (log_stay name old mid first) (adds_weaker mid new second (λ x keeps place is. on x place (others_now (log_place name) old mid first place is) (keeps place)))
+  where
+    on : (x : Tree) (place : Bytes) → IsTrue (is_folder (node_at mid.tree place)) ⊎ IsAtOrBelow (log_place name) place
+        → (IsTrue (is_folder (node_at mid.tree place)) → IsTrue (is_folder (node_at x place)) ⊎ IsAtOrBelow name place) → IsTrue (is_folder (node_at x place)) ⊎ IsAtOrBelow name place ⊎ IsAtOrBelow (log_place name) place
+    on x place (inr gone) keeps = inr (inr gone)
+    on x place (inl stands) keeps = last (keeps stands)
+      where
+        last : IsTrue (is_folder (node_at x place)) ⊎ IsAtOrBelow name place → IsTrue (is_folder (node_at x place)) ⊎ IsAtOrBelow name place ⊎ IsAtOrBelow (log_place name) place
+        last (inl a) = inl a
+        last (inr b) = inr (inl b)
