@@ -2,6 +2,23 @@
 //! names of that crate.
 #![tactic(auto)]
 
+/// Commits.
+pub mod commit {
+    /// Messages, their bodies and trailers.
+    pub mod message {
+        /// What a body holds.
+        pub mod body {
+            pub use gix_object_message::{
+                MessageBlock, MessageBlocks, SelectedTrailers, TrailerRef, Trailers,
+            };
+        }
+
+        pub use gix_object_message::BodyRef;
+    }
+
+    pub use gix_object_message::MessageRef;
+}
+
 /// Reading, and why bytes are refused.
 pub mod decode {
     pub use gix_object_lines::decode::{Error, LooseHeaderDecodeError, loose_header};

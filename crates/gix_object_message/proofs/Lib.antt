@@ -1,0 +1,9 @@
+pub mod LineLemmas
+pub mod WhiteLemmas
+pub mod ParagraphLemmas
+pub mod TitleLemmas
+pub mod BodyLemmas
+pub mod RunLemmas
+pub mod BlockLemmas
+pub mod SummaryLemmas
+pub mod TrailerLemmas

@@ -1,0 +1,12 @@
+pub mod Lines
+pub mod White
+pub mod Title
+pub mod Paragraphs
+pub mod Trailer
+pub mod Attribution
+pub mod Blocks
+pub mod Steps
+pub mod Views
+pub mod Selected
+pub mod BodyViews
+pub mod Borrowed

@@ -1,0 +1,21 @@
+//! The messages of commits and tags: title, body and summary, paragraphs, trailers and blocks, after the crate
+//! `gix-object` 0.64.
+#![tactic(auto)]
+
+mod blocks;
+mod body;
+mod lines;
+mod message;
+mod paragraph;
+mod runs;
+mod summary;
+mod title;
+mod trailer;
+mod trailers;
+mod white;
+
+pub use crate::blocks::{MessageBlock, MessageBlocks};
+pub use crate::body::BodyRef;
+pub use crate::message::MessageRef;
+pub use crate::trailer::TrailerRef;
+pub use crate::trailers::{SelectedTrailers, Trailers};
