@@ -1,5 +1,5 @@
 // Who made a change, and when: `Name <email> seconds offset`.
-ghost use Rattle.std.specs.Prelude.{◌≡◌, ◌≤◌, ℕ, ℤ, pos, [], ◌∷◌, decimal, IsTrue, IsFalse, MatchOption, ◌≢◌, ◌↔◌};
+ghost use Rattle.std.specs.Prelude.{◌≡◌, ◌≤◌, ℕ, [], ◌∷◌, decimal, IsTrue, IsFalse, MatchOption, ◌≢◌, ◌↔◌};
 ghost use Rattle.std.specs.List.{list_any};
 ghost use Rattle.history_model.specs.Bytes.{has_byte};
 ghost use Rattle.history_model.specs.Forms.{is_actor_part, is_offset, max_seconds};
