@@ -3,7 +3,7 @@ use Rattle.std.proofs.Common.{◌≡◌, ◌⊎◌, inl, inr, refl, sym, ◌∙�
 use Rattle.std.specs.Prelude.{IsTrue, Option, Some, None}
 use Rattle.std.specs.FinMap.{get, insert}
 use Rattle.gix_ref_file.specs.Tree.{Tree, Node, file, folder, node_at, is_folder, bytes_at}
-use Rattle.gix_ref_file.specs.Changes.{to_write, to_append, to_make_folder, may_hold_file, MayLeave}
+use Rattle.gix_ref_file.specs.Changes.{to_write, to_append, to_rename, to_make_folder, allows, after, may_hold_file, MayLeave}
 use Rattle.gix_ref_file.specs.History.{History, Adds}
 use Rattle.gix_ref_file.proofs.Histories.{adds_weaker, adds_joined}
 use Rattle.gix_ref_file.proofs.Rooted.{adds_now}
@@ -14,6 +14,7 @@ use Rattle.history_store.specs.Stores.{KeepsFolders}
 use Rattle.history_store.specs.References.{ClearsWay, IsAtOrBelow, KeepsOtherFolders, KeepsFoldersOfOthers}
 use Rattle.history_store.proofs.Clearings.{way_now}
 use Rattle.history_store.proofs.FoldersMade.{folder_put}
+use Rattle.history_store.proofs.News.{renamed_folders}
 
 -- ---- all folders
 same_keeps : (t x : Tree) → x ≡ t → KeepsFolders t x
@@ -43,6 +44,18 @@ while_appended path bytes t x (inr (n, may, is)) = subst (KeepsFolders t) (sym i
 pub while_written : (path bytes : Bytes) (t x : Tree) → MayLeave (to_write path bytes) t x → KeepsFolders t x
 while_written path bytes t x (inl same) = same_keeps t x same
 while_written path bytes t x (inr (n, may, is)) = subst (KeepsFolders t) (sym is) (file_keeps t path (take n bytes) may)
+
+renamed_keeps : (from to : Bytes) (t x : Tree) → IsTrue (allows t (to_rename from to)) → x ≡ after (to_rename from to) t → KeepsFolders t x
+renamed_keeps from to t x may made [] is = refl
+renamed_keeps from to t x may made (b ∷ place) is = renamed_folders t x from to may made (b ∷ place) ∙ is
+
+pub while_renamed : (from to : Bytes) (t x : Tree) → MayLeave (to_rename from to) t x → KeepsFolders t x
+while_renamed from to t x (inl same) = same_keeps t x same
+while_renamed from to t x (inr (n, may, made)) = renamed_keeps from to t x may made
+
+-- a change that keeps the folders, behind others that did
+pub then_stay : {P : Tree → Type 0} (old mid new : History) → Adds (KeepsFolders old.tree) old mid → Adds P mid new → ((x : Tree) → P x → KeepsFolders mid.tree x) → Adds (KeepsFolders old.tree) old new
+then_stay old mid new first second keeps = keeps_joined old mid new first (adds_weaker mid new second keeps)
 
 -- ---- all but those in a file's way
 clears_keeps : (path : Bytes) (t x : Tree) → ClearsWay path t x → KeepsOtherFolders path t x

@@ -9,7 +9,7 @@ ghost use Rattle.gix_ref_file.specs.declared.files.FileError.TheVariants.{Failed
 ghost use Rattle.gix_ref_file.specs.Tree.{bytes_at};
 ghost use Rattle.gix_ref_file.specs.Changes.{is_file_at};
 ghost use Rattle.gix_ref_file.specs.History.{Adds, HasRisen};
-ghost use Rattle.history_store.specs.Stores.{HoldsFile, MayStand, FoldersAbove, IsObjectPlace, IsObjectPart, IsNoObject, IsTaken, object_id, is_empty_tree, is_reserved, put_fault};
+ghost use Rattle.history_store.specs.Stores.{HoldsFile, MayStand, FoldersAbove, KeepsFolders, IsObjectPlace, IsObjectPart, IsNoObject, IsTaken, object_id, is_empty_tree, is_reserved, put_fault};
 ghost use Rattle.gix_hash.specs.Id.{id_of};
 ghost use Rattle.history_store.specs.Ids.{with_id};
 
@@ -129,6 +129,9 @@ impl<F: Files> Objects<F> {
         // At each moment the object's file is as before, or there whole.
         ensures moments { F.is_honest self.old.files → Adds (MayStand (object_place (object_id self.old.kind object content.now)) (object_text object content.now) (F.history self.old.files).tree) (F.history self.old.files) (F.history self.new.files) }
 
+        // And each folder that stood stands.
+        ensures stay { F.is_honest self.old.files → Adds (KeepsFolders (F.history self.old.files).tree) (F.history self.old.files) (F.history self.new.files) }
+
         // Where the object stands already, nothing is written.
         ensures once { F.is_honest self.old.files → file_at (F.history self.old.files).tree (object_place (object_id self.old.kind object content.now)) ≡ Some (object_text object content.now) → self.new.files ≡ self.old.files }
 
@@ -204,6 +207,7 @@ impl<F: Files> Objects<F> {
         ensures unfinished { F.is_honest self.old.files → place.now ≢ unfinished_place → OnOk result (file_at (F.history self.new.files).tree unfinished_place ≡ None) }
         ensures folders { F.is_honest self.old.files → OnOk result (FoldersAbove place.now (F.history self.old.files).tree (F.history self.new.files).tree) }
         ensures moments { F.is_honest self.old.files → Adds (MayStand place.now (header.now ++ content.now) (F.history self.old.files).tree) (F.history self.old.files) (F.history self.new.files) }
+        ensures stay { F.is_honest self.old.files → Adds (KeepsFolders (F.history self.old.files).tree) (F.history self.old.files) (F.history self.new.files) }
         ensures later { F.failures self.old.files ≤ F.failures self.new.files }
         ensures failed { F.is_honest self.old.files → IsObjectPart (F.history self.old.files).tree → IsObjectPlace place.now
             → IsErrOf result Failed → HasRisen (F.failures self.old.files) (F.failures self.new.files) ⊎ F.reading_may_fail }

@@ -5,7 +5,7 @@ use Rattle.gix_ref_file.specs.declared.files.FileError.TheVariants as files
 use Rattle.history_model.specs.Objects.{object_text}
 use Rattle.history_model.specs.Forms.{is_id}
 use Rattle.history_model.proofs.TreePlaces.{digest_is_id}
-use Rattle.history_store.specs.Stores.{FoldersAbove, IsObjectPlace, MayStand, object_id, put_fault}
+use Rattle.history_store.specs.Stores.{FoldersAbove, KeepsFolders, IsObjectPlace, MayStand, object_id, put_fault}
 use Rattle.history_store.specs.declared.objects.PutError.TheVariants as errors
 use Rattle.std.specs.Prelude.{length}
 use Rattle.gix_object_lines.specs.Header.{header_text}
@@ -114,4 +114,20 @@ returns-clause-folders g c = λ honest.
       | else-branch+in_ok-write w ↦
           subst (λ s. FoldersAbove place old (g.F.Files.history s.files).tree) (sym w.self-is)
           (above_at _ _ old _ (w.deref-else-branch.ensures.value ∙ c.in_ok-place.ensures ∙ ap object_place c.object_id-id.ensures) (w.in_ok-write.ensures.folders honest))
+    ]
+
+pub returns-clause-stay : goal.returns-clause-stay
+returns-clause-stay g c = λ honest.
+    let old = g.F.Files.history c.args.self.now.files in
+    elim c.if-branch.branch [
+      | then-branch+in_ok-holds+else-not-branch w ↦ subst (λ s. Adds (KeepsFolders old.tree) old (g.F.Files.history s.files)) (sym w.self-is) (adds_nothing old)
+      | else-branch+in_ok-write w ↦ subst (λ s. Adds (KeepsFolders old.tree) old (g.F.Files.history s.files)) (sym w.self-is) (w.write.ensures.stay honest)
+    ]
+
+pub returns-in_err-insert-clause-stay : goal.returns-in_err-insert-clause-stay
+returns-in_err-insert-clause-stay g c = λ honest.
+    let old = g.F.Files.history c.args.self.now.files in
+    elim c.if-branch.branch [
+      | then-branch+in_ok-holds+else-not-branch w ↦ subst (λ s. Adds (KeepsFolders old.tree) old (g.F.Files.history s.files)) (sym w.self-is) (adds_nothing old)
+      | else-branch+in_ok-write w ↦ subst (λ s. Adds (KeepsFolders old.tree) old (g.F.Files.history s.files)) (sym w.self-is) (w.write.ensures.stay honest)
     ]

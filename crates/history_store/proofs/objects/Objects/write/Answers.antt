@@ -2,6 +2,7 @@ use Rattle.std.proofs.Common.{◌≡◌, Err, arith}
 use Rattle.std.proofs.lemmas.Result.{err_from_is_err_and}
 use Rattle.gix_ref_file.specs.declared.files.FileError.TheVariants.{Failed}
 use Rattle.history_model.specs.Places.{unfinished_place}
+use Rattle.history_store.proofs.FoldersKept.{while_written, while_appended, while_renamed, then_stay}
 use Rattle.history_store.proofs.FoldersMade.{caused}
 use Rattle.history_store.proofs.ObjectFiles.{fits_when_written, may_rename, unfinished_fits}
 use Rattle.history_store.proofs.ObjectParts.{no_file_above, object_place_is_path}
@@ -137,3 +138,42 @@ returns-clause-failed g c = λ honest part placed failed.
     c.args.content.now appended.tree (c.in_ok-append.ensures.change honest_2).made in
     caused _ _ _ _ c.rename.result (c.rename.ensures.cause (c.append.ensures.honest honest_2)) may failed
     (omega (arith, c.make_folders.ensures.later, c.write.ensures.later, c.append.ensures.later))
+
+pub returns-in_err-make_folders-clause-stay : goal.returns-in_err-make_folders-clause-stay
+returns-in_err-make_folders-clause-stay g c = λ honest. c.make_folders.ensures.stay honest
+
+pub returns-in_err-write-clause-stay : goal.returns-in_err-write-clause-stay
+returns-in_err-write-clause-stay g c = λ honest.
+    let old = g.F.Files.history c.args.self.now.files in
+    let made_1 = g.F.Files.history c.make_folders.new.files in
+    let written_1 = g.F.Files.history c.write.new.self in
+    let written = c.write.ensures.change (c.make_folders.ensures.honest honest) in
+    then_stay old made_1 written_1 (c.make_folders.ensures.stay honest) written.moments (while_written unfinished_place c.args.header.now made_1.tree)
+
+pub returns-in_err-append-clause-stay : goal.returns-in_err-append-clause-stay
+returns-in_err-append-clause-stay g c = λ honest.
+    let old = g.F.Files.history c.args.self.now.files in
+    let made_1 = g.F.Files.history c.make_folders.new.files in
+    let written_1 = g.F.Files.history c.write.new.self in
+    let appended_1 = g.F.Files.history c.append.new.self in
+    let honest_1 = c.make_folders.ensures.honest honest in
+    let written = c.write.ensures.change honest_1 in
+    let appended = c.append.ensures.change (c.write.ensures.honest honest_1) in
+    let first = then_stay old made_1 written_1 (c.make_folders.ensures.stay honest) written.moments (while_written unfinished_place c.args.header.now made_1.tree) in
+    then_stay old written_1 appended_1 first appended.moments (while_appended unfinished_place c.args.content.now written_1.tree)
+
+pub returns-clause-stay : goal.returns-clause-stay
+returns-clause-stay g c = λ honest.
+    let old = g.F.Files.history c.args.self.now.files in
+    let made_1 = g.F.Files.history c.make_folders.new.files in
+    let written_1 = g.F.Files.history c.write.new.self in
+    let appended_1 = g.F.Files.history c.append.new.self in
+    let new = g.F.Files.history c.rename.new.self in
+    let honest_1 = c.make_folders.ensures.honest honest in
+    let honest_2 = c.write.ensures.honest honest_1 in
+    let written = c.write.ensures.change honest_1 in
+    let appended = c.append.ensures.change honest_2 in
+    let renamed = c.rename.ensures.change (c.append.ensures.honest honest_2) in
+    let first = then_stay old made_1 written_1 (c.make_folders.ensures.stay honest) written.moments (while_written unfinished_place c.args.header.now made_1.tree) in
+    let second = then_stay old written_1 appended_1 first appended.moments (while_appended unfinished_place c.args.content.now written_1.tree) in
+    then_stay old appended_1 new second renamed.moments (while_renamed unfinished_place c.args.place.now appended_1.tree)
