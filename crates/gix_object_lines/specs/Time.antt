@@ -16,7 +16,7 @@ pub data SpellsSeconds (text : List ℕ) (seconds : ℤ) : Type 0 where
 abbrev pub two_digits : ℕ → List ℕ
 two_digits n = (48 + n / 10) ∷ (48 + n % 10) ∷ []
 
--- `+` or `-`, two digits of hours and two of minutes, any four: `+0060` is an hour. `-0000` is no offset.
+-- `+` or `-`, two digits of hours and two of minutes, any four: `+0060` is an hour. `-0000` is zero seconds.
 pub data SpellsOffset (text : List ℕ) (offset : ℤ) : Type 0 where
   Ahead : (hours minutes : ℕ) → hours < 100 → minutes < 100 → text ≡ 43 ∷ two_digits hours ++ two_digits minutes → offset ≡ pos (3600 * hours + 60 * minutes) → SpellsOffset text offset
   Behind : (hours minutes : ℕ) → hours < 100 → minutes < 100 → text ≡ 45 ∷ two_digits hours ++ two_digits minutes → offset ≡ neg_ℤ (pos (3600 * hours + 60 * minutes)) → SpellsOffset text offset

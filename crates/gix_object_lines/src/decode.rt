@@ -22,10 +22,11 @@ pub enum Error {
     /// No line feed stands behind the value.
     #[error("the end of the line was expected")]
     LineEnd,
-    /// The line isn't a name, an email between `<` and `>` and a time, or a line feed stands in name or email.
+    /// The line isn't a name, a space, an email between `<` and `>` and a space, or a line feed stands in name or email.
     #[error("a name, an email between angle brackets and a time were expected")]
     InvalidActor,
-    /// The text isn't seconds, a space, a sign, two digits of hours and two of minutes.
+    /// The text, or what follows an actor's email, isn't seconds of 64 bits, a space, a sign, two digits of hours and two of
+    /// minutes.
     #[error("seconds and an offset were expected")]
     InvalidTime,
     /// No memory is left.

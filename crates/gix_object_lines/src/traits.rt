@@ -39,7 +39,7 @@ pub trait WriteTo {
     /// The header of the object, and `None` where its size is. It takes no memory.
     fn loose_header(&self, alloc: Global) -> Option<SmallVec<u8, 28>>
         ensures { MatchOption result (2 ^ 64 ≤ length (text self.now))
-            (λ header. header.items ≡ header_text (object_kind self.now) (length (text self.now))) }
+            (λ header. (header.items ≡ header_text (object_kind self.now) (length (text self.now))) × (header.capacity ≡ 28)) }
     {
         let size = self.size()?;
         Some(encode::loose_header(alloc, self.kind(), size))

@@ -44,7 +44,8 @@ pub enum Error {
     Filename(FilenameError),
 }
 
-/// Writes all of the bytes. Where the writer fails it has taken a beginning of them.
+/// Writes all of the bytes. Where the writer fails it has taken a beginning of them. A write that a signal interrupted is
+/// tried again, and one that takes nothing is the error `WriteZero`.
 pub fn write_bytes<W: io::Write>(out: &mut W, bytes: &[u8]) -> io::Result<()>
     ensures ok { OnOk result (Appends (W.contents out.old) (W.contents out.new) bytes.now) }
     ensures err { OnErr result (AppendsFront (W.contents out.old) (W.contents out.new) bytes.now) }

@@ -69,3 +69,34 @@ fn tells_of_a_failed_writer(rt: HostRuntime) {
     assert!(rt; matches!(Content(b"hello").write_to(&mut out), Err(Error::Writer(_))));
     assert_eq!(rt; out.0, 3);
 }
+
+// A writer that is interrupted before each byte that it takes.
+#[derive(Drop)]
+struct Interrupted {
+    taken: Vec<u8>,
+    is_next: bool,
+}
+
+impl io::Write for Interrupted {
+    fn write(&mut self, buf: &[u8]) -> io::Result<usize> {
+        self.is_next = !self.is_next;
+        if self.is_next {
+            return Err(io::Error::from(io::ErrorKind::Interrupted));
+        }
+        self.taken.write(&buf[..buf.len().min(1)])
+    }
+
+    fn flush(&mut self) -> io::Result<()> {
+        Ok(())
+    }
+}
+
+#[test]
+fn tries_again_where_it_was_interrupted(rt: HostRuntime) {
+    let mut out = Interrupted {
+        taken: Vec::new(rt.alloc()),
+        is_next: false,
+    };
+    assert!(rt; write_bytes(&mut out, b"hello").is_ok());
+    assert_eq!(rt; out.taken.as_slice(), b"hello".as_slice());
+}

@@ -35,8 +35,11 @@ pub struct ActorRef<'a> {
 /// A person and a time.
 #[derive(Debug, Drop, PartialEq, Eq)]
 pub struct Actor {
+    /// What stands before the email; it may be empty.
     pub name: ByteString,
+    /// What stands between `<` and `>`; it may be empty.
     pub email: ByteString,
+    /// When it was done.
     pub time: Time,
 }
 

@@ -27,7 +27,8 @@ pub struct Time {
 /// The time that a text spells: seconds in decimal, perhaps behind a `-`, one space, and the offset as a sign, two digits
 /// of hours and two of minutes.
 ///
-/// Leading zeros and `-0000` are read, and minutes of 60 and above: `+0060` is 3,600 seconds. Any other text, also one of seconds beyond 64 bits, is `InvalidTime`.
+/// Leading zeros and `-0000` are read, and minutes of 60 and above: `+0060` is 3,600 seconds. Any other text, also one of
+/// seconds beyond 64 bits, is `InvalidTime`.
 pub fn read_time(text: &[u8]) -> Result<Time, decode::Error>
     ensures read { IfOk result (SpellsTime text.now) }
     ensures every { (time : Time) → SpellsTime text.now time → result ≡ Ok time }

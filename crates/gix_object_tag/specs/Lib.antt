@@ -1,0 +1,12 @@
+pub mod Signature
+pub mod Tag
+pub mod Views
+pub mod Faults
+pub mod Tokens
+pub mod NameTest
+pub mod Pieces
+pub mod TagText
+pub mod Format
+pub mod Owned
+pub mod OwnedText
+pub mod Whole

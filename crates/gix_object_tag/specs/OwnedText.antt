@@ -1,0 +1,32 @@
+-- A tag that owns its parts, as it is written.
+use Rattle.std.specs.Prelude.{ℤ, Bool, false, not, ◌||◌, ◌==◌, nat_lt, ◌%◌, Option, None, Some, unsigned_abs}
+use Rattle.gix_hash.specs.Id.{id_of}
+use Rattle.gix_hash.specs.Spelling.{hex_text}
+use Rattle.gix_object_lines.specs.Time.{time_text}
+use Rattle.gix_object_lines.specs.declared.lines.actor.Actor.{Actor}
+use Rattle.gix_object_tag.specs.Tag.{Tagger, Parts}
+use Rattle.gix_object_tag.specs.TagText.{is_marked}
+use Rattle.gix_object_tag.specs.declared.tag.owned.Tag.{Tag}
+
+abbrev pub actor_of : Option Actor → Option Tagger
+actor_of None = None
+actor_of (Some actor) = Some (record { name = actor.name; email = actor.email; time = time_text actor.time })
+
+-- the id's digits are written in lower case
+abbrev pub parts_of_tag : Tag → Parts
+parts_of_tag tag = record {
+  target = hex_text (id_of tag.target).digits;
+  target_kind = tag.target_kind;
+  name = tag.name;
+  tagger = actor_of tag.tagger;
+  message = tag.message;
+  signature = tag.pgp_signature;
+}
+
+-- not whole minutes, or 100 hours and more
+abbrev pub is_bad_offset : ℤ → Bool
+is_bad_offset offset = not (unsigned_abs offset % 60 == 0) || not (nat_lt (unsigned_abs offset) 360_000)
+
+abbrev pub is_bad_actor : Option Actor → Bool
+is_bad_actor None = false
+is_bad_actor (Some actor) = (is_marked actor.name || is_marked actor.email) || is_bad_offset actor.time.offset

@@ -1,0 +1,74 @@
+-- A tag as it is written.
+use Rattle.std.specs.Prelude.{ℕ, List, [], ◌∷◌, ◌++◌, codes, Bool, false, ◌||◌, ◌==◌, Option, None, Some, if◌then◌else◌}
+use Rattle.std.specs.List.{list_any}
+use Rattle.std.specs.Option.{option_map}
+use Rattle.gix_object_lines.specs.HexLine.{hex_line}
+use Rattle.gix_object_lines.specs.Kind.{kind_word}
+use Rattle.gix_object_lines.specs.Writes.{Refusal}
+use Rattle.gix_object_lines.specs.declared.encode.Error.TheVariants.{Unspellable}
+use Rattle.gix_object_lines.specs.declared.write.Error.TheVariants.{Header, TagName}
+use Rattle.gix_object_lines.specs.declared.write.TagNameError.{TagNameError}
+use Rattle.gix_object_tag.specs.NameTest.{name_fault}
+use Rattle.gix_object_tag.specs.Pieces.{Piece, all_text, first_refusal}
+use Rattle.gix_object_tag.specs.Tag.{Tagger, Parts}
+
+-- the lines of the target and of its kind's word
+abbrev pub head_text : List ℕ → List ℕ → List ℕ
+head_text target word = hex_line (codes "object") target ++ (codes "type " ++ (word ++ 10 ∷ []))
+
+abbrev pub name_line : List ℕ → List ℕ
+name_line name = codes "tag " ++ (name ++ 10 ∷ [])
+
+abbrev pub tagger_text : Tagger → List ℕ
+tagger_text tagger = tagger.name ++ (codes " <" ++ (tagger.email ++ (codes "> " ++ tagger.time)))
+
+abbrev pub tagger_line : Option Tagger → List ℕ
+tagger_line None = []
+tagger_line (Some tagger) = codes "tagger " ++ (tagger_text tagger ++ 10 ∷ [])
+
+-- a line feed parts the message from its signature, unless the message is empty
+abbrev pub body_text : List ℕ → Option (List ℕ) → List ℕ
+body_text message None = 10 ∷ message
+body_text [] (Some signature) = 10 ∷ signature
+body_text (byte ∷ message) (Some signature) = 10 ∷ ((byte ∷ message) ++ 10 ∷ signature)
+
+-- ---- what isn't written
+
+-- a name that is no tag's: nothing of its line
+abbrev pub name_refusal : Option TagNameError → Option Refusal
+name_refusal fault = option_map (λ cause. record { before = []; cause = TagName cause }) fault
+
+-- a name or an email with `<`, `>` or a line feed
+abbrev pub is_marked : List ℕ → Bool
+is_marked part = list_any (λ byte. byte == 60 || byte == 62 || byte == 10) part
+
+abbrev pub is_bad_tagger : Option Tagger → Bool
+is_bad_tagger None = false
+is_bad_tagger (Some tagger) = is_marked tagger.name || is_marked tagger.email
+
+-- a tagger that has no line: nothing of it
+abbrev pub tagger_refusal : Bool → Option Refusal
+tagger_refusal bad = if bad then Some (record { before = []; cause = Header Unspellable }) else None
+
+-- ---- the whole, from its parts and whether its tagger has no line
+
+abbrev pub head_piece : Parts → Piece
+head_piece parts = record { text = head_text parts.target (kind_word parts.target_kind); refusal = None }
+
+abbrev pub name_piece : Parts → Piece
+name_piece parts = record { text = name_line parts.name; refusal = name_refusal (name_fault parts.name) }
+
+abbrev pub tagger_piece : Parts → Bool → Piece
+tagger_piece parts bad = record { text = tagger_line parts.tagger; refusal = tagger_refusal bad }
+
+abbrev pub body_piece : Parts → Piece
+body_piece parts = record { text = body_text parts.message parts.signature; refusal = None }
+
+abbrev pub pieces_of : Parts → Bool → List Piece
+pieces_of parts bad = head_piece parts ∷ name_piece parts ∷ tagger_piece parts bad ∷ body_piece parts ∷ []
+
+abbrev pub tag_text : Parts → List ℕ
+tag_text parts = all_text (pieces_of parts false)
+
+abbrev pub tag_refusal : Parts → Bool → Option Refusal
+tag_refusal parts bad = first_refusal (pieces_of parts bad)

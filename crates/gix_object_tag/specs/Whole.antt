@@ -1,0 +1,50 @@
+-- Bytes that are a tag, or what is left of one behind some of its parts.
+use Rattle.std.specs.Prelude.{ℕ, Bool, true, false, List, Option}
+use Rattle.gix_hash.specs.declared.kind.Kind as hash
+use Rattle.gix_object_lines.specs.declared.kind.Kind.{Kind}
+use Rattle.gix_object_tag.specs.Tag as tag
+use Rattle.gix_object_tag.specs.Tag.{Parts, SpellsTarget, SpellsKind, SpellsName, SpellsTagger, SpellsRest, SpellsTag}
+use Rattle.gix_object_tag.specs.declared.tag.ref_iter.Token.{Token}
+use Rattle.gix_object_tag.specs.declared.tag.ref_iter.Token.TheVariants.{Target, TargetKind, Name, Tagger, Body}
+use Rattle.gix_object_tag.specs.declared.tag.ref_iter.Stage.{Stage}
+use Rattle.gix_object_tag.specs.declared.tag.ref_iter.Stage.TheVariants.{BeforeTarget, BeforeKind, BeforeName, BeforeTagger, BeforeBody}
+
+abbrev pub IsTag : hash.Kind → List ℕ → Type 0
+IsTag kind input = (parts : Parts) × SpellsTag kind input parts
+
+abbrev pub IsBody : List ℕ → Type 0
+IsBody input = (message : List ℕ) × (signature : Option (List ℕ)) × SpellsRest input message signature
+
+abbrev pub IsFromTagger : List ℕ → Type 0
+IsFromTagger input = (tagger : Option tag.Tagger) × (after : List ℕ) × SpellsTagger input tagger after × IsBody after
+
+abbrev pub IsFromName : List ℕ → Type 0
+IsFromName input = (name : List ℕ) × (after : List ℕ) × SpellsName input name after × IsFromTagger after
+
+abbrev pub IsFromKind : List ℕ → Type 0
+IsFromKind input = (kind : Kind) × (after : List ℕ) × SpellsKind input kind after × IsFromName after
+
+abbrev pub IsFromTarget : hash.Kind → List ℕ → Type 0
+IsFromTarget kind input = (digits : List ℕ) × (after : List ℕ) × SpellsTarget kind input digits after × IsFromKind after
+
+abbrev pub IsFrom : hash.Kind → Stage → List ℕ → Type 0
+IsFrom kind BeforeTarget input = IsFromTarget kind input
+IsFrom kind BeforeKind input = IsFromKind input
+IsFrom kind BeforeName input = IsFromName input
+IsFrom kind BeforeTagger input = IsFromTagger input
+IsFrom kind BeforeBody input = IsBody input
+
+-- the name has been told
+abbrev pub is_named : Stage → Bool
+is_named BeforeTarget = false
+is_named BeforeKind = false
+is_named BeforeName = false
+is_named BeforeTagger = true
+is_named BeforeBody = true
+
+abbrev pub tells_name : Token → Bool
+tells_name (Target id) = false
+tells_name (TargetKind target) = false
+tells_name (Name name) = true
+tells_name (Tagger tagger) = false
+tells_name (Body message signature) = false

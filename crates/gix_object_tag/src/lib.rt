@@ -1,0 +1,12 @@
+//! Git's tags: reading them whole or token by token, writing them, and where their signature stands, after the crate
+//! `gix-object` 0.64.
+#![tactic(auto)]
+
+mod cut;
+mod id;
+pub mod laws;
+pub mod signature;
+pub mod tag;
+mod write;
+
+pub use crate::tag::{Tag, TagRef, TagRefIter};

@@ -1,0 +1,108 @@
+//! Tags that own their parts.
+
+ghost use Rattle.std.specs.Prelude.{◌≡◌, ◌⊎◌, IfOk, IfErr, MatchOption};
+ghost use Rattle.bstr.specs.BStr.{bstr_bytes};
+ghost use Rattle.gix_hash.specs.Id.{id_of};
+ghost use Rattle.gix_hash.specs.Views.{IsHexOfId};
+ghost use Rattle.gix_object_lines.specs.declared.decode.Error.TheVariants.{InvalidTime, Memory};
+ghost use Rattle.gix_object_tag.specs.Format.{TellsWhen};
+ghost use Rattle.gix_object_tag.specs.Owned.{IsOwnTagger, OwningFault};
+ghost use Rattle.gix_object_tag.specs.Signature.{IsBare, IsSignatureOf};
+ghost use Rattle.gix_object_tag.specs.Views.{tagger_of, text_of};
+
+use crate::signature::{Format, SignatureRef};
+use crate::tag::TagRef;
+use bstr::BStr;
+use gix_hash::ObjectId;
+use gix_object_lines::decode::Error;
+use gix_object_lines::lines::{Actor, ActorRef};
+use gix_object_lines::{ByteString, Kind};
+use std::alloc::Global;
+
+/// A tag.
+#[derive(Debug, Drop, PartialEq, Eq)]
+pub struct Tag {
+    /// The tagged object's id.
+    pub target: ObjectId,
+    /// The kind of the tagged object.
+    pub target_kind: Kind,
+    /// The tag's name, as `v1.0`.
+    pub name: ByteString,
+    /// Who made the tag, and when; old tags don't tell.
+    pub tagger: Option<Actor>,
+    /// The message, without the line feed before a signature.
+    pub message: ByteString,
+    /// The signature of all that stands before it, from its armor on.
+    pub pgp_signature: Option<ByteString>,
+}
+
+impl Tag {
+    /// The tag's signature with the format of its armor; `None` where no armor begins it.
+    pub fn signature(&self) -> Option<SignatureRef<'_>>
+        ensures { MatchOption result (IsBare self.now.pgp_signature) (IsSignatureOf self.now.pgp_signature) }
+    {
+        let signature = self.pgp_signature.as_ref()?.as_bstr();
+        let format = Format::from_signature(signature.as_bytes())?;
+        Some(SignatureRef { signature, format })
+    }
+}
+
+impl<'a> TagRef<'a> {
+    /// The tag with copies of its parts. It is `HexDigits` where the target is no id's digits, and `InvalidTime` where the
+    /// tagger tells no time, neither of which a tag that was read is; and `Memory` where no memory is left.
+    pub fn into_owned(self, alloc: Global) -> Result<Tag, Error>
+        ensures target { IfOk result (λ tag. IsHexOfId (bstr_bytes self.entry.target) (id_of tag.target)) }
+        ensures target_kind { IfOk result (λ tag. tag.target_kind ≡ self.entry.target_kind) }
+        ensures name { IfOk result (λ tag. tag.name ≡ bstr_bytes self.entry.name) }
+        ensures tagger { IfOk result (λ tag. IsOwnTagger (tagger_of self.entry.tagger) tag.tagger) }
+        ensures message { IfOk result (λ tag. tag.message ≡ bstr_bytes self.entry.message) }
+        ensures signature { IfOk result (λ tag. tag.pgp_signature ≡ text_of self.entry.pgp_signature) }
+        ensures refused { IfErr result (λ error. OwningFault (bstr_bytes self.entry.target) (tagger_of self.entry.tagger) error) }
+    {
+        let Ok(target) = ObjectId::from_hex(self.target.as_bytes()) else {
+            return Err(Error::HexDigits);
+        };
+        let tagger = own_tagger(alloc, self.tagger)?;
+        let name = own(alloc, self.name)?;
+        let message = own(alloc, self.message)?;
+        let pgp_signature = own_signature(alloc, self.pgp_signature)?;
+        Ok(Tag {
+            target,
+            target_kind: self.target_kind,
+            name,
+            tagger,
+            message,
+            pgp_signature,
+        })
+    }
+}
+
+fn own_tagger(alloc: Global, tagger: Option<ActorRef<'_>>) -> Result<Option<Actor>, Error>
+    ensures own { IfOk result (λ actor. IsOwnTagger (tagger_of tagger.entry) actor) }
+    ensures refused { IfErr result (λ error. (error ≡ Memory) ⊎ ((error ≡ InvalidTime) × ¬ TellsWhen (tagger_of tagger.entry))) }
+{
+    match tagger {
+        Some(actor) => Ok(Some(actor.to_owned(alloc)?)),
+        None => Ok(None),
+    }
+}
+
+fn own(alloc: Global, text: BStr<'_>) -> Result<ByteString, Error>
+    ensures own { IfOk result (λ copy. copy ≡ bstr_bytes text.entry) }
+    ensures refused { IfErr result (λ error. error ≡ Memory) }
+{
+    match ByteString::from_slice(alloc, text.as_bytes()) {
+        Ok(copy) => Ok(copy),
+        Err(_) => Err(Error::Memory),
+    }
+}
+
+fn own_signature(alloc: Global, signature: Option<BStr<'_>>) -> Result<Option<ByteString>, Error>
+    ensures own { IfOk result (λ copy. copy ≡ text_of signature.entry) }
+    ensures refused { IfErr result (λ error. error ≡ Memory) }
+{
+    match signature {
+        Some(signature) => Ok(Some(own(alloc, signature)?)),
+        None => Ok(None),
+    }
+}

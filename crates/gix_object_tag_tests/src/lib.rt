@@ -1,0 +1,9 @@
+//! Tests of `gix_object_tag`: tags that git made, read, written and hashed to git's own id.
+#![tactic(auto)]
+
+#[cfg(test)]
+mod rows;
+#[cfg(test)]
+mod table;
+#[cfg(test)]
+mod texts;
