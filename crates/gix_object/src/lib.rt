@@ -16,6 +16,15 @@ pub mod commit {
         pub use gix_object_message::BodyRef;
     }
 
+    /// The parts of a commit, one after another.
+    pub mod ref_iter {
+        pub use gix_object_commit::commit::ref_iter::Token;
+    }
+
+    pub use gix_object_commit::commit::{
+        ExtraHeaders, HeaderRef, SIGNATURE_FIELD_NAME, SIGNATURE_FIELD_NAME_SHA256,
+        signature_field_name,
+    };
     pub use gix_object_message::MessageRef;
 }
 
@@ -42,8 +51,18 @@ pub mod lines {
     };
 }
 
+/// Signatures of tags.
+pub mod signature {
+    pub use gix_object_tag::signature::{Format, SignatureRef, SignedData};
+}
+
 /// Tags.
 pub mod tag {
+    /// The parts of a tag, one after another.
+    pub mod ref_iter {
+        pub use gix_object_tag::tag::ref_iter::Token;
+    }
+
     /// Writing tags.
     pub mod write {
         pub use gix_object_lines::write::TagNameError as Error;
@@ -63,4 +82,6 @@ pub mod write {
     pub use gix_object_lines::write::Error;
 }
 
+pub use gix_object_commit::{Blob, BlobRef, CommitRef, CommitRefIter, compute_hash};
 pub use gix_object_lines::{ByteString, Header, Kind, WriteTo};
+pub use gix_object_tag::{Tag, TagRef, TagRefIter};

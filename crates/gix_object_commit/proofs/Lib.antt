@@ -1,0 +1,11 @@
+pub mod Folds
+pub mod Progress
+pub mod Lines
+pub mod Results
+pub mod Whole
+pub mod Stages
+pub mod Pieces
+pub mod Commits
+pub mod FoldedTests
+pub mod Once
+pub mod Written

@@ -1,0 +1,52 @@
+use Rattle.std.proofs.Common.{◌≡◌, ◌∙◌, ap, sym, subst, ℕ, List, [], ◌∷◌, ◌++◌, ◌<◌, length, map, length-append, arith}
+use Rattle.std.specs.Prelude.{codes}
+use Rattle.std.proofs.lemmas.Bool.{false≢true}
+use Rattle.std.proofs.lemmas.List.{map-append}
+use Rattle.bstr.specs.BStr.{bstr_bytes}
+use Rattle.gix_object_lines.specs.HexLine.{hex_line, IsHex}
+use Rattle.gix_object_commit.specs.Reading.{BeginsWith}
+use Rattle.gix_object_commit.proofs.Results.{when_ok}
+use Rattle.gix_object_commit.proofs.Progress.{Progress, progress_none, progress_one, progress_end, progress_stuck}
+use Rattle.gix_object_commit.proofs.commit.decode.read_parents.Goals as goal
+
+abbrev parent_line : List ℕ → List ℕ
+parent_line = hex_line (codes "parent")
+
+abbrev NoParent : List ℕ → Type 0
+NoParent end = ¬ BeginsWith (codes "parent ") end
+
+line_shorter : (rest parent after : List ℕ) → rest ≡ parent_line parent ++ after → length after < length rest
+line_shorter rest parent after is = omega (arith, ap length is, length-append (parent_line parent) after, length-append (codes "parent" ++ 32 ∷ parent) (10 ∷ []))
+
+pub parents-init : goal.parents-init
+parents-init c = subst (λ xs. Progress parent_line (IsHex c.args.digits) NoParent c.args.input.now (map bstr_bytes xs) c.args.input.now) (sym c.new-parents.ensures.items) (progress_none parent_line (IsHex c.args.digits) NoParent c.args.input.now)
+
+pub returns-in_err-parent-clause-every : goal.returns-in_err-parent-clause-every
+returns-in_err-parent-clause-every c = λ parents rest hex none whole.
+    let begins = c.begins_with.ensures.0 c.parents-test.true in
+    absurd (progress_stuck parent_line (IsHex c.args.digits) NoParent _ _ _ c.parents.invariant
+    (λ end ends is. ends (subst (BeginsWith (codes "parent ")) is begins))
+    (λ y more end fit fits ends is. c.in_err-parent.ensures.back y _ fit is)
+    parents rest hex none whole)
+
+pub parents-smaller : goal.parents-smaller
+parents-smaller c = line_shorter _ _ _ c.in_ok-parent.ensures.read.0
+
+pub parents-preserved : goal.parents-preserved
+parents-preserved c =
+    let begins = c.begins_with.ensures.0 c.parents-test.true in
+    let pushed = when_ok c.push.result (sym c.is_err.ensures.value ∙ c.if-is_err.false) c.push.ensures.ok in
+    let step = progress_one parent_line (IsHex c.args.digits) NoParent _ _ _ c.in_ok-parent.parent.now c.in_ok-parent.after.now c.parents.invariant
+    c.in_ok-parent.ensures.read.1 c.in_ok-parent.ensures.read.0
+    (λ end ends is. ends (subst (BeginsWith (codes "parent ")) is begins))
+    (λ y r more end fit fits ends same is. c.in_ok-parent.ensures.back y r fit is) in
+    subst (λ xs. Progress parent_line (IsHex c.args.digits) NoParent c.args.input.now xs c.in_ok-parent.after.now) (sym (ap (map bstr_bytes) pushed ∙ map-append bstr_bytes c.parents.parents.items (c.new.result ∷ []) ∙ ap (λ b. map bstr_bytes c.parents.parents.items ++ b ∷ []) c.new.ensures)) step
+
+pub returns-clause-read : goal.returns-clause-read
+returns-clause-read c = (c.parents.invariant.spelled, c.parents.invariant.fit)
+
+pub returns-clause-every : goal.returns-clause-every
+returns-clause-every c = λ parents rest hex none whole.
+    progress_end parent_line (IsHex c.args.digits) NoParent _ _ _ c.parents.invariant
+    (λ y r fit is. false≢true (sym c.parents-test.false ∙ c.begins_with.ensures.1 ((y ++ 10 ∷ []) ++ r, is)))
+    parents rest hex none whole

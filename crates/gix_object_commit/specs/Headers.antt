@@ -1,0 +1,12 @@
+-- Further headers by name.
+use Rattle.std.specs.Prelude.{ℕ, nat_eq, Bool, List, [], ◌∷◌, Option, None, Some, if◌then◌else◌}
+use Rattle.std.specs.Cmp.Lexicographic.{pointwise}
+use Rattle.gix_object_commit.specs.Commit.{Field}
+
+abbrev pub is_named : List ℕ → Field → Bool
+is_named name field = pointwise nat_eq field.name name
+
+-- the value of the first header of this name, as it stands
+abbrev pub first_value : List ℕ → List Field → Option (List ℕ)
+first_value name [] = None
+first_value name (field ∷ fields) = if is_named name field then Some field.value else first_value name fields

@@ -1,0 +1,83 @@
+-- The parts of a commit one after another, and what each is told from.
+use Rattle.std.specs.Prelude.{ℕ, ◌≡◌, ◌≢◌, List, [], ◌∷◌, ◌++◌, ◌⊎◌, codes, Option, None, Some, Result, Ok, Err}
+use Rattle.gix_hash.specs.declared.kind.Kind.{Kind}
+use Rattle.gix_hash.specs.Id.{Id, id_of}
+use Rattle.gix_hash.specs.Kind.{hex_len}
+use Rattle.gix_hash.specs.Views.{IsHexOfId}
+use Rattle.bstr.specs.BStr.{bstr_bytes}
+use Rattle.gix_object_lines.specs.Bytes.{Lacks}
+use Rattle.gix_object_lines.specs.HexLine.{hex_line, IsHex}
+use Rattle.gix_object_lines.specs.declared.decode.Error.{Error}
+use Rattle.gix_object_commit.specs.declared.commit.ref_iter.Stage.{Stage}
+use Rattle.gix_object_commit.specs.declared.commit.ref_iter.Stage.TheVariants as at
+use Rattle.gix_object_commit.specs.declared.commit.ref_iter.Token.{Token}
+use Rattle.gix_object_commit.specs.declared.commit.ref_iter.Token.TheVariants as token
+use Rattle.gix_object_commit.specs.declared.commit.ref_iter.CommitRefIter.{CommitRefIter}
+use Rattle.gix_object_commit.specs.Commit.{Person, Field, line, actor_line, field_text, IsPerson, IsField}
+use Rattle.gix_object_commit.specs.Reading.{IsUnspaced}
+use Rattle.gix_object_commit.specs.Views.{person_of, field_of}
+
+-- a part of a commit
+pub data Part : Type 0 where
+  Tree : Id → Part
+  Parent : Id → Part
+  Author : Person → Part
+  Committer : Person → Part
+  Encoding : List ℕ → Part
+  Header : Field → Part
+  Message : List ℕ → Part
+
+abbrev pub part_of : Token → Part
+part_of (token.Tree id) = Tree (id_of id)
+part_of (token.Parent id) = Parent (id_of id)
+part_of (token.Author signature) = Author (person_of signature)
+part_of (token.Committer signature) = Committer (person_of signature)
+part_of (token.Encoding name) = Encoding (bstr_bytes name)
+part_of (token.ExtraHeader header) = Header (field_of header)
+part_of (token.Message message) = Message (bstr_bytes message)
+
+-- the id that a part tells
+abbrev pub id_told : Part → Option Id
+id_told (Tree id) = Some id
+id_told (Parent id) = Some id
+id_told (Author _) = None
+id_told (Committer _) = None
+id_told (Encoding _) = None
+id_told (Header _) = None
+id_told (Message _) = None
+
+-- a line of this word for the id begins the input
+pub record IsIdLine (kind : Kind) (word input : List ℕ) (id : Id) (rest : List ℕ) : Type 0 where
+  pub digits : List ℕ
+  pub hex : IsHex (hex_len kind) digits
+  pub id_spelled : IsHexOfId digits id
+  pub spelled : input ≡ hex_line word digits ++ rest
+
+-- the part may stand there and begins the input, and the rest follows it
+abbrev pub IsPartAt : Kind → Stage → List ℕ → Part → List ℕ → Type 0
+IsPartAt kind stage input (Tree id) rest = (stage ≡ at.Tree) × IsIdLine kind (codes "tree") input id rest
+IsPartAt kind stage input (Parent id) rest = (stage ≡ at.Parents) × IsIdLine kind (codes "parent") input id rest
+IsPartAt kind stage input (Author person) rest = (stage ≡ at.Parents) × IsPerson person × (input ≡ line (codes "author") (actor_line person) ++ rest)
+IsPartAt kind stage input (Committer person) rest = (stage ≡ at.Committer) × IsPerson person × (input ≡ line (codes "committer") (actor_line person) ++ rest)
+IsPartAt kind stage input (Encoding name) rest = (stage ≡ at.Encoding) × Lacks 10 name × (input ≡ line (codes "encoding") name ++ rest)
+IsPartAt kind stage input (Header field) rest =
+    ((stage ≡ at.Headers) ⊎ ((stage ≡ at.Encoding) × (field.name ≢ codes "encoding"))) × IsField field × IsUnspaced rest × (input ≡ field_text field ++ rest)
+IsPartAt kind stage input (Message message) rest = ((stage ≡ at.Encoding) ⊎ (stage ≡ at.Headers)) × (input ≡ 10 ∷ message) × (rest ≡ [])
+
+-- where the reader is once it has given the part
+abbrev pub stage_after : Part → Stage
+stage_after (Tree _) = at.Parents
+stage_after (Parent _) = at.Parents
+stage_after (Author _) = at.Committer
+stage_after (Committer _) = at.Encoding
+stage_after (Encoding _) = at.Headers
+stage_after (Header _) = at.Headers
+stage_after (Message _) = at.Headers
+
+-- the reader gives the part that stands next, nothing where its input has ended, and else an error and then nothing
+abbrev pub GivesToken : CommitRefIter → Option (Result Token Error) → CommitRefIter → Type 0
+GivesToken old None new = (old.rest.now ≡ []) × (new ≡ old)
+GivesToken old (Some (Ok token)) new =
+    IsPartAt old.hash_kind old.stage old.rest.now (part_of token) new.rest.now × (new.stage ≡ stage_after (part_of token)) × (new.hash_kind ≡ old.hash_kind)
+GivesToken old (Some (Err _)) new =
+    (old.rest.now ≢ []) × ((part : Part) (rest : List ℕ) → ¬ IsPartAt old.hash_kind old.stage old.rest.now part rest) × (new.rest.now ≡ [])

@@ -1,0 +1,108 @@
+//! Commits.
+
+ghost use Rattle.std.specs.Prelude.{◌≡◌, Ok, IfOk, IsOkUnless};
+ghost use Rattle.bstr.specs.BStr.{bstr_bytes};
+ghost use Rattle.gix_object_lines.specs.Time.{SpellsTime};
+ghost use Rattle.gix_object_lines.specs.declared.lines.time.Time.{Time};
+ghost use Rattle.gix_object_lines.specs.declared.decode.Error.TheVariants.{InvalidTime};
+ghost use Rattle.gix_object_commit.specs.Signature.{signature_name};
+
+mod decode;
+mod extra_headers;
+mod header;
+pub mod ref_iter;
+mod spelling;
+mod write;
+
+pub use crate::commit::extra_headers::ExtraHeaders;
+pub use crate::commit::ref_iter::CommitRefIter;
+use bstr::BStr;
+use gix_hash::Kind;
+use gix_object_lines::decode::Error;
+use gix_object_lines::lines::{ActorRef, Time, read_time};
+use smallvec::SmallVec;
+
+/// A further header of a commit.
+#[derive(Debug, Clone, Copy, PartialEq, Eq)]
+pub struct HeaderRef<'a> {
+    /// Its name.
+    pub name: BStr<'a>,
+    /// Its value as it stands in the commit: each line but the first behind a space.
+    pub value: BStr<'a>,
+}
+
+/// A commit whose parts are borrowed from its content.
+#[derive(Debug, Drop, PartialEq, Eq)]
+pub struct CommitRef<'a> {
+    /// The hexadecimal digits of the tree's id.
+    pub tree: BStr<'a>,
+    /// The hexadecimal digits of each parent's id.
+    pub parents: SmallVec<BStr<'a>, 1>,
+    /// Who made the change, and when.
+    pub author: ActorRef<'a>,
+    /// Who committed it, and when.
+    pub committer: ActorRef<'a>,
+    /// The name of the message's encoding, where it isn't UTF-8.
+    pub encoding: Option<BStr<'a>>,
+    /// The message.
+    pub message: BStr<'a>,
+    /// The further headers, in order.
+    pub extra_headers: Vec<HeaderRef<'a>>,
+}
+
+impl<'a> CommitRef<'a> {
+    /// Who made the change, and when.
+    pub fn author(&self) -> ActorRef<'a>
+        ensures { result ≡ self.now.author }
+    {
+        self.author
+    }
+
+    /// Who committed it, and when.
+    pub fn committer(&self) -> ActorRef<'a>
+        ensures { result ≡ self.now.committer }
+    {
+        self.committer
+    }
+
+    /// When it was committed. It is `InvalidTime` where the committer's text tells no time, which it does in all that
+    /// `from_bytes` gives.
+    pub fn time(&self) -> Result<Time, Error>
+        ensures told { IfOk result (SpellsTime (bstr_bytes self.now.committer.time)) }
+        ensures every { (time : Time) → SpellsTime (bstr_bytes self.now.committer.time) time → result ≡ Ok time }
+        ensures refused { IsOkUnless result InvalidTime }
+    {
+        let CommitRef { committer, .. } = self;
+        read_time(committer.time.as_bytes())
+    }
+
+    /// The further headers.
+    pub fn extra_headers(&self) -> ExtraHeaders<'_, 'a>
+        ensures { result.headers.now ≡ self.now.extra_headers.items }
+    {
+        ExtraHeaders::new(self.extra_headers.as_slice())
+    }
+
+    /// The whole message.
+    pub fn message(&self) -> BStr<'a>
+        ensures { result ≡ self.now.message }
+    {
+        self.message
+    }
+}
+
+/// The name of the header that holds a commit's signature, over its content with SHA-1 ids.
+pub const SIGNATURE_FIELD_NAME: &str = "gpgsig";
+
+/// The name of the header that holds a commit's signature, over its content with SHA-256 ids.
+pub const SIGNATURE_FIELD_NAME_SHA256: &str = "gpgsig-sha256";
+
+/// The name of the header that holds a commit's signature, where its ids are of this hash function.
+pub fn signature_field_name(hash_kind: Kind) -> &'static str
+    ensures { result.now ≡ signature_name hash_kind }
+{
+    match hash_kind {
+        Kind::Sha1 => SIGNATURE_FIELD_NAME,
+        Kind::Sha256 => SIGNATURE_FIELD_NAME_SHA256,
+    }
+}

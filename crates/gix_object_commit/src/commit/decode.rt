@@ -1,0 +1,140 @@
+//! Reading commits.
+
+ghost use Rattle.std.specs.Prelude.{ℕ, List, Option, None, ◌≡◌, ◌≢◌, ◌++◌, ◌∷◌, map, flat_map, All, IfOk, IfSome, IsOkAnd, MatchOption, MatchResult, codes};
+ghost use Rattle.std.specs.Option.{option_map};
+ghost use Rattle.bstr.specs.BStr.{bstr_bytes};
+ghost use Rattle.gix_hash.specs.Kind.{hex_len};
+ghost use Rattle.gix_object_lines.specs.Bytes.{Lacks};
+ghost use Rattle.gix_object_lines.specs.HexLine.{hex_line, IsHex};
+ghost use Rattle.gix_object_lines.specs.declared.decode.Error.TheVariants.{Memory};
+ghost use Rattle.gix_object_commit.specs.Commit.{Person, Field, Parts, line, actor_line, encoding_text, field_text, IsPerson, IsField, SpellsCommit};
+ghost use Rattle.gix_object_commit.specs.Reading.{BeginsWith};
+ghost use Rattle.gix_object_commit.specs.Views.{person_of, field_of, parts_of};
+
+use crate::commit::header::read_header;
+use crate::commit::{CommitRef, HeaderRef};
+use crate::split::{begins_with, behind, split_once};
+use bstr::BStr;
+use gix_hash::Kind;
+use gix_object_lines::decode::Error;
+use gix_object_lines::hex_line::read_hex_line;
+use gix_object_lines::lines::{ActorRef, read_actor};
+use smallvec::SmallVec;
+use std::alloc::Global;
+
+impl<'a> CommitRef<'a> {
+    /// The commit that the bytes spell, its ids in the digits of this hash function: a line for the tree, any number of
+    /// lines for parents, lines for author and committer, perhaps one for the encoding, any number of further headers, an
+    /// empty line, and the message up to the end.
+    ///
+    /// The error tells the first line that isn't as it should be, or is `Memory` where no memory is left.
+    pub fn from_bytes(
+        alloc: Global,
+        input: &'a [u8],
+        hash_kind: Kind,
+    ) -> Result<CommitRef<'a>, Error>
+        ensures read { IfOk result (λ commit. SpellsCommit (hex_len hash_kind) input.now (parts_of commit)) }
+        ensures every { (parts : Parts) → SpellsCommit (hex_len hash_kind) input.now parts
+            → MatchResult result (λ commit. parts_of commit ≡ parts) (λ fault. fault ≡ Memory) }
+    {
+        let digits = hash_kind.len_in_hex();
+        let (tree, rest) = read_hex_line(input, b"tree", digits)?;
+        let (parents, rest) = read_parents(alloc, rest, digits)?;
+        let (author, rest) = read_person(rest, b"author")?;
+        let (committer, rest) = read_person(rest, b"committer")?;
+        let (encoding, rest) = read_encoding(rest)?;
+        let (extra_headers, message) = read_headers(alloc, rest)?;
+        Ok(CommitRef {
+            tree: BStr::new(tree),
+            parents,
+            author,
+            committer,
+            encoding,
+            message: BStr::new(message),
+            extra_headers,
+        })
+    }
+}
+
+// The digits of all lines for parents that begin the input, and what follows them.
+fn read_parents<'a>(
+    alloc: Global,
+    input: &'a [u8],
+    digits: usize,
+) -> Result<(SmallVec<BStr<'a>, 1>, &'a [u8]), Error>
+    ensures read { IfOk result (λ parents. (input.now ≡ flat_map (hex_line (codes "parent")) (map bstr_bytes parents.0.items) ++ parents.1.now)
+        × All (IsHex digits) (map bstr_bytes parents.0.items)) }
+    ensures every { (parents : List (List ℕ)) (rest : List ℕ) → All (IsHex digits) parents → ¬ BeginsWith (codes "parent ") rest
+        → input.now ≡ flat_map (hex_line (codes "parent")) parents ++ rest
+        → MatchResult result (λ read. (map bstr_bytes read.0.items ≡ parents) × (read.1.now ≡ rest)) (λ fault. fault ≡ Memory) }
+{
+    let mut parents = SmallVec::new(alloc);
+    let mut rest = input;
+    'parents: while begins_with(rest, b"parent ") {
+        let (parent, after) = read_hex_line(rest, b"parent", digits)?;
+        if parents.push(BStr::new(parent)).is_err() {
+            return Err(Error::Memory);
+        }
+        rest = after;
+    }
+    Ok((parents, rest))
+}
+
+// The actor of a line of this word that begins the input, and what follows the line.
+pub(crate) fn read_person<'a>(
+    input: &'a [u8],
+    word: &[u8],
+) -> Result<(ActorRef<'a>, &'a [u8]), Error>
+    ensures read { IfOk result (λ read. (input.now ≡ line word.now (actor_line (person_of read.0)) ++ read.1.now) × IsPerson (person_of read.0)) }
+    ensures every { (person : Person) (rest : List ℕ) → IsPerson person → input.now ≡ line word.now (actor_line person) ++ rest
+        → IsOkAnd result (λ read. (person_of read.0 ≡ person) × (read.1.now ≡ rest)) }
+{
+    let text = behind_word(input, word).ok_or(Error::FieldName)?;
+    let (text, rest) = split_once(text, b'\n').ok_or(Error::LineEnd)?;
+    let actor = read_actor(text)?;
+    Ok((actor, rest))
+}
+
+// What follows the word and a space.
+fn behind_word<'a>(input: &'a [u8], word: &[u8]) -> Option<&'a [u8]>
+    ensures { MatchOption result ((rest : List ℕ) → input.now ≢ word.now ++ 32 ∷ rest) (λ rest. input.now ≡ word.now ++ 32 ∷ rest.now) }
+{
+    let rest = behind(input, word)?;
+    behind(rest, b" ")
+}
+
+// The name of the encoding, where its line begins the input, and what follows.
+pub(crate) fn read_encoding(input: &[u8]) -> Result<(Option<BStr<'_>>, &[u8]), Error>
+    ensures read { IfOk result (λ read. (input.now ≡ encoding_text (option_map bstr_bytes read.0) ++ read.1.now)
+        × IfSome (option_map bstr_bytes read.0) (Lacks 10) × (option_map bstr_bytes read.0 ≡ None → ¬ BeginsWith (codes "encoding ") input.now)) }
+    ensures every { (encoding : Option (List ℕ)) (rest : List ℕ) → IfSome encoding (Lacks 10) → (encoding ≡ None → ¬ BeginsWith (codes "encoding ") rest)
+        → input.now ≡ encoding_text encoding ++ rest
+        → IsOkAnd result (λ read. (option_map bstr_bytes read.0 ≡ encoding) × (read.1.now ≡ rest)) }
+{
+    let Some(text) = behind(input, b"encoding ") else {
+        return Ok((None, input));
+    };
+    let (name, rest) = split_once(text, b'\n').ok_or(Error::LineEnd)?;
+    Ok((Some(BStr::new(name)), rest))
+}
+
+// All headers up to the empty line, and what follows that: the message.
+fn read_headers<'a>(alloc: Global, input: &'a [u8]) -> Result<(Vec<HeaderRef<'a>>, &'a [u8]), Error>
+    ensures read { IfOk result (λ read. (input.now ≡ flat_map field_text (map field_of read.0.items) ++ 10 ∷ read.1.now)
+        × All IsField (map field_of read.0.items)) }
+    ensures every { (fields : List Field) (message : List ℕ) → All IsField fields → input.now ≡ flat_map field_text fields ++ 10 ∷ message
+        → MatchResult result (λ read. (map field_of read.0.items ≡ fields) × (read.1.now ≡ message)) (λ fault. fault ≡ Memory) }
+{
+    let mut headers = Vec::new(alloc);
+    let mut rest = input;
+    'headers: loop {
+        if let Some(message) = behind(rest, b"\n") {
+            return Ok((headers, message));
+        }
+        let (header, after) = read_header(rest)?;
+        if headers.push(header).is_err() {
+            return Err(Error::Memory);
+        }
+        rest = after;
+    }
+}

@@ -1,0 +1,88 @@
+//! Further headers.
+
+ghost use Rattle.std.specs.Prelude.{ℕ, List, [], ◌∷◌, ◌++◌, ◌≡◌, ◌≢◌, IfOk, IsOkAnd, MatchOption};
+ghost use Rattle.bstr.specs.BStr.{bstr_bytes};
+ghost use Rattle.gix_object_lines.specs.Bytes.{Lacks};
+ghost use Rattle.gix_object_commit.specs.Commit.{Field, field_text, folded, IsFolded, IsField};
+ghost use Rattle.gix_object_commit.specs.Reading.{IsUnspaced};
+ghost use Rattle.gix_object_commit.specs.Views.{field_of};
+
+use crate::commit::HeaderRef;
+use crate::split::{behind, lacks, split_once};
+use bstr::BStr;
+use gix_object_lines::ByteString;
+use gix_object_lines::decode::Error;
+use std::alloc::{AllocError, Global};
+
+impl<'a> HeaderRef<'a> {
+    /// The value that stands in the commit, without the space behind each of its line feeds.
+    pub fn unfolded(&self, alloc: Global) -> Result<ByteString, AllocError>
+        ensures { IfOk result (λ value. (told : List ℕ) → bstr_bytes self.now.value ≡ folded told → value ≡ told) }
+    {
+        unfold(alloc, self.value.as_bytes())
+    }
+}
+
+fn unfold(alloc: Global, text: &[u8]) -> Result<ByteString, AllocError>
+    ensures { IfOk result (λ value. (told : List ℕ) → text.now ≡ folded told → value ≡ told) }
+{
+    let mut value = Vec::new(alloc);
+    let mut rest = text;
+    'lines: while let Some((line, after)) = split_once(rest, b'\n') {
+        value.extend_from_slice(line)?;
+        value.extend_from_slice(b"\n")?;
+        match behind(after, b" ") {
+            Some(further) => rest = further,
+            None => rest = after,
+        }
+    }
+    value.extend_from_slice(rest)?;
+    Ok(ByteString::new(value))
+}
+
+/// A header that begins the input, and what follows it.
+pub(crate) fn read_header(input: &[u8]) -> Result<(HeaderRef<'_>, &[u8]), Error>
+    ensures read { IfOk result (λ read. (input.now ≡ field_text (field_of read.0) ++ read.1.now) × IsField (field_of read.0) × IsUnspaced read.1.now) }
+    ensures every { (field : Field) (rest : List ℕ) → IsField field → IsUnspaced rest → input.now ≡ field_text field ++ rest
+        → IsOkAnd result (λ read. (field_of read.0 ≡ field) × (read.1.now ≡ rest)) }
+{
+    let (name, text) = read_name(input).ok_or(Error::FieldName)?;
+    let (value, rest) = split_value(text).ok_or(Error::LineEnd)?;
+    let header = HeaderRef {
+        name: BStr::new(name),
+        value: BStr::new(value),
+    };
+    Ok((header, rest))
+}
+
+// A name that begins the input, and what follows it and a space.
+fn read_name(input: &[u8]) -> Option<(&[u8], &[u8])>
+    ensures { MatchOption result
+        ((name rest : List ℕ) → name ≢ [] → Lacks 32 name → Lacks 10 name → input.now ≢ name ++ 32 ∷ rest)
+        (λ cut. (input.now ≡ cut.0.now ++ 32 ∷ cut.1.now) × (cut.0.now ≢ []) × Lacks 32 cut.0.now × Lacks 10 cut.0.now) }
+{
+    let (name, rest) = split_once(input, b' ')?;
+    if name.is_empty() {
+        return None;
+    }
+    if !lacks(name, b'\n') {
+        return None;
+    }
+    Some((name, rest))
+}
+
+// A value that begins the input, and what follows its line feed, the first with no space behind it.
+fn split_value(input: &[u8]) -> Option<(&[u8], &[u8])>
+    ensures { MatchOption result
+        ((value rest : List ℕ) → IsFolded value → IsUnspaced rest → input.now ≢ value ++ 10 ∷ rest)
+        (λ cut. (input.now ≡ cut.0.now ++ 10 ∷ cut.1.now) × IsFolded cut.0.now × IsUnspaced cut.1.now) }
+{
+    let mut rest = input;
+    'lines: while let Some((_line, after)) = split_once(rest, b'\n') {
+        match behind(after, b" ") {
+            Some(further) => rest = further,
+            None => return Some((&input[..input.len() - after.len() - 1], after)),
+        }
+    }
+    None
+}

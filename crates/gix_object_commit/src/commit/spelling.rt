@@ -1,0 +1,115 @@
+//! Which parts of a commit have a written form.
+
+ghost use Rattle.std.specs.Prelude.{◌≡◌, Option, List, ℕ, map};
+ghost use Rattle.std.specs.Option.{option_map};
+ghost use Rattle.bstr.specs.BStr.{bstr_bytes};
+ghost use Rattle.gix_object_lines.specs.HexLine.{is_hex};
+ghost use Rattle.gix_object_commit.specs.Views.{person_of, field_of};
+ghost use Rattle.gix_object_commit.specs.Writing.{unspellable_unless, holds as holds_byte, is_id as is_hex_id, is_id_like as is_hex_id_like, is_plain as is_plain_text, is_person as is_spellable_person, is_folded as is_folded_text, is_field as is_spellable_field, is_encoding_first as is_named_first, encoding_cause as cause_of_encoding};
+
+use crate::commit::HeaderRef;
+use crate::split::{behind, lacks, split_once};
+use bstr::BStr;
+use gix_object_lines::encode::Error;
+use gix_object_lines::lines::ActorRef;
+
+/// No refusal where the part is fine.
+pub(crate) fn unless(fine: bool) -> Option<Error>
+    ensures { result ≡ unspellable_unless fine }
+{
+    if fine { None } else { Some(Error::Unspellable) }
+}
+
+/// Whether it is the digits of an id of a hash function.
+pub(crate) fn is_id(digits: &[u8]) -> bool
+    ensures { result ≡ is_hex_id digits.now }
+{
+    (digits.len() == 40 || digits.len() == 64) && is_hexadecimal(digits)
+}
+
+/// Whether it is the digits of an id that has as many as the tree's.
+pub(crate) fn is_id_like(tree: &[u8], digits: &[u8]) -> bool
+    ensures { result ≡ is_hex_id_like tree.now digits.now }
+{
+    digits.len() == tree.len() && is_hexadecimal(digits)
+}
+
+// Whether all bytes are hexadecimal digits.
+fn is_hexadecimal(bytes: &[u8]) -> bool
+    ensures { result ≡ is_hex bytes.now }
+{
+    bytes.iter().all(|byte| byte.is_ascii_hexdigit())
+}
+
+/// Whether an actor's name and email hold no `<`, `>` or line feed, and the text of its time no `>` or line feed.
+pub(crate) fn is_person(actor: &ActorRef<'_>) -> bool
+    ensures { result ≡ is_spellable_person (person_of actor.now) }
+{
+    let time = actor.time.as_bytes();
+    is_plain(actor.name.as_bytes())
+        && is_plain(actor.email.as_bytes())
+        && !holds(time, b'>')
+        && !holds(time, b'\n')
+}
+
+fn is_plain(part: &[u8]) -> bool
+    ensures { result ≡ is_plain_text part.now }
+{
+    !holds(part, b'<') && !holds(part, b'>') && !holds(part, b'\n')
+}
+
+fn holds(bytes: &[u8], byte: u8) -> bool
+    ensures { result ≡ holds_byte byte bytes.now }
+{
+    !lacks(bytes, byte)
+}
+
+/// Whether a header's name is one word, and its value stands as headers hold it.
+pub(crate) fn is_field(header: &HeaderRef<'_>) -> bool
+    ensures { result ≡ is_spellable_field (field_of header.now) }
+{
+    let name = header.name.as_bytes();
+    !name.is_empty()
+        && !holds(name, b' ')
+        && !holds(name, b'\n')
+        && is_folded(header.value.as_bytes())
+}
+
+// Whether a space stands behind each line feed.
+fn is_folded(text: &[u8]) -> bool
+    ensures { result ≡ is_folded_text text.now }
+{
+    let mut rest = text;
+    'lines: while let Some((_line, after)) = split_once(rest, b'\n') {
+        match behind(after, b" ") {
+            Some(further) => rest = further,
+            None => return false,
+        }
+    }
+    true
+}
+
+/// Why an encoding isn't written: it is empty or holds a line feed, or none is told and the first header has its name.
+pub(crate) fn encoding_cause(encoding: Option<BStr<'_>>, headers: &[HeaderRef<'_>]) -> Option<Error>
+    ensures { result ≡ cause_of_encoding (option_map bstr_bytes encoding.entry) (map field_of headers.now) }
+{
+    let Some(name) = encoding else {
+        return unless(!is_encoding_first(headers));
+    };
+    if name.as_bytes().is_empty() {
+        return Some(Error::EmptyValue);
+    }
+    if holds(name.as_bytes(), b'\n') {
+        return Some(Error::NewlineInHeaderValue);
+    }
+    None
+}
+
+fn is_encoding_first(headers: &[HeaderRef<'_>]) -> bool
+    ensures { result ≡ is_named_first (map field_of headers.now) }
+{
+    match headers.first() {
+        Some(header) => header.name.as_bytes() == b"encoding".as_slice(),
+        None => false,
+    }
+}
