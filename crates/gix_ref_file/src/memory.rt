@@ -1,8 +1,8 @@
 // Files in memory.
 mod record;
 
-ghost use Rattle.std.specs.Prelude.{◌≡◌, option_map, length};
-ghost use Rattle.gix_ref_file.specs.Tree.{node_at, place_of, bytes_of, bytes_at};
+ghost use Rattle.std.specs.Prelude.{◌≡◌, ◌&&◌, option_map};
+ghost use Rattle.gix_ref_file.specs.Tree.{node_at, place_of, bytes_of, is_path, is_folder, parent};
 ghost use Rattle.gix_ref_file.specs.Changes.{may_hold_file};
 
 use crate::files::{FileError, Files, Place};
@@ -51,21 +51,16 @@ impl MemoryFiles {
         }
     }
 
+    fn is_in_folder(&self, path: &[u8]) -> bool
+        ensures { result ≡ (is_path path.now && is_folder (node_at self.now.nodes (parent path.now))) }
+    {
+        is_path(path) && self.place(parent(path)) == Place::Folder
+    }
+
     fn may_hold_file(&self, path: &[u8]) -> bool
         ensures { result ≡ may_hold_file self.now.nodes path.now }
     {
-        is_path(path)
-            && self.place(parent(path)) == Place::Folder
-            && self.place(path) != Place::Folder
-    }
-
-    fn file_len(&self, path: &[u8]) -> usize
-        ensures { result ≡ length (bytes_at self.now.nodes path.now) }
-    {
-        match self.file(path) {
-            Some(bytes) => bytes.len(),
-            None => 0,
-        }
+        self.is_in_folder(path) && self.place(path) != Place::Folder
     }
 
     fn file(&self, path: &[u8]) -> Option<&Vec<u8>>
@@ -145,14 +140,17 @@ impl Files for MemoryFiles {
     }
 
     fn append(&mut self, alloc: Global, path: &[u8], bytes: &[u8]) -> Result<(), FileError> {
-        if !self.may_hold_file(path) {
+        if !self.is_in_folder(path) {
             return Err(FileError::Failed);
         }
-        if self.file(path).is_some() {
-            return Ok(self.lengthen(alloc, path, bytes)?);
+        match self.place(path) {
+            Place::File(_) => Ok(self.lengthen(alloc, path, bytes)?),
+            Place::Absent => {
+                let entry = Entry::File(bytes.to_vec(alloc)?);
+                Ok(self.put(alloc, path, entry)?)
+            }
+            Place::Folder => Err(FileError::Failed),
         }
-        let entry = Entry::File(bytes.to_vec(alloc)?);
-        Ok(self.put(alloc, path, entry)?)
     }
 
     fn rename(&mut self, alloc: Global, from: &[u8], to: &[u8]) -> Result<(), FileError> {

@@ -1,5 +1,5 @@
 // A map from paths to what stands there.
-ghost use Rattle.std.specs.Prelude.{◌≡◌, ◌++◌, [], length, map as list_map, filter_map, option_map, unwrap_or, IsSome, IsFalse, IfOk, OnOk, OnErr, IfNone};
+ghost use Rattle.std.specs.Prelude.{◌≡◌, ◌++◌, [], length, map as list_map, filter_map, option_map, unwrap_or, Some, IsSome, IsFalse, IfOk, OnOk, OnErr, IfNone};
 ghost use Rattle.std.specs.List.{list_any};
 ghost use Rattle.std.specs.FinMap as map;
 ghost use Rattle.gix_ref_file.specs.Tree.{file, bytes_of, same_path, parent, name_in};
@@ -17,6 +17,23 @@ use std::mem;
 pub enum Entry {
     File(Vec<u8>),
     Folder,
+}
+
+impl Entry {
+    // Puts bytes behind those of a file, and answers how many stood there.
+    fn append(&mut self, bytes: &[u8]) -> Result<usize, AllocError>
+        requires { IsSome (bytes_of (Some (node_of self.old))) }
+        ensures before { IfOk result (λ len. len ≡ length (unwrap_or (bytes_of (Some (node_of self.old))) [])) }
+        ensures ok { OnOk result (node_of self.new ≡ file (unwrap_or (bytes_of (Some (node_of self.old))) [] ++ bytes.now)) }
+        ensures err { OnErr result (node_of self.new ≡ node_of self.old) }
+    {
+        let Entry::File(stored) = self else {
+            unreachable!()
+        };
+        let len = stored.len();
+        stored.extend_from_slice(bytes)?;
+        Ok(len)
+    }
 }
 
 #[derive(Debug, Drop)]
@@ -100,18 +117,17 @@ impl Nodes {
         Ok(before)
     }
 
-    /// Puts bytes behind those of a file.
-    pub fn append(&mut self, alloc: Global, path: &[u8], bytes: &[u8]) -> Result<(), AllocError>
+    /// Puts bytes behind those of a file, and answers how many stood there.
+    pub fn append(&mut self, path: &[u8], bytes: &[u8]) -> Result<usize, AllocError>
         requires { IsSome (bytes_of (map.get self.old path.now)) }
+        ensures before { IfOk result (λ len. len ≡ length (unwrap_or (bytes_of (map.get self.old path.now)) [])) }
         ensures ok { OnOk result (self.new ≡ map.insert self.old path.now (file (unwrap_or (bytes_of (map.get self.old path.now)) [] ++ bytes.now))) }
         ensures err { OnErr result (self.new ≡ self.old) }
     {
-        let Some(Entry::File(mut stored)) = self.replace(path, Entry::File(Vec::new(alloc))) else {
+        let Some(entry) = self.entries.get_mut(path) else {
             unreachable!()
         };
-        let appended = stored.extend_from_slice(bytes);
-        let _ = self.replace(path, Entry::File(stored));
-        appended
+        entry.append(bytes)
     }
 
     /// Whether something stands right in a folder.

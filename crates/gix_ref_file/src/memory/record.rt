@@ -87,8 +87,7 @@ impl MemoryFiles {
     {
         self.past.reserve(1)?;
         let kept = path.to_vec(alloc)?;
-        let len = self.file_len(path);
-        self.nodes.append(alloc, path, bytes)?;
+        let len = self.nodes.append(path, bytes)?;
         self.past.push_reserved(Undo::Shorten { path: kept, len });
         Ok(())
     }
