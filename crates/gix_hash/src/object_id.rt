@@ -24,6 +24,7 @@ use bstr::BStr;
 use hex::FromHex;
 use std::cmp::Ordering;
 use std::convert::TryFrom;
+use std::default::MadeWith;
 use std::hash::{Hash, Hasher};
 use std::str::FromStr;
 use std::{fmt, io};
@@ -274,6 +275,15 @@ impl ObjectId {
         ensures { IsTrue result ↔ (id_of self.now ≡ id_of_message (id_of self.now).kind empty_tree_text) }
     {
         self.as_oid().is_empty_tree()
+    }
+}
+
+// What stands in the places of a `SmallVec` that hold no id.
+impl<A: Drop> MadeWith<A> for ObjectId {
+    ghost is_made_with = { λ id. id_of id ≡ null_id kinds.Sha1 };
+
+    fn made_with(_alloc: A) -> ObjectId {
+        ObjectId::null(Kind::Sha1)
     }
 }
 

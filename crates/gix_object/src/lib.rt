@@ -18,14 +18,22 @@ pub mod commit {
 
     /// The parts of a commit, one after another.
     pub mod ref_iter {
-        pub use gix_object_commit::commit::ref_iter::Token;
+        pub use gix_object_commit::commit::ref_iter::{ParentIds, Signatures, Token};
     }
 
     pub use gix_object_commit::commit::{
-        ExtraHeaders, HeaderRef, SIGNATURE_FIELD_NAME, SIGNATURE_FIELD_NAME_SHA256,
-        signature_field_name,
+        ExtraHeader, ExtraHeaders, FindAll, HeaderRef, MergeTags, Parents, SIGNATURE_FIELD_NAME,
+        SIGNATURE_FIELD_NAME_SHA256, signature_field_name,
     };
     pub use gix_object_message::MessageRef;
+}
+
+/// The bytes of objects.
+pub mod data {
+    /// Whether an object has the expected id.
+    pub mod verify {
+        pub use gix_object_tree::data::verify::Error;
+    }
 }
 
 /// Reading, and why bytes are refused.
@@ -51,9 +59,29 @@ pub mod lines {
     };
 }
 
-/// Signatures of tags.
+/// Objects of any kind.
+pub mod object {
+    pub use gix_object_tree::object::LooseDecodeError;
+}
+
+/// Signatures.
 pub mod signature {
-    pub use gix_object_tag::signature::{Format, SignatureRef, SignedData};
+    /// Programs that sign and verify, as a runner starts them.
+    pub mod run {
+        pub use gix_object_signature::run::{Answer, Run, RunError, Word};
+    }
+
+    /// Signing.
+    pub mod sign {
+        pub use gix_object_signature::sign::{Error, Options, is_literal_ssh_key};
+    }
+
+    /// Verifying.
+    pub mod verify {
+        pub use gix_object_signature::verify::{Error, Options, Outcome, Status, TrustLevel};
+    }
+
+    pub use gix_object_signature::{Format, SignatureRef, SignedData};
 }
 
 /// Tags.
@@ -82,6 +110,9 @@ pub mod write {
     pub use gix_object_lines::write::Error;
 }
 
-pub use gix_object_commit::{Blob, BlobRef, CommitRef, CommitRefIter, compute_hash};
+pub use gix_object_commit::{
+    Blob, BlobRef, Commit, CommitRef, CommitRefIter, compute_hash, compute_stream_hash,
+};
 pub use gix_object_lines::{ByteString, Header, Kind, WriteTo};
 pub use gix_object_tag::{Tag, TagRef, TagRefIter};
+pub use gix_object_tree::{Data, Object, ObjectRef};

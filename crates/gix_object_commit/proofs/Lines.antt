@@ -33,7 +33,7 @@ offset_lacks : (text : List ℕ) (z : _) → SpellsOffset text z → Lacks 10 te
 offset_lacks text z (Ahead h m hl ml spelled is) = subst (Lacks 10) (sym spelled) (lacks_cons 10 43 (two_digits h ++ two_digits m) (λ e. omega arith) (lacks_both 10 (two_digits h) (two_digits m) (two_lack h hl) (two_lack m (omega arith))))
 offset_lacks text z (Behind h m hl ml spelled is) = subst (Lacks 10) (sym spelled) (lacks_cons 10 45 (two_digits h ++ two_digits m) (λ e. omega arith) (lacks_both 10 (two_digits h) (two_digits m) (two_lack h hl) (two_lack m (omega arith))))
 
-time_lacks : (text : List ℕ) (time : Time) → SpellsTime text time → Lacks 10 text
+pub time_lacks : (text : List ℕ) (time : Time) → SpellsTime text time → Lacks 10 text
 time_lacks text time is = subst (Lacks 10) (sym is.spelled)
     (lacks_both 10 is.front (32 ∷ is.back) (seconds_lack 10 is.front time.seconds (λ e. omega arith) (λ d r e. omega arith) is.seconds)
     (lacks_cons 10 32 is.back (λ e. omega arith) (offset_lacks is.back time.offset is.offset)))

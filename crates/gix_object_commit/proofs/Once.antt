@@ -40,7 +40,7 @@ same_front a b r s len e = (
   sym (drop-append_seam a r) ∙ ap (drop (length a)) e ∙ ap (λ n. drop n (b ++ s)) len ∙ drop-append_seam b s,
 )
 
-hex_once : (word a b r s : List ℕ) → length a ≡ length b → hex_line word a ++ r ≡ hex_line word b ++ s → (a ≡ b) × (r ≡ s)
+pub hex_once : (word a b r s : List ℕ) → length a ≡ length b → hex_line word a ++ r ≡ hex_line word b ++ s → (a ≡ b) × (r ≡ s)
 hex_once word a b r s len e =
     let behind = behind_same (hex_line word a ++ r) word (a ++ 10 ∷ r) (b ++ 10 ∷ s) (hex_shape word a r) (e ∙ hex_shape word b s) in
     let fronts = same_front a b (10 ∷ r) (10 ∷ s) len behind in
@@ -49,20 +49,20 @@ hex_once word a b r s len e =
     tail : (r s : List ℕ) → 10 ∷ r ≡ 10 ∷ s → r ≡ s
     tail r s e = cc
 
-person_once : (word : List ℕ) (p q : Person) (r s : List ℕ) → IsPerson p → IsPerson q → line word (actor_line p) ++ r ≡ line word (actor_line q) ++ s → (p ≡ q) × (r ≡ s)
+pub person_once : (word : List ℕ) (p q : Person) (r s : List ℕ) → IsPerson p → IsPerson q → line word (actor_line p) ++ r ≡ line word (actor_line q) ++ s → (p ≡ q) × (r ≡ s)
 person_once word p q r s fp fq e =
     let behind = behind_same (line word (actor_line p) ++ r) word (actor_line p ++ 10 ∷ r) (actor_line q ++ 10 ∷ s) (line_shape word (actor_line p) r) (e ∙ line_shape word (actor_line q) s) in
     let same = cut_once 10 (actor_line p) r (actor_line q) s (actor_lacks (actor_line p) p.name p.email p.time fp) (actor_lacks (actor_line q) q.name q.email q.time fq) behind in
     let parts = one_cut (actor_line p) p.name p.email p.time q.name q.email q.time fp.cut (subst (λ t. IsCut t q.name q.email q.time) (sym same.0) fq.cut) in
     (person_same p q parts.0 parts.1 parts.2, same.1)
 
-field_once : (f g : Field) (r s : List ℕ) → IsField f → IsField g → IsUnspaced r → IsUnspaced s → field_text f ++ r ≡ field_text g ++ s → (f ≡ g) × (r ≡ s)
+pub field_once : (f g : Field) (r s : List ℕ) → IsField f → IsField g → IsUnspaced r → IsUnspaced s → field_text f ++ r ≡ field_text g ++ s → (f ≡ g) × (r ≡ s)
 field_once f g r s ff fg m n e =
     let names = cut_once 32 f.name (f.value ++ 10 ∷ r) g.name (g.value ++ 10 ∷ s) ff.name_one_word fg.name_one_word (sym (line_shape f.name f.value r) ∙ e ∙ line_shape g.name g.value s) in
     let values = folded_once f.value r g.value s ff.value_folded fg.value_folded m n names.1 in
     (field_same f g names.0 values.0, values.1)
 
-encoding_once : (a b : Option (List ℕ)) (r s : List ℕ) → IfSome a (Lacks 10) → IfSome b (Lacks 10) → (a ≡ None → ¬ BeginsWith (codes "encoding ") r) → (b ≡ None → ¬ BeginsWith (codes "encoding ") s)
+pub encoding_once : (a b : Option (List ℕ)) (r s : List ℕ) → IfSome a (Lacks 10) → IfSome b (Lacks 10) → (a ≡ None → ¬ BeginsWith (codes "encoding ") r) → (b ≡ None → ¬ BeginsWith (codes "encoding ") s)
     → encoding_text a ++ r ≡ encoding_text b ++ s → (a ≡ b) × (r ≡ s)
 encoding_once None None r s la lb na nb e = (refl, e)
 encoding_once None (Some b) r s la lb na nb e = absurd (na refl (b ++ 10 ∷ s, e ∙ line_shape (codes "encoding") b s))

@@ -9,13 +9,13 @@ use Rattle.gix_object_lines.specs.Actor.{TellsTime}
 use Rattle.gix_object_lines.specs.declared.encode.Error as encode
 use Rattle.gix_object_lines.specs.declared.encode.Error.TheVariants.{NewlineInHeaderValue, EmptyValue}
 use Rattle.gix_object_commit.specs.Commit.{Person, Field, Parts, IsFolded, IsPerson, IsField, IsEncodingFirst, commit_text, SpellsCommit}
-use Rattle.gix_object_commit.specs.Writing.{Piece, first_refused, refused_or, holds, is_id, is_id_like, is_plain, is_person, is_folded, begins_with_space, is_empty, is_field, is_encoding_first, encoding_cause, unspellable_unless, tree_piece, parent_piece, person_piece, encoding_piece, field_piece, message_piece, commit_refusal}
+use Rattle.gix_object_commit.specs.Writing.{Piece, first_refused, refused_or, holds, is_id, is_id_like, is_plain, is_person, is_folded, begins_with_space, is_empty, is_word, is_field, is_encoding_first, encoding_cause, unspellable_unless, tree_piece, parent_piece, person_piece, encoding_piece, field_piece, message_piece, commit_refusal}
 use Rattle.gix_object_commit.proofs.Folds.{by_feed, plain_folded}
 use Rattle.gix_object_commit.proofs.FoldedTests.{plain_byte}
 
 -- ---- tests that hold
 
-both : (a b : Bool) → (a && b) ≡ true → (a ≡ true) × (b ≡ true)
+pub both : (a b : Bool) → (a && b) ≡ true → (a ≡ true) × (b ≡ true)
 both true b e = (refl, e)
 both false b e = absurd cc
 
@@ -26,7 +26,7 @@ lacks_of byte text e = go (holds byte text) e
     go true e = absurd cc
     go false e = refl
 
-fine : (b : Bool) → unspellable_unless b ≡ None → b ≡ true
+pub fine : (b : Bool) → unspellable_unless b ≡ None → b ≡ true
 fine true e = refl
 fine false e = absurd cc
 
@@ -52,7 +52,7 @@ module _ {X : Type 0} (f : X → Piece) (Fits : X → Type 0) (fits : (x : X) �
 id_fits : (tree digits : List ℕ) → is_id_like tree digits ≡ true → IsHex (length tree) digits
 id_fits tree digits e = let parts = both (length digits == length tree) (is_hex digits) e in ((Decides-eqb (length digits) (length tree)).0 parts.0, parts.1)
 
-plain_name : (part : List ℕ) → is_plain part ≡ true → Lacks 60 part × Lacks 62 part × Lacks 10 part
+pub plain_name : (part : List ℕ) → is_plain part ≡ true → Lacks 60 part × Lacks 62 part × Lacks 10 part
 plain_name part e =
     let a = both (not (holds 60 part)) (not (holds 62 part) && not (holds 10 part)) e in
     let b = both (not (holds 62 part)) (not (holds 10 part)) a.1 in
@@ -90,14 +90,14 @@ folded_fits (byte ∷ (next ∷ rest)) e =
 
 field_fits : (field : Field) → is_field field ≡ true → IsField field
 field_fits field e =
-    let a = both (not (is_empty field.name)) (not (holds 32 field.name) && (not (holds 10 field.name) && is_folded field.value)) e in
-    let b = both (not (holds 32 field.name)) (not (holds 10 field.name) && is_folded field.value) a.1 in
-    let c = both (not (holds 10 field.name)) (is_folded field.value) b.1 in
+    let f = both (is_word field.name) (is_folded field.value) e in
+    let a = both (not (is_empty field.name)) (not (holds 32 field.name) && not (holds 10 field.name)) f.0 in
+    let b = both (not (holds 32 field.name)) (not (holds 10 field.name)) a.1 in
     record {
       named = λ none. (let clash : false ≡ true = sym (ap (λ n. not (is_empty n)) none) ∙ a.0 in cc);
       name_one_word = lacks_of 32 field.name b.0;
-      name_in_line = lacks_of 10 field.name c.0;
-      value_folded = folded_fits field.value c.1;
+      name_in_line = lacks_of 10 field.name b.1;
+      value_folded = folded_fits field.value f.1;
     }
 
 first_named : (headers : List Field) → IsEncodingFirst headers → is_encoding_first headers ≡ true

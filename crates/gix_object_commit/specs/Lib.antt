@@ -2,6 +2,14 @@ pub mod Commit
 pub mod Views
 pub mod Reading
 pub mod Tokens
+pub mod ReadingOn
 pub mod Writing
 pub mod Signature
 pub mod Headers
+pub mod Whole
+pub mod HeaderViews
+pub mod Parents
+pub mod Messages
+pub mod Owned
+pub mod OwnedText
+pub mod Faults

@@ -74,10 +74,29 @@ stage_after (Encoding _) = at.Headers
 stage_after (Header _) = at.Headers
 stage_after (Message _) = at.Headers
 
+-- where a reader stands: what may come next, and the input from there on
+pub record Place : Type 0 where
+  pub kind : Kind
+  pub stage : Stage
+  pub input : List ℕ
+
+abbrev pub place_of : CommitRefIter → Place
+place_of reader = record { kind = reader.hash_kind; stage = reader.stage; input = reader.rest.now }
+
+-- at the start of a commit
+abbrev pub start : Kind → List ℕ → Place
+start kind input = record { kind = kind; stage = at.Tree; input = input }
+
+-- the part stands next, and the reader moves behind it
+abbrev pub IsNext : Place → Part → Place → Type 0
+IsNext before part after = IsPartAt before.kind before.stage before.input part after.input × (after.stage ≡ stage_after part) × (after.kind ≡ before.kind)
+
+-- something stands next, and it is no part
+abbrev pub LacksPart : Place → Type 0
+LacksPart place = (place.input ≢ []) × ((part : Part) (rest : List ℕ) → ¬ IsPartAt place.kind place.stage place.input part rest)
+
 -- the reader gives the part that stands next, nothing where its input has ended, and else an error and then nothing
-abbrev pub GivesToken : CommitRefIter → Option (Result Token Error) → CommitRefIter → Type 0
-GivesToken old None new = (old.rest.now ≡ []) × (new ≡ old)
-GivesToken old (Some (Ok token)) new =
-    IsPartAt old.hash_kind old.stage old.rest.now (part_of token) new.rest.now × (new.stage ≡ stage_after (part_of token)) × (new.hash_kind ≡ old.hash_kind)
-GivesToken old (Some (Err _)) new =
-    (old.rest.now ≢ []) × ((part : Part) (rest : List ℕ) → ¬ IsPartAt old.hash_kind old.stage old.rest.now part rest) × (new.rest.now ≡ [])
+abbrev pub GivesToken : Place → Option (Result Token Error) → Place → Type 0
+GivesToken before None after = (before.input ≡ []) × (after ≡ before)
+GivesToken before (Some (Ok token)) after = IsNext before (part_of token) after
+GivesToken before (Some (Err _)) after = LacksPart before × (after.input ≡ [])

@@ -66,8 +66,12 @@ is_folded (byte ∷ rest) = (if byte == 10 then begins_with_space rest else true
 abbrev pub is_empty : List ℕ → Bool
 is_empty text = length text == 0
 
+-- one word in one line
+abbrev pub is_word : List ℕ → Bool
+is_word name = not (is_empty name) && (not (holds 32 name) && not (holds 10 name))
+
 abbrev pub is_field : Field → Bool
-is_field field = not (is_empty field.name) && (not (holds 32 field.name) && (not (holds 10 field.name) && is_folded field.value))
+is_field field = is_word field.name && is_folded field.value
 
 -- the first header is named as the encoding's line is
 abbrev pub is_encoding_first : List Field → Bool

@@ -66,3 +66,21 @@ impl<'a> WriteTo for BlobRef<'a> {
         Some(self.content.len() as u64)
     }
 }
+
+impl WriteTo for Blob {
+    ghost text = { λ blob. blob.content };
+
+    ghost object_kind = { λ _. kinds.Blob };
+
+    fn write_to<W: io::Write>(&self, out: &mut W) -> Result<(), Error> {
+        self.to_ref().write_to(out)
+    }
+
+    fn kind(&self) -> Kind {
+        self.to_ref().kind()
+    }
+
+    fn size(&self) -> Option<u64> {
+        self.to_ref().size()
+    }
+}

@@ -5,16 +5,24 @@ ghost use Rattle.bstr.specs.BStr.{bstr_bytes};
 ghost use Rattle.gix_object_lines.specs.Time.{SpellsTime};
 ghost use Rattle.gix_object_lines.specs.declared.lines.time.Time.{Time};
 ghost use Rattle.gix_object_lines.specs.declared.decode.Error.TheVariants.{InvalidTime};
+ghost use Rattle.gix_object_commit.specs.HeaderViews.{headers_of};
 ghost use Rattle.gix_object_commit.specs.Signature.{signature_name};
+ghost use Rattle.gix_object_commit.specs.Views.{parts_of};
 
 mod decode;
 mod extra_headers;
 mod header;
+mod ids;
+mod message;
+mod owned;
 pub mod ref_iter;
 mod spelling;
 mod write;
+mod write_owned;
 
-pub use crate::commit::extra_headers::ExtraHeaders;
+pub use crate::commit::extra_headers::{ExtraHeaders, FindAll, MergeTags};
+pub use crate::commit::ids::Parents;
+pub use crate::commit::owned::{Commit, ExtraHeader};
 pub use crate::commit::ref_iter::CommitRefIter;
 use bstr::BStr;
 use gix_hash::Kind;
@@ -78,16 +86,9 @@ impl<'a> CommitRef<'a> {
 
     /// The further headers.
     pub fn extra_headers(&self) -> ExtraHeaders<'_, 'a>
-        ensures { result.headers.now ≡ self.now.extra_headers.items }
+        ensures { headers_of result ≡ (parts_of self.now).headers }
     {
         ExtraHeaders::new(self.extra_headers.as_slice())
-    }
-
-    /// The whole message.
-    pub fn message(&self) -> BStr<'a>
-        ensures { result ≡ self.now.message }
-    {
-        self.message
     }
 }
 

@@ -1,11 +1,18 @@
-//! What follows from the grammar alone.
+//! What follows from the grammar, and what ties the two readers.
 
-ghost use Rattle.std.specs.Prelude.{◌≡◌, None, length};
+ghost use Rattle.std.specs.Prelude.{◌≡◌, ◌↔◌, None, IsTrue, length};
+ghost use Rattle.std.specs.List.{list_all};
 ghost use Rattle.gix_hash.specs.Kind.{hex_len};
 ghost use Rattle.gix_object_lines.specs.Actor.{TellsTime};
 ghost use Rattle.gix_object_commit.specs.Commit.{Parts, SpellsCommit, commit_text};
-ghost use Rattle.gix_object_commit.specs.Writing.{commit_refusal};
+ghost use Rattle.gix_object_commit.specs.Tokens.{part_of};
+ghost use Rattle.gix_object_commit.specs.Whole.{IsCommit, is_message as is_the_message};
+ghost use Rattle.gix_object_commit.specs.Writing.{commit_refusal, is_id};
 
+pub mod owned;
+
+use crate::CommitRefIter;
+use crate::commit::ref_iter::Token;
 use gix_hash::Kind;
 
 /// Bytes spell one commit at most. Nothing is done: the contract is the law.
@@ -19,3 +26,32 @@ pub fn written_is_read()
     ensures { (parts : Parts) → commit_refusal parts ≡ None → TellsTime parts.author.time → TellsTime parts.committer.time
         → SpellsCommit (length parts.tree) (commit_text parts) parts }
 {}
+
+/// The ids of a commit that was read are ids' digits, as `CommitRef::tree` and `CommitRef::parents` ask. Nothing is done:
+/// the contract is the law.
+pub fn ids_read_are_ids(_input: &[u8], _hash_kind: Kind)
+    ensures tree { (parts : Parts) → SpellsCommit (hex_len _hash_kind) _input.now parts → IsTrue (is_id parts.tree) }
+    ensures parents { (parts : Parts) → SpellsCommit (hex_len _hash_kind) _input.now parts → IsTrue (list_all is_id parts.parents) }
+{}
+
+/// Whether the token reader gives no error, and the message as its last token: exactly where the bytes spell a commit, and
+/// so exactly where `CommitRef::from_bytes` succeeds, want of memory aside.
+pub fn tokens_tell_a_commit(input: &[u8], hash_kind: Kind) -> bool
+    ensures { IsTrue result ↔ IsCommit hash_kind input.now }
+{
+    let mut tokens = CommitRefIter::from_bytes(input, hash_kind);
+    let mut whole = false;
+    'tokens: while let Some(token) = tokens.next() {
+        match token {
+            Ok(token) => whole = is_message(token),
+            Err(_) => return false,
+        }
+    }
+    whole
+}
+
+fn is_message(token: Token<'_>) -> bool
+    ensures { result ≡ is_the_message (part_of token.entry) }
+{
+    matches!(token, Token::Message(_))
+}

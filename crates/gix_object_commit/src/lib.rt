@@ -4,10 +4,13 @@
 mod blob;
 pub mod commit;
 mod hash;
+mod id;
 pub mod laws;
 mod parts;
 mod split;
+mod stream_hash;
 
 pub use crate::blob::{Blob, BlobRef};
-pub use crate::commit::{CommitRef, CommitRefIter};
+pub use crate::commit::{Commit, CommitRef, CommitRefIter};
 pub use crate::hash::compute_hash;
+pub use crate::stream_hash::compute_stream_hash;

@@ -18,7 +18,7 @@ fn parts_are_lent(rt: HostRuntime) -> Result<(), Fail> {
     let commit = CommitRef::from_bytes(rt.alloc(), COMMIT, Kind::Sha1)?;
     assert_eq!(rt; commit.author().name.as_bytes(), b"A".as_slice());
     assert_eq!(rt; commit.committer().email.as_bytes(), b"c@d".as_slice());
-    assert_eq!(rt; commit.message().as_bytes(), b"one".as_slice());
+    assert_eq!(rt; commit.message.as_bytes(), b"one".as_slice());
     let time = commit.time()?;
     assert_eq!(rt; time.seconds, 2);
     assert_eq!(rt; time.offset, 3_600);

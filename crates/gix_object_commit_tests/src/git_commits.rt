@@ -3,6 +3,7 @@
 use crate::table::ROWS;
 use gix_hash::{Kind, ObjectId};
 use gix_object_commit::commit::ref_iter::Token;
+use gix_object_commit::laws::tokens_tell_a_commit;
 use gix_object_commit::{CommitRef, CommitRefIter};
 use gix_object_lines::WriteTo;
 use std::alloc::Global;
@@ -41,6 +42,7 @@ fn tokens_are_the_parts(rt: HostRuntime) -> Result<(), Fail> {
         let mut parents: usize = 0;
         let mut headers: usize = 0;
         let mut message = None;
+        assert!(rt; tokens_tell_a_commit(row.content, row.kind));
         for token in CommitRefIter::from_bytes(row.content, row.kind) {
             assert!(rt; message.is_none());
             match token? {

@@ -8,6 +8,12 @@ mod git_commits;
 #[cfg(test)]
 mod headers;
 #[cfg(test)]
+mod owned;
+#[cfg(test)]
+mod parts_told;
+#[cfg(test)]
+mod reading_on;
+#[cfg(test)]
 mod rows;
 #[cfg(test)]
 mod table;

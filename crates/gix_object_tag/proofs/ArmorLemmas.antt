@@ -6,8 +6,9 @@ use Rattle.std.proofs.Math.Seq.{get_or-append_seam, take-suc}
 use Rattle.std.proofs.lemmas.Bool.Decides.{Decides-eqb}
 use Rattle.std.proofs.lemmas.Bool.{cases_lt}
 use Rattle.std.proofs.lemmas.List.{drop_at, get_or-take}
-use Rattle.gix_object_tag.specs.Signature.{IsArmored, IsSigned, BeginsArmor, BeginsNoArmor}
-use Rattle.gix_object_tag.specs.declared.signature.Format.{Format}
+use Rattle.gix_object_signature.specs.Armor.{BeginsArmor, BeginsNoArmor}
+use Rattle.gix_object_signature.specs.declared.format.Format.{Format}
+use Rattle.gix_object_tag.specs.Signature.{IsArmored, IsSigned}
 
 -- the line feed before an armor's line
 feed_at : (text front signature other : List ℕ) → text ≡ front ++ signature → front ≡ other ++ 10 ∷ [] → slice_index text (length other) ≡ 10

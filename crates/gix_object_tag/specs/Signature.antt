@@ -1,21 +1,12 @@
--- Signatures in armor, and where they begin in a text: at the last line that an armor begins (git-config, `gpg.format`, for
--- the formats; git-tag, `--sign`; gitformat-signature, "Tag signatures").
-use Rattle.std.specs.Prelude.{ℕ, ⊤, ◌≡◌, ◌≤◌, ◌⊎◌, List, [], ◌∷◌, ◌++◌, codes, length, Option, None, Some}
-use Rattle.gix_object_lines.specs.PartialName.{BeginsWith, EndsWith}
+-- Where a signature begins in a text: at the last line that an armor begins (git-tag, `--sign`; gitformat-signature, "Tag
+-- signatures").
+use Rattle.std.specs.Prelude.{ℕ, ⊤, ◌≡◌, ◌≤◌, ◌⊎◌, List, [], ◌∷◌, ◌++◌, length, Option, None, Some}
+use Rattle.gix_object_lines.specs.PartialName.{EndsWith}
 use Rattle.bstr.specs.BStr.{bstr_bytes}
-use Rattle.gix_object_tag.specs.declared.signature.SignatureRef.{SignatureRef}
-use Rattle.gix_object_tag.specs.declared.signature.SignedData.{SignedData}
-use Rattle.gix_object_tag.specs.declared.signature.Format.{Format}
-use Rattle.gix_object_tag.specs.declared.signature.Format.TheVariants.{OpenPgp, X509, Ssh}
-
--- an armor of this format begins the text
-abbrev pub BeginsArmor : List ℕ → Format → Type 0
-BeginsArmor text OpenPgp = BeginsWith (codes "-----BEGIN PGP SIGNATURE-----") text ⊎ BeginsWith (codes "-----BEGIN PGP MESSAGE-----") text
-BeginsArmor text X509 = BeginsWith (codes "-----BEGIN SIGNED MESSAGE-----") text
-BeginsArmor text Ssh = BeginsWith (codes "-----BEGIN SSH SIGNATURE-----") text
-
-abbrev pub BeginsNoArmor : List ℕ → Type 0
-BeginsNoArmor text = (format : Format) → ¬ BeginsArmor text format
+use Rattle.gix_object_signature.specs.Armor.{BeginsArmor, BeginsNoArmor}
+use Rattle.gix_object_signature.specs.declared.format.Format.{Format}
+use Rattle.gix_object_signature.specs.declared.format.SignatureRef.{SignatureRef}
+use Rattle.gix_object_signature.specs.declared.signed.SignedData.{SignedData}
 
 -- behind the front a line begins, and an armor begins that line
 pub record IsArmored (text front signature : List ℕ) : Type 0 where
@@ -31,10 +22,6 @@ pub record IsSigned (text front signature : List ℕ) : Type 0 where
 
 abbrev pub IsUnsigned : List ℕ → Type 0
 IsUnsigned text = (front signature : List ℕ) → ¬ IsArmored text front signature
-
--- what is signed
-abbrev pub signed_bytes : SignedData → List ℕ
-signed_bytes signed = bstr_bytes signed.before ++ bstr_bytes signed.behind
 
 -- ---- a tag's signature, where it has one
 

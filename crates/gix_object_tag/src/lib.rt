@@ -5,7 +5,7 @@
 mod cut;
 mod id;
 pub mod laws;
-pub mod signature;
+mod signature;
 pub mod tag;
 mod write;
 

@@ -16,7 +16,6 @@ mod write;
 mod write_owned;
 
 use crate::id::id_of_digits;
-use crate::signature::{Format, SignatureRef};
 pub use crate::tag::owned::Tag;
 pub use crate::tag::ref_iter::TagRefIter;
 use bstr::BStr;
@@ -25,6 +24,7 @@ use gix_object_lines::Kind;
 use gix_object_lines::decode::Error;
 use gix_object_lines::hex_line::read_hex_line;
 use gix_object_lines::lines::ActorRef;
+use gix_object_signature::{Format, SignatureRef};
 
 /// A tag, as its bytes have it.
 #[derive(Debug, Clone, Copy, PartialEq, Eq)]

@@ -113,7 +113,7 @@ def rows(name, kind):
 def main():
     made = rows("sha1", "Sha1") + rows("sha256", "Sha256")
     print("//! Tags that git made. Made by scripts/tags.py, which says how.\n")
-    print("use gix_hash::Kind;\nuse gix_object_tag::signature::Format;\n")
+    print("use gix_hash::Kind;\nuse gix_object_signature::Format;\n")
     print("/// A tag's bytes, and what git tells of it.\n#[derive(Clone, Copy)]\npub struct Row {")
     for field in ("hash_kind: Kind", "id: &'static [u8]", "text: &'static [u8]", "target: &'static [u8]", "target_kind: &'static [u8]", "name: &'static [u8]", "tagger: Option<&'static [u8]>", "message: &'static [u8]", "signature: Option<(Format, &'static [u8])>"):
         print("    pub %s," % field)

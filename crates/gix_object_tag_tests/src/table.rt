@@ -1,7 +1,7 @@
 //! Tags that git made. Made by scripts/tags.py, which says how.
 
 use gix_hash::Kind;
-use gix_object_tag::signature::Format;
+use gix_object_signature::Format;
 
 /// A tag's bytes, and what git tells of it.
 #[derive(Clone, Copy)]

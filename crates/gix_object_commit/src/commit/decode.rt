@@ -1,6 +1,6 @@
 //! Reading commits.
 
-ghost use Rattle.std.specs.Prelude.{ℕ, List, Option, None, ◌≡◌, ◌≢◌, ◌++◌, ◌∷◌, map, flat_map, All, IfOk, IfSome, IsOkAnd, MatchOption, MatchResult, codes};
+ghost use Rattle.std.specs.Prelude.{ℕ, List, Option, None, ◌≡◌, ◌≢◌, ◌++◌, ◌∷◌, ◌⊎◌, map, flat_map, All, IfOk, IfErr, IfSome, IsOkAnd, MatchOption, MatchResult, codes};
 ghost use Rattle.std.specs.Option.{option_map};
 ghost use Rattle.bstr.specs.BStr.{bstr_bytes};
 ghost use Rattle.gix_hash.specs.Kind.{hex_len};
@@ -8,6 +8,7 @@ ghost use Rattle.gix_object_lines.specs.Bytes.{Lacks};
 ghost use Rattle.gix_object_lines.specs.HexLine.{hex_line, IsHex};
 ghost use Rattle.gix_object_lines.specs.declared.decode.Error.TheVariants.{Memory};
 ghost use Rattle.gix_object_commit.specs.Commit.{Person, Field, Parts, line, actor_line, encoding_text, field_text, IsPerson, IsField, SpellsCommit};
+ghost use Rattle.gix_object_commit.specs.Faults.{PersonFault, EncodingFault, ParentFault, HeadersFault, CommitFault};
 ghost use Rattle.gix_object_commit.specs.Reading.{BeginsWith};
 ghost use Rattle.gix_object_commit.specs.Views.{person_of, field_of, parts_of};
 
@@ -27,7 +28,11 @@ impl<'a> CommitRef<'a> {
     /// lines for parents, lines for author and committer, perhaps one for the encoding, any number of further headers, an
     /// empty line, and the message up to the end.
     ///
-    /// The error tells the first line that isn't as it should be, or is `Memory` where no memory is left.
+    /// Of the parts that fail the first is told. It is `FieldName` where another line stands in the place of the tree's, the
+    /// author's or the committer's, or neither a header's name nor an empty line follows; `HexDigits` where behind `tree ` or
+    /// `parent ` stand fewer digits than an id has; `InvalidActor` where the line of author or committer isn't a name, an email
+    /// and a time, and `InvalidTime` where it tells no time; and `LineEnd` where a line lacks its line feed. It is `Memory`
+    /// where no memory is left.
     pub fn from_bytes(
         alloc: Global,
         input: &'a [u8],
@@ -36,6 +41,7 @@ impl<'a> CommitRef<'a> {
         ensures read { IfOk result (λ commit. SpellsCommit (hex_len hash_kind) input.now (parts_of commit)) }
         ensures every { (parts : Parts) → SpellsCommit (hex_len hash_kind) input.now parts
             → MatchResult result (λ commit. parts_of commit ≡ parts) (λ fault. fault ≡ Memory) }
+        ensures refused { IfErr result (λ error. CommitFault (hex_len hash_kind) input.now error) }
     {
         let digits = hash_kind.len_in_hex();
         let (tree, rest) = read_hex_line(input, b"tree", digits)?;
@@ -63,10 +69,11 @@ fn read_parents<'a>(
     digits: usize,
 ) -> Result<(SmallVec<BStr<'a>, 1>, &'a [u8]), Error>
     ensures read { IfOk result (λ parents. (input.now ≡ flat_map (hex_line (codes "parent")) (map bstr_bytes parents.0.items) ++ parents.1.now)
-        × All (IsHex digits) (map bstr_bytes parents.0.items)) }
+        × All (IsHex digits) (map bstr_bytes parents.0.items) × ¬ BeginsWith (codes "parent ") parents.1.now) }
     ensures every { (parents : List (List ℕ)) (rest : List ℕ) → All (IsHex digits) parents → ¬ BeginsWith (codes "parent ") rest
         → input.now ≡ flat_map (hex_line (codes "parent")) parents ++ rest
         → MatchResult result (λ read. (map bstr_bytes read.0.items ≡ parents) × (read.1.now ≡ rest)) (λ fault. fault ≡ Memory) }
+    ensures refused { IfErr result (λ error. ParentFault digits input.now error ⊎ (error ≡ Memory)) }
 {
     let mut parents = SmallVec::new(alloc);
     let mut rest = input;
@@ -88,6 +95,7 @@ pub(crate) fn read_person<'a>(
     ensures read { IfOk result (λ read. (input.now ≡ line word.now (actor_line (person_of read.0)) ++ read.1.now) × IsPerson (person_of read.0)) }
     ensures every { (person : Person) (rest : List ℕ) → IsPerson person → input.now ≡ line word.now (actor_line person) ++ rest
         → IsOkAnd result (λ read. (person_of read.0 ≡ person) × (read.1.now ≡ rest)) }
+    ensures refused { IfErr result (λ error. PersonFault word.now input.now error) }
 {
     let text = behind_word(input, word).ok_or(Error::FieldName)?;
     let (text, rest) = split_once(text, b'\n').ok_or(Error::LineEnd)?;
@@ -110,6 +118,7 @@ pub(crate) fn read_encoding(input: &[u8]) -> Result<(Option<BStr<'_>>, &[u8]), E
     ensures every { (encoding : Option (List ℕ)) (rest : List ℕ) → IfSome encoding (Lacks 10) → (encoding ≡ None → ¬ BeginsWith (codes "encoding ") rest)
         → input.now ≡ encoding_text encoding ++ rest
         → IsOkAnd result (λ read. (option_map bstr_bytes read.0 ≡ encoding) × (read.1.now ≡ rest)) }
+    ensures refused { IfErr result (λ error. EncodingFault input.now error) }
 {
     let Some(text) = behind(input, b"encoding ") else {
         return Ok((None, input));
@@ -124,6 +133,7 @@ fn read_headers<'a>(alloc: Global, input: &'a [u8]) -> Result<(Vec<HeaderRef<'a>
         × All IsField (map field_of read.0.items)) }
     ensures every { (fields : List Field) (message : List ℕ) → All IsField fields → input.now ≡ flat_map field_text fields ++ 10 ∷ message
         → MatchResult result (λ read. (map field_of read.0.items ≡ fields) × (read.1.now ≡ message)) (λ fault. fault ≡ Memory) }
+    ensures refused { IfErr result (λ error. HeadersFault input.now error ⊎ (error ≡ Memory)) }
 {
     let mut headers = Vec::new(alloc);
     let mut rest = input;

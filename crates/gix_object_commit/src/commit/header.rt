@@ -1,9 +1,10 @@
 //! Further headers.
 
-ghost use Rattle.std.specs.Prelude.{ℕ, List, [], ◌∷◌, ◌++◌, ◌≡◌, ◌≢◌, IfOk, IsOkAnd, MatchOption};
+ghost use Rattle.std.specs.Prelude.{ℕ, List, [], ◌∷◌, ◌++◌, ◌≡◌, ◌≢◌, IfOk, IfErr, IsOkAnd, MatchOption};
 ghost use Rattle.bstr.specs.BStr.{bstr_bytes};
 ghost use Rattle.gix_object_lines.specs.Bytes.{Lacks};
 ghost use Rattle.gix_object_commit.specs.Commit.{Field, field_text, folded, IsFolded, IsField};
+ghost use Rattle.gix_object_commit.specs.Faults.{HeaderFault};
 ghost use Rattle.gix_object_commit.specs.Reading.{IsUnspaced};
 ghost use Rattle.gix_object_commit.specs.Views.{field_of};
 
@@ -45,6 +46,7 @@ pub(crate) fn read_header(input: &[u8]) -> Result<(HeaderRef<'_>, &[u8]), Error>
     ensures read { IfOk result (λ read. (input.now ≡ field_text (field_of read.0) ++ read.1.now) × IsField (field_of read.0) × IsUnspaced read.1.now) }
     ensures every { (field : Field) (rest : List ℕ) → IsField field → IsUnspaced rest → input.now ≡ field_text field ++ rest
         → IsOkAnd result (λ read. (field_of read.0 ≡ field) × (read.1.now ≡ rest)) }
+    ensures refused { IfErr result (λ error. HeaderFault input.now error) }
 {
     let (name, text) = read_name(input).ok_or(Error::FieldName)?;
     let (value, rest) = split_value(text).ok_or(Error::LineEnd)?;

@@ -6,12 +6,15 @@ ghost use Rattle.std.specs.Option.{option_map};
 ghost use Rattle.gix_hash.specs.Id.{Id, id_of};
 ghost use Rattle.gix_hash.specs.Views.{viewed_id};
 ghost use Rattle.gix_hash.specs.declared.kind.Kind.{Kind};
-ghost use Rattle.gix_object_commit.specs.Tokens.{Part, part_of, id_told, IsIdLine, IsPartAt, GivesToken, stage_after as after};
+ghost use Rattle.gix_object_commit.specs.Tokens.{Part, part_of, id_told, IsIdLine, IsPartAt, GivesToken, place_of, start, stage_after as after};
 ghost use Rattle.gix_object_commit.specs.declared.commit.ref_iter.Stage.TheVariants as stages;
+
+mod reading_on;
 
 use crate::commit::HeaderRef;
 use crate::commit::decode::{read_encoding, read_person};
 use crate::commit::header::read_header;
+pub use crate::commit::ref_iter::reading_on::{ParentIds, Signatures};
 use crate::split::{begins_with, behind};
 use bstr::BStr;
 use gix_hash::{Kind, ObjectId, oid};
@@ -85,9 +88,7 @@ pub struct CommitRefIter<'a> {
 impl<'a> CommitRefIter<'a> {
     /// A reader of this commit, whose ids are of this hash function.
     pub fn from_bytes(input: &'a [u8], hash_kind: Kind) -> CommitRefIter<'a>
-        ensures input { result.rest.now ≡ input.now }
-        ensures kind { result.hash_kind ≡ hash_kind }
-        ensures start { result.stage ≡ stages.Tree }
+        ensures { place_of result ≡ start hash_kind input.now }
     {
         CommitRefIter {
             rest: input,
@@ -100,9 +101,9 @@ impl<'a> CommitRefIter<'a> {
 impl<'a> Iterator for CommitRefIter<'a> {
     type Item = Result<Token<'a>, Error>;
 
-    ghost next_gives = { GivesToken };
+    ghost next_gives = { λ before item after. GivesToken (place_of before) item (place_of after) };
 
-    ghost remaining = { λ reader. at_most (length reader.rest.now) };
+    ghost remaining = { λ reader. at_most (length (place_of reader).input) };
 
     fn next(&mut self) -> Option<Result<Token<'a>, Error>> {
         let input = self.rest;

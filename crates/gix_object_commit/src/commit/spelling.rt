@@ -4,14 +4,16 @@ ghost use Rattle.std.specs.Prelude.{◌≡◌, Option, List, ℕ, map};
 ghost use Rattle.std.specs.Option.{option_map};
 ghost use Rattle.bstr.specs.BStr.{bstr_bytes};
 ghost use Rattle.gix_object_lines.specs.HexLine.{is_hex};
+ghost use Rattle.gix_object_commit.specs.Commit.{Field};
+ghost use Rattle.gix_object_commit.specs.OwnedText.{is_whole_offset as is_spellable_offset, is_own_person as is_spellable_own_person};
 ghost use Rattle.gix_object_commit.specs.Views.{person_of, field_of};
-ghost use Rattle.gix_object_commit.specs.Writing.{unspellable_unless, holds as holds_byte, is_id as is_hex_id, is_id_like as is_hex_id_like, is_plain as is_plain_text, is_person as is_spellable_person, is_folded as is_folded_text, is_field as is_spellable_field, is_encoding_first as is_named_first, encoding_cause as cause_of_encoding};
+ghost use Rattle.gix_object_commit.specs.Writing.{unspellable_unless, holds as holds_byte, is_id as is_hex_id, is_id_like as is_hex_id_like, is_plain as is_plain_text, is_person as is_spellable_person, is_folded as is_folded_text, is_word, is_field as is_spellable_field, is_encoding_first as is_named_first, encoding_cause as cause_of_encoding};
 
 use crate::commit::HeaderRef;
 use crate::split::{behind, lacks, split_once};
 use bstr::BStr;
 use gix_object_lines::encode::Error;
-use gix_object_lines::lines::ActorRef;
+use gix_object_lines::lines::{Actor, ActorRef};
 
 /// No refusal where the part is fine.
 pub(crate) fn unless(fine: bool) -> Option<Error>
@@ -64,15 +66,35 @@ fn holds(bytes: &[u8], byte: u8) -> bool
     !lacks(bytes, byte)
 }
 
+/// Whether an actor that is owned may be written: its name and email hold no `<`, `>` or line feed, and its offset is
+/// whole minutes below 100 hours.
+pub(crate) fn is_own_person(actor: &Actor) -> bool
+    ensures { result ≡ is_spellable_own_person actor.now }
+{
+    is_plain(actor.name.as_bytes())
+        && is_plain(actor.email.as_bytes())
+        && is_whole_offset(actor.time.offset)
+}
+
+fn is_whole_offset(offset: i32) -> bool
+    ensures { result ≡ is_spellable_offset offset }
+{
+    let amount = offset.unsigned_abs();
+    amount % 60 == 0 && amount < 360_000
+}
+
 /// Whether a header's name is one word, and its value stands as headers hold it.
 pub(crate) fn is_field(header: &HeaderRef<'_>) -> bool
     ensures { result ≡ is_spellable_field (field_of header.now) }
 {
-    let name = header.name.as_bytes();
-    !name.is_empty()
-        && !holds(name, b' ')
-        && !holds(name, b'\n')
-        && is_folded(header.value.as_bytes())
+    is_name(header.name.as_bytes()) && is_folded(header.value.as_bytes())
+}
+
+/// Whether a header may have this name: it is one word.
+pub(crate) fn is_name(name: &[u8]) -> bool
+    ensures { result ≡ is_word name.now }
+{
+    !name.is_empty() && !holds(name, b' ') && !holds(name, b'\n')
 }
 
 // Whether a space stands behind each line feed.
@@ -90,11 +112,11 @@ fn is_folded(text: &[u8]) -> bool
 }
 
 /// Why an encoding isn't written: it is empty or holds a line feed, or none is told and the first header has its name.
-pub(crate) fn encoding_cause(encoding: Option<BStr<'_>>, headers: &[HeaderRef<'_>]) -> Option<Error>
-    ensures { result ≡ cause_of_encoding (option_map bstr_bytes encoding.entry) (map field_of headers.now) }
+pub(crate) fn encoding_cause(encoding: Option<BStr<'_>>, is_first_header: bool) -> Option<Error>
+    ensures { (headers : List Field) → is_first_header ≡ is_named_first headers → result ≡ cause_of_encoding (option_map bstr_bytes encoding.entry) headers }
 {
     let Some(name) = encoding else {
-        return unless(!is_encoding_first(headers));
+        return unless(!is_first_header);
     };
     if name.as_bytes().is_empty() {
         return Some(Error::EmptyValue);
@@ -105,7 +127,8 @@ pub(crate) fn encoding_cause(encoding: Option<BStr<'_>>, headers: &[HeaderRef<'_
     None
 }
 
-fn is_encoding_first(headers: &[HeaderRef<'_>]) -> bool
+/// Whether the first header is named as the encoding's line is.
+pub(crate) fn is_encoding_first(headers: &[HeaderRef<'_>]) -> bool
     ensures { result ≡ is_named_first (map field_of headers.now) }
 {
     match headers.first() {

@@ -5,11 +5,13 @@ ghost use Rattle.std.specs.Option.{option_map};
 ghost use Rattle.bstr.specs.BStr.{bstr_bytes};
 ghost use Rattle.gix_object_lines.specs.HexLine.{hex_line};
 ghost use Rattle.gix_object_lines.specs.declared.kind.Kind.TheVariants as kinds;
-ghost use Rattle.gix_object_commit.specs.Commit.{commit_text, field_text};
+ghost use Rattle.gix_object_commit.specs.Commit.{Field, commit_text, field_text};
 ghost use Rattle.gix_object_commit.specs.Views.{person_of, field_of, parts_of};
-ghost use Rattle.gix_object_commit.specs.Writing.{WritesPieces, pieces_text, tree_piece, parent_piece, person_piece, encoding_piece, field_piece, message_piece, id_pieces, encoding_pieces, header_pieces, commit_refusal};
+ghost use Rattle.gix_object_commit.specs.Writing.{WritesPieces, pieces_text, tree_piece, parent_piece, person_piece, encoding_piece, field_piece, message_piece, id_pieces, encoding_pieces, header_pieces, is_encoding_first as is_named_first, commit_refusal};
 
-use crate::commit::spelling::{encoding_cause, is_field, is_id, is_id_like, is_person, unless};
+use crate::commit::spelling::{
+    encoding_cause, is_encoding_first, is_field, is_id, is_id_like, is_person, unless,
+};
 use crate::commit::{CommitRef, HeaderRef};
 use crate::parts::{add_lengths, write_piece};
 use bstr::BStr;
@@ -67,14 +69,18 @@ fn write_id_lines<W: io::Write>(tree: &[u8], parents: &[BStr<'_>], out: &mut W) 
 }
 
 // The tree's line.
-fn write_tree<W: io::Write>(tree: &[u8], out: &mut W) -> Result<(), Error>
+pub(crate) fn write_tree<W: io::Write>(tree: &[u8], out: &mut W) -> Result<(), Error>
     ensures { WritesPieces (W.contents out.old) (W.contents out.new) (tree_piece tree.now ∷ []) result }
 {
     write_piece(unless(is_id(tree)), &[b"tree ", tree, b"\n"], out)
 }
 
 // A parent's line, where the id is in as many digits as the tree's.
-fn write_parent<W: io::Write>(tree: &[u8], parent: &BStr<'_>, out: &mut W) -> Result<(), Error>
+pub(crate) fn write_parent<W: io::Write>(
+    tree: &[u8],
+    parent: &BStr<'_>,
+    out: &mut W,
+) -> Result<(), Error>
     ensures { WritesPieces (W.contents out.old) (W.contents out.new) (parent_piece tree.now (bstr_bytes parent.now) ∷ []) result }
 {
     let digits = parent.as_bytes();
@@ -106,17 +112,19 @@ fn write_person<W: io::Write>(word: &[u8], actor: &ActorRef<'_>, out: &mut W) ->
 fn write_encoding<W: io::Write>(commit: &CommitRef<'_>, out: &mut W) -> Result<(), Error>
     ensures { WritesPieces (W.contents out.old) (W.contents out.new) (encoding_pieces (parts_of commit.now)) result }
 {
-    write_encoding_line(commit.encoding, commit.extra_headers.as_slice(), out)
+    let is_named_first = is_encoding_first(commit.extra_headers.as_slice());
+    write_encoding_line(commit.encoding, is_named_first, out)
 }
 
-fn write_encoding_line<W: io::Write>(
+pub(crate) fn write_encoding_line<W: io::Write>(
     encoding: Option<BStr<'_>>,
-    headers: &[HeaderRef<'_>],
+    is_first_header: bool,
     out: &mut W,
 ) -> Result<(), Error>
-    ensures { WritesPieces (W.contents out.old) (W.contents out.new) (encoding_piece (option_map bstr_bytes encoding.entry) (map field_of headers.now) ∷ []) result }
+    ensures { (headers : List Field) → is_first_header ≡ is_named_first headers
+        → WritesPieces (W.contents out.old) (W.contents out.new) (encoding_piece (option_map bstr_bytes encoding.entry) headers ∷ []) result }
 {
-    let cause = encoding_cause(encoding, headers);
+    let cause = encoding_cause(encoding, is_first_header);
     match encoding {
         Some(name) => write_piece(cause, &[b"encoding ", name.as_bytes(), b"\n"], out),
         None => write_piece(cause, &[], out),
@@ -131,7 +139,7 @@ fn write_headers<W: io::Write>(commit: &CommitRef<'_>, out: &mut W) -> Result<()
 }
 
 // The empty line and the message.
-fn write_message<W: io::Write>(message: BStr<'_>, out: &mut W) -> Result<(), Error>
+pub(crate) fn write_message<W: io::Write>(message: BStr<'_>, out: &mut W) -> Result<(), Error>
     ensures { WritesPieces (W.contents out.old) (W.contents out.new) (message_piece (bstr_bytes message.entry) ∷ []) result }
 {
     write_piece(None, &[b"\n", message.as_bytes()], out)
@@ -172,7 +180,7 @@ fn add_id_lines(before: u64, tree: &[u8], parents: &[BStr<'_>]) -> Option<u64>
     Some(total)
 }
 
-fn add_parent(before: u64, parent: &BStr<'_>) -> Option<u64>
+pub(crate) fn add_parent(before: u64, parent: &BStr<'_>) -> Option<u64>
     ensures { let text = hex_line (codes "parent") (bstr_bytes parent.now) in
         MatchOption result (2 ^ 64 ≤ before + length text) (λ total. total ≡ before + length text) }
 {
@@ -196,7 +204,7 @@ fn add_person(before: u64, word: &[u8], actor: &ActorRef<'_>) -> Option<u64>
     add_lengths(before, &parts)
 }
 
-fn add_encoding(before: u64, encoding: Option<BStr<'_>>) -> Option<u64>
+pub(crate) fn add_encoding(before: u64, encoding: Option<BStr<'_>>) -> Option<u64>
     ensures { let text = pieces_text (encoding_piece (option_map bstr_bytes encoding.entry) [] ∷ []) in
         MatchOption result (2 ^ 64 ≤ before + length text) (λ total. total ≡ before + length text) }
 {
@@ -213,7 +221,7 @@ fn add_headers(before: u64, commit: &CommitRef<'_>) -> Option<u64>
     add_header_lines(before, commit.extra_headers.as_slice())
 }
 
-fn add_message(before: u64, message: BStr<'_>) -> Option<u64>
+pub(crate) fn add_message(before: u64, message: BStr<'_>) -> Option<u64>
     ensures { let text = pieces_text (message_piece (bstr_bytes message.entry) ∷ []) in
         MatchOption result (2 ^ 64 ≤ before + length text) (λ total. total ≡ before + length text) }
 {

@@ -10,13 +10,13 @@ ghost use Rattle.gix_object_tag.specs.Owned.{IsOwnTagger, OwningFault};
 ghost use Rattle.gix_object_tag.specs.Signature.{IsBare, IsSignatureOf};
 ghost use Rattle.gix_object_tag.specs.Views.{tagger_of, text_of};
 
-use crate::signature::{Format, SignatureRef};
 use crate::tag::TagRef;
 use bstr::BStr;
 use gix_hash::ObjectId;
 use gix_object_lines::decode::Error;
 use gix_object_lines::lines::{Actor, ActorRef};
 use gix_object_lines::{ByteString, Kind};
+use gix_object_signature::{Format, SignatureRef};
 use std::alloc::Global;
 
 /// A tag.

@@ -9,7 +9,6 @@ ghost use Rattle.gix_object_tag.specs.Tag.{Parts, SpellsTag};
 ghost use Rattle.gix_object_tag.specs.declared.tag.ref_iter.Stage.TheVariants.{BeforeTarget};
 
 use crate::id::id_of_digits;
-use crate::signature::{SignatureRef, SignedData};
 use crate::tag::{TagRef, decode};
 use bstr::BStr;
 use gix_hash::ObjectId;
@@ -17,6 +16,7 @@ use gix_object_lines::Kind;
 use gix_object_lines::decode::Error;
 use gix_object_lines::hex_line::read_hex_line;
 use gix_object_lines::lines::ActorRef;
+use gix_object_signature::{SignatureRef, SignedData};
 
 /// A part of a tag.
 #[derive(Debug, Clone, Copy, PartialEq, Eq)]

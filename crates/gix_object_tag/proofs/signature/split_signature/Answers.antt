@@ -2,7 +2,7 @@ use Rattle.std.proofs.Common.{◌≡◌, ◌∙◌, ◌+◌, ◌-◌, ◌<◌, �
 use Rattle.std.specs.Prelude.{slice_index}
 use Rattle.std.proofs.lemmas.Bool.Decides.{Decides-eqb}
 use Rattle.std.proofs.lemmas.List.{take-append-drop, get_or-take, take_all}
-use Rattle.gix_object_tag.specs.Signature.{BeginsArmor, BeginsNoArmor}
+use Rattle.gix_object_signature.specs.Armor.{BeginsArmor, BeginsNoArmor}
 use Rattle.gix_object_tag.proofs.ArmorLemmas.{none_behind, none_from, not_at, line_at, signed_at, nowhere_behind}
 use Rattle.gix_object_tag.proofs.signature.split_signature.Goals as goal
 

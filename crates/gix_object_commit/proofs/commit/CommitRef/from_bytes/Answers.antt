@@ -1,9 +1,13 @@
 use Rattle.std.proofs.Common.{◌∙◌, ap, sym, subst, map, ◌++◌, ◌∷◌}
 use Rattle.std.specs.Prelude.{All, flat_map}
+use Rattle.std.specs.Option.{option_map}
 use Rattle.bstr.specs.BStr.{bstr_bytes}
+use Rattle.gix_hash.specs.Kind.{hex_len}
 use Rattle.gix_object_lines.specs.HexLine.{IsHex}
 use Rattle.gix_object_commit.specs.Commit.{encoding_text, field_text}
-use Rattle.gix_object_commit.specs.Views.{field_of}
+use Rattle.gix_object_commit.specs.Faults.{InAuthor, InCommitter, InEncoding}
+use Rattle.gix_object_commit.specs.Views.{person_of, field_of}
+use Rattle.gix_object_commit.proofs.FaultLemmas.{behind_tree, behind_parents, parents_fault, behind_author, behind_committer, behind_encoding, headers_fault}
 use Rattle.std.proofs.lemmas.Result.{err_from_is_err_and}
 use Rattle.gix_object_commit.proofs.Whole.{after_tree, after_parents, after_author, after_encoding, no_parent, no_encoding, first_begins, parts_same, chain}
 use Rattle.gix_object_commit.proofs.commit.CommitRef.from_bytes.Goals as goal
@@ -28,6 +32,56 @@ returns-in_err-extra_headers-clause-every c = λ parts s.
     let fault = c.in_err-extra_headers.ensures.every parts.headers parts.message s.headers encoding.1 in
     let p = err_from_is_err_and c.from_residual-in_err-extra_headers.result c.from_residual-in_err-extra_headers.ensures.1 in
     rw (p.1, p.2) fault
+
+pub returns-in_err-parents-clause-refused : goal.returns-in_err-parents-clause-refused
+returns-in_err-parents-clause-refused c =
+    let n = hex_len c.args.hash_kind in
+    let input = c.args.input.now in
+    let p = err_from_is_err_and c.from_residual-in_err-parents.result c.from_residual-in_err-parents.ensures.1 in
+    let tree = behind_tree n c.len_in_hex-digits.result input c.len_in_hex-digits.ensures c.in_ok-tree.tree.now c.in_ok-tree.rest.now c.in_ok-tree.ensures.read in
+    rw (p.1, p.2) (parents_fault n c.len_in_hex-digits.result input c.len_in_hex-digits.ensures c.in_ok-tree.rest.now _ tree c.in_err-parents.ensures.refused)
+
+pub returns-in_err-author-clause-refused : goal.returns-in_err-author-clause-refused
+returns-in_err-author-clause-refused c =
+    let n = hex_len c.args.hash_kind in
+    let input = c.args.input.now in
+    let p = err_from_is_err_and c.from_residual-in_err-author.result c.from_residual-in_err-author.ensures.1 in
+    let tree = behind_tree n c.len_in_hex-digits.result input c.len_in_hex-digits.ensures c.in_ok-tree.tree.now c.in_ok-tree.rest.now c.in_ok-tree.ensures.read in
+    let parents = behind_parents n c.len_in_hex-digits.result input c.len_in_hex-digits.ensures c.in_ok-tree.rest.now (map bstr_bytes c.in_ok-parents.parents.items) c.in_ok-parents.rest.now tree c.in_ok-parents.ensures.read in
+    rw (p.1, p.2) (InAuthor c.in_ok-parents.rest.now parents c.in_err-author.ensures.refused)
+
+pub returns-in_err-committer-clause-refused : goal.returns-in_err-committer-clause-refused
+returns-in_err-committer-clause-refused c =
+    let n = hex_len c.args.hash_kind in
+    let input = c.args.input.now in
+    let p = err_from_is_err_and c.from_residual-in_err-committer.result c.from_residual-in_err-committer.ensures.1 in
+    let tree = behind_tree n c.len_in_hex-digits.result input c.len_in_hex-digits.ensures c.in_ok-tree.tree.now c.in_ok-tree.rest.now c.in_ok-tree.ensures.read in
+    let parents = behind_parents n c.len_in_hex-digits.result input c.len_in_hex-digits.ensures c.in_ok-tree.rest.now (map bstr_bytes c.in_ok-parents.parents.items) c.in_ok-parents.rest.now tree c.in_ok-parents.ensures.read in
+    let author = behind_author n input c.in_ok-parents.rest.now (person_of c.in_ok-author.author) c.in_ok-author.rest.now parents c.in_ok-author.ensures.read in
+    rw (p.1, p.2) (InCommitter c.in_ok-author.rest.now author c.in_err-committer.ensures.refused)
+
+pub returns-in_err-encoding-clause-refused : goal.returns-in_err-encoding-clause-refused
+returns-in_err-encoding-clause-refused c =
+    let n = hex_len c.args.hash_kind in
+    let input = c.args.input.now in
+    let p = err_from_is_err_and c.from_residual-in_err-encoding.result c.from_residual-in_err-encoding.ensures.1 in
+    let tree = behind_tree n c.len_in_hex-digits.result input c.len_in_hex-digits.ensures c.in_ok-tree.tree.now c.in_ok-tree.rest.now c.in_ok-tree.ensures.read in
+    let parents = behind_parents n c.len_in_hex-digits.result input c.len_in_hex-digits.ensures c.in_ok-tree.rest.now (map bstr_bytes c.in_ok-parents.parents.items) c.in_ok-parents.rest.now tree c.in_ok-parents.ensures.read in
+    let author = behind_author n input c.in_ok-parents.rest.now (person_of c.in_ok-author.author) c.in_ok-author.rest.now parents c.in_ok-author.ensures.read in
+    let committer = behind_committer n input c.in_ok-author.rest.now (person_of c.in_ok-committer.committer) c.in_ok-committer.rest.now author c.in_ok-committer.ensures.read in
+    rw (p.1, p.2) (InEncoding c.in_ok-committer.rest.now committer c.in_err-encoding.ensures.refused)
+
+pub returns-in_err-extra_headers-clause-refused : goal.returns-in_err-extra_headers-clause-refused
+returns-in_err-extra_headers-clause-refused c =
+    let n = hex_len c.args.hash_kind in
+    let input = c.args.input.now in
+    let p = err_from_is_err_and c.from_residual-in_err-extra_headers.result c.from_residual-in_err-extra_headers.ensures.1 in
+    let tree = behind_tree n c.len_in_hex-digits.result input c.len_in_hex-digits.ensures c.in_ok-tree.tree.now c.in_ok-tree.rest.now c.in_ok-tree.ensures.read in
+    let parents = behind_parents n c.len_in_hex-digits.result input c.len_in_hex-digits.ensures c.in_ok-tree.rest.now (map bstr_bytes c.in_ok-parents.parents.items) c.in_ok-parents.rest.now tree c.in_ok-parents.ensures.read in
+    let author = behind_author n input c.in_ok-parents.rest.now (person_of c.in_ok-author.author) c.in_ok-author.rest.now parents c.in_ok-author.ensures.read in
+    let committer = behind_committer n input c.in_ok-author.rest.now (person_of c.in_ok-committer.committer) c.in_ok-committer.rest.now author c.in_ok-committer.ensures.read in
+    let encoding = behind_encoding n input c.in_ok-committer.rest.now (option_map bstr_bytes c.in_ok-encoding.encoding) c.in_ok-encoding.rest.now committer c.in_ok-encoding.ensures.read in
+    rw (p.1, p.2) (headers_fault n input c.in_ok-encoding.rest.now _ encoding c.in_err-extra_headers.ensures.refused)
 
 pub returns-clause-read : goal.returns-clause-read
 returns-clause-read c = record {

@@ -1,9 +1,11 @@
-use Rattle.std.proofs.Common.{◌≡◌, ◌∙◌, ap, sym, subst, refl, ℕ, List, [], ◌∷◌, ◌++◌, map}
+use Rattle.std.proofs.Common.{◌≡◌, ◌∙◌, ap, sym, subst, refl, ℕ, List, [], ◌∷◌, ◌++◌, map, inl}
 use Rattle.std.specs.Prelude.{flat_map}
 use Rattle.std.proofs.lemmas.List.{map-append}
+use Rattle.std.proofs.lemmas.Result.{err_from_is_err_and}
 use Rattle.gix_object_commit.specs.Commit.{field_text, IsField}
 use Rattle.gix_object_commit.specs.Reading.{IsUnspaced}
 use Rattle.gix_object_commit.specs.Views.{field_of}
+use Rattle.gix_object_commit.proofs.FaultLemmas.{next_header}
 use Rattle.gix_object_commit.proofs.Results.{when_pushed}
 use Rattle.gix_object_commit.proofs.Lines.{BeginsMessage, field_no_message, fields_unspaced, field_shorter}
 use Rattle.gix_object_commit.proofs.Progress.{Progress, progress_none, progress_one, progress_end, progress_stuck}
@@ -31,6 +33,11 @@ returns-in_err-header-clause-every c = λ fields message fits whole.
     (λ end begins is. c.in_default.ensures begins.0 (is ∙ begins.1))
     (λ y more end fit fits begins is. c.in_err-header.ensures.every y _ fit (fields_unspaced more end fits begins) is)
     fields (10 ∷ message) fits (message, refl) whole)
+
+pub returns-in_err-header-clause-refused : goal.returns-in_err-header-clause-refused
+returns-in_err-header-clause-refused c =
+    let p = err_from_is_err_and c.from_residual.result c.from_residual.ensures.1 in
+    rw (p.1, p.2) (inl (next_header c.args.input.now (map field_of c.headers.headers.items) c.headers.rest.now _ c.headers.invariant.fit c.headers.invariant.spelled (λ message is. c.in_default.ensures message is) c.in_err-header.ensures.refused))
 
 pub headers-smaller : goal.headers-smaller
 headers-smaller c = field_shorter _ _ (field_of c.in_ok-header.header) c.in_ok-header.ensures.read.0

@@ -1,10 +1,12 @@
-use Rattle.std.proofs.Common.{◌≡◌, ◌∙◌, ap, sym, subst, ℕ, List, [], ◌∷◌, ◌++◌, ◌<◌, length, map, length-append, arith}
+use Rattle.std.proofs.Common.{◌≡◌, ◌∙◌, ap, sym, subst, ℕ, List, [], ◌∷◌, ◌++◌, ◌<◌, length, map, length-append, inl, arith}
 use Rattle.std.specs.Prelude.{codes}
 use Rattle.std.proofs.lemmas.Bool.{false≢true}
 use Rattle.std.proofs.lemmas.List.{map-append}
+use Rattle.std.proofs.lemmas.Result.{err_from_is_err_and}
 use Rattle.bstr.specs.BStr.{bstr_bytes}
 use Rattle.gix_object_lines.specs.HexLine.{hex_line, IsHex}
 use Rattle.gix_object_commit.specs.Reading.{BeginsWith}
+use Rattle.gix_object_commit.proofs.FaultLemmas.{next_parent}
 use Rattle.gix_object_commit.proofs.Results.{when_ok}
 use Rattle.gix_object_commit.proofs.Progress.{Progress, progress_none, progress_one, progress_end, progress_stuck}
 use Rattle.gix_object_commit.proofs.commit.decode.read_parents.Goals as goal
@@ -43,7 +45,12 @@ parents-preserved c =
     subst (λ xs. Progress parent_line (IsHex c.args.digits) NoParent c.args.input.now xs c.in_ok-parent.after.now) (sym (ap (map bstr_bytes) pushed ∙ map-append bstr_bytes c.parents.parents.items (c.new.result ∷ []) ∙ ap (λ b. map bstr_bytes c.parents.parents.items ++ b ∷ []) c.new.ensures)) step
 
 pub returns-clause-read : goal.returns-clause-read
-returns-clause-read c = (c.parents.invariant.spelled, c.parents.invariant.fit)
+returns-clause-read c = (c.parents.invariant.spelled, c.parents.invariant.fit, λ begins. false≢true (sym c.parents-test.false ∙ c.begins_with.ensures.1 begins))
+
+pub returns-in_err-parent-clause-refused : goal.returns-in_err-parent-clause-refused
+returns-in_err-parent-clause-refused c =
+    let p = err_from_is_err_and c.from_residual.result c.from_residual.ensures.1 in
+    rw (p.1, p.2) (inl (next_parent c.args.digits c.args.input.now (map bstr_bytes c.parents.parents.items) c.parents.rest.now _ c.parents.invariant.fit c.parents.invariant.spelled (c.begins_with.ensures.0 c.parents-test.true) c.in_err-parent.ensures.refused))
 
 pub returns-clause-every : goal.returns-clause-every
 returns-clause-every c = λ parents rest hex none whole.

@@ -1,8 +1,8 @@
 use Rattle.std.proofs.Common.{◌≡◌, ◌∙◌, ap, sym, refl, ◌++◌, ◌-◌, take, length, List, ℕ, [], Option, Some, None}
 use Rattle.bstr.specs.BStr.{bstr_bytes}
 use Rattle.gix_object_tag.specs.Signature.{IsSignedBy, IsSignatureOf}
-use Rattle.gix_object_tag.specs.declared.signature.SignatureRef.{SignatureRef}
-use Rattle.gix_object_tag.specs.declared.signature.SignedData.{SignedData}
+use Rattle.gix_object_signature.specs.declared.format.SignatureRef.{SignatureRef}
+use Rattle.gix_object_signature.specs.declared.signed.SignedData.{SignedData}
 use Rattle.gix_object_tag.specs.Views.{parts_of}
 use Rattle.gix_object_tag.proofs.TagLemmas.{tag_ends, before_back}
 use Rattle.gix_object_tag.proofs.tag.ref_iter.TagRefIter.signature.Goals as goal

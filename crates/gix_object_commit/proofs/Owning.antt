@@ -1,0 +1,38 @@
+-- Lists of owned parts, which grow in step with the lists of borrowed ones, and ids' digits that spell none.
+use Rattle.std.proofs.Common.{◌≡◌, ◌∙◌, ap, sym, subst, ℕ, ◌<◌, ◌+◌, suc, List, [], ◌∷◌, ◌++◌, length, map, take, get_or, arith}
+use Rattle.std.specs.Prelude.{Any}
+use Rattle.std.specs.List.{AllZip}
+use Rattle.std.proofs.lemmas.List.{map-append, length-map, get_or-map}
+use Rattle.std.proofs.Math.Seq.{take-suc}
+use Rattle.hex.specs.Hex.{hex_digit_value}
+use Rattle.gix_hash.specs.Views.{IsFaultOf}
+use Rattle.gix_hash.specs.declared.object_id.decode.Error.{Error}
+use Rattle.gix_hash.proofs.PrefixLemmas.{refused_whole}
+use Rattle.gix_hash.proofs.ReadBack.{all_values}
+use Rattle.gix_object_commit.specs.Owned.{SpellsNoId}
+
+pub spells_no_id : (digits text : List ℕ) (fault : Error) → text ≡ digits → IsFaultOf hex_digit_value text fault → SpellsNoId digits
+spells_no_id digits text fault same refused = λ id is.
+    let here = subst (λ t. IsFaultOf hex_digit_value t fault) same refused in
+    all_values hex_digit_value digits id.digits is.spelled (refused_whole hex_digit_value digits id.kind fault is.whole here)
+
+-- what holds of the borrowed part at a place holds of one of them
+pub any_at : {X Y : Type 0} (P : Y → Type 0) (f : X → Y) (xs : List X) (i : ℕ) (d : X) → i < length xs → P (f (get_or xs i d)) → Any P (map f xs)
+any_at P f xs i d below p =
+    (i, f (get_or xs i d), subst (λ n. i < n) (sym (length-map xs f)) below, get_or-map f xs i d (f (get_or xs i d)) below, p)
+
+module _ {X Y Z : Type 0} (R : Y → Z → Type 0) (f : X → Y) where
+  zip_push : (ys : List Y) (zs : List Z) (y : Y) (z : Z) → AllZip R ys zs → R y z → AllZip R (ys ++ y ∷ []) (zs ++ z ∷ [])
+  zip_push [] [] y z h r = (r, tt)
+  zip_push [] (b ∷ zs) y z h r = absurd h
+  zip_push (a ∷ ys) [] y z h r = absurd h
+  zip_push (a ∷ ys) (b ∷ zs) y z h r = (h.0, zip_push ys zs y z h.1 r)
+
+  -- one more part was owned
+  pub zip_more : (xs : List X) (i : ℕ) (d : X) (zs zs' : List Z) (z : Z) → i < length xs → AllZip R (map f (take i xs)) zs → R (f (get_or xs i d)) z → zs' ≡ zs ++ z ∷ [] → AllZip R (map f (take (i + 1) xs)) zs'
+  zip_more xs i d zs zs' z below h r is =
+      let next : i + 1 ≡ suc i = omega arith in
+      let grown : map f (take (i + 1) xs) ≡ map f (take i xs) ++ f (get_or xs i d) ∷ [] =
+      ap (λ n. map f (take n xs)) next ∙ ap (map f) (take-suc xs i d below) ∙ map-append f (take i xs) (get_or xs i d ∷ []) in
+      subst (λ ys. AllZip R ys zs') (sym grown)
+      (subst (AllZip R (map f (take i xs) ++ f (get_or xs i d) ∷ [])) (sym is) (zip_push (map f (take i xs)) zs (f (get_or xs i d)) z h r))

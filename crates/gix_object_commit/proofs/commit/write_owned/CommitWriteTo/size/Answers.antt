@@ -1,0 +1,36 @@
+use Rattle.std.proofs.Common.{◌≡◌, ◌∙◌, ap, [], ◌∷◌, ◌+◌, ◌^◌, ◌≤◌, subst, length, arith}
+use Rattle.std.specs.Prelude.{MatchOption}
+use Rattle.gix_object_commit.specs.Commit.{commit_text}
+use Rattle.gix_object_commit.specs.Writing.{pieces_text, encoding_piece, message_piece, message_pieces}
+use Rattle.gix_object_commit.specs.OwnedText.{own_parts}
+use Rattle.gix_object_commit.proofs.Commits.{length_is}
+use Rattle.gix_object_commit.proofs.commit.write_owned.CommitWriteTo.size.Goals as goal
+
+pub returns-in_err-total : goal.returns-in_err-total
+returns-in_err-total c = rw c.from_residual.ensures (omega (arith, length_is (own_parts c.args.self.now), c.in_err-total.ensures))
+
+pub returns-in_err-total-2 : goal.returns-in_err-total-2
+returns-in_err-total-2 c = rw c.from_residual-in_err-total-2.ensures (omega (arith, length_is (own_parts c.args.self.now), c.in_ok-total.ensures, c.in_err-total-2.ensures))
+
+pub returns-in_err-total-3 : goal.returns-in_err-total-3
+returns-in_err-total-3 c = rw c.from_residual-in_err-total-3.ensures (omega (arith, length_is (own_parts c.args.self.now), c.in_ok-total.ensures, c.in_ok-total-2.ensures, c.in_err-total-3.ensures))
+
+pub returns-in_err-total-4 : goal.returns-in_err-total-4
+returns-in_err-total-4 c =
+    let encoding = ap (λ name. length (pieces_text (encoding_piece name [] ∷ []))) c.bstr_of.ensures in
+    rw c.from_residual-in_err-total-4.ensures (omega (arith, length_is (own_parts c.args.self.now), c.in_ok-total.ensures, c.in_ok-total-2.ensures, c.in_ok-total-3.ensures, c.in_err-total-4.ensures, encoding))
+
+pub returns-in_err-total-5 : goal.returns-in_err-total-5
+returns-in_err-total-5 c =
+    let encoding = ap (λ name. length (pieces_text (encoding_piece name [] ∷ []))) c.bstr_of.ensures in
+    rw c.from_residual-in_err-total-5.ensures (omega (arith, length_is (own_parts c.args.self.now), c.in_ok-total.ensures, c.in_ok-total-2.ensures, c.in_ok-total-3.ensures, c.in_ok-total-4.ensures, c.in_err-total-5.ensures, encoding))
+
+pub returns : goal.returns
+returns c =
+    let commit = c.args.self.now in
+    let parts = own_parts commit in
+    let encoding = ap (λ name. length (pieces_text (encoding_piece name [] ∷ []))) c.bstr_of.ensures in
+    let sum : c.in_ok-total-5.total + length (pieces_text (message_pieces parts)) ≡ length (commit_text parts) =
+    omega (arith, length_is parts, c.in_ok-total.ensures, c.in_ok-total-2.ensures, c.in_ok-total-3.ensures, c.in_ok-total-4.ensures, c.in_ok-total-5.ensures, encoding) in
+    let message = ap (λ text. c.in_ok-total-5.total + length (pieces_text (message_piece text ∷ []))) c.as_bstr.ensures in
+    subst (λ n. MatchOption c.add_message.result (2 ^ 64 ≤ n) (λ total. total ≡ n)) (message ∙ sum) c.add_message.ensures

@@ -1,0 +1,52 @@
+-- Commits that own their parts.
+use Rattle.std.specs.Prelude.{ℕ, ◌≡◌, ◌⊎◌, ⊤, List, Any}
+use Rattle.std.specs.List.{AllZip}
+use Rattle.gix_hash.specs.Id.{Id, id_of}
+use Rattle.gix_hash.specs.Views.{IsHexOfId}
+use Rattle.gix_hash.specs.declared.object_id.ObjectId.{ObjectId}
+use Rattle.gix_object_lines.specs.Actor.{TellsTime}
+use Rattle.gix_object_lines.specs.Time.{SpellsTime}
+use Rattle.gix_object_lines.specs.declared.decode.Error.{Error}
+use Rattle.gix_object_lines.specs.declared.decode.Error.TheVariants.{FieldName, HexDigits, LineEnd, InvalidActor, InvalidTime, Memory}
+use Rattle.gix_object_lines.specs.declared.lines.actor.Actor.{Actor}
+use Rattle.gix_object_commit.specs.Commit.{Person, Field, Parts, folded}
+use Rattle.gix_object_commit.specs.declared.commit.owned.Commit.{Commit}
+use Rattle.gix_object_commit.specs.declared.commit.owned.ExtraHeader.{ExtraHeader}
+
+-- the id that the digits spell
+abbrev pub IsOwnId : List ℕ → ObjectId → Type 0
+IsOwnId digits id = IsHexOfId digits (id_of id)
+
+-- the same name and email, and the time that the text tells
+pub record IsActorOf (person : Person) (actor : Actor) : Type 0 where
+  pub name : actor.name ≡ person.name
+  pub email : actor.email ≡ person.email
+  pub time : SpellsTime person.time actor.time
+
+-- the same name, and the value whose folded text stands in the commit
+pub record IsHeaderOf (field : Field) (header : ExtraHeader) : Type 0 where
+  pub name : header.name ≡ field.name
+  pub value : (told : List ℕ) → field.value ≡ folded told → header.value ≡ told
+
+pub record IsCommitOf (parts : Parts) (commit : Commit) : Type 0 where
+  pub tree : IsOwnId parts.tree commit.tree
+  pub parents : AllZip IsOwnId parts.parents commit.parents.items
+  pub author : IsActorOf parts.author commit.author
+  pub committer : IsActorOf parts.committer commit.committer
+  pub encoding : commit.encoding ≡ parts.encoding
+  pub headers : AllZip IsHeaderOf parts.headers commit.extra_headers.items
+  pub message : commit.message ≡ parts.message
+
+-- ---- why parts aren't owned
+
+abbrev pub SpellsNoId : List ℕ → Type 0
+SpellsNoId digits = (id : Id) → ¬ IsHexOfId digits id
+
+-- an id's text spells none, or an actor's tells no time, or no memory is left
+abbrev pub OwningFault : Parts → Error → Type 0
+OwningFault parts FieldName = ⊥
+OwningFault parts HexDigits = SpellsNoId parts.tree ⊎ Any SpellsNoId parts.parents
+OwningFault parts LineEnd = ⊥
+OwningFault parts InvalidActor = ⊥
+OwningFault parts InvalidTime = (¬ TellsTime parts.author.time) ⊎ (¬ TellsTime parts.committer.time)
+OwningFault parts Memory = ⊤

@@ -1,0 +1,158 @@
+//! Commits that own their parts.
+
+ghost use Rattle.std.specs.Prelude.{◌≡◌, ◌⊎◌, map, Any, IfOk, IfErr};
+ghost use Rattle.std.specs.List.{AllZip};
+ghost use Rattle.std.specs.Option.{option_map};
+ghost use Rattle.bstr.specs.BStr.{bstr_bytes};
+ghost use Rattle.gix_object_lines.specs.Actor.{TellsTime};
+ghost use Rattle.gix_object_lines.specs.declared.decode.Error.TheVariants.{HexDigits, InvalidTime, Memory};
+ghost use Rattle.gix_object_commit.specs.Owned.{IsOwnId, IsActorOf, IsHeaderOf, IsCommitOf, SpellsNoId, OwningFault};
+ghost use Rattle.gix_object_commit.specs.Views.{person_of, field_of, parts_of};
+
+use crate::commit::{CommitRef, HeaderRef};
+use bstr::BStr;
+use gix_hash::ObjectId;
+use gix_object_lines::ByteString;
+use gix_object_lines::decode::Error;
+use gix_object_lines::lines::{Actor, ActorRef};
+use smallvec::SmallVec;
+use std::alloc::Global;
+
+/// A further header of a commit.
+#[derive(Debug, Drop, PartialEq, Eq)]
+pub struct ExtraHeader {
+    /// Its name.
+    pub name: ByteString,
+    /// Its value, without the space that stands in the commit behind each of its line feeds.
+    pub value: ByteString,
+}
+
+/// A commit.
+#[derive(Debug, Drop, PartialEq, Eq)]
+pub struct Commit {
+    /// The id of the tree.
+    pub tree: ObjectId,
+    /// The id of each parent.
+    pub parents: SmallVec<ObjectId, 1>,
+    /// Who made the change, and when.
+    pub author: Actor,
+    /// Who committed it, and when.
+    pub committer: Actor,
+    /// The name of the message's encoding, where it isn't UTF-8.
+    pub encoding: Option<ByteString>,
+    /// The message.
+    pub message: ByteString,
+    /// The further headers, in order.
+    pub extra_headers: Vec<ExtraHeader>,
+}
+
+impl<'a> CommitRef<'a> {
+    /// The commit with copies of its parts: see `to_owned`.
+    pub fn into_owned(self, alloc: Global) -> Result<Commit, Error>
+        ensures own { IfOk result (IsCommitOf (parts_of self.entry)) }
+        ensures refused { IfErr result (OwningFault (parts_of self.entry)) }
+    {
+        self.to_owned(alloc)
+    }
+
+    /// A commit with copies of the parts. It is `HexDigits` where the tree or a parent is no id's digits, and
+    /// `InvalidTime` where an actor tells no time, neither of which a commit that was read is; and `Memory` where no memory
+    /// is left.
+    pub fn to_owned(&self, alloc: Global) -> Result<Commit, Error>
+        ensures own { IfOk result (IsCommitOf (parts_of self.now)) }
+        ensures refused { IfErr result (OwningFault (parts_of self.now)) }
+    {
+        let tree = own_id(self.tree)?;
+        let parents = own_ids(alloc, self.parents.as_slice())?;
+        let author = own_actor(alloc, self.author)?;
+        let committer = own_actor(alloc, self.committer)?;
+        let encoding = own_encoding(alloc, self.encoding)?;
+        let message = own_text(alloc, self.message)?;
+        let extra_headers = own_headers(alloc, self.extra_headers.as_slice())?;
+        Ok(Commit {
+            tree,
+            parents,
+            author,
+            committer,
+            encoding,
+            message,
+            extra_headers,
+        })
+    }
+}
+
+fn own_id(digits: BStr<'_>) -> Result<ObjectId, Error>
+    ensures own { IfOk result (IsOwnId (bstr_bytes digits.entry)) }
+    ensures refused { IfErr result (λ error. (error ≡ HexDigits) × SpellsNoId (bstr_bytes digits.entry)) }
+{
+    match ObjectId::from_hex(digits.as_bytes()) {
+        Ok(id) => Ok(id),
+        Err(_) => Err(Error::HexDigits),
+    }
+}
+
+fn own_ids(alloc: Global, texts: &[BStr<'_>]) -> Result<SmallVec<ObjectId, 1>, Error>
+    ensures own { IfOk result (λ ids. AllZip IsOwnId (map bstr_bytes texts.now) ids.items) }
+    ensures refused { IfErr result (λ error. (error ≡ Memory) ⊎ ((error ≡ HexDigits) × Any SpellsNoId (map bstr_bytes texts.now))) }
+{
+    let mut ids = SmallVec::new(alloc);
+    for text in texts {
+        let id = own_id(*text)?;
+        if ids.push(id).is_err() {
+            return Err(Error::Memory);
+        }
+    }
+    Ok(ids)
+}
+
+fn own_actor(alloc: Global, actor: ActorRef<'_>) -> Result<Actor, Error>
+    ensures own { IfOk result (IsActorOf (person_of actor.entry)) }
+    ensures refused { IfErr result (λ error. (error ≡ Memory) ⊎ ((error ≡ InvalidTime) × (¬ TellsTime (bstr_bytes actor.entry.time)))) }
+{
+    actor.to_owned(alloc)
+}
+
+fn own_encoding(alloc: Global, encoding: Option<BStr<'_>>) -> Result<Option<ByteString>, Error>
+    ensures own { IfOk result (λ copy. copy ≡ option_map bstr_bytes encoding.entry) }
+    ensures refused { IfErr result (λ error. error ≡ Memory) }
+{
+    match encoding {
+        Some(name) => Ok(Some(own_text(alloc, name)?)),
+        None => Ok(None),
+    }
+}
+
+fn own_text(alloc: Global, text: BStr<'_>) -> Result<ByteString, Error>
+    ensures own { IfOk result (λ copy. copy ≡ bstr_bytes text.entry) }
+    ensures refused { IfErr result (λ error. error ≡ Memory) }
+{
+    match ByteString::from_slice(alloc, text.as_bytes()) {
+        Ok(copy) => Ok(copy),
+        Err(_) => Err(Error::Memory),
+    }
+}
+
+fn own_headers(alloc: Global, headers: &[HeaderRef<'_>]) -> Result<Vec<ExtraHeader>, Error>
+    ensures own { IfOk result (λ copies. AllZip IsHeaderOf (map field_of headers.now) copies.items) }
+    ensures refused { IfErr result (λ error. error ≡ Memory) }
+{
+    let mut copies = Vec::new(alloc);
+    for header in headers {
+        let copy = own_header(alloc, header)?;
+        if copies.push(copy).is_err() {
+            return Err(Error::Memory);
+        }
+    }
+    Ok(copies)
+}
+
+fn own_header(alloc: Global, header: &HeaderRef<'_>) -> Result<ExtraHeader, Error>
+    ensures own { IfOk result (IsHeaderOf (field_of header.now)) }
+    ensures refused { IfErr result (λ error. error ≡ Memory) }
+{
+    let name = own_text(alloc, header.name)?;
+    match header.unfolded(alloc) {
+        Ok(value) => Ok(ExtraHeader { name, value }),
+        Err(_) => Err(Error::Memory),
+    }
+}

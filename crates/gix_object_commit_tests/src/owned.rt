@@ -1,0 +1,141 @@
+//! Commits and blobs that own their parts, and content that comes as a stream.
+
+use crate::table::ROWS;
+use bstr::BStr;
+use gix_hash::io::{self, Interrupt, Progress};
+use gix_hash::{Kind, ObjectId};
+use gix_object_commit::{BlobRef, CommitRef, compute_stream_hash};
+use gix_object_lines::decode::Error;
+use gix_object_lines::lines::{ActorRef, Time};
+use gix_object_lines::{WriteTo, encode, write};
+use std::alloc::Global;
+use std::process::Abort;
+use std::test::Fail;
+
+const COMMIT: &[u8] =
+    b"tree 4b825dc642cb6eb9a060e54bf8d69288fbee4904\nauthor A <a@b> 1 +0000\ncommitter A <a@b> 1 +0000\ngpgsig one\n two\n \n  three\n\nmessage";
+
+#[test]
+fn owns_and_writes_what_git_stored(rt: HostRuntime) -> Result<(), Fail> {
+    for row in ROWS {
+        let commit = CommitRef::from_bytes(rt.alloc(), row.content, row.kind)?;
+        let own = commit.to_owned(rt.alloc())?;
+        assert_eq!(rt; own.parents.len(), row.parents);
+        assert_eq!(rt; own.extra_headers.len(), row.headers);
+        let mut written = Vec::new(rt.alloc());
+        assert!(rt; own.write_to(&mut written).is_ok());
+        assert_eq!(rt; written.as_slice(), row.content);
+        assert_eq!(rt; own.size(), Some(row.content.len() as u64));
+        assert!(rt; own.kind() == gix_object_lines::Kind::Commit);
+        assert!(rt; commit.into_owned(rt.alloc())? == own);
+    }
+    Ok(())
+}
+
+#[test]
+fn headers_are_owned_without_their_spaces(rt: HostRuntime) -> Result<(), Fail> {
+    let own = CommitRef::from_bytes(rt.alloc(), COMMIT, Kind::Sha1)?.into_owned(rt.alloc())?;
+    let header = own.extra_headers.first().ok_or("no header")?;
+    assert_eq!(rt; header.name.as_bytes(), b"gpgsig".as_slice());
+    assert_eq!(rt; header.value.as_bytes(), b"one\ntwo\n\n three".as_slice());
+    Ok(())
+}
+
+#[test]
+fn what_tells_no_id_or_time_is_not_owned(rt: HostRuntime) -> Result<(), Fail> {
+    let mut commit = CommitRef::from_bytes(rt.alloc(), COMMIT, Kind::Sha1)?;
+    let ActorRef { name, email, .. } = commit.author;
+    let time = BStr::new(b"now");
+    commit.author = ActorRef { name, email, time };
+    assert!(rt; commit.to_owned(rt.alloc()).err() == Some(Error::InvalidTime));
+    commit.tree = BStr::new(b"tree");
+    assert!(rt; commit.to_owned(rt.alloc()).err() == Some(Error::HexDigits));
+    Ok(())
+}
+
+#[test]
+fn an_offset_of_seconds_is_not_written(rt: HostRuntime) -> Result<(), Fail> {
+    let mut own = CommitRef::from_bytes(rt.alloc(), COMMIT, Kind::Sha1)?.into_owned(rt.alloc())?;
+    own.author.time = Time {
+        seconds: 1,
+        offset: 30,
+    };
+    let mut written = Vec::new(rt.alloc());
+    assert!(rt;
+        matches!(
+            own.write_to(&mut written),
+            Err(write::Error::Header(encode::Error::Unspellable))
+        )
+    );
+    assert_eq!(rt; written.as_slice(), &COMMIT[..46]);
+    Ok(())
+}
+
+#[test]
+fn own_blobs_are_written(rt: HostRuntime) -> Result<(), Fail> {
+    let blob = BlobRef::from_bytes(b"hello").into_owned(rt.alloc())?;
+    let mut written = Vec::new(rt.alloc());
+    assert!(rt; blob.write_to(&mut written).is_ok());
+    assert_eq!(rt; written.as_slice(), b"hello".as_slice());
+    assert_eq!(rt; blob.size(), Some(5));
+    assert!(rt; blob.kind() == gix_object_lines::Kind::Blob);
+    Ok(())
+}
+
+#[derive(Drop)]
+struct Amount {
+    sum: usize,
+}
+
+impl Progress for Amount {
+    fn inc_by(&mut self, step: usize) {
+        self.sum = self.sum.saturating_add(step);
+    }
+}
+
+#[derive(Drop)]
+struct Answer {
+    yes: bool,
+}
+
+impl Interrupt for Answer {
+    fn asked(&mut self) -> bool {
+        self.yes
+    }
+}
+
+// The id of a blob whose content is the stream's next five bytes, how many bytes were told and how many are left.
+fn hash_five(
+    alloc: Global,
+    mut stream: &[u8],
+    yes: bool,
+) -> (Result<ObjectId, io::Error>, usize, usize) {
+    let mut progress = Amount { sum: 0 };
+    let id = compute_stream_hash(
+        alloc,
+        Kind::Sha1,
+        gix_object_lines::Kind::Blob,
+        &mut stream,
+        5,
+        &mut progress,
+        &mut Answer { yes },
+    );
+    (id, progress.sum, stream.len())
+}
+
+// `printf hello | git hash-object --stdin`
+#[test]
+fn a_stream_has_gits_id(rt: HostRuntime) -> Result<(), Fail> {
+    let wanted = ObjectId::from_hex(b"b6fc4c620b67d95f953a5c1c1230aaab5db5a1b0").map_err(
+        |_| "no id",
+    )?;
+    let (id, told, left) = hash_five(rt.alloc(), b"hello, and more", false);
+    assert!(rt; matches!(id, Ok(id) if id == wanted));
+    assert_eq!(rt; told, 5);
+    assert_eq!(rt; left, 10);
+    let (id, _, _) = hash_five(rt.alloc(), b"hell", false);
+    assert!(rt; matches!(id, Err(io::Error::Io(_))));
+    let (id, _, _) = hash_five(rt.alloc(), b"hello", true);
+    assert!(rt; matches!(id, Err(io::Error::Interrupted)));
+    Ok(())
+}

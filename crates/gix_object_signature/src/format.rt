@@ -1,0 +1,53 @@
+//! The formats of signatures, told by the armor that begins one.
+
+ghost use Rattle.std.specs.Prelude.{◌↔◌, IsTrue, MatchOption};
+ghost use Rattle.gix_object_lines.specs.PartialName.{BeginsWith};
+ghost use Rattle.gix_object_signature.specs.Armor.{BeginsArmor, BeginsNoArmor};
+
+use bstr::BStr;
+
+/// The format of a signature.
+#[derive(Debug, Clone, Copy, PartialEq, Eq)]
+pub enum Format {
+    /// OpenPGP.
+    OpenPgp,
+    /// X.509, in a cryptographic message.
+    X509,
+    /// A key of the secure shell.
+    Ssh,
+}
+
+impl Format {
+    /// The format whose armor begins the signature; `None` where none does.
+    pub fn from_signature(signature: &[u8]) -> Option<Format>
+        ensures { MatchOption result (BeginsNoArmor signature.now) (BeginsArmor signature.now) }
+    {
+        if begins(signature, b"-----BEGIN PGP SIGNATURE-----") {
+            Some(Format::OpenPgp)
+        } else if begins(signature, b"-----BEGIN PGP MESSAGE-----") {
+            Some(Format::OpenPgp)
+        } else if begins(signature, b"-----BEGIN SIGNED MESSAGE-----") {
+            Some(Format::X509)
+        } else if begins(signature, b"-----BEGIN SSH SIGNATURE-----") {
+            Some(Format::Ssh)
+        } else {
+            None
+        }
+    }
+}
+
+/// Whether the text begins with these bytes.
+pub(crate) fn begins(text: &[u8], front: &[u8]) -> bool
+    ensures { IsTrue result ↔ BeginsWith front.now text.now }
+{
+    text.starts_with(front)
+}
+
+/// A signature, and the format that its armor tells.
+#[derive(Debug, Clone, Copy, PartialEq, Eq)]
+pub struct SignatureRef<'a> {
+    /// The signature, from its armor on.
+    pub signature: BStr<'a>,
+    /// The format of its armor.
+    pub format: Format,
+}

@@ -1,0 +1,12 @@
+//! Signatures of Git's objects: their formats, the bytes that they sign, signing and verifying, after the crate
+//! `gix-object` 0.64.
+#![tactic(auto)]
+
+mod format;
+pub mod run;
+pub mod sign;
+mod signed;
+pub mod verify;
+
+pub use crate::format::{Format, SignatureRef};
+pub use crate::signed::SignedData;

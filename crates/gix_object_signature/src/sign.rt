@@ -1,0 +1,264 @@
+//! Signing, after git's gpg-interface.c.
+
+ghost use Rattle.std.specs.Prelude.{◌≡◌, [], ◌∷◌, codes, IfOk, option_map};
+ghost use Rattle.bstr.specs.BStr.{bstr_bytes};
+ghost use Rattle.gix_object_signature.specs.declared.sign.Error.TheVariants.{Memory};
+ghost use Rattle.gix_object_signature.specs.Run.{Plain, File};
+ghost use Rattle.gix_object_signature.specs.Signing as spec;
+ghost use Rattle.gix_object_signature.specs.Signing.{IsOrMemory, Signs, gpg_request, ssh_request, ssh_request_by, error_of, is_confirmed, literal_key, without_cr};
+
+use crate::Format;
+use crate::run::{Answer, Run, RunError, Word};
+use bstr::BStr;
+use gix_object_lines::{ByteString, decode, write};
+use std::alloc::{AllocError, Global};
+use thiserror::Error;
+
+/// What Git's configuration tells of signing.
+#[derive(Debug, Clone, Copy, PartialEq, Eq)]
+pub struct Options<'a> {
+    /// The format of the signature (`gpg.format`).
+    pub format: Format,
+    /// The program that signs (`gpg.program`, `gpg.x509.program`, `gpg.ssh.program`).
+    pub program: BStr<'a>,
+    /// The key that signs (`user.signingKey`): for OpenPGP and X.509 a user's id or a key's, where Git takes the committer
+    /// if none is told; for the secure shell the path of a file, or the public key itself, as `is_literal_ssh_key` tells.
+    pub signing_key: Option<BStr<'a>>,
+}
+
+/// Why nothing was signed.
+#[derive(Debug, Drop, Error)]
+pub enum Error {
+    /// The object to sign was no object.
+    #[error(transparent)]
+    Decode(decode::Error),
+    /// The object to sign can't be written.
+    #[error(transparent)]
+    Encode(write::Error),
+    /// No key is told.
+    #[error("no key to sign with is told")]
+    MissingSigningKey,
+    /// A temporary file wasn't written, or not read again.
+    #[error("a temporary file failed")]
+    TemporaryFile,
+    /// The program wasn't started.
+    #[error("the program that signs wasn't started")]
+    Spawn,
+    /// The program's input wasn't written, or what it wrote wasn't read.
+    #[error("the program that signs didn't communicate")]
+    Communicate,
+    /// The program's status wasn't 0.
+    #[error("the program that signs failed")]
+    Failed,
+    /// The program didn't tell that it made a signature.
+    #[error("the program didn't confirm the signature")]
+    MissingSignatureConfirmation,
+    /// The program of the secure shell wrote no signature.
+    #[error("the program wrote no signature")]
+    MissingSshSignature,
+    /// No memory is left.
+    #[error("out of memory")]
+    Memory,
+}
+
+impl From<RunError> for Error {
+    ghost from_gives = { λ cause error. error ≡ error_of cause };
+
+    fn from(cause: RunError) -> Error {
+        match cause {
+            RunError::TemporaryFile => Error::TemporaryFile,
+            RunError::Spawn => Error::Spawn,
+            RunError::Communicate => Error::Communicate,
+            RunError::Memory => Error::Memory,
+        }
+    }
+}
+
+impl From<AllocError> for Error {
+    ghost from_gives = { λ _ error. error ≡ Memory };
+
+    fn from(_: AllocError) -> Error {
+        Error::Memory
+    }
+}
+
+/// The public key that is told in the place of a file: what stands behind `key::`, or the whole where it begins `ssh-`.
+pub fn is_literal_ssh_key(key: &[u8]) -> Option<&[u8]>
+    ensures { option_map (λ literal. literal.now) result ≡ literal_key key.now }
+{
+    if key.starts_with(b"key::") {
+        Some(&key[5..])
+    } else if key.starts_with(b"ssh-") {
+        Some(key)
+    } else {
+        None
+    }
+}
+
+/// The signature of the content, as a program makes it that the runner runs once.
+///
+/// It is `MissingSigningKey` where no key is told, and nothing is run then; what the runner refuses where it does;
+/// `Failed` where the program failed; `MissingSignatureConfirmation` where it is one of OpenPGP or X.509 and no line of its
+/// errors begins with `[GNUPG:] SIG_CREATED `; `MissingSshSignature` where the secure shell's wrote no signature; and
+/// `Memory` where the signature's copy has none. A carriage return before a line feed is dropped from the signature.
+pub fn sign<R: Run>(
+    alloc: Global,
+    content: &[u8],
+    options: &Options<'_>,
+    runner: &mut R,
+) -> Result<ByteString, Error>
+    ensures { Signs R.answers runner.old content.now options.now result runner.new }
+{
+    let Some(key) = options.signing_key else {
+        return Err(Error::MissingSigningKey);
+    };
+    let answer = match options.format {
+        Format::OpenPgp | Format::X509 => run_gpg(content, options.program, key, runner),
+        Format::Ssh => {
+            if key.as_bytes().is_empty() {
+                return Err(Error::MissingSigningKey);
+            }
+            run_ssh(content, options.program, key, runner)
+        }
+    };
+    signature_of(alloc, options.format, answer)
+}
+
+// What the answer means.
+fn signature_of(
+    alloc: Global,
+    format: Format,
+    answer: Result<Answer, RunError>,
+) -> Result<ByteString, Error>
+    ensures { IsOrMemory (spec.signature_of format answer) result }
+{
+    let answer = answer?;
+    match format {
+        Format::OpenPgp | Format::X509 => gpg_signature(alloc, &answer),
+        Format::Ssh => ssh_signature(alloc, &answer),
+    }
+}
+
+fn gpg_signature(alloc: Global, answer: &Answer) -> Result<ByteString, Error>
+    ensures { IsOrMemory (spec.gpg_signature answer.now) result }
+{
+    if !answer.succeeded {
+        return Err(Error::Failed);
+    }
+    if !tells_signature(answer.errors.as_bytes()) {
+        return Err(Error::MissingSignatureConfirmation);
+    }
+    Ok(drop_returns(alloc, answer.output.as_bytes())?)
+}
+
+fn ssh_signature(alloc: Global, answer: &Answer) -> Result<ByteString, Error>
+    ensures { IsOrMemory (spec.ssh_signature answer.now) result }
+{
+    if !answer.succeeded {
+        return Err(Error::Failed);
+    }
+    if answer.output.as_bytes().is_empty() {
+        return Err(Error::MissingSshSignature);
+    }
+    Ok(drop_returns(alloc, answer.output.as_bytes())?)
+}
+
+fn run_gpg<'a, R: Run>(
+    content: &'a [u8],
+    program: BStr<'a>,
+    key: BStr<'a>,
+    runner: &mut R,
+) -> Result<Answer, RunError>
+    ensures { R.answers runner.old (gpg_request (bstr_bytes program.entry) (bstr_bytes key.entry) content.now) result runner.new }
+{
+    let words = [
+        Word::Text(program),
+        Word::Text(BStr::new(b"--status-fd=2")),
+        Word::Text(BStr::new(b"-bsau")),
+        Word::Text(key),
+    ];
+    runner.run(&words, content)
+}
+
+fn run_ssh<'a, R: Run>(
+    content: &'a [u8],
+    program: BStr<'a>,
+    key: BStr<'a>,
+    runner: &mut R,
+) -> Result<Answer, RunError>
+    ensures { R.answers runner.old (ssh_request (bstr_bytes program.entry) (bstr_bytes key.entry) content.now) result runner.new }
+{
+    match is_literal_ssh_key(key.as_bytes()) {
+        Some(literal) => run_with_literal(content, program, BStr::new(literal), runner),
+        None => run_with_file(content, program, key, runner),
+    }
+}
+
+// The run of a key that is told itself.
+fn run_with_literal<'a, R: Run>(
+    content: &'a [u8],
+    program: BStr<'a>,
+    literal: BStr<'a>,
+    runner: &mut R,
+) -> Result<Answer, RunError>
+    ensures { R.answers runner.old (ssh_request_by (File (bstr_bytes literal.entry) ∷ Plain (codes "-U") ∷ []) (bstr_bytes program.entry) content.now) result runner.new }
+{
+    let words = [
+        Word::Text(program),
+        Word::Text(BStr::new(b"-Y")),
+        Word::Text(BStr::new(b"sign")),
+        Word::Text(BStr::new(b"-n")),
+        Word::Text(BStr::new(b"git")),
+        Word::Text(BStr::new(b"-f")),
+        Word::FileWith(literal),
+        Word::Text(BStr::new(b"-U")),
+        Word::FileToSign(BStr::new(content)),
+    ];
+    runner.run(&words, b"")
+}
+
+// The run of a key whose file is told.
+fn run_with_file<'a, R: Run>(
+    content: &'a [u8],
+    program: BStr<'a>,
+    file: BStr<'a>,
+    runner: &mut R,
+) -> Result<Answer, RunError>
+    ensures { R.answers runner.old (ssh_request_by (Plain (bstr_bytes file.entry) ∷ []) (bstr_bytes program.entry) content.now) result runner.new }
+{
+    let words = [
+        Word::Text(program),
+        Word::Text(BStr::new(b"-Y")),
+        Word::Text(BStr::new(b"sign")),
+        Word::Text(BStr::new(b"-n")),
+        Word::Text(BStr::new(b"git")),
+        Word::Text(BStr::new(b"-f")),
+        Word::Text(file),
+        Word::FileToSign(BStr::new(content)),
+    ];
+    runner.run(&words, b"")
+}
+
+// Whether a line of the status tells that a signature was made.
+fn tells_signature(status: &[u8]) -> bool
+    ensures { result ≡ is_confirmed status.now }
+{
+    status
+        .split(|byte| *byte == b'\n')
+        .any(|line| line.starts_with(b"[GNUPG:] SIG_CREATED "))
+}
+
+// A copy without each carriage return that a line feed follows.
+fn drop_returns(alloc: Global, text: &[u8]) -> Result<ByteString, AllocError>
+    ensures { IfOk result (λ copy. copy ≡ without_cr text.now) }
+{
+    let mut copy = Vec::with_capacity(alloc, text.len())?;
+    let mut rest = text;
+    'bytes: while let Some((byte, behind)) = rest.split_first() {
+        if *byte != b'\r' || !behind.starts_with(b"\n") {
+            copy.push(*byte)?;
+        }
+        rest = behind;
+    }
+    Ok(ByteString::new(copy))
+}

@@ -1,0 +1,58 @@
+-- Objects that own their parts.
+use Rattle.std.specs.Prelude.{◌≡◌, Option, None}
+use Rattle.gix_hash.specs.Id.{id_of}
+use Rattle.gix_hash.specs.Views.{IsHexOfId}
+use Rattle.gix_object_lines.specs.Writes.{Refusal}
+use Rattle.gix_object_lines.specs.declared.decode.Error.{Error}
+use Rattle.gix_object_lines.specs.declared.decode.Error.TheVariants.{Memory}
+use Rattle.gix_object_commit.specs.Owned.{IsCommitOf}
+use Rattle.gix_object_commit.specs.Owned as commit_owned
+use Rattle.gix_object_commit.specs.OwnedText.{own_parts, own_refusal}
+use Rattle.gix_object_tag.specs.Owned.{IsOwnTagger}
+use Rattle.gix_object_tag.specs.Owned as tag_owned
+use Rattle.gix_object_tag.specs.OwnedText.{parts_of_tag, is_bad_actor}
+use Rattle.gix_object_tag.specs.Tag as tag_parts
+use Rattle.gix_object_tag.specs.TagText.{tag_refusal}
+use Rattle.gix_object_tag.specs.declared.tag.owned.Tag as tag_type
+use Rattle.gix_object_tree.specs.Object.{Value, Blob, Commit, Tag}
+use Rattle.gix_object_tree.specs.declared.owned.Object.{Object}
+use Rattle.gix_object_tree.specs.declared.owned.Object.TheVariants as object
+
+-- the value as it is written: ids in lower case, times without leading zeros, header values folded
+abbrev pub own_value : Object → Value
+own_value (object.Blob blob) = Blob blob.content
+own_value (object.Commit commit) = Commit (own_parts commit)
+own_value (object.Tag tag) = Tag (parts_of_tag tag)
+
+-- what of it is refused: an actor also where its offset has no text
+abbrev pub own_value_refusal : Object → Option Refusal
+own_value_refusal (object.Blob blob) = None
+own_value_refusal (object.Commit commit) = own_refusal commit
+own_value_refusal (object.Tag tag) = tag_refusal (parts_of_tag tag) (is_bad_actor tag.tagger)
+
+-- ---- owned from borrowed parts
+
+pub record IsTagOf (parts : tag_parts.Parts) (tag : tag_type.Tag) : Type 0 where
+  pub target : IsHexOfId parts.target (id_of tag.target)
+  pub target_kind : tag.target_kind ≡ parts.target_kind
+  pub name : tag.name ≡ parts.name
+  pub tagger : IsOwnTagger parts.tagger tag.tagger
+  pub message : tag.message ≡ parts.message
+  pub signature : tag.pgp_signature ≡ parts.signature
+
+-- of the same kind, and each part is owned
+abbrev pub IsOwned : Value → Object → Type 0
+IsOwned (Blob bytes) (object.Blob blob) = blob.content ≡ bytes
+IsOwned (Blob bytes) (object.Commit commit) = ⊥
+IsOwned (Blob bytes) (object.Tag tag) = ⊥
+IsOwned (Commit parts) (object.Blob blob) = ⊥
+IsOwned (Commit parts) (object.Commit commit) = IsCommitOf parts commit
+IsOwned (Commit parts) (object.Tag tag) = ⊥
+IsOwned (Tag parts) (object.Blob blob) = ⊥
+IsOwned (Tag parts) (object.Commit commit) = ⊥
+IsOwned (Tag parts) (object.Tag tag) = IsTagOf parts tag
+
+abbrev pub OwningFault : Value → Error → Type 0
+OwningFault (Blob bytes) error = error ≡ Memory
+OwningFault (Commit parts) error = commit_owned.OwningFault parts error
+OwningFault (Tag parts) error = tag_owned.OwningFault parts.target parts.tagger error

@@ -1,0 +1,83 @@
+//! Reading objects.
+
+ghost use Rattle.std.specs.Prelude.{◌≡◌, ◌++◌, ℕ, List, IfOk, IfErr, MatchOption, MatchResult, length};
+ghost use Rattle.gix_object_lines.specs.declared.decode.Error.TheVariants.{Memory};
+ghost use Rattle.gix_object_lines.specs.declared.kind.Kind.{Kind};
+ghost use Rattle.gix_object_lines.specs.declared.kind.Kind.TheVariants as kinds;
+ghost use Rattle.gix_object_tree.specs.Loose.{IsLoose, LooseFault, CutFault, loose_text};
+ghost use Rattle.gix_object_tree.specs.Object.{Value, Tells, ContentFault};
+ghost use Rattle.gix_object_tree.specs.Views.{value_of};
+ghost use Rattle.gix_object_tree.specs.declared.object.LooseDecodeError.TheVariants.{OutOfMemory};
+
+use crate::object::{LooseDecodeError, ObjectRef};
+use gix_object_commit::{BlobRef, CommitRef};
+use gix_object_lines::Kind;
+use gix_object_lines::decode::{Error, loose_header};
+use gix_object_tag::TagRef;
+use std::alloc::Global;
+
+impl<'a> ObjectRef<'a> {
+    /// The object that the bytes are: a header, and then as many bytes of content as it tells, its ids of this hash
+    /// function.
+    ///
+    /// It is `InvalidHeader` where no header begins the bytes. It is `InvalidContent(None)` where fewer bytes stand behind the
+    /// header than it tells, or more, neither of which git-fsck lets pass; and `InvalidContent` with an error of `from_bytes`
+    /// where the content isn't read. It is `OutOfMemory` where no memory is left for a commit's parts.
+    pub fn from_loose(
+        alloc: Global,
+        bytes: &'a [u8],
+        hash_kind: gix_hash::Kind,
+    ) -> Result<ObjectRef<'a>, LooseDecodeError>
+        ensures read { IfOk result (λ object. IsLoose hash_kind bytes.now (value_of object)) }
+        ensures every { (value : Value) → IsLoose hash_kind bytes.now value
+            → MatchResult result (λ object. value_of object ≡ value) (λ fault. fault ≡ OutOfMemory) }
+        ensures refused { IfErr result (λ fault. LooseFault hash_kind bytes.now fault) }
+    {
+        let (kind, content) = split_loose(bytes)?;
+        match ObjectRef::from_bytes(alloc, kind, content, hash_kind) {
+            Ok(object) => Ok(object),
+            Err(Error::Memory) => Err(LooseDecodeError::OutOfMemory),
+            Err(error) => Err(LooseDecodeError::InvalidContent(Some(error))),
+        }
+    }
+
+    /// The object of this kind that the content spells, its ids of this hash function.
+    ///
+    /// Any bytes are a blob. The errors of a commit and a tag are those of their readers, `Memory` only a commit's. The content
+    /// of a tree is `FieldName`: trees aren't read.
+    pub fn from_bytes(
+        alloc: Global,
+        kind: Kind,
+        content: &'a [u8],
+        hash_kind: gix_hash::Kind,
+    ) -> Result<ObjectRef<'a>, Error>
+        ensures read { IfOk result (λ object. Tells hash_kind kind content.now (value_of object)) }
+        ensures every { (value : Value) → Tells hash_kind kind content.now value
+            → MatchResult result (λ object. value_of object ≡ value) (λ fault. (kind ≡ kinds.Commit) × (fault ≡ Memory)) }
+        ensures refused { IfErr result (λ fault. ContentFault hash_kind kind content.now fault) }
+    {
+        match kind {
+            Kind::Tree => Err(Error::FieldName),
+            Kind::Blob => Ok(ObjectRef::Blob(BlobRef::from_bytes(content))),
+            Kind::Commit => Ok(ObjectRef::Commit(CommitRef::from_bytes(
+                alloc, content, hash_kind,
+            )?)),
+            Kind::Tag => Ok(ObjectRef::Tag(TagRef::from_bytes(content, hash_kind)?)),
+        }
+    }
+}
+
+// The kind that a loose object's header tells, and its content.
+fn split_loose(bytes: &[u8]) -> Result<(Kind, &[u8]), LooseDecodeError>
+    ensures read { IfOk result (λ object. bytes.now ≡ loose_text object.0 object.1.now) }
+    ensures every { (kind : Kind) (content : List ℕ) → bytes.now ≡ loose_text kind content
+        → MatchResult result (λ object. (object.0 ≡ kind) × (object.1.now ≡ content)) (λ _. ⊥) }
+    ensures refused { IfErr result (λ fault. CutFault bytes.now fault) }
+{
+    let (kind, size, header) = loose_header(bytes).map_err(LooseDecodeError::InvalidHeader)?;
+    let content = &bytes[header..];
+    if content.len() as u64 != size {
+        return Err(LooseDecodeError::InvalidContent(None));
+    }
+    Ok((kind, content))
+}

@@ -1,0 +1,75 @@
+//! Objects that own their parts.
+
+use crate::table::ROWS;
+use gix_object_commit::{Blob, Commit};
+use gix_object_lines::{ByteString, Kind, WriteTo};
+use gix_object_tag::Tag;
+use gix_object_tree::{Object, ObjectRef};
+use std::convert::TryFrom;
+use std::process::Abort;
+use std::test::Fail;
+
+const COMMIT: &[u8] =
+    b"tree 4b825dc642cb6eb9a060e54bf8d69288fbee4904\nauthor A <a@b> 1 +0000\ncommitter C <c@d> 2 +0100\n\none";
+
+const TAG: &[u8] =
+    b"object 4b825dc642cb6eb9a060e54bf8d69288fbee4904\ntype tree\ntag v1\ntagger A <a@b> 1 +0000\n\none";
+
+#[test]
+fn owned_objects_are_written_back(rt: HostRuntime) -> Result<(), Fail> {
+    for row in ROWS {
+        let borrowed = ObjectRef::from_loose(rt.alloc(), row.bytes, row.hash_kind)?;
+        let object = borrowed.to_owned(rt.alloc())?;
+        assert!(rt; Object::kind(&object) == row.kind);
+        let mut written = Vec::new(rt.alloc());
+        let header = object.loose_header(rt.alloc()).ok_or("too long")?;
+        written.extend_from_slice(header.as_slice())?;
+        assert!(rt; object.write_to(&mut written).is_ok());
+        assert_eq!(rt; written.as_slice(), row.bytes);
+        assert!(rt; borrowed.into_owned(rt.alloc())? == object);
+    }
+    Ok(())
+}
+
+#[test]
+fn an_owned_blob_is_no_other_object(rt: HostRuntime) -> Result<(), Fail> {
+    let content = ByteString::from_slice(rt.alloc(), b"hello")?;
+    let object = Object::from(Blob { content });
+    assert!(rt; object.as_blob().is_some());
+    assert!(rt; object.as_commit().is_none());
+    assert!(rt; object.as_tag().is_none());
+    let blob = object.try_into_blob_ref().ok_or("no blob")?;
+    assert_eq!(rt; blob.content, b"hello".as_slice());
+    let Err(object) = object.try_into_commit() else {
+        return Err(Fail::from("a blob is no commit"));
+    };
+    let Err(object) = object.try_into_tag() else {
+        return Err(Fail::from("a blob is no tag"));
+    };
+    let Ok(blob) = object.try_into_blob() else {
+        return Err(Fail::from("a blob is one"));
+    };
+    assert_eq!(rt;
+        Object::from(blob).into_blob().content.as_bytes(),
+        b"hello".as_slice()
+    );
+    Ok(())
+}
+
+#[test]
+fn owned_parts_are_given_back(rt: HostRuntime) -> Result<(), Fail> {
+    let sha1 = gix_hash::Kind::Sha1;
+    let commit = ObjectRef::from_bytes(rt.alloc(), Kind::Commit, COMMIT, sha1)?;
+    let Ok(commit) = Commit::try_from(commit.into_owned(rt.alloc())?) else {
+        return Err(Fail::from("a commit is one"));
+    };
+    let commit = Object::from(commit).into_commit();
+    assert_eq!(rt; commit.message.as_bytes(), b"one".as_slice());
+    let tag = ObjectRef::from_bytes(rt.alloc(), Kind::Tag, TAG, sha1)?;
+    let Ok(tag) = Tag::try_from(tag.into_owned(rt.alloc())?) else {
+        return Err(Fail::from("a tag is one"));
+    };
+    let tag = Object::from(tag).into_tag();
+    assert_eq!(rt; tag.name.as_bytes(), b"v1".as_slice());
+    Ok(())
+}
