@@ -1,27 +1,25 @@
 -- What an actor's text tells.
-use Rattle.std.proofs.Common.{inl, inr, ◌≡◌, ◌≢◌, ◌∙◌, ap, refl, sym, ℕ, ◌≤◌, true, false, not, ◌&&◌, [], ◌∷◌, ◌++◌, length, append_assoc, arith, tests}
-use Rattle.std.specs.Prelude.{◌==◌, nat_le, Option, Some, None, Result, Ok, Err, MatchOption, MatchResult, IsSomeAnd, IsTrue, IsFalse, codes, decimal}
+use Rattle.std.proofs.Common.{inl, inr, ◌≡◌, ◌≢◌, ◌∙◌, ap, refl, sym, subst, ℕ, ◌≤◌, true, not, ◌&&◌, ◌∷◌, ◌++◌, append_assoc, arith, tests}
+use Rattle.std.specs.Prelude.{nat_le, Option, Some, None, Result, Ok, Err, MatchOption, MatchResult, IsTrue, IsFalse, codes, decimal}
 use Rattle.std.specs.Result.{result_ok}
 use Rattle.std.specs.Str.{IsUtf8}
-use Rattle.std.proofs.lemmas.Bool.Decides.{Decides-eqb}
 use Rattle.std.proofs.lemmas.Str.{IsUtf8-from_ascii}
 use Rattle.std.proofs.lemmas.Fmt.{IsAscii-decimal, decimal_injective}
 use Rattle.history_model.specs.Bytes.{Bytes, has_byte, is_empty}
 use Rattle.history_model.specs.Objects.{Actor, actor_text}
 use Rattle.history_model.specs.Forms.{is_actor, is_actor_part, is_offset, max_seconds}
-use Rattle.history_model.proofs.OnePairTexts.{none_in, part_plain, last_same, actor_same}
+use Rattle.history_model.proofs.OnePairTexts.{part_plain, actor_same}
 use Rattle.history_model.proofs.WholeTexts.{decimal_high}
-use Rattle.std.specs.Prelude.{ℤ, pos, ◌<◌, ◌^◌, ◌⊎◌, unsigned_abs, FitsSigned}
-use Rattle.std.specs.Fmt.{signed_decimal}
+use Rattle.std.specs.Prelude.{pos, unsigned_abs, FitsSigned}
 use Rattle.std.specs.Int.{w64}
 use Rattle.gix_object_lines.specs.Time.{SpellsTime, offset_text}
-use Rattle.gix_object_lines.specs.Actor.{IsCut, SpellsActor}
-use Rattle.gix_object_lines.specs.Actor as lines
+use Rattle.gix_object_lines.specs.Actor.{SpellsActor}
 use Rattle.gix_object_lines.specs.declared.lines.time.Time.{Time}
 use Rattle.gix_object_lines.proofs.TimeLemmas.{seconds_written}
 use Rattle.gix_object_lines.proofs.ActorLemmas.{time_lacks}
 use Rattle.history_store.specs.Actors.{plain_actor, IsFormed, IsNoTime, IsTimeOf}
-use Rattle.history_store.specs.Formats.{actor_of}
+use Rattle.gix_object_commit.specs.Commit.{Person, IsPerson, actor_line}
+use Rattle.history_store.specs.Formats.{actor_of, person_of}
 use Rattle.history_store.specs.declared.actor.Actor as actors
 use Rattle.history_store.proofs.Offsets.{OffsetTold, offset_told}
 use Rattle.history_store.proofs.Spelled.{and_of, cut_same, has_it}
@@ -61,12 +59,6 @@ decimal_is_text n small = IsUtf8-from_ascii (decimal n) (IsAscii-decimal n (omeg
 
 -- ---- texts
 
--- the two ways to spell an actor are one
-pub one_text : (name email : Bytes) (time : Time) → time.seconds ≡ pos (unsigned_abs time.seconds) → lines.actor_text name email time ≡ actor_text (plain_actor name email time)
-one_text name email time since =
-    ap (λ s. name ++ codes " <" ++ email ++ codes "> " ++ (signed_decimal s ++ 32 ∷ offset_text time.offset)) since
-    ∙ sym (append_assoc (name ++ codes " <" ++ email ++ codes "> ") (decimal (unsigned_abs time.seconds)) (32 ∷ offset_text time.offset))
-
 abbrev pub time_words : Actor → Bytes
 time_words actor = decimal actor.seconds ++ 32 ∷ actor.offset
 
@@ -82,15 +74,15 @@ time_spelled actor told small =
       offset = told.spells;
     }
 
--- so its text is read
-pub actor_spelled : (actor : Actor) → IsTrue (is_actor actor) → SpellsActor (actor_text actor) actor.name actor.email (time_words actor)
-actor_spelled actor formed =
+-- so it may stand in an object's line
+pub person_formed : (actor : Actor) → IsTrue (is_actor actor) → IsPerson (person_of actor)
+person_formed actor formed =
     let parts = actor_parts actor formed in
     let told = offset_told actor.offset parts.offset in
     let spelled = time_spelled actor told parts.seconds in
     record {
       cut = record {
-        spelled = append_assoc (actor.name ++ codes " <" ++ actor.email ++ codes "> ") (decimal actor.seconds) (32 ∷ actor.offset);
+        spelled = refl;
         first = part_plain 60 refl actor.name parts.name;
         last = time_lacks (time_words actor) (record { seconds = pos actor.seconds; offset = told.offset }) spelled;
         name_in_line = part_plain 10 refl actor.name parts.name;
@@ -98,6 +90,14 @@ actor_spelled actor formed =
       };
       time_told = (record { seconds = pos actor.seconds; offset = told.offset }, spelled);
     }
+
+-- the two ways to spell it are one
+pub line_of_person : (actor : Actor) → actor_line (person_of actor) ≡ actor_text actor
+line_of_person actor = sym (append_assoc (actor.name ++ codes " <" ++ actor.email ++ codes "> ") (decimal actor.seconds) (32 ∷ actor.offset))
+
+-- and it tells the actor
+pub person_tells : (a b : Actor) → IsTrue (is_actor a) → IsTrue (is_actor b) → person_of a ≡ person_of b → a ≡ b
+person_tells a b a_formed b_formed same = actor_same a b a_formed b_formed (sym (line_of_person a) ∙ ap actor_line same ∙ line_of_person b)
 
 -- ---- the words of a text's time
 
@@ -118,11 +118,9 @@ plain_is actor name email seconds offset time formed names emails words told =
     let behind = told.offset_told.spelled ∙ words.1 in
     λ i. record { name = names i; email = emails i; seconds = same i; offset = behind i }
 
--- a line that was cut is the text of its parts
-pub text_of_parts : (text name email time seconds offset : Bytes) (told : Time) → IsCut text name email time → time ≡ seconds ++ 32 ∷ offset → IsTimeOf seconds offset told → text ≡ actor_text (plain_actor name email told)
-text_of_parts text name email time seconds offset told cut words is =
-    cut.spelled ∙ ap (λ t. name ++ codes " <" ++ email ++ codes "> " ++ t) (words ∙ (λ i. is.seconds_told.spelled i ++ 32 ∷ sym is.offset_told.spelled i))
-    ∙ sym (append_assoc (name ++ codes " <" ++ email ++ codes "> ") (decimal (unsigned_abs told.seconds)) (32 ∷ offset_text told.offset))
+-- the words that were read are the time's
+pub time_of_words : (time seconds offset : Bytes) (told : Time) → time ≡ seconds ++ 32 ∷ offset → IsTimeOf seconds offset told → time ≡ decimal (unsigned_abs told.seconds) ++ 32 ∷ offset_text told.offset
+time_of_words time seconds offset told words is = words ∙ (λ i. is.seconds_told.spelled i ++ 32 ∷ sym is.offset_told.spelled i)
 
 pub formed_there : (actor : Actor) (name email seconds offset : Bytes) (time : Time) → IsTrue (is_actor actor) → plain_actor name email time ≡ actor → IsTimeOf seconds offset time → IsFormed name email time
 formed_there actor name email seconds offset time formed same told = record {
@@ -130,18 +128,23 @@ formed_there actor name email seconds offset time formed same told = record {
   actor = ap is_actor same ∙ formed;
 }
 
--- what is made of the parts answers for the text
-pub answered : (text name email : Bytes) (time : Time) (found : Option actors.Actor) → MatchOption found (¬ IsFormed name email time) (λ a. actor_of a ≡ plain_actor name email time)
-    → text ≡ actor_text (plain_actor name email time) → ((actor : Actor) → IsTrue (is_actor actor) → text ≡ actor_text actor → IsFormed name email time)
-    → MatchOption found ((a : Actor) → IsTrue (is_actor a) → text ≢ actor_text a) (λ a. (text ≡ actor_text (actor_of a)) × IsTrue (is_actor (actor_of a)))
-answered text name email time None unformed is formed = λ actor has same. unformed (formed actor has same)
-answered text name email time (Some a) made is formed = (is ∙ ap actor_text (sym made), (a.formed).actor)
+-- what is made of the parts answers for them
+pub answered : (person : Person) (name email : Bytes) (time : Time) (found : Option actors.Actor) → MatchOption found (¬ IsFormed name email time) (λ a. actor_of a ≡ plain_actor name email time)
+    → person ≡ person_of (plain_actor name email time) → ((actor : Actor) → IsTrue (is_actor actor) → person ≡ person_of actor → IsFormed name email time)
+    → MatchOption found ((a : Actor) → IsTrue (is_actor a) → person ≢ person_of a) (λ a. (person ≡ person_of (actor_of a)) × IsTrue (is_actor (actor_of a)))
+answered person name email time None unformed is formed = λ actor has same. unformed (formed actor has same)
+answered person name email time (Some a) made is formed = (is ∙ ap person_of (sym made), (a.formed).actor)
 
--- ---- readings
+-- ---- lines
 
--- whoever reads an actor's text gets the actor
-pub actor_read : (text : Bytes) (found : Option actors.Actor) (actor : Actor)
+-- an actor's text is read to its parts
+pub parts_read : (text : Bytes) (actor : Actor) → IsTrue (is_actor actor) → text ≡ actor_text actor → SpellsActor text actor.name actor.email (time_words actor)
+parts_read text actor formed is = subst (λ t. SpellsActor t actor.name actor.email (time_words actor)) (line_of_person actor ∙ sym is) (person_formed actor formed)
+
+-- whoever reads the parts of a text's actor reads the text
+pub text_answered : (text : Bytes) (person : Person) (found : Option actors.Actor) → text ≡ actor_line person
+    → ((a : Actor) → IsTrue (is_actor a) → text ≡ actor_text a → person ≡ person_of a)
+    → MatchOption found ((a : Actor) → IsTrue (is_actor a) → person ≢ person_of a) (λ a. (person ≡ person_of (actor_of a)) × IsTrue (is_actor (actor_of a)))
     → MatchOption found ((a : Actor) → IsTrue (is_actor a) → text ≢ actor_text a) (λ a. (text ≡ actor_text (actor_of a)) × IsTrue (is_actor (actor_of a)))
-    → IsTrue (is_actor actor) → text ≡ actor_text actor → IsSomeAnd found (λ a. actor_of a ≡ actor)
-actor_read text None actor told formed is = told actor formed is
-actor_read text (Some a) actor told formed is = actor_same (actor_of a) actor told.1 formed (sym told.0 ∙ is)
+text_answered text person None is told none = λ a formed same. none a formed (told a formed same)
+text_answered text person (Some a) is told some = (is ∙ ap actor_line some.0 ∙ line_of_person (actor_of a), some.1)

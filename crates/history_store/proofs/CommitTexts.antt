@@ -1,124 +1,112 @@
--- A commit's lines are read in one way.
-use Rattle.std.proofs.Common.{◌≡◌, ◌∙◌, ap, refl, sym, arith, true, not, ◌&&◌, List, [], ◌∷◌, ◌++◌, map, length, append_assoc, append-nil}
-use Rattle.std.specs.Prelude.{IsTrue, IsFalse, codes, nat_le}
+-- The plain repository's text of a commit is that of its parts, which tell the commit.
+use Rattle.std.proofs.Common.{◌≡◌, ◌≢◌, ◌∙◌, ap, refl, sym, subst, arith, zero, suc, ℕ, ◌<◌, true, false, not, ◌&&◌, List, [], ◌∷◌, ◌++◌, map, length, get_or, slice_index, append_assoc, nat_lt}
+use Rattle.std.specs.Prelude.{All, IfNone, IsTrue, MatchOption, Option, None, Some, codes, is_some, nat_le, option_map, ◌==◌}
+use Rattle.std.specs.Char.{is_ascii_hexdigit}
 use Rattle.std.specs.List.{flat_map, list_all}
-use Rattle.std.proofs.lemmas.List.{map-append}
-use Rattle.history_model.specs.Bytes.{Bytes, has_byte, has_twice, begins, line}
+use Rattle.std.proofs.lemmas.Bool.Decides.{Decides-eqb}
+use Rattle.std.proofs.lemmas.List.Elements.{All-nil, All-cons}
+use Rattle.gix_hash.specs.Id.{Id, id_of}
+use Rattle.gix_hash.specs.Kind.{hex_len}
+use Rattle.gix_hash.specs.Order.{id_eq}
+use Rattle.gix_hash.specs.Spelling.{hex_character, hex_text}
+use Rattle.gix_hash.specs.declared.kind.Kind.{Kind}
+use Rattle.gix_object_lines.specs.HexLine.{IsHex, hex_line, is_hex}
+use Rattle.gix_object_commit.specs.Commit.{Parts, SpellsCommit, commit_text}
+use Rattle.history_model.specs.Bytes.{Bytes, has_twice, line}
 use Rattle.history_model.specs.Forms.{is_id, is_actor, is_commit_form, title, max_parents, max_title}
 use Rattle.history_model.specs.Objects.{Actor, CommitValue, hex, actor_text, commit_content, folder_id, tree_text, root}
-use Rattle.gix_hash.specs.Id.{Id, id_of}
-use Rattle.gix_hash.specs.Order.{id_eq}
-use Rattle.gix_hash.specs.declared.kind.Kind.{Kind}
-use Rattle.history_model.proofs.OnePairTexts.{hex_high, none_in, actor_one_line}
-use Rattle.history_model.proofs.IdLemmas.{digest_is_id}
-use Rattle.history_store.specs.Commits.{IsCommitOf}
-use Rattle.history_store.specs.Formats.{id_line, commit_text}
+use Rattle.history_model.proofs.IdLemmas.{digest_is_id, has_kind, id_digits, length-hex, low_digit}
+use Rattle.history_model.proofs.OnePairTexts.{hex_same}
+use Rattle.history_store.specs.Commits.{IsCommitOf, IsPlain, has_ids_of}
+use Rattle.history_store.specs.Formats.{parts_of, plain_parts}
 use Rattle.history_store.specs.declared.commit.Commit.{Commit}
-use Rattle.gix_hash.specs.declared.object_id.ObjectId.{ObjectId}
-use Rattle.history_store.proofs.ActorTexts.{stands}
-use Rattle.history_store.proofs.Spelled.{and_of, cut_same, front_same}
+use Rattle.history_store.proofs.ActorTexts.{line_of_person, person_formed, person_tells}
+use Rattle.history_store.proofs.Spelled.{and_from, and_of}
 
--- ---- lines
+-- ---- ids
 
-line_more : (whole rest : Bytes) → line whole ++ rest ≡ whole ++ 10 ∷ rest
-line_more whole rest = append_assoc whole (10 ∷ []) rest
+in_table : (table : Bytes) → IsTrue (is_hex table) → (i : ℕ) → i < length table → IsTrue (is_ascii_hexdigit (slice_index table i))
+in_table [] are i less = absurd (omega arith)
+in_table (c ∷ table) are zero less = (and_of (is_ascii_hexdigit c) (is_hex table) are).0
+in_table (c ∷ table) are (suc i) less = in_table table (and_of (is_ascii_hexdigit c) (is_hex table) are).1 i (omega arith)
 
-pub line_cut : (text front behind whole rest : Bytes) → text ≡ front ++ 10 ∷ behind → IsFalse (has_byte 10 front) → text ≡ line whole ++ rest → IsFalse (has_byte 10 whole) → (front ≡ whole) × (behind ≡ rest)
-line_cut text front behind whole rest cut none is plain = cut_same 10 front whole behind rest none plain (sym cut ∙ is ∙ line_more whole rest)
+hex_is_hex : (digits : List ℕ) → IsTrue (list_all (λ d. nat_lt d 16) digits) → IsTrue (is_hex (hex_text digits))
+hex_is_hex [] are = refl
+hex_is_hex (d ∷ digits) are =
+    let parts = and_of (nat_lt d 16) (list_all (λ d. nat_lt d 16) digits) are in
+    and_from (is_ascii_hexdigit (hex_character d)) (is_hex (hex_text digits)) (in_table (codes "0123456789abcdef") refl d (low_digit d parts.0)) (hex_is_hex digits parts.1)
 
-pub no_line : (text whole rest : Bytes) → text ≡ line whole ++ rest → IsFalse (has_byte 10 text) → ⊥
-no_line text whole rest is none = stands 10 text whole rest (is ∙ line_more whole rest) none
+id_formed : (kind : Kind) (id : Id) → IsTrue (is_id kind id) → IsHex (hex_len kind) (hex id)
+id_formed kind id formed = (length-hex id ∙ (has_kind kind id formed).whole, hex_is_hex id.digits (id_digits kind id formed))
 
-pub id_plain : (word : Bytes) (kind : Kind) (id : Id) → IsFalse (has_byte 10 word) → IsTrue (is_id kind id) → IsFalse (has_byte 10 (word ++ hex id))
-id_plain word kind id plain formed = none_in 10 word (hex id) plain (hex_high 10 (omega arith) kind id formed)
+ids_formed : (kind : Kind) (ids : List Id) → IsTrue (list_all (is_id kind) ids) → All (IsHex (hex_len kind)) (map hex ids)
+ids_formed kind [] are = All-nil (IsHex (hex_len kind))
+ids_formed kind (id ∷ ids) are =
+    let parts = and_of (is_id kind id) (list_all (is_id kind) ids) are in
+    All-cons (IsHex (hex_len kind)) (hex id) (map hex ids) (id_formed kind id parts.0) (ids_formed kind ids parts.1)
 
-pub actor_plain : (word : Bytes) (actor : Actor) → IsFalse (has_byte 10 word) → IsTrue (is_actor actor) → IsFalse (has_byte 10 (word ++ actor_text actor))
-actor_plain word actor plain formed = none_in 10 word (actor_text actor) plain (actor_one_line actor formed)
+ids_tell : (kind : Kind) (a b : List Id) → IsTrue (list_all (is_id kind) a) → IsTrue (list_all (is_id kind) b) → map hex a ≡ map hex b → a ≡ b
+ids_tell kind [] [] a_are b_are same = refl
+ids_tell kind [] (id ∷ ids) a_are b_are same = cc
+ids_tell kind (id ∷ ids) [] a_are b_are same = cc
+ids_tell kind (a ∷ as_ids) (b ∷ bs_ids) a_are b_are same =
+    let a_parts = and_of (is_id kind a) (list_all (is_id kind) as_ids) a_are in
+    let b_parts = and_of (is_id kind b) (list_all (is_id kind) bs_ids) b_are in
+    let head : hex a ≡ hex b = cc in
+    let tail : map hex as_ids ≡ map hex bs_ids = cc in
+    (λ i. hex_same kind a b a_parts.0 b_parts.0 head i ∷ ids_tell kind as_ids bs_ids a_parts.1 b_parts.1 tail i)
 
--- the line of a word and an id that a text begins with
-pub id_told : (text front behind word digits : Bytes) → text ≡ front ++ 10 ∷ behind → IsFalse (has_byte 10 front) → front ≡ word ++ digits
-    → (kind : Kind) (id : Id) (rest : Bytes) → IsTrue (is_id kind id) → IsFalse (has_byte 10 word) → text ≡ line (word ++ hex id) ++ rest → (digits ≡ hex id) × (behind ≡ rest)
-id_told text front behind word digits cut none parts kind id rest formed plain is =
-    let told = line_cut text front behind (word ++ hex id) rest cut none is (id_plain word kind id plain formed) in
-    ((front_same word word digits (hex id) refl (sym parts ∙ told.0)).1, told.1)
+-- ---- parts
 
-pub actor_told : (text front behind word words : Bytes) → text ≡ front ++ 10 ∷ behind → IsFalse (has_byte 10 front) → front ≡ word ++ words
-    → (actor : Actor) (rest : Bytes) → IsTrue (is_actor actor) → IsFalse (has_byte 10 word) → text ≡ line (word ++ actor_text actor) ++ rest → (words ≡ actor_text actor) × (behind ≡ rest)
-actor_told text front behind word words cut none parts actor rest formed plain is =
-    let told = line_cut text front behind (word ++ actor_text actor) rest cut none is (actor_plain word actor plain formed) in
-    ((front_same word word words (actor_text actor) refl (sym parts ∙ told.0)).1, told.1)
+-- such parts are spelled
+pub plain_spelled : (kind : Kind) (tree : Id) (parents : List Id) (author committer : Actor) (message : Bytes) → IsTrue (is_id kind tree) → IsTrue (list_all (is_id kind) parents) → IsTrue (is_actor author) → IsTrue (is_actor committer)
+    → SpellsCommit (hex_len kind) (commit_text (plain_parts tree parents author committer message)) (plain_parts tree parents author committer message)
+plain_spelled kind tree parents author committer message tree_is parents_are author_is committer_is = record {
+  spelled = refl;
+  tree = id_formed kind tree tree_is;
+  parents = ids_formed kind parents parents_are;
+  author = person_formed author author_is;
+  committer = person_formed committer committer_is;
+  encoding = tt;
+  headers = All-nil _;
+  no_encoding = λ none first. first;
+}
 
--- ---- parents
+-- ---- the plain repository's commits
 
-abbrev pub parents_text : List Id → Bytes
-parents_text parents = flat_map (λ parent. line (codes "parent " ++ hex parent)) parents
+abbrev pub value_parts : Kind → CommitValue → Parts
+value_parts kind value = plain_parts (folder_id kind value.files) value.parents value.author value.committer value.message
 
--- of these parents those behind the ids stand in the text, before the rest
-pub record Left (kind : Kind) (parents : List Id) (rest : Bytes) (ids : List ObjectId) (text : Bytes) : Type 0 where
-  pub left : List Id
-  pub formed : IsTrue (list_all (is_id kind) left)
-  pub whole : map id_of ids ++ left ≡ parents
-  pub text_is : text ≡ parents_text left ++ rest
-
-pub one_less : (kind : Kind) (parents : List Id) (rest : Bytes) (ids more : List ObjectId) (text after : Bytes) (id : ObjectId) → Left kind parents rest ids text → IsFalse (begins (codes "parent ") rest)
-    → text ≡ id_line (codes "parent ") id ++ after
-    → ((other : Id) (behind : Bytes) → IsTrue (is_id kind other) → IsFalse (has_byte 10 (codes "parent ")) → text ≡ line (codes "parent " ++ hex other) ++ behind → (id_of id ≡ other) × (after ≡ behind))
-    → more ≡ ids ++ id ∷ [] → Left kind parents rest more after
-one_less kind parents rest ids more text after id so_far ends spelled read is = by_cases so_far.left so_far.formed so_far.whole so_far.text_is
-  where
-    by_cases : (left : List Id) → IsTrue (list_all (is_id kind) left) → map id_of ids ++ left ≡ parents → text ≡ parents_text left ++ rest → Left kind parents rest more after
-    by_cases [] formed whole text_is =
-        let begun : begins (codes "parent ") text ≡ true = ap (begins (codes "parent ")) spelled in
-        absurd (cc (sym ends ∙ ap (begins (codes "parent ")) (sym text_is) ∙ begun))
-    by_cases (p ∷ ps) formed whole text_is =
-        let parts = and_of (is_id kind p) (list_all (is_id kind) ps) formed in
-        let first = read p (parents_text ps ++ rest) parts.0 refl (text_is ∙ append_assoc (line (codes "parent " ++ hex p)) (parents_text ps) rest) in
-        record {
-          left = ps;
-          formed = parts.1;
-          whole = ap (λ m. map id_of m ++ ps) is ∙ ap (λ t. t ++ ps) (map-append id_of ids (id ∷ [])) ∙ append_assoc (map id_of ids) (id_of id ∷ []) ps ∙ ap (λ x. map id_of ids ++ x ∷ ps) first.0 ∙ whole;
-          text_is = first.1;
-        }
-
-pub none_left : (kind : Kind) (parents : List Id) (rest : Bytes) (ids : List ObjectId) (text : Bytes) → Left kind parents rest ids text
-    → ((other : Id) (behind : Bytes) → IsTrue (is_id kind other) → IsFalse (has_byte 10 (codes "parent ")) → text ≡ line (codes "parent " ++ hex other) ++ behind → ⊥)
-    → (map id_of ids ≡ parents) × (text ≡ rest)
-none_left kind parents rest ids text so_far none = by_cases so_far.left so_far.formed so_far.whole so_far.text_is
-  where
-    by_cases : (left : List Id) → IsTrue (list_all (is_id kind) left) → map id_of ids ++ left ≡ parents → text ≡ parents_text left ++ rest → (map id_of ids ≡ parents) × (text ≡ rest)
-    by_cases [] formed whole text_is = (sym (append-nil (map id_of ids)) ∙ whole, text_is)
-    by_cases (p ∷ ps) formed whole text_is =
-        let parts = and_of (is_id kind p) (list_all (is_id kind) ps) formed in
-        absurd (none p (parents_text ps ++ rest) parts.0 refl (text_is ∙ append_assoc (line (codes "parent " ++ hex p)) (parents_text ps) rest))
-
--- ---- whole commits
-
-abbrev pub behind_author : CommitValue → Bytes
-behind_author value = line (codes "committer " ++ actor_text value.committer) ++ (10 ∷ value.message)
-
-abbrev pub behind_parents : CommitValue → Bytes
-behind_parents value = line (codes "author " ++ actor_text value.author) ++ behind_author value
-
-abbrev pub behind_tree : CommitValue → Bytes
-behind_tree value = parents_text value.parents ++ behind_parents value
-
-pub commit_lines : (kind : Kind) (value : CommitValue) → commit_content kind value ≡ line (codes "tree " ++ hex (folder_id kind value.files)) ++ behind_tree value
-commit_lines kind value =
+-- the content of a commit is the text of its parts
+pub content_of_parts : (kind : Kind) (value : CommitValue) → commit_content kind value ≡ commit_text (value_parts kind value)
+content_of_parts kind value =
     six_parts (line (codes "tree " ++ hex (folder_id kind value.files))) (parents_text value.parents) (line (codes "author " ++ actor_text value.author)) (line (codes "committer " ++ actor_text value.committer)) (line []) value.message
+    ∙ (λ i. line (codes "tree " ++ hex (folder_id kind value.files)) ++ (lines_of_parents value.parents i
+    ++ (line (codes "author " ++ sym (line_of_person value.author) i) ++ (line (codes "committer " ++ sym (line_of_person value.committer) i) ++ 10 ∷ value.message))))
   where
+    parents_text : List Id → Bytes
+    parents_text parents = flat_map (λ parent. line (codes "parent " ++ hex parent)) parents
+
     six_parts : (t ps a c n m : Bytes) → t ++ ps ++ a ++ c ++ n ++ m ≡ t ++ (ps ++ (a ++ (c ++ (n ++ m))))
     six_parts t ps a c n m = simp append_assoc
 
-pub tree_formed : (kind : Kind) (value : CommitValue) → IsTrue (is_id kind (folder_id kind value.files))
-tree_formed kind value = digest_is_id kind (tree_text (root kind value.files))
+    lines_of_parents : (parents : List Id) → flat_map (λ parent. line (codes "parent " ++ hex parent)) parents ≡ flat_map (hex_line (codes "parent")) (map hex parents)
+    lines_of_parents [] = refl
+    lines_of_parents (parent ∷ parents) = ap (λ text. line (codes "parent " ++ hex parent) ++ text) (lines_of_parents parents)
 
-pub record CommitParts (kind : Kind) (value : CommitValue) : Type 0 where
+-- what a commit of this crate prints is the value's content
+pub text_of_commit : (kind : Kind) (commit : Commit) (value : CommitValue) → IsCommitOf kind commit value → commit_text (parts_of commit) ≡ commit_content kind value
+text_of_commit kind commit value is =
+    (λ i. commit_text (plain_parts (is.tree i) (is.parents i) (is.author i) (is.committer i) (is.message i))) ∙ sym (content_of_parts kind value)
+
+pub record ValueForms (kind : Kind) (value : CommitValue) : Type 0 where
+  pub tree : IsTrue (is_id kind (folder_id kind value.files))
   pub parents : IsTrue (list_all (is_id kind) value.parents)
   pub author : IsTrue (is_actor value.author)
   pub committer : IsTrue (is_actor value.committer)
 
-pub commit_parts : (kind : Kind) (value : CommitValue) → IsTrue (is_commit_form kind value) → CommitParts kind value
-commit_parts kind value h =
+pub value_forms : (kind : Kind) (value : CommitValue) → IsTrue (is_commit_form kind value) → ValueForms kind value
+value_forms kind value h =
     let ids = list_all (is_id kind) value.parents in
     let count = nat_le (length value.parents) max_parents in
     let once = not (has_twice id_eq value.parents) in
@@ -126,14 +114,81 @@ commit_parts kind value h =
     let b = and_of (ids && count && once && is_actor value.author) (is_actor value.committer) a.0 in
     let c = and_of (ids && count && once) (is_actor value.author) b.0 in
     let d = and_of (ids && count) once c.0 in
-    record { parents = (and_of ids count d.0).0; author = c.1; committer = b.1 }
+    record { tree = digest_is_id kind (tree_text (root kind value.files)); parents = (and_of ids count d.0).0; author = c.1; committer = b.1 }
 
--- what a commit of this crate prints is the value's content
-pub text_of_commit : (kind : Kind) (commit : Commit) (value : CommitValue) → IsCommitOf kind commit value → commit_text commit ≡ commit_content kind value
-text_of_commit kind commit value is = (λ i.
-    line (codes "tree " ++ hex (is.tree i)) ++ (parents_of commit.parents.items ∙ ap parents_text is.parents) i ++ line (codes "author " ++ actor_text (is.author i))
-    ++ line (codes "committer " ++ actor_text (is.committer i)) ++ line [] ++ is.message i)
-  where
-    parents_of : (ids : List ObjectId) → flat_map (λ parent. id_line (codes "parent ") parent) ids ≡ parents_text (map id_of ids)
-    parents_of [] = refl
-    parents_of (id ∷ ids) = ap (λ t. id_line (codes "parent ") id ++ t) (parents_of ids)
+-- its content spells its parts
+pub value_spelled : (kind : Kind) (value : CommitValue) (content : Bytes) → IsTrue (is_commit_form kind value) → content ≡ commit_content kind value → SpellsCommit (hex_len kind) content (value_parts kind value)
+value_spelled kind value content formed is =
+    let forms = value_forms kind value formed in
+    subst (λ text. SpellsCommit (hex_len kind) text (value_parts kind value)) (sym (is ∙ content_of_parts kind value))
+    (plain_spelled kind (folder_id kind value.files) value.parents value.author value.committer value.message forms.tree forms.parents forms.author forms.committer)
+
+pub value_plain : (kind : Kind) (value : CommitValue) (parts : Parts) → IsTrue (is_commit_form kind value) → parts ≡ value_parts kind value → IsPlain kind parts
+value_plain kind value parts formed is =
+    let forms = value_forms kind value formed in
+    subst (IsPlain kind) (sym is) (record {
+      tree = folder_id kind value.files;
+      parents = value.parents;
+      author = value.author;
+      committer = value.committer;
+      tree_is = forms.tree;
+      parents_are = forms.parents;
+      author_is = forms.author;
+      committer_is = forms.committer;
+      parts_are = refl;
+    })
+
+-- a commit of these parts says what the value says
+pub value_told : (kind : Kind) (value : CommitValue) (commit : Commit) → IsTrue (is_commit_form kind value) → parts_of commit ≡ value_parts kind value → IsTrue (has_ids_of kind commit) → IsCommitOf kind commit value
+value_told kind value commit formed is ids =
+    let forms = value_forms kind value formed in
+    let has = and_of (is_id kind (id_of commit.tree)) (list_all (is_id kind) (map id_of commit.parents.items)) ids in
+    record {
+      tree = hex_same kind _ _ has.0 forms.tree (ap (λ p. p.tree) is);
+      parents = ids_tell kind _ _ has.1 forms.parents (ap (λ p. p.parents) is);
+      author = person_tells _ _ ((commit.author).formed).actor forms.author (ap (λ p. p.author) is);
+      committer = person_tells _ _ ((commit.committer).formed).actor forms.committer (ap (λ p. p.committer) is);
+      message = ap (λ p. p.message) is;
+    }
+
+-- so a text of the value is answered with it
+pub value_answered : (kind : Kind) (value : CommitValue) (parts : Parts) (found : Option Commit) → IsTrue (is_commit_form kind value) → parts ≡ value_parts kind value
+    → MatchOption found (¬ IsPlain kind parts) (λ commit. (parts ≡ parts_of commit) × IsTrue (has_ids_of kind commit)) → MatchOption found ⊥ (λ commit. IsCommitOf kind commit value)
+value_answered kind value parts None formed is none = none (value_plain kind value parts formed is)
+value_answered kind value parts (Some commit) formed is told = value_told kind value commit formed (sym told.0 ∙ is) told.1
+
+-- what is refused spells no such parts
+pub none_answered : (kind : Kind) (content : Bytes) (read : Parts) (found : Option Commit) → ((parts : Parts) → SpellsCommit (hex_len kind) content parts → read ≡ parts)
+    → MatchOption found (¬ IsPlain kind read) (λ commit. (read ≡ parts_of commit) × IsTrue (has_ids_of kind commit)) → IfNone found ((parts : Parts) → SpellsCommit (hex_len kind) content parts → ¬ IsPlain kind parts)
+none_answered kind content read None same none = λ parts spelled plain. none (subst (IsPlain kind) (sym (same parts spelled)) plain)
+none_answered kind content read (Some commit) same told = tt
+
+-- ids are told of texts only where each text tells one
+pub none_told : {X : Type 0} (text : X → Bytes) (kind : Kind) (texts : List X) (at : ℕ) (default : X) → at < length texts → ((id : Id) → IsTrue (is_id kind id) → text (get_or texts at default) ≢ hex id)
+    → (ids : List Id) → IsTrue (list_all (is_id kind) ids) → map text texts ≡ map hex ids → ⊥
+none_told text kind [] at default less none ids are same = absurd (omega arith)
+none_told text kind (t ∷ texts) at default less none [] are same = cc
+none_told text kind (t ∷ texts) zero default less none (id ∷ ids) are same =
+    let head : text t ≡ hex id = cc in
+    none id (and_of (is_id kind id) (list_all (is_id kind) ids) are).0 head
+none_told text kind (t ∷ texts) (suc at) default less none (id ∷ ids) are same =
+    let tail : map text texts ≡ map hex ids = cc in
+    none_told text kind texts at default (omega arith) none ids (and_of (is_id kind id) (list_all (is_id kind) ids) are).1 tail
+
+-- ---- a commit without an encoding and further headers
+
+pub none_from : {X : Type 0} (text : X → Bytes) (found : Option X) → is_some found ≡ false → option_map text found ≡ None
+none_from text None without = refl
+none_from text (Some x) without = cc
+
+pub some_apart : {X : Type 0} (text : X → Bytes) (found : Option X) → is_some found ≡ true → option_map text found ≡ None → ⊥
+some_apart text None there without = cc
+some_apart text (Some x) there without = cc
+
+pub empty_from : {X Y : Type 0} (text : X → Y) (xs : List X) (n : ℕ) → n ≡ length xs → (n == 0) ≡ true → map text xs ≡ []
+empty_from text [] n long without = refl
+empty_from text (x ∷ xs) n long without = let none : n ≡ 0 = (Decides-eqb n 0).0 without in absurd (omega arith)
+
+pub more_apart : {X Y : Type 0} (text : X → Y) (xs : List X) (n : ℕ) → n ≡ length xs → (n == 0) ≡ false → map text xs ≡ [] → ⊥
+more_apart text [] n long there without = cc (ap (λ m. m == 0) (sym long) ∙ there)
+more_apart text (x ∷ xs) n long there without = cc

@@ -6,7 +6,9 @@ ghost use Rattle.history_model.specs.Forms.{is_actor_part, is_offset, max_second
 ghost use Rattle.history_store.specs.Actors.{IsFormed, IsNoTime, IsOffsetOf, IsPlainTime, IsSecondsOf, IsTimeOf};
 
 use crate::bytes::split_once;
-use gix_object::lines::{Time, read_actor, read_time, write_actor_parts};
+use bstr::BStr;
+use gix_object::lines::{ActorRef, Time, read_actor, read_time, write_actor_parts, write_time};
+use smallvec::SmallVec;
 use std::alloc::{AllocError, Global};
 
 const MAX_PART: usize = 512;
@@ -30,7 +32,8 @@ impl Actor {
     ghost use Rattle.history_model.specs.Objects.{actor_text};
     ghost use Rattle.history_model.specs.Objects as model;
     ghost use Rattle.history_store.specs.Actors.{plain_actor};
-    ghost use Rattle.history_store.specs.Formats.{actor_of};
+    ghost use Rattle.history_store.specs.Formats.{actor_of, person_of};
+    ghost use Rattle.gix_object_commit.specs.Views as views;
 
     /// The actor of these parts; `None` where one of them is against the written form or its limit.
     pub fn new(name: Vec<u8>, email: Vec<u8>, time: Time) -> Option<Actor>
@@ -62,6 +65,26 @@ impl Actor {
         write_actor_parts(&self.name, &self.email, self.time, out).map_err(|_| AllocError)
     }
 
+    /// The actor's parts as lines of objects have them; the text of its time is `time_text`'s.
+    pub(crate) fn to_ref<'a>(&'a self, time: &'a [u8]) -> ActorRef<'a>
+        ensures { views.person_of result ≡ record { name = self.now.name.items; email = self.now.email.items; time = time.now } }
+    {
+        ActorRef {
+            name: BStr::new(&self.name),
+            email: BStr::new(&self.email),
+            time: BStr::new(time),
+        }
+    }
+
+    /// The text of its time, which takes no memory.
+    pub(crate) fn time_text(&self, alloc: Global) -> Result<SmallVec<u8, 32>, AllocError>
+        ensures { IfOk result (λ text. text.items ≡ (person_of (actor_of self.now)).time) }
+    {
+        let mut text = SmallVec::new(alloc);
+        write_time(self.time, &mut text).map_err(|_| AllocError)?;
+        Ok(text)
+    }
+
     /// The actor that a text spells; `None` where it spells none. The seconds are a number in decimal without a leading zero, of
     /// 9,223,372,036,854,775,807 at most, the minutes are below 60, and `-0000` is no offset.
     pub fn parse(alloc: Global, text: &[u8]) -> Result<Option<Actor>, AllocError>
@@ -69,9 +92,18 @@ impl Actor {
             ((actor : model.Actor) → IsTrue (is_actor actor) → text.now ≢ actor_text actor)
             (λ actor. (text.now ≡ actor_text (actor_of actor)) × IsTrue (is_actor (actor_of actor)))) }
     {
-        let Ok(parts) = read_actor(text) else {
-            return Ok(None);
-        };
+        match read_actor(text) {
+            Ok(parts) => Actor::from_ref(alloc, parts),
+            Err(_) => Ok(None),
+        }
+    }
+
+    /// The actor of these parts of a line; `None` where they are none's, as `parse` tells it.
+    pub(crate) fn from_ref(alloc: Global, parts: ActorRef<'_>) -> Result<Option<Actor>, AllocError>
+        ensures { IfOk result (λ found. MatchOption found
+            ((actor : model.Actor) → IsTrue (is_actor actor) → views.person_of parts.entry ≢ person_of actor)
+            (λ actor. (views.person_of parts.entry ≡ person_of (actor_of actor)) × IsTrue (is_actor (actor_of actor)))) }
+    {
         let Some((seconds, offset)) = split_once(parts.time.as_bytes(), b' ') else {
             return Ok(None);
         };

@@ -1,19 +1,23 @@
-// A commit's content: lines on its tree, its parents, its author and its committer, an empty line, and the message.
-ghost use Rattle.std.specs.Prelude.{◌≡◌, ◌<◌, ◌++◌, List, length, map, codes, IfOk, IfSome, IsSomeAnd, MatchOption, OnOk, IsTrue, IsFalse};
-ghost use Rattle.std.specs.List.{flat_map, list_all};
-ghost use Rattle.history_model.specs.Bytes.{Bytes, has_byte, begins, line};
-ghost use Rattle.history_model.specs.Forms.{is_id, is_actor, is_commit_form};
-ghost use Rattle.history_model.specs.Objects.{CommitValue, hex, actor_text, commit_content};
+// A commit. Its text is read and written by `gix_object`.
+ghost use Rattle.std.specs.Prelude.{◌≡◌, ◌≢◌, List, map, IfOk, IfSome, IfNone, MatchOption, IsTrue};
+ghost use Rattle.std.specs.List.{list_all};
+ghost use Rattle.bstr.specs.BStr.{bstr_bytes};
 ghost use Rattle.gix_hash.specs.Id.{Id, id_of};
-ghost use Rattle.history_model.specs.Objects as model;
-ghost use Rattle.gix_hash.specs.declared.kind.Kind.{Kind};
-ghost use Rattle.history_store.specs.Commits.{IsCommitOf, has_ids_of};
-ghost use Rattle.history_store.specs.Formats.{actor_of, commit_text, id_line, actor_line};
+ghost use Rattle.gix_hash.specs.Kind.{hex_len};
+ghost use Rattle.gix_object_commit.specs.Commit.{Parts, SpellsCommit, commit_text};
+ghost use Rattle.gix_object_commit.specs.Views as views;
+ghost use Rattle.history_model.specs.Forms.{is_id, is_commit_form};
+ghost use Rattle.history_model.specs.Objects.{CommitValue, hex, commit_content};
+ghost use Rattle.history_store.specs.Commits.{AreTextsOf, IsCommitOf, IsPlain, has_ids_of};
+ghost use Rattle.history_store.specs.Formats.{parts_of};
 
 use crate::actor::Actor;
-use crate::bytes::{split_once, strip_prefix};
-use crate::id_text::{hex_digits, parse_hex, push_hex};
+use crate::id_text::{hex_digits, parse_lower_hex};
+use bstr::BStr;
 use gix_hash::{Kind, ObjectId};
+use gix_object::decode::Error;
+use gix_object::{CommitRef, WriteTo};
+use smallvec::SmallVec;
 use std::alloc::{AllocError, Global};
 
 /// What a commit says.
@@ -29,129 +33,162 @@ pub struct Commit {
 impl Commit {
     /// The commit's content.
     pub fn to_bytes(&self, alloc: Global) -> Result<Vec<u8>, AllocError>
-        ensures { IfOk result (λ text. text.items ≡ commit_text self.now) }
+        ensures { IfOk result (λ text. text.items ≡ commit_text (parts_of self.now)) }
     {
-        let mut text = Vec::new(alloc);
-        write_id_line(&mut text, b"tree ", &self.tree)?;
-        for parent in &self.parents {
-            write_id_line(&mut text, b"parent ", parent)?;
-        }
-        write_actor_line(&mut text, b"author ", &self.author)?;
-        write_actor_line(&mut text, b"committer ", &self.committer)?;
-        text.push(b'\n')?;
-        text.extend_from_slice(&self.message)?;
-        Ok(text)
+        let texts = Texts::new(alloc, self)?;
+        let parts = self.to_ref(alloc, &texts)?;
+        content_of(alloc, &parts)
     }
 
-    /// The commit that a content spells, with ids of this kind; `None` where it spells none. Ids are in lower-case hex, and there are
-    /// no further lines.
+    // The commit's parts, lent. The texts are its own.
+    fn to_ref<'a>(&'a self, alloc: Global, texts: &'a Texts) -> Result<CommitRef<'a>, AllocError>
+        requires { AreTextsOf texts.now self.now }
+        ensures { IfOk result (λ parts. views.parts_of parts ≡ parts_of self.now) }
+    {
+        Ok(CommitRef {
+            tree: BStr::new(texts.tree.as_slice()),
+            parents: lent(alloc, texts.parents.as_slice())?,
+            author: self.author.to_ref(texts.author_time.as_slice()),
+            committer: self.committer.to_ref(texts.committer_time.as_slice()),
+            encoding: None,
+            message: BStr::new(&self.message),
+            extra_headers: Vec::new(alloc),
+        })
+    }
+
+    /// The commit that a content spells, with ids of this kind; `None` where it spells none: ids are in lower-case hex, both actors
+    /// as `Actor` has them, and no encoding and no further headers are told.
     pub fn parse(alloc: Global, kind: Kind, content: &[u8]) -> Result<Option<Commit>, AllocError>
-        ensures spelled { IfOk result (λ found. IfSome found (λ commit. content.now ≡ commit_text commit)) }
+        ensures spelled { IfOk result (λ found. IfSome found (λ commit. SpellsCommit (hex_len kind) content.now (parts_of commit))) }
         ensures kinds { IfOk result (λ found. IfSome found (λ commit. IsTrue (has_ids_of kind commit))) }
+        ensures none { IfOk result (λ found. IfNone found ((parts : Parts) → SpellsCommit (hex_len kind) content.now parts → ¬ IsPlain kind parts)) }
         ensures read { IfOk result (λ found. (value : CommitValue) → IsTrue (is_commit_form kind value) → content.now ≡ commit_content kind value
             → MatchOption found ⊥ (λ commit. IsCommitOf kind commit value)) }
     {
-        let Some((tree, rest)) = parse_id_line(kind, content, b"tree ") else {
-            return Ok(None)
-        };
-        let (parents, rest) = parse_parents(alloc, kind, rest)?;
-        let Some((author, rest)) = parse_actor_line(alloc, rest, b"author ")? else {
-            return Ok(None)
-        };
-        let Some((committer, rest)) = parse_actor_line(alloc, rest, b"committer ")? else {
-            return Ok(None)
-        };
-        let Some(message) = strip_prefix(rest, b"\n") else {
-            return Ok(None)
-        };
-        Ok(Some(Commit {
-            tree,
-            parents,
-            author,
-            committer,
-            message: Vec::from_slice(alloc, message)?,
-        }))
+        match CommitRef::from_bytes(alloc, content, kind) {
+            Ok(parts) => commit_of(alloc, kind, &parts),
+            Err(fault) => match fault {
+                Error::Memory => Err(AllocError),
+                _ => Ok(None),
+            },
+        }
     }
 }
 
-// A line of a word and an id.
-fn write_id_line(text: &mut Vec<u8>, word: &[u8], id: &ObjectId) -> Result<(), AllocError>
-    ensures { OnOk result (text.new.items ≡ text.old.items ++ id_line word.now id.now) }
+// Most commits' texts have no more bytes, and grow no further.
+const USUAL_LENGTH: usize = 512;
+
+// The content of the commit of these parts.
+fn content_of(alloc: Global, parts: &CommitRef<'_>) -> Result<Vec<u8>, AllocError>
+    ensures { IfOk result (λ text. text.items ≡ commit_text (views.parts_of parts.now)) }
 {
-    text.extend_from_slice(word)?;
-    push_hex(text, id)?;
-    text.push(b'\n')?;
-    Ok(())
+    let mut text = Vec::with_capacity(alloc, USUAL_LENGTH)?;
+    // Each commit can be spelled, so only a growth is refused.
+    parts.write_to(&mut text).map_err(|_| AllocError)?;
+    Ok(text)
 }
 
-// A line of a word and an actor.
-fn write_actor_line(text: &mut Vec<u8>, word: &[u8], actor: &Actor) -> Result<(), AllocError>
-    ensures { OnOk result (text.new.items ≡ text.old.items ++ actor_line word.now actor.now) }
-{
-    text.extend_from_slice(word)?;
-    actor.write_to(text)?;
-    text.push(b'\n')?;
-    Ok(())
+// The digits of an id, and the text of a time. They stand in the value itself and take no memory.
+type HexText = SmallVec<u8, 64>;
+
+// The texts of a commit's ids and times, which are lent to write it.
+#[derive(Drop)]
+struct Texts {
+    tree: HexText,
+    parents: SmallVec<HexText, 1>,
+    author_time: SmallVec<u8, 32>,
+    committer_time: SmallVec<u8, 32>,
 }
 
-// The id of the line of this word that a text begins with, and the text behind it.
-fn parse_id_line<'a>(kind: Kind, text: &'a [u8], word: &[u8]) -> Option<(ObjectId, &'a [u8])>
-    ensures spelled { IfSome result (λ r. text.now ≡ id_line word.now r.0 ++ r.1.now) }
-    ensures kind { IfSome result (λ r. IsTrue (is_id kind (id_of r.0))) }
-    ensures shorter { IfSome result (λ r. length r.1.now < length text.now) }
-    ensures read { (id : Id) (rest : Bytes) → IsTrue (is_id kind id) → IsFalse (has_byte 10 word.now) → text.now ≡ line (word.now ++ hex id) ++ rest
-        → IsSomeAnd result (λ r. (id_of r.0 ≡ id) × (r.1.now ≡ rest)) }
-{
-    let (line, rest) = split_once(text, b'\n')?;
-    let digits = strip_prefix(line, word)?;
-    let id = parse_hex(kind, digits)?;
-    let mut lower = Kind::hex_buf();
-    if hex_digits(&id, &mut lower) == digits {
-        Some((id, rest))
-    } else {
-        None
+impl Texts {
+    // The texts of this commit.
+    fn new(alloc: Global, commit: &Commit) -> Result<Texts, AllocError>
+        ensures { IfOk result (λ texts. AreTextsOf texts commit.now) }
+    {
+        Ok(Texts {
+            tree: hex_text(alloc, &commit.tree)?,
+            parents: hex_texts(alloc, &commit.parents)?,
+            author_time: commit.author.time_text(alloc)?,
+            committer_time: commit.committer.time_text(alloc)?,
+        })
     }
 }
 
-// The ids of the lines on parents that a text begins with, and the text behind them.
-fn parse_parents(
+// The lower-case hex digits of an id.
+fn hex_text(alloc: Global, id: &ObjectId) -> Result<HexText, AllocError>
+    ensures { IfOk result (λ text. text.items ≡ hex (id_of id.now)) }
+{
+    let mut buffer = Kind::hex_buf();
+    SmallVec::from_slice(alloc, hex_digits(id, &mut buffer))
+}
+
+// The lower-case hex digits of each id.
+fn hex_texts(alloc: Global, ids: &[ObjectId]) -> Result<SmallVec<HexText, 1>, AllocError>
+    ensures { IfOk result (λ texts. map (λ text. text.items) texts.items ≡ map hex (map id_of ids.now)) }
+{
+    let mut texts = SmallVec::new(alloc);
+    for id in ids {
+        texts.push(hex_text(alloc, id)?)?;
+    }
+    Ok(texts)
+}
+
+// The texts, lent.
+fn lent(alloc: Global, texts: &[HexText]) -> Result<SmallVec<BStr<'_>, 1>, AllocError>
+    ensures { IfOk result (λ lent. map bstr_bytes lent.items ≡ map (λ text. text.items) texts.now) }
+{
+    let mut views = SmallVec::new(alloc);
+    for text in texts {
+        views.push(BStr::new(text.as_slice()))?;
+    }
+    Ok(views)
+}
+
+// The commit of these parts; `None` where they aren't all as this crate writes them.
+fn commit_of(alloc: Global, kind: Kind, parts: &CommitRef<'_>) -> Result<Option<Commit>, AllocError>
+    ensures { IfOk result (λ found. MatchOption found (¬ IsPlain kind (views.parts_of parts.now))
+        (λ commit. (views.parts_of parts.now ≡ parts_of commit) × IsTrue (has_ids_of kind commit))) }
+{
+    if parts.encoding.is_some() || !parts.extra_headers.is_empty() {
+        return Ok(None);
+    }
+    let Some(tree) = parse_lower_hex(kind, parts.tree.as_bytes()) else {
+        return Ok(None);
+    };
+    let Some(parents) = ids_of(alloc, kind, parts.parents.as_slice())? else {
+        return Ok(None);
+    };
+    let Some(author) = Actor::from_ref(alloc, parts.author)? else {
+        return Ok(None);
+    };
+    let Some(committer) = Actor::from_ref(alloc, parts.committer)? else {
+        return Ok(None);
+    };
+    Ok(Some(Commit {
+        tree,
+        parents,
+        author,
+        committer,
+        message: Vec::from_slice(alloc, parts.message.as_bytes())?,
+    }))
+}
+
+// The ids that these texts spell; `None` where one of them spells none.
+fn ids_of(
     alloc: Global,
     kind: Kind,
-    text: &[u8],
-) -> Result<(Vec<ObjectId>, &[u8]), AllocError>
-    ensures spelled { IfOk result (λ r. text.now ≡ flat_map (λ parent. id_line (codes "parent ") parent) r.0.items ++ r.1.now) }
-    ensures kinds { IfOk result (λ r. IsTrue (list_all (is_id kind) (map id_of r.0.items))) }
-    ensures read { (parents : List Id) (rest : Bytes) → IsTrue (list_all (is_id kind) parents) → IsFalse (begins (codes "parent ") rest)
-        → text.now ≡ flat_map (λ parent. line (codes "parent " ++ hex parent)) parents ++ rest
-        → IfOk result (λ r. (map id_of r.0.items ≡ parents) × (r.1.now ≡ rest)) }
+    texts: &[BStr<'_>],
+) -> Result<Option<Vec<ObjectId>>, AllocError>
+    ensures { IfOk result (λ found. MatchOption found
+        ((ids : List Id) → IsTrue (list_all (is_id kind) ids) → map bstr_bytes texts.now ≢ map hex ids)
+        (λ ids. IsTrue (list_all (is_id kind) (map id_of ids.items)) × (map bstr_bytes texts.now ≡ map hex (map id_of ids.items)))) }
 {
-    let mut parents = Vec::new(alloc);
-    let mut rest = text;
-    while let Some((parent, after)) = parse_id_line(kind, rest, b"parent ") {
-        parents.push(parent)?;
-        rest = after;
+    let mut ids = Vec::new(alloc);
+    for text in texts {
+        let Some(id) = parse_lower_hex(kind, text.as_bytes()) else {
+            return Ok(None);
+        };
+        ids.push(id)?;
     }
-    Ok((parents, rest))
-}
-
-// The actor of the line of this word that a text begins with, and the text behind it.
-fn parse_actor_line<'a>(
-    alloc: Global,
-    text: &'a [u8],
-    word: &[u8],
-) -> Result<Option<(Actor, &'a [u8])>, AllocError>
-    ensures spelled { IfOk result (λ found. IfSome found (λ r. text.now ≡ actor_line word.now r.0 ++ r.1.now)) }
-    ensures read { (actor : model.Actor) (rest : Bytes) → IsTrue (is_actor actor) → IsFalse (has_byte 10 word.now) → text.now ≡ line (word.now ++ actor_text actor) ++ rest
-        → IfOk result (λ found. IsSomeAnd found (λ r. (actor_of r.0 ≡ actor) × (r.1.now ≡ rest))) }
-{
-    let Some((line, rest)) = split_once(text, b'\n') else {
-        return Ok(None);
-    };
-    let Some(text) = strip_prefix(line, word) else {
-        return Ok(None);
-    };
-    match Actor::parse(alloc, text)? {
-        Some(actor) => Ok(Some((actor, rest))),
-        None => Ok(None),
-    }
+    Ok(Some(ids))
 }

@@ -1,6 +1,7 @@
 // Ids as Git's texts spell them: in lower-case hexadecimal, and read in either letter case.
-ghost use Rattle.std.specs.Prelude.{◌≡◌, ◌++◌, OnOk, option_map};
-ghost use Rattle.gix_hash.specs.Id.{id_of};
+ghost use Rattle.std.specs.Prelude.{◌≡◌, ◌≢◌, ◌++◌, OnOk, option_map, MatchOption, IsTrue};
+ghost use Rattle.gix_hash.specs.Id.{Id, id_of};
+ghost use Rattle.history_model.specs.Forms.{is_id};
 ghost use Rattle.history_model.specs.Objects.{hex};
 ghost use Rattle.history_model.specs.PackedNames.{id_from_hex};
 
@@ -28,4 +29,18 @@ pub fn parse_hex(kind: Kind, digits: &[u8]) -> Option<ObjectId>
 {
     let id = ObjectId::from_hex(digits).ok()?;
     if id.kind() == kind { Some(id) } else { None }
+}
+
+/// The id of this kind that hex digits spell, all in lower case; `None` where they spell none.
+pub fn parse_lower_hex(kind: Kind, digits: &[u8]) -> Option<ObjectId>
+    ensures { MatchOption result ((id : Id) → IsTrue (is_id kind id) → digits.now ≢ hex id)
+        (λ id. IsTrue (is_id kind (id_of id)) × (digits.now ≡ hex (id_of id))) }
+{
+    let id = parse_hex(kind, digits)?;
+    let mut lower = Kind::hex_buf();
+    if hex_digits(&id, &mut lower) == digits {
+        Some(id)
+    } else {
+        None
+    }
 }

@@ -268,6 +268,9 @@ fn is_empty_tree(object: ObjectKind, content: &[u8]) -> bool
     matches!(object, ObjectKind::Tree) && content.is_empty()
 }
 
+// `objects/`, the digits of a SHA-256 id and the slash between them.
+const LONGEST_PLACE: usize = 73;
+
 /// The path of an object's file.
 pub fn object_place(alloc: Global, id: &ObjectId) -> Result<Vec<u8>, AllocError>
     ensures { IfOk result (λ place. place.items ≡ object_place (id_of id.now)) }
@@ -276,7 +279,8 @@ pub fn object_place(alloc: Global, id: &ObjectId) -> Result<Vec<u8>, AllocError>
     let _bytes = id.as_bytes();
     let mut buffer = Kind::hex_buf();
     let (folder, file) = hex_digits(id, &mut buffer).split_at(2);
-    let mut place = Vec::from_slice(alloc, b"objects/")?;
+    let mut place = Vec::with_capacity(alloc, LONGEST_PLACE)?;
+    place.extend_from_slice(b"objects/")?;
     place.extend_from_slice(folder)?;
     place.push(b'/')?;
     place.extend_from_slice(file)?;
@@ -289,7 +293,7 @@ fn without_front(mut text: Vec<u8>, front: usize) -> Vec<u8>
     ensures { result.items ≡ drop front text.items }
 {
     let length = text.len();
-    text.rotate_left(front);
+    text.copy_within(front..length, 0);
     text.truncate(length - front);
     text
 }

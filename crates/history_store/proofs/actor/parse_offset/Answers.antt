@@ -1,5 +1,5 @@
-use Rattle.std.proofs.Common.{◌≡◌, ◌∙◌, ap, sym, subst, rules, arith, length, get_or, ◌<◌, None, Some, Option, Result, Ok, Err, ℤ, Bool, true}
-use Rattle.std.specs.Prelude.{FitsSigned, IfOk, codes}
+use Rattle.std.proofs.Common.{◌≡◌, ◌∙◌, ap, sym, subst, rules, arith, get_or, ◌<◌, None, Some, Option, Result, Ok, Err}
+use Rattle.std.specs.Prelude.{FitsSigned, IfOk}
 use Rattle.std.specs.Int.{w32}
 use Rattle.std.specs.Result.{result_ok}
 use Rattle.std.proofs.lemmas.Bool.Decides.{Decides-eqb}

@@ -29,6 +29,7 @@ joined front first rest hex a b d e is_a is_b is_d is_e is_rest is_first =
 
 pub returns : goal.returns
 returns c =
-    joined (codes "objects/") _ _ (hex (id_of c.args.id.now)) c.in_ok-place.place.items c.extend_from_slice.new.self.items c.push.new.self.items _
-    c.in_ok-place.ensures.items c.in_ok-extend_from_slice.ensures.items c.in_ok-push.ensures.items c.in_ok-extend_from_slice-2.ensures.items
+    joined (codes "objects/") _ _ (hex (id_of c.args.id.now)) c.extend_from_slice.new.self.items c.extend_from_slice-2.new.self.items c.push.new.self.items _
+    (c.in_ok-extend_from_slice.ensures.items ∙ ap (λ items. items ++ codes "objects/") c.in_ok-place.ensures.items)
+    c.in_ok-extend_from_slice-2.ensures.items c.in_ok-push.ensures.items c.in_ok-extend_from_slice-3.ensures.items
     (c.split_at.ensures.back ∙ ap (drop 2) c.hex_digits.ensures) (c.split_at.ensures.front ∙ ap (take 2) c.hex_digits.ensures)
