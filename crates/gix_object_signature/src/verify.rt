@@ -107,6 +107,7 @@ impl TrustLevel {
             None
         }
     }
+
     // How many levels are below.
     fn rank(self) -> u8
         ensures { result ≡ rank_of self }

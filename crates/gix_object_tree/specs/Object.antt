@@ -6,9 +6,10 @@ use Rattle.gix_object_lines.specs.Writes.{Refusal}
 use Rattle.gix_object_lines.specs.declared.kind.Kind.{Kind}
 use Rattle.gix_object_lines.specs.declared.kind.Kind.TheVariants as kinds
 use Rattle.gix_object_lines.specs.declared.decode.Error.{Error}
-use Rattle.gix_object_lines.specs.declared.decode.Error.TheVariants.{FieldName, Memory}
+use Rattle.gix_object_lines.specs.declared.decode.Error.TheVariants.{FieldName}
 use Rattle.gix_object_commit.specs.Commit as commit
 use Rattle.gix_object_commit.specs.Commit.{SpellsCommit, commit_text}
+use Rattle.gix_object_commit.specs.Faults.{CommitFault}
 use Rattle.gix_object_commit.specs.Writing.{commit_refusal}
 use Rattle.gix_object_tag.specs.Faults.{TagFault}
 use Rattle.gix_object_tag.specs.Tag as tag
@@ -37,11 +38,11 @@ pub record Tells (ids : hash.Kind) (kind : Kind) (content : List ℕ) (value : V
   pub of_kind : kind ≡ kind_of value
   pub spelled : SpellsValue ids content value
 
--- why content of a kind isn't read: a tree's never is, a blob's always; a tag's tells its first part that fails
+-- why content of a kind isn't read: a tree's never is, a blob's always; a commit and a tag tell their first part that fails
 abbrev pub ContentFault : hash.Kind → Kind → List ℕ → Error → Type 0
 ContentFault ids kinds.Tree content error = error ≡ FieldName
 ContentFault ids kinds.Blob content error = ⊥
-ContentFault ids kinds.Commit content error = (parts : commit.Parts) → SpellsCommit (hex_len ids) content parts → error ≡ Memory
+ContentFault ids kinds.Commit content error = CommitFault (hex_len ids) content error
 ContentFault ids kinds.Tag content error = TagFault ids content error
 
 -- ---- what is written

@@ -174,21 +174,3 @@ none_told text kind (t ∷ texts) zero default less none (id ∷ ids) are same =
 none_told text kind (t ∷ texts) (suc at) default less none (id ∷ ids) are same =
     let tail : map text texts ≡ map hex ids = cc in
     none_told text kind texts at default (omega arith) none ids (and_of (is_id kind id) (list_all (is_id kind) ids) are).1 tail
-
--- ---- a commit without an encoding and further headers
-
-pub none_from : {X : Type 0} (text : X → Bytes) (found : Option X) → is_some found ≡ false → option_map text found ≡ None
-none_from text None without = refl
-none_from text (Some x) without = cc
-
-pub some_apart : {X : Type 0} (text : X → Bytes) (found : Option X) → is_some found ≡ true → option_map text found ≡ None → ⊥
-some_apart text None there without = cc
-some_apart text (Some x) there without = cc
-
-pub empty_from : {X Y : Type 0} (text : X → Y) (xs : List X) (n : ℕ) → n ≡ length xs → (n == 0) ≡ true → map text xs ≡ []
-empty_from text [] n long without = refl
-empty_from text (x ∷ xs) n long without = let none : n ≡ 0 = (Decides-eqb n 0).0 without in absurd (omega arith)
-
-pub more_apart : {X Y : Type 0} (text : X → Y) (xs : List X) (n : ℕ) → n ≡ length xs → (n == 0) ≡ false → map text xs ≡ [] → ⊥
-more_apart text [] n long there without = cc (ap (λ m. m == 0) (sym long) ∙ there)
-more_apart text (x ∷ xs) n long there without = cc

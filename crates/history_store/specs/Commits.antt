@@ -1,5 +1,5 @@
 -- What a commit of this crate says, in the words of the plain repository.
-use Rattle.std.specs.Prelude.{◌≡◌, Bool, ◌&&◌, List, map, IsTrue}
+use Rattle.std.specs.Prelude.{◌≡◌, Bool, ◌&&◌, List, [], None, map, IsTrue}
 use Rattle.std.specs.List.{list_all}
 use Rattle.history_model.specs.Forms.{is_id, is_actor}
 use Rattle.history_model.specs.Objects.{Actor, CommitValue, folder_id, hex}
@@ -21,6 +21,10 @@ pub record IsCommitOf (kind : Kind) (commit : Commit) (value : CommitValue) : Ty
 -- the ids that the commit names are of this kind
 abbrev pub has_ids_of : Kind → Commit → Bool
 has_ids_of kind commit = is_id kind (id_of commit.tree) && list_all (is_id kind) (map id_of commit.parents.items)
+
+-- no encoding is told, and no further headers
+abbrev pub TellsNoMore : Parts → Type 0
+TellsNoMore parts = (parts.encoding ≡ None) × (parts.headers ≡ [])
 
 -- the parts are those of a commit of this kind, its actors in their written form
 pub record IsPlain (kind : Kind) (parts : Parts) : Type 0 where

@@ -1,5 +1,5 @@
 // A commit. Its text is read and written by `gix_object`.
-ghost use Rattle.std.specs.Prelude.{◌≡◌, ◌≢◌, List, map, IfOk, IfSome, IfNone, MatchOption, IsTrue};
+ghost use Rattle.std.specs.Prelude.{◌≡◌, ◌≢◌, ◌↔◌, List, map, IfOk, IfSome, IfNone, MatchOption, IsTrue, IsFalse};
 ghost use Rattle.std.specs.List.{list_all};
 ghost use Rattle.bstr.specs.BStr.{bstr_bytes};
 ghost use Rattle.gix_hash.specs.Id.{Id, id_of};
@@ -8,7 +8,7 @@ ghost use Rattle.gix_object_commit.specs.Commit.{Parts, SpellsCommit, commit_tex
 ghost use Rattle.gix_object_commit.specs.Views as views;
 ghost use Rattle.history_model.specs.Forms.{is_id, is_commit_form};
 ghost use Rattle.history_model.specs.Objects.{CommitValue, hex, commit_content};
-ghost use Rattle.history_store.specs.Commits.{AreTextsOf, IsCommitOf, IsPlain, has_ids_of};
+ghost use Rattle.history_store.specs.Commits.{AreTextsOf, IsCommitOf, IsPlain, TellsNoMore, has_ids_of};
 ghost use Rattle.history_store.specs.Formats.{parts_of};
 
 use crate::actor::Actor;
@@ -31,7 +31,8 @@ pub struct Commit {
 }
 
 impl Commit {
-    /// The commit's content.
+    /// The commit's content. It is an error where a growth is refused, and for a commit whose ids aren't all of one kind, which
+    /// has no content.
     pub fn to_bytes(&self, alloc: Global) -> Result<Vec<u8>, AllocError>
         ensures { IfOk result (λ text. text.items ≡ commit_text (parts_of self.now)) }
     {
@@ -83,7 +84,7 @@ fn content_of(alloc: Global, parts: &CommitRef<'_>) -> Result<Vec<u8>, AllocErro
     ensures { IfOk result (λ text. text.items ≡ commit_text (views.parts_of parts.now)) }
 {
     let mut text = Vec::with_capacity(alloc, USUAL_LENGTH)?;
-    // Each commit can be spelled, so only a growth is refused.
+    // A commit whose ids are all of one kind can be spelled; of another the refusal is told as one of memory.
     parts.write_to(&mut text).map_err(|_| AllocError)?;
     Ok(text)
 }
@@ -149,7 +150,7 @@ fn commit_of(alloc: Global, kind: Kind, parts: &CommitRef<'_>) -> Result<Option<
     ensures { IfOk result (λ found. MatchOption found (¬ IsPlain kind (views.parts_of parts.now))
         (λ commit. (views.parts_of parts.now ≡ parts_of commit) × IsTrue (has_ids_of kind commit))) }
 {
-    if parts.encoding.is_some() || !parts.extra_headers.is_empty() {
+    if tells_more(parts) {
         return Ok(None);
     }
     let Some(tree) = parse_lower_hex(kind, parts.tree.as_bytes()) else {
@@ -171,6 +172,13 @@ fn commit_of(alloc: Global, kind: Kind, parts: &CommitRef<'_>) -> Result<Option<
         committer,
         message: Vec::from_slice(alloc, parts.message.as_bytes())?,
     }))
+}
+
+// Whether the parts hold what no commit of the store does: an encoding, or further headers.
+fn tells_more(parts: &CommitRef<'_>) -> bool
+    ensures { IsFalse result ↔ TellsNoMore (views.parts_of parts.now) }
+{
+    parts.encoding.is_some() || !parts.extra_headers.is_empty()
 }
 
 // The ids that these texts spell; `None` where one of them spells none.

@@ -1,22 +1,16 @@
 use Rattle.std.proofs.Common.{◌∙◌, ap, map, sym}
 use Rattle.bstr.specs.BStr.{bstr_bytes}
-use Rattle.gix_object_commit.specs.Views.{field_of}
-use Rattle.history_store.proofs.CommitTexts.{empty_from, more_apart, none_from, some_apart}
 use Rattle.history_store.proofs.Spelled.{and_from}
 use Rattle.history_store.proofs.commit.commit_of.Goals as goal
-use Rattle.history_store.proofs.commit.commit_of.Goals.{then-is_some-via-then-is_some, then-is_some-via-else-is_some+then-not-is_empty}
 
-pub returns-then-is_some : goal.returns-then-is_some
-returns-then-is_some c plain =
-    elim c.then-is_some.branch [
-      | then-is_some-via-then-is_some w ↦ some_apart bstr_bytes _ (sym c.is_some.ensures ∙ w.if-is_some.true) (ap (λ p. p.encoding) plain.parts_are)
-      | then-is_some-via-else-is_some+then-not-is_empty w ↦ more_apart field_of _ _ (c.args.parts.now.extra_headers).ok.0 (sym w.is_empty.ensures ∙ w.if-not-is_empty.true) (ap (λ p. p.headers) plain.parts_are)
-    ]
+pub returns-then-tells_more : goal.returns-then-tells_more
+returns-then-tells_more c plain = absurd (cc (c.tells_more.ensures.1 (ap (λ p. p.encoding) plain.parts_are, ap (λ p. p.headers) plain.parts_are), c.if-tells_more.true))
 
 pub returns : goal.returns
 returns c =
-    let encoding = none_from bstr_bytes _ (sym c.is_some.ensures ∙ c.if-is_some.false) in
-    let headers = empty_from field_of _ _ (c.args.parts.now.extra_headers).ok.0 (sym c.is_empty.ensures ∙ c.if-not-is_empty.false) in
+    let no_more = c.tells_more.ensures.0 c.if-tells_more.false in
+    let encoding = no_more.0 in
+    let headers = no_more.1 in
     let tree = sym c.as_bytes.ensures ∙ c.in-Some.ensures.1 in
     let parents = rw c.in-Some-2.is at c.in_ok-parents.ensures in
     let author = rw c.in-Some-3.is at c.in_ok-author.ensures in
