@@ -2,13 +2,12 @@
 use Rattle.std.proofs.Common.{◌≡◌, ◌≢◌, ◌∙◌, ap, sym, subst, ℕ, List, ◌∷◌, ◌++◌, Option, None, inl, inr}
 use Rattle.std.specs.Prelude.{◌⊎◌, codes, flat_map, All, IfSome}
 use Rattle.gix_object_lines.specs.Actor.{IsUncut, IsUntimed}
-use Rattle.gix_object_lines.specs.Bytes.{Lacks}
+use Rattle.gix_object_lines.specs.Bytes.{BeginsWith, Lacks}
 use Rattle.gix_object_lines.specs.HexLine.{hex_line, IsHex, HexLineFault}
 use Rattle.gix_object_lines.specs.declared.decode.Error.{Error}
 use Rattle.gix_object_lines.specs.declared.decode.Error.TheVariants.{InvalidActor, InvalidTime, Memory}
 use Rattle.gix_object_commit.specs.Commit.{Person, Field, line, actor_line, encoding_text, field_text, IsPerson, IsField}
 use Rattle.gix_object_commit.specs.Faults.{PersonFault, HeaderFault, IsBehindTree, IsBehindParents, IsPersonLine, IsBehindAuthor, IsBehindCommitter, IsBehindEncoding, ParentFault, HeadersFault, CommitFault, InParents, InHeaders, NoMemory}
-use Rattle.gix_object_commit.specs.Reading.{BeginsWith}
 
 pub actor_fault : (word input behind text rest : List ℕ) (error : Error) → input ≡ word ++ 32 ∷ behind → behind ≡ text ++ 10 ∷ rest → Lacks 10 text → ((error ≡ InvalidActor) × IsUncut text) ⊎ ((error ≡ InvalidTime) × IsUntimed text)
     → PersonFault word input error

@@ -2,13 +2,13 @@
 use Rattle.std.proofs.Common.{◌≡◌, ◌∙◌, ap, refl, sym, subst, ℕ, Option, None, Some, List, [], ◌∷◌, ◌++◌, length, take, drop, append_assoc}
 use Rattle.std.specs.Prelude.{codes, flat_map, All, IfSome}
 use Rattle.std.proofs.Math.Seq.{take-append_seam, drop-append_seam}
-use Rattle.gix_object_lines.specs.Bytes.{Lacks}
+use Rattle.gix_object_lines.specs.Bytes.{BeginsWith, Lacks}
 use Rattle.gix_object_lines.specs.Actor.{IsCut}
 use Rattle.gix_object_lines.specs.HexLine.{hex_line, IsHex}
 use Rattle.gix_object_lines.proofs.Cuts.{cut_once}
 use Rattle.gix_object_lines.proofs.ActorLemmas.{one_cut}
 use Rattle.gix_object_commit.specs.Commit.{Person, Field, Parts, line, actor_line, encoding_text, field_text, IsPerson, IsField, SpellsCommit}
-use Rattle.gix_object_commit.specs.Reading.{BeginsWith, IsUnspaced}
+use Rattle.gix_object_commit.specs.Reading.{IsUnspaced}
 use Rattle.gix_object_commit.proofs.Folds.{folded_once}
 use Rattle.gix_object_commit.proofs.Lines.{line_shape, hex_shape, behind_same, actor_lacks, person_same, field_same, BeginsMessage, field_no_message, fields_unspaced}
 use Rattle.gix_object_commit.proofs.Progress.{all_head, all_tail}

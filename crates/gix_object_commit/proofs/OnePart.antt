@@ -9,7 +9,7 @@ use Rattle.gix_object_lines.proofs.Cuts.{cut_once}
 use Rattle.gix_object_commit.specs.declared.commit.ref_iter.Stage.{Stage}
 use Rattle.gix_object_commit.specs.declared.commit.ref_iter.Stage.TheVariants as at
 use Rattle.gix_object_commit.specs.Commit.{Person, line, actor_line, IsPerson}
-use Rattle.gix_object_commit.specs.Reading.{BeginsWith}
+use Rattle.gix_object_lines.specs.Bytes.{BeginsWith}
 use Rattle.gix_object_commit.specs.Tokens.{Part, Tree, Parent, Author, Committer, Encoding, Header, Message, IsIdLine, IsPartAt, Place, IsNext, stage_after}
 use Rattle.gix_object_commit.proofs.Lines.{line_shape, hex_shape, behind_same, field_no_message}
 use Rattle.gix_object_commit.proofs.Once.{hex_once, person_once, field_once}

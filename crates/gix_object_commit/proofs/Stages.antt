@@ -3,11 +3,10 @@ use Rattle.std.proofs.Common.{◌≡◌, ◌∙◌, ap, refl, sym, ℕ, List, []
 use Rattle.std.specs.Prelude.{codes}
 use Rattle.gix_hash.specs.declared.kind.Kind.{Kind}
 use Rattle.gix_hash.specs.Id.{Id}
-use Rattle.gix_object_lines.specs.Bytes.{Lacks}
+use Rattle.gix_object_lines.specs.Bytes.{BeginsWith, Lacks}
 use Rattle.gix_object_lines.proofs.Cuts.{cut_once}
 use Rattle.gix_object_commit.specs.declared.commit.ref_iter.Stage.TheVariants as at
 use Rattle.gix_object_commit.specs.Commit.{line}
-use Rattle.gix_object_commit.specs.Reading.{BeginsWith}
 use Rattle.gix_object_commit.specs.Tokens.{Part, Tree, Parent, Author, Committer, Encoding, Header, Message, IsIdLine, IsPartAt}
 use Rattle.gix_object_commit.proofs.Lines.{line_shape, field_no_message}
 

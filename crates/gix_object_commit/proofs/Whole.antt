@@ -4,7 +4,7 @@ use Rattle.std.specs.Prelude.{codes, flat_map, All}
 use Rattle.gix_object_lines.specs.HexLine.{hex_line}
 use Rattle.gix_object_lines.proofs.Cuts.{cut_once}
 use Rattle.gix_object_commit.specs.Commit.{Field, Parts, line, actor_line, encoding_text, field_text, commit_text, IsField, IsEncodingFirst}
-use Rattle.gix_object_commit.specs.Reading.{BeginsWith}
+use Rattle.gix_object_lines.specs.Bytes.{BeginsWith}
 use Rattle.gix_object_commit.proofs.Lines.{line_shape}
 use Rattle.gix_object_commit.proofs.Progress.{all_head}
 

@@ -1,12 +1,12 @@
 -- Why bytes are no commit: the first of its parts that they lack.
 use Rattle.std.specs.Prelude.{ℕ, ◌≡◌, ◌≢◌, List, [], ◌∷◌, ◌++◌, codes, flat_map, Option, None, All, IfSome}
 use Rattle.gix_object_lines.specs.Actor.{IsUncut, IsUntimed}
-use Rattle.gix_object_lines.specs.Bytes.{Lacks}
+use Rattle.gix_object_lines.specs.Bytes.{BeginsWith, Lacks}
 use Rattle.gix_object_lines.specs.HexLine.{hex_line, IsHex, HexLineFault}
 use Rattle.gix_object_lines.specs.declared.decode.Error.{Error}
 use Rattle.gix_object_lines.specs.declared.decode.Error.TheVariants.{FieldName, HexDigits, LineEnd, InvalidActor, InvalidTime, Memory}
 use Rattle.gix_object_commit.specs.Commit.{Person, Field, line, actor_line, encoding_text, field_text, IsPerson, IsField, IsFolded}
-use Rattle.gix_object_commit.specs.Reading.{BeginsWith, IsUnspaced}
+use Rattle.gix_object_commit.specs.Reading.{IsUnspaced}
 
 -- ---- why a part doesn't begin the input
 

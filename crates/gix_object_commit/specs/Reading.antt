@@ -1,8 +1,6 @@
 -- What a part of a commit is told from.
-use Rattle.std.specs.Prelude.{ℕ, ◌≡◌, List, ◌∷◌, [], ◌++◌}
-
-abbrev pub BeginsWith : List ℕ → List ℕ → Type 0
-BeginsWith front text = (rest : List ℕ) × (text ≡ front ++ rest)
+use Rattle.std.specs.Prelude.{ℕ, List, ◌∷◌, []}
+use Rattle.gix_object_lines.specs.Bytes.{BeginsWith}
 
 -- no space begins the text, so it goes on with no line before it
 abbrev pub IsUnspaced : List ℕ → Type 0

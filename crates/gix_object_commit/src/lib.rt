@@ -7,7 +7,6 @@ mod hash;
 mod id;
 pub mod laws;
 mod parts;
-mod split;
 mod stream_hash;
 
 pub use crate::blob::{Blob, BlobRef};

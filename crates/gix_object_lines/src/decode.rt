@@ -5,8 +5,8 @@ ghost use Rattle.gix_object_lines.specs.Header.{header_text, HeaderFault};
 ghost use Rattle.gix_object_lines.specs.declared.kind.Kind.{Kind};
 ghost use Rattle.gix_object_lines.specs.declared.decode.LooseHeaderDecodeError.TheVariants.{ObjectHeader};
 
+use crate::cut::split_once;
 use crate::decimal::read_unsigned;
-use crate::split::split_once;
 use crate::{Kind, kind};
 use thiserror::Error;
 

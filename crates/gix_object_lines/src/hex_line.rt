@@ -5,8 +5,8 @@ ghost use Rattle.std.specs.Io.KnownBytes.{Appends};
 ghost use Rattle.gix_object_lines.specs.HexLine.{hex_line, is_hex, IsHex, HexLineFault};
 ghost use Rattle.gix_object_lines.specs.Writes.{AppendsFront};
 
+use crate::cut::behind;
 use crate::decode::Error;
-use crate::split::behind;
 use crate::write::write_bytes;
 use std::io;
 

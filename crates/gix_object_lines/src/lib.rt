@@ -3,6 +3,7 @@
 #![tactic(auto)]
 
 mod byte_string;
+pub mod cut;
 pub mod decimal;
 pub mod decode;
 pub mod encode;
@@ -10,7 +11,6 @@ mod header;
 pub mod hex_line;
 pub mod kind;
 pub mod lines;
-mod split;
 mod traits;
 pub mod write;
 

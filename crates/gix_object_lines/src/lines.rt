@@ -1,7 +1,6 @@
 //! The lines that commits, tags and logs share: who did something and when, and the names of references.
 
 mod actor;
-mod cut;
 mod digits;
 mod name;
 mod parts;

@@ -5,9 +5,9 @@ ghost use Rattle.history_model.specs.Bytes.{has_byte};
 ghost use Rattle.history_model.specs.Forms.{is_actor_part, is_offset, max_seconds};
 ghost use Rattle.history_store.specs.Actors.{IsFormed, IsNoTime, IsOffsetOf, IsPlainTime, IsSecondsOf, IsTimeOf};
 
-use crate::bytes::split_once;
 use bstr::BStr;
 use gix_object::lines::{ActorRef, Time, read_actor, read_time, write_actor_parts, write_time};
+use gix_object_lines::cut::split_once;
 use smallvec::SmallVec;
 use std::alloc::{AllocError, Global};
 

@@ -2,7 +2,6 @@
 #![tactic(auto)]
 
 mod actor;
-mod bytes;
 mod commit;
 mod creation;
 mod folders;

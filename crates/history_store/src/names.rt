@@ -12,11 +12,11 @@ ghost use Rattle.history_store.specs.Stores.{PutsFile, FoldersAbove};
 ghost use Rattle.history_store.specs.References.{SpellsBranch, SpellsId, HeadNames, NameHolds, HasMoved, OthersStay, KeepsOtherFolders, KeepsFoldersOfOthers, MayMove, Logs, FoldersOfName, HasWay};
 ghost use Rattle.gix_hash.specs.Id.{id_of};
 
-use crate::bytes::{strip_prefix, strip_suffix};
 use crate::id_text::{parse_hex, push_hex};
 use crate::log_entry::LogEntry;
 use crate::way::make_way;
 use gix_hash::{Kind, ObjectId};
+use gix_object_lines::cut::{before, behind};
 use gix_ref_file::{FileError, Files};
 use std::alloc::{AllocError, Global};
 
@@ -153,15 +153,15 @@ impl<F: Files> Names<F> {
 fn branch_of(text: &[u8]) -> Option<&[u8]>
     ensures { SpellsBranch text.now (option_copied result) }
 {
-    let rest = strip_prefix(text, b"ref: ")?;
-    strip_suffix(rest, b"\n")
+    let rest = behind(text, b"ref: ")?;
+    before(rest, b"\n")
 }
 
 // The id of this kind in `<hex>` and a line feed.
 fn id_in(kind: Kind, text: &[u8]) -> Option<ObjectId>
     ensures { SpellsId kind text.now result }
 {
-    let digits = strip_suffix(text, b"\n")?;
+    let digits = before(text, b"\n")?;
     parse_hex(kind, digits)
 }
 

@@ -13,13 +13,13 @@ ghost use Rattle.history_store.specs.Stores.{HoldsFile, MayStand, FoldersAbove, 
 ghost use Rattle.gix_hash.specs.Id.{id_of};
 ghost use Rattle.history_store.specs.Ids.{with_id};
 
-use crate::bytes::strip_prefix;
 use crate::folders::make_folders;
 use crate::id_text::hex_digits;
 use crate::ids::Ids;
 use crate::object::{object_id, parse_header};
 use gix_hash::{Kind, ObjectId};
 use gix_object::{Kind as ObjectKind, encode};
+use gix_object_lines::cut::behind;
 use gix_ref_file::{FileError, Files, Place};
 use std::alloc::{AllocError, Global};
 
@@ -186,7 +186,7 @@ impl<F: Files> Objects<F> {
     {
         let mut text = Vec::new(alloc);
         self.files.read(place, &mut text)?;
-        match strip_prefix(&text, header) {
+        match behind(&text, header) {
             Some(rest) => Ok(rest == content),
             None => Ok(false),
         }

@@ -6,8 +6,8 @@ ghost use Rattle.history_model.specs.declared.FileKind.{FileKind};
 ghost use Rattle.history_store.specs.Trees.{all_named, folder_content, Spells, SpellsNone, BeginsWith, BeginsWithNone};
 ghost use Rattle.gix_hash.specs.Id.{id_of};
 
-use crate::bytes::split_once;
 use gix_hash::{Kind, ObjectId};
+use gix_object_lines::cut::split_once;
 use history_model::FileKind;
 use std::alloc::{AllocError, Global};
 use std::collections::BTreeMap;

@@ -4,19 +4,18 @@ ghost use Rattle.std.specs.Prelude.{ℕ, List, Option, None, ◌≡◌, ◌≢�
 ghost use Rattle.std.specs.Option.{option_map};
 ghost use Rattle.bstr.specs.BStr.{bstr_bytes};
 ghost use Rattle.gix_hash.specs.Kind.{hex_len};
-ghost use Rattle.gix_object_lines.specs.Bytes.{Lacks};
+ghost use Rattle.gix_object_lines.specs.Bytes.{BeginsWith, Lacks};
 ghost use Rattle.gix_object_lines.specs.HexLine.{hex_line, IsHex};
 ghost use Rattle.gix_object_lines.specs.declared.decode.Error.TheVariants.{Memory};
 ghost use Rattle.gix_object_commit.specs.Commit.{Person, Field, Parts, line, actor_line, encoding_text, field_text, IsPerson, IsField, SpellsCommit};
 ghost use Rattle.gix_object_commit.specs.Faults.{PersonFault, EncodingFault, ParentFault, HeadersFault, CommitFault};
-ghost use Rattle.gix_object_commit.specs.Reading.{BeginsWith};
 ghost use Rattle.gix_object_commit.specs.Views.{person_of, field_of, parts_of};
 
 use crate::commit::header::read_header;
 use crate::commit::{CommitRef, HeaderRef};
-use crate::split::{begins_with, behind, split_once};
 use bstr::BStr;
 use gix_hash::Kind;
+use gix_object_lines::cut::{begins_with, behind, split_once};
 use gix_object_lines::decode::Error;
 use gix_object_lines::hex_line::read_hex_line;
 use gix_object_lines::lines::{ActorRef, read_actor};

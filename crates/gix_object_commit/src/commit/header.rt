@@ -9,9 +9,9 @@ ghost use Rattle.gix_object_commit.specs.Reading.{IsUnspaced};
 ghost use Rattle.gix_object_commit.specs.Views.{field_of};
 
 use crate::commit::HeaderRef;
-use crate::split::{behind, lacks, split_once};
 use bstr::BStr;
 use gix_object_lines::ByteString;
+use gix_object_lines::cut::{behind, lacks, split_once};
 use gix_object_lines::decode::Error;
 use std::alloc::{AllocError, Global};
 

@@ -10,8 +10,8 @@ ghost use Rattle.gix_object_commit.specs.Views.{person_of, field_of};
 ghost use Rattle.gix_object_commit.specs.Writing.{unspellable_unless, holds as holds_byte, is_id as is_hex_id, is_id_like as is_hex_id_like, is_plain as is_plain_text, is_person as is_spellable_person, is_folded as is_folded_text, is_word, is_field as is_spellable_field, is_encoding_first as is_named_first, encoding_cause as cause_of_encoding};
 
 use crate::commit::HeaderRef;
-use crate::split::{behind, lacks, split_once};
 use bstr::BStr;
+use gix_object_lines::cut::{behind, lacks, split_once};
 use gix_object_lines::encode::Error;
 use gix_object_lines::lines::{Actor, ActorRef};
 

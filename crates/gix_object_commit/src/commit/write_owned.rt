@@ -16,9 +16,9 @@ use crate::commit::write::{
 };
 use crate::commit::{Commit, ExtraHeader};
 use crate::parts::{add_lengths, write_piece};
-use crate::split::split_once;
 use bstr::BStr;
 use gix_hash::ObjectId;
+use gix_object_lines::cut::split_once;
 use gix_object_lines::lines::{Actor, write_actor};
 use gix_object_lines::write::Error;
 use gix_object_lines::{ByteString, Kind, WriteTo};

@@ -10,11 +10,10 @@ ghost use Rattle.gix_object_lines.specs.declared.decode.Error.TheVariants.{Inval
 ghost use Rattle.gix_object_lines.specs.declared.encode.Error.TheVariants.{Unspellable};
 
 use crate::byte_string::ByteString;
-use crate::lines::cut::{before, lacks, rsplit_once};
+use crate::cut::{before, behind, lacks, rsplit_once, split_once};
 use crate::lines::digits::spell_offset;
 use crate::lines::parts::write_parts;
 use crate::lines::time::{Time, read_time};
-use crate::split::{behind, split_once};
 use crate::write::Error;
 use crate::{decode, encode};
 use bstr::BStr;

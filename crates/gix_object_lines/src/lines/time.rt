@@ -8,9 +8,9 @@ ghost use Rattle.gix_object_lines.specs.declared.write.Error.TheVariants.{Header
 ghost use Rattle.gix_object_lines.specs.declared.decode.Error.TheVariants.{InvalidTime};
 ghost use Rattle.gix_object_lines.specs.declared.encode.Error.TheVariants.{Unspellable};
 
+use crate::cut::split_once;
 use crate::lines::digits::{read_offset, read_seconds, spell_offset};
 use crate::lines::parts::write_parts;
-use crate::split::split_once;
 use crate::write::Error;
 use crate::{decode, encode};
 use std::io;

@@ -7,10 +7,10 @@ ghost use Rattle.gix_object_tag.specs.Tag.{Tagger, IsLine, SpellsKind, SpellsNam
 ghost use Rattle.gix_object_tag.specs.Views.{tagger_of, text_of};
 ghost use Rattle.gix_object_tag.specs.Faults.{LineFault, KindFault, NameFault, TaggerFault, RestFault};
 
-use crate::cut::{before, behind, split_line};
 use crate::signature::split_signature;
 use bstr::BStr;
 use gix_object_lines::Kind;
+use gix_object_lines::cut::{before, behind, split_once};
 use gix_object_lines::decode::Error;
 use gix_object_lines::lines::{ActorRef, read_actor};
 
@@ -21,7 +21,7 @@ fn line<'a>(input: &'a [u8], word: &[u8]) -> Result<(&'a [u8], &'a [u8]), Error>
     ensures refused { IfErr result (λ error. LineFault word.now input.now error) }
 {
     let rest = behind(input, word).ok_or(Error::FieldName)?;
-    split_line(rest).ok_or(Error::LineEnd)
+    split_once(rest, b'\n').ok_or(Error::LineEnd)
 }
 
 /// The kind of the tagged object.

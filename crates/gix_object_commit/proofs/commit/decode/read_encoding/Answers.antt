@@ -1,9 +1,8 @@
 use Rattle.std.proofs.Common.{◌≡◌, ◌∙◌, ap, sym, Option, Some, None, List, ℕ, ◌++◌, ◌∷◌, refl}
 use Rattle.std.specs.Prelude.{codes, IfSome}
-use Rattle.gix_object_lines.specs.Bytes.{Lacks}
+use Rattle.gix_object_lines.specs.Bytes.{BeginsWith, Lacks}
 use Rattle.gix_object_lines.proofs.Cuts.{cut_once}
 use Rattle.gix_object_commit.specs.Commit.{encoding_text}
-use Rattle.gix_object_commit.specs.Reading.{BeginsWith}
 use Rattle.gix_object_commit.proofs.Lines.{line_shape, behind_same}
 use Rattle.gix_object_commit.proofs.commit.decode.read_encoding.Goals as goal
 

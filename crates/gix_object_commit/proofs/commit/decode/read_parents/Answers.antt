@@ -5,7 +5,7 @@ use Rattle.std.proofs.lemmas.List.{map-append}
 use Rattle.std.proofs.lemmas.Result.{err_from_is_err_and}
 use Rattle.bstr.specs.BStr.{bstr_bytes}
 use Rattle.gix_object_lines.specs.HexLine.{hex_line, IsHex}
-use Rattle.gix_object_commit.specs.Reading.{BeginsWith}
+use Rattle.gix_object_lines.specs.Bytes.{BeginsWith}
 use Rattle.gix_object_commit.proofs.FaultLemmas.{next_parent}
 use Rattle.gix_object_commit.proofs.Results.{when_ok}
 use Rattle.gix_object_commit.proofs.Progress.{Progress, progress_none, progress_one, progress_end, progress_stuck}

@@ -2,7 +2,7 @@ use Rattle.std.proofs.Common.{map, length}
 use Rattle.std.specs.Prelude.{codes}
 use Rattle.bstr.specs.BStr.{bstr_bytes}
 use Rattle.gix_object_lines.specs.HexLine.{hex_line, IsHex}
-use Rattle.gix_object_commit.specs.Reading.{BeginsWith}
+use Rattle.gix_object_lines.specs.Bytes.{BeginsWith}
 use Rattle.gix_object_commit.proofs.Progress.{Progress}
 use Rattle.gix_object_commit.proofs.commit.decode.read_parents.Given as goal
 

@@ -5,7 +5,7 @@ use Rattle.memchr.specs.Find.{IsFirstByte, is_byte}
 use Rattle.gix_object_lines.specs.Bytes.{Lacks}
 use Rattle.gix_object_lines.proofs.Cuts.{lacks_from}
 use Rattle.gix_object_lines.proofs.CutLemmas.{lacks_at, not_not}
-use Rattle.gix_object_lines.proofs.lines.cut.lacks.Goals as goal
+use Rattle.gix_object_lines.proofs.cut.lacks.Goals as goal
 
 told : (byte : ℕ) (text : List ℕ) (r : Option ℕ) → IsFirstByte (is_byte byte) text r → (is_some r ≡ false → Lacks byte text) × (Lacks byte text → is_some r ≡ false)
 told byte text None h = (λ _. lacks_from byte text (λ k below is. h k (omega arith) below ((Decides-eqb (slice_index text k) byte).1 is)), λ _. refl)

@@ -5,7 +5,7 @@ use Rattle.std.proofs.lemmas.List.{take_all}
 use Rattle.gix_object_lines.specs.Bytes.{Lacks}
 use Rattle.gix_object_lines.proofs.Cuts.{lacks_from, cut_at}
 use Rattle.gix_object_lines.proofs.CutLemmas.{lacks_behind}
-use Rattle.gix_object_lines.proofs.lines.cut.rsplit_once.Goals as goal
+use Rattle.gix_object_lines.proofs.cut.rsplit_once.Goals as goal
 
 pub returns-in_err-at : goal.returns-in_err-at
 returns-in_err-at c =

@@ -1,0 +1,52 @@
+//! Cuts of bytes at a byte, behind a front and before a back.
+
+ghost use Rattle.std.specs.Prelude.{ℕ, List, ◌≡◌, ◌≢◌, ◌++◌, ◌∷◌, ◌↔◌, IsTrue, MatchOption};
+ghost use Rattle.gix_object_lines.specs.Bytes.{BeginsWith, Lacks};
+
+use memchr::{memchr, memrchr};
+
+/// What stands before and behind the first byte of this value; `None` where none stands.
+pub fn split_once(bytes: &[u8], byte: u8) -> Option<(&[u8], &[u8])>
+    ensures { MatchOption result (Lacks byte bytes.now)
+        (λ cut. (bytes.now ≡ cut.0.now ++ byte ∷ cut.1.now) × Lacks byte cut.0.now) }
+{
+    let at = memchr(byte, bytes)?;
+    Some((&bytes[..at], &bytes[at + 1..]))
+}
+
+/// What stands before and behind the last byte of this value; `None` where none stands.
+pub fn rsplit_once(bytes: &[u8], byte: u8) -> Option<(&[u8], &[u8])>
+    ensures { MatchOption result (Lacks byte bytes.now)
+        (λ cut. (bytes.now ≡ cut.0.now ++ byte ∷ cut.1.now) × Lacks byte cut.1.now) }
+{
+    let at = memrchr(byte, bytes)?;
+    Some((&bytes[..at], &bytes[at + 1..]))
+}
+
+/// What stands behind this front; `None` where the bytes don't begin with it.
+pub fn behind<'a>(bytes: &'a [u8], front: &[u8]) -> Option<&'a [u8]>
+    ensures { MatchOption result ((rest : List ℕ) → bytes.now ≢ front.now ++ rest) (λ rest. bytes.now ≡ front.now ++ rest.now) }
+{
+    bytes.strip_prefix(front)
+}
+
+/// What stands before this back; `None` where the bytes don't end with it.
+pub fn before<'a>(bytes: &'a [u8], back: &[u8]) -> Option<&'a [u8]>
+    ensures { MatchOption result ((rest : List ℕ) → bytes.now ≢ rest ++ back.now) (λ rest. bytes.now ≡ rest.now ++ back.now) }
+{
+    bytes.strip_suffix(back)
+}
+
+/// Whether no byte of this value stands in the bytes.
+pub fn lacks(bytes: &[u8], byte: u8) -> bool
+    ensures { IsTrue result ↔ Lacks byte bytes.now }
+{
+    memchr(byte, bytes).is_none()
+}
+
+/// Whether the bytes begin with this front.
+pub fn begins_with(bytes: &[u8], front: &[u8]) -> bool
+    ensures { IsTrue result ↔ BeginsWith front.now bytes.now }
+{
+    behind(bytes, front).is_some()
+}
