@@ -12,3 +12,4 @@ pub mod PaddedOrder
 pub mod LawLemmas
 pub mod TextOrder
 pub mod ReadBack
+pub mod LowerCase

@@ -16,3 +16,4 @@ pub mod Faults
 pub mod OrderLaws
 pub mod ChangeIdInside
 pub mod Lending
+pub mod LetterCase

@@ -7,6 +7,7 @@ ghost use Rattle.std.specs.declared.cmp.Ordering.TheVariants.{Less, Equal, Great
 ghost use Rattle.gix_hash.specs.Id.{Id, id_of};
 ghost use Rattle.gix_hash.specs.Hasher.{id_of_message};
 ghost use Rattle.gix_hash.specs.Kind.{byte_len, kind_number, kind_for_digits};
+ghost use Rattle.gix_hash.specs.LetterCase.{IsLowerCase};
 ghost use Rattle.gix_hash.specs.Order.{digits_cmp, IsBeginningOf, BeginsAllOf, BeginNoneTogether};
 ghost use Rattle.gix_hash.specs.Pieces.{piece_lengths, bytes_in_pieces, IsPieceCount};
 ghost use Rattle.gix_hash.specs.Prefix.{first_digits, IsPrefixLength};
@@ -124,6 +125,11 @@ pub fn printed_id_reads_back(id: &ObjectId)
 {
     bytes_fit(id.as_slice());
 }
+
+/// A text without a capital letter is the text of the digits that it spells.
+pub fn lower_case_is_written()
+    ensures { (text digits : List ℕ) → IsHexOf text digits → IsLowerCase text → hex_text digits ≡ text }
+{}
 
 /// A text spells at most one id, whatever its letter case.
 pub fn text_spells_one_id(text: &[u8], one: &ObjectId, other: &ObjectId)

@@ -18,7 +18,9 @@ pub mod commit {
 
     /// The parts of a commit, one after another.
     pub mod ref_iter {
-        pub use gix_object_commit::commit::ref_iter::{ParentIds, Signatures, Token};
+        pub use gix_object_commit::commit::ref_iter::{
+            CommitSignature, ParentIds, Signatures, Token,
+        };
     }
 
     pub use gix_object_commit::commit::{
@@ -68,7 +70,7 @@ pub mod object {
 pub mod signature {
     /// Programs that sign and verify, as a runner starts them.
     pub mod run {
-        pub use gix_object_signature::run::{Answer, Run, RunError, Word};
+        pub use gix_object_signature::run::{Answer, RunError, Word};
     }
 
     /// Signing.

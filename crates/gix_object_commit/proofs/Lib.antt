@@ -12,6 +12,8 @@ pub mod Once
 pub mod OnePart
 pub mod NoMore
 pub mod FirstTold
+pub mod FirstSignature
+pub mod SignedLaws
 pub mod Written
 pub mod HexDigits
 pub mod Left
@@ -23,3 +25,8 @@ pub mod OwnTexts
 pub mod OwnCommits
 pub mod FaultLemmas
 pub mod OwnedLaws
+pub mod UnsignedLines
+pub mod SigningLemmas
+pub mod SignedText
+pub mod Accepted
+pub mod SignedPieces

@@ -44,7 +44,7 @@ module _ {X : Type 0} (told : Part → Option X) where
   pub none_at_fault : (here : Place) → LacksPart here → TellsNoMore told here
   none_at_fault here lacks = nothing_next here (λ part next is. lacks.1 part next.input is.0)
 
-  none_told : (o : Option X) (xs : List X) → cons_option o xs ≡ [] → (o ≡ None) × (xs ≡ [])
+  pub none_told : (o : Option X) (xs : List X) → cons_option o xs ≡ [] → (o ≡ None) × (xs ≡ [])
   none_told None xs e = (refl, e)
   none_told (Some x) xs e = absurd cc
 
@@ -93,7 +93,7 @@ module _ {X : Type 0} (told : Part → Option X) (before mid after : Place) (pas
 
   pub ends_at_fault : (given : Result Token Error) → GivesToken mid (Some given) after → None ≡ result_ok given → GivesTold told before item after
   ends_at_fault (Ok token) gives lost = absurd cc
-  ends_at_fault (Err error) gives lost = ends (none_at_fault told mid gives.0) (none_at_end told after gives.1)
+  ends_at_fault (Err error) gives lost = ends (none_at_fault told mid gives.0) (none_at_end told after gives.2)
 
 -- ---- behind the parents
 

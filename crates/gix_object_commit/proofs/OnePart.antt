@@ -18,7 +18,7 @@ use Rattle.gix_object_commit.proofs.Stages.{at_tree, at_parent, at_message, Firs
 abbrev IsSame : Part → List ℕ → Part → List ℕ → Type 0
 IsSame a r b s = (a ≡ b) × (r ≡ s)
 
-one_id : (digits : List ℕ) (a b : Id) → IsHexOfId digits a → IsHexOfId digits b → a ≡ b
+pub one_id : (digits : List ℕ) (a b : Id) → IsHexOfId digits a → IsHexOfId digits b → a ≡ b
 one_id digits a b x y = one_reading a b (sym x.whole ∙ y.whole) (sym x.spelled ∙ y.spelled)
 
 id_once : (kind : Kind) (word input : List ℕ) (a b : Id) (r s : List ℕ) → IsIdLine kind word input a r → IsIdLine kind word input b s → (a ≡ b) × (r ≡ s)

@@ -48,7 +48,7 @@ and_true : (b : Bool) → (b && true) ≡ b
 and_true true = refl
 and_true false = refl
 
-folded_is : (value : List ℕ) → is_folded (folded value) ≡ true
+pub folded_is : (value : List ℕ) → is_folded (folded value) ≡ true
 folded_is [] = refl
 folded_is (byte ∷ value) =
     by_feed byte

@@ -18,7 +18,7 @@ use Rattle.gix_object_commit.proofs.Written.{both, fine, none_refused, written}
 
 -- ---- one piece in the place of another of the same text
 
-accepted : (before : List ℕ) (piece : Piece) (rest : List Piece) → piece.cause ≡ None → first_refused (before ++ piece.text) rest ≡ None → first_refused before (piece ∷ rest) ≡ None
+pub accepted : (before : List ℕ) (piece : Piece) (rest : List Piece) → piece.cause ≡ None → first_refused (before ++ piece.text) rest ≡ None → first_refused before (piece ∷ rest) ≡ None
 accepted before piece rest fits later = ap (λ c. refused_or c before (first_refused (before ++ piece.text) rest)) fits ∙ later
 
 exchanged : (before : List ℕ) (ps : List Piece) (a b c d : Piece) (rest : List Piece) → c.text ≡ a.text → d.text ≡ b.text

@@ -5,14 +5,25 @@ use Rattle.gix_object_commit.specs.Headers.{values_named}
 use Rattle.gix_object_commit.specs.Views.{field_of}
 use Rattle.gix_object_commit.specs.declared.commit.extra_headers.ExtraHeaders.{ExtraHeaders}
 use Rattle.gix_object_commit.specs.declared.commit.extra_headers.FindAll.{FindAll}
+use Rattle.gix_object_commit.specs.declared.commit.extra_headers.Headers.{Headers}
+use Rattle.gix_object_commit.specs.declared.commit.extra_headers.Headers.TheVariants.{Lent, Own}
 use Rattle.gix_object_commit.specs.declared.commit.extra_headers.MergeTags.{MergeTags}
+use Rattle.gix_object_commit.specs.declared.commit.owned.ExtraHeader.{ExtraHeader}
+
+-- its value as an owned commit has it, without the spaces that stand in the commit's text
+abbrev pub own_header : ExtraHeader → Field
+own_header header = record { name = header.name; value = header.value }
+
+abbrev pub fields_in : Headers → List Field
+fields_in (Lent headers) = map field_of headers.now
+fields_in (Own headers) = map own_header headers.now
 
 abbrev pub headers_of : ExtraHeaders → List Field
-headers_of headers = map field_of headers.headers.now
+headers_of headers = fields_in headers.headers
 
 -- the values that are left
 abbrev pub values_left : FindAll → List (List ℕ)
-values_left found = values_named found.name.now (map field_of (drop found.place found.headers.now))
+values_left found = values_named found.name.now (drop found.place (fields_in found.headers))
 
 abbrev pub merge_tags_left : MergeTags → List (List ℕ)
 merge_tags_left tags = values_left tags.values

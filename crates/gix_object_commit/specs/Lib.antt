@@ -5,6 +5,7 @@ pub mod Tokens
 pub mod ReadingOn
 pub mod Writing
 pub mod Signature
+pub mod SignedCommit
 pub mod Headers
 pub mod Whole
 pub mod HeaderViews
@@ -13,3 +14,6 @@ pub mod Messages
 pub mod Owned
 pub mod OwnedText
 pub mod Faults
+pub mod TokenFaults
+pub mod Signing
+pub mod Writable

@@ -7,7 +7,7 @@ use Rattle.gix_object_lines.specs.Time.{time_text}
 use Rattle.gix_object_lines.specs.Writes.{Refusal}
 use Rattle.gix_object_lines.specs.declared.lines.actor.Actor.{Actor}
 use Rattle.gix_object_commit.specs.Commit.{Person, Field, Parts, line, actor_line, folded}
-use Rattle.gix_object_commit.specs.Writing.{Piece, is_plain, unspellable_unless, id_pieces, encoding_pieces, header_pieces, message_pieces, first_refused}
+use Rattle.gix_object_commit.specs.Writing.{Piece, is_plain, unspellable_unless, encoding_piece, id_pieces, encoding_pieces, header_pieces, message_pieces, first_refused}
 use Rattle.gix_object_commit.specs.declared.commit.owned.Commit.{Commit}
 use Rattle.gix_object_commit.specs.declared.commit.owned.ExtraHeader.{ExtraHeader}
 
@@ -23,16 +23,20 @@ own_person actor = record { name = actor.name; email = actor.email; time = time_
 abbrev pub own_field : ExtraHeader → Field
 own_field header = record { name = header.name; value = folded header.value }
 
-abbrev pub own_parts : Commit → Parts
-own_parts commit = record {
+-- with these further headers in the place of the commit's own
+abbrev pub own_parts_with : List ExtraHeader → Commit → Parts
+own_parts_with headers commit = record {
   tree = own_digits commit.tree;
   parents = map own_digits commit.parents.items;
   author = own_person commit.author;
   committer = own_person commit.committer;
   encoding = commit.encoding;
-  headers = map own_field commit.extra_headers.items;
+  headers = map own_field headers;
   message = commit.message;
 }
+
+abbrev pub own_parts : Commit → Parts
+own_parts commit = own_parts_with commit.extra_headers.items commit
 
 -- ---- what is refused: an actor also where its offset has no text
 
@@ -52,14 +56,22 @@ own_author_pieces commit = own_person_piece (codes "author") commit.author ∷ [
 abbrev pub own_committer_pieces : Commit → List Piece
 own_committer_pieces commit = own_person_piece (codes "committer") commit.committer ∷ []
 
-abbrev pub own_pieces : Commit → List Piece
-own_pieces commit =
-    let parts = own_parts commit in
+-- all before the further headers, of which the first may not be named as the line for the encoding is
+abbrev pub own_front_pieces : List Field → Commit → List Piece
+own_front_pieces headers commit =
+    id_pieces (own_parts commit) ++ (own_author_pieces commit ++ (own_committer_pieces commit ++ encoding_piece commit.encoding headers ∷ []))
+
+abbrev pub own_pieces_with : List ExtraHeader → Commit → List Piece
+own_pieces_with headers commit =
+    let parts = own_parts_with headers commit in
     id_pieces parts ++ (own_author_pieces commit ++ (own_committer_pieces commit ++ (encoding_pieces parts ++ (header_pieces parts ++ message_pieces parts))))
 
 -- the first part that the format never writes, and all before it
+abbrev pub own_refusal_with : List ExtraHeader → Commit → Option Refusal
+own_refusal_with headers commit = first_refused [] (own_pieces_with headers commit)
+
 abbrev pub own_refusal : Commit → Option Refusal
-own_refusal commit = first_refused [] (own_pieces commit)
+own_refusal commit = own_refusal_with commit.extra_headers.items commit
 
 -- a text that is written as it is
 abbrev pub text_piece : List ℕ → Piece

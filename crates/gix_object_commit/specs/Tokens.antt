@@ -15,6 +15,7 @@ use Rattle.gix_object_commit.specs.declared.commit.ref_iter.Token.TheVariants as
 use Rattle.gix_object_commit.specs.declared.commit.ref_iter.CommitRefIter.{CommitRefIter}
 use Rattle.gix_object_commit.specs.Commit.{Person, Field, line, actor_line, field_text, IsPerson, IsField}
 use Rattle.gix_object_commit.specs.Reading.{IsUnspaced}
+use Rattle.gix_object_commit.specs.TokenFaults.{IsFaultAt}
 use Rattle.gix_object_commit.specs.Views.{person_of, field_of}
 
 -- a part of a commit
@@ -95,8 +96,8 @@ IsNext before part after = IsPartAt before.kind before.stage before.input part a
 abbrev pub LacksPart : Place → Type 0
 LacksPart place = (place.input ≢ []) × ((part : Part) (rest : List ℕ) → ¬ IsPartAt place.kind place.stage place.input part rest)
 
--- the reader gives the part that stands next, nothing where its input has ended, and else an error and then nothing
+-- the reader gives the part that stands next, nothing where its input has ended, and else why none stands there, and then nothing
 abbrev pub GivesToken : Place → Option (Result Token Error) → Place → Type 0
 GivesToken before None after = (before.input ≡ []) × (after ≡ before)
 GivesToken before (Some (Ok token)) after = IsNext before (part_of token) after
-GivesToken before (Some (Err _)) after = LacksPart before × (after.input ≡ [])
+GivesToken before (Some (Err error)) after = LacksPart before × IsFaultAt before.kind before.stage before.input error × (after.input ≡ [])

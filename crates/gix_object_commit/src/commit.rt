@@ -16,7 +16,9 @@ mod ids;
 mod message;
 mod owned;
 pub mod ref_iter;
+mod sign;
 mod spelling;
+mod unsigned;
 mod write;
 mod write_owned;
 

@@ -7,9 +7,12 @@ ghost use Rattle.gix_object_lines.specs.Actor.{TellsTime};
 ghost use Rattle.gix_object_commit.specs.Commit.{Parts, SpellsCommit, commit_text};
 ghost use Rattle.gix_object_commit.specs.Tokens.{part_of};
 ghost use Rattle.gix_object_commit.specs.Whole.{IsCommit, is_message as is_the_message};
+ghost use Rattle.gix_object_commit.specs.Writable.{IsWritable};
 ghost use Rattle.gix_object_commit.specs.Writing.{commit_refusal, is_id};
 
 pub mod owned;
+pub mod signed;
+pub mod signing;
 
 use crate::CommitRefIter;
 use crate::commit::ref_iter::Token;
@@ -32,6 +35,13 @@ pub fn written_is_read()
 pub fn ids_read_are_ids(_input: &[u8], _hash_kind: Kind)
     ensures tree { (parts : Parts) → SpellsCommit (hex_len _hash_kind) _input.now parts → IsTrue (is_id parts.tree) }
     ensures parents { (parts : Parts) → SpellsCommit (hex_len _hash_kind) _input.now parts → IsTrue (list_all is_id parts.parents) }
+{}
+
+/// A commit that was read is written without a refusal, unless a name or an email holds `<` or `>`, or its encoding has no
+/// name; what is written are the bytes that it was read from, since they spell it. Nothing is done: the contract is the law.
+pub fn read_is_written(_input: &[u8], _hash_kind: Kind)
+    ensures accepted { (parts : Parts) → SpellsCommit (hex_len _hash_kind) _input.now parts → IsWritable parts → commit_refusal parts ≡ None }
+    ensures bytes { (parts : Parts) → SpellsCommit (hex_len _hash_kind) _input.now parts → commit_text parts ≡ _input.now }
 {}
 
 /// Whether the token reader gives no error, and the message as its last token: exactly where the bytes spell a commit, and

@@ -16,4 +16,10 @@ mod reading_on;
 #[cfg(test)]
 mod rows;
 #[cfg(test)]
+mod signature;
+#[cfg(test)]
+mod signature_table;
+#[cfg(test)]
+mod signing;
+#[cfg(test)]
 mod table;

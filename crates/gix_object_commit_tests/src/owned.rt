@@ -4,6 +4,7 @@ use crate::table::ROWS;
 use bstr::BStr;
 use gix_hash::io::{self, Interrupt, Progress};
 use gix_hash::{Kind, ObjectId};
+use gix_object_commit::commit::ExtraHeaders;
 use gix_object_commit::{BlobRef, CommitRef, compute_stream_hash};
 use gix_object_lines::decode::Error;
 use gix_object_lines::lines::{ActorRef, Time};
@@ -38,6 +39,50 @@ fn headers_are_owned_without_their_spaces(rt: HostRuntime) -> Result<(), Fail> {
     let header = own.extra_headers.first().ok_or("no header")?;
     assert_eq!(rt; header.name.as_bytes(), b"gpgsig".as_slice());
     assert_eq!(rt; header.value.as_bytes(), b"one\ntwo\n\n three".as_slice());
+    Ok(())
+}
+
+const SIGNED: &str = "c8f7e5e25f888586c47a3b1d544a7428b1a5cbe2";
+
+const MERGE: &str = "e857c0a806ed622b17493a53bd4c7bdd7c8aa103";
+
+// The signature and the merged tag that `scripts/commit_table.py` hands to git, each without its last line feed.
+const SIGNATURE: &[u8] =
+    b"-----BEGIN PGP SIGNATURE-----\n\niQEz\n=abcd\n-----END PGP SIGNATURE-----";
+
+const TAG: &[u8] =
+    b"object 2ce45ff5e379faaceee36026f525968359dfb25c\ntype commit\ntag v1\ntagger A <a@b> 1 +0000\n\nmsg\n-----BEGIN PGP SIGNATURE-----\n\nx\n-----END PGP SIGNATURE-----";
+
+fn holds_the_signatures(headers: ExtraHeaders<'_, '_>) -> bool {
+    let mut later = headers.find_all(b"gpgsig-sha256");
+    headers.pgp_signature() == Some(BStr::new(SIGNATURE))
+        && headers.find(b"gpgsig") == Some(BStr::new(SIGNATURE))
+        && headers.find_pos(b"gpgsig-sha256") == Some(1)
+        && headers.find_pos(b"mergetag").is_none()
+        && later.next() == Some(BStr::new(b"x\n y\n"))
+        && later.next().is_none()
+}
+
+fn holds_the_tag(headers: ExtraHeaders<'_, '_>) -> bool {
+    let mut tags = headers.mergetags();
+    tags.next() == Some(BStr::new(TAG)) && tags.next().is_none()
+}
+
+#[test]
+fn own_headers_of_a_name_are_told(rt: HostRuntime) -> Result<(), Fail> {
+    let mut seen: usize = 0;
+    for row in ROWS {
+        let own = CommitRef::from_bytes(rt.alloc(), row.content, row.kind)?.into_owned(rt.alloc())?;
+        if row.id == SIGNED {
+            assert!(rt; holds_the_signatures(own.extra_headers()));
+            seen = seen.saturating_add(1);
+        }
+        if row.id == MERGE {
+            assert!(rt; holds_the_tag(own.extra_headers()));
+            seen = seen.saturating_add(1);
+        }
+    }
+    assert_eq!(rt; seen, 2);
     Ok(())
 }
 

@@ -2,9 +2,9 @@
 
 use bstr::BStr;
 use gix_hash::{Kind, ObjectId};
-use gix_object_commit::CommitRef;
 use gix_object_commit::commit::ExtraHeaders;
 use gix_object_commit::laws::ids_read_are_ids;
+use gix_object_commit::{CommitRef, CommitRefIter};
 use gix_object_lines::decode::Error;
 use gix_object_message::SelectedTrailers;
 use std::process::Abort;
@@ -108,6 +108,16 @@ fn a_title_has_no_trailers(rt: HostRuntime) -> Result<(), Fail> {
     Ok(())
 }
 
+fn error_of_tokens(content: &[u8]) -> Option<Error> {
+    for token in CommitRefIter::from_bytes(content, Kind::Sha1) {
+        if let Err(error) = token {
+            return Some(error);
+        }
+    }
+    None
+}
+
+// Where the input ends between two parts, the tokens end without an error.
 #[test]
 fn the_first_fault_is_told(rt: HostRuntime) -> Result<(), Fail> {
     let tree = &COMMIT[..46];
@@ -125,6 +135,7 @@ fn the_first_fault_is_told(rt: HostRuntime) -> Result<(), Fail> {
         assert!(rt;
             CommitRef::from_bytes(rt.alloc(), content.as_slice(), Kind::Sha1).err() == Some(error)
         );
+        assert!(rt; lines.is_empty() || error_of_tokens(content.as_slice()) == Some(error));
     }
     for (lines, error) in [
         (b"".as_slice(), Error::FieldName),
@@ -138,6 +149,7 @@ fn the_first_fault_is_told(rt: HostRuntime) -> Result<(), Fail> {
         assert!(rt;
             CommitRef::from_bytes(rt.alloc(), content.as_slice(), Kind::Sha1).err() == Some(error)
         );
+        assert!(rt; lines.is_empty() || error_of_tokens(content.as_slice()) == Some(error));
     }
     Ok(())
 }

@@ -5,6 +5,7 @@ ghost use Rattle.std.specs.Cmp.Lexicographic.{pointwise, nat_list_eq_equiv};
 ghost use Rattle.std.specs.Cmp.{partial_equiv_from_equiv};
 ghost use Rattle.std.specs.Prelude.{nat_eq};
 ghost use Rattle.bstr.specs.BStr.{bstr_bytes};
+ghost use Rattle.gix_object_lines.specs.Bytes as spec;
 
 use bstr::BStr;
 use std::alloc::{AllocError, Global};
@@ -57,6 +58,17 @@ impl ByteString {
     {
         let ByteString { bytes } = self;
         bytes
+    }
+
+    /// The bytes without the line feed that ends them, where one does.
+    pub fn without_last_feed(self) -> ByteString
+        ensures { result ≡ spec.without_last_feed self }
+    {
+        let mut bytes = self.into_vec();
+        if bytes.ends_with(b"\n") {
+            bytes.pop();
+        }
+        ByteString::new(bytes)
     }
 
     /// A string of the same bytes.

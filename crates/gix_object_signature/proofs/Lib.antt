@@ -1,0 +1,4 @@
+pub mod AskingLemmas
+pub mod SignerLemmas
+pub mod StampLemmas
+pub mod TryLemmas

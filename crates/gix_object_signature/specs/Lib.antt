@@ -4,4 +4,7 @@ pub mod Run
 pub mod Signing
 pub mod Trust
 pub mod Status
+pub mod Asking
+pub mod SignedTime
+pub mod VerifyingSsh
 pub mod Verifying

@@ -6,8 +6,8 @@ use Rattle.std.specs.Option.{option_and_then, option_map_or}
 use Rattle.std.specs.Str.{bytes_eq}
 use Rattle.gix_object_signature.specs.declared.verify.Status.{Status}
 use Rattle.gix_object_signature.specs.declared.verify.Status.TheVariants.{Good, Bad, Error, Expired, ExpiredKey, RevokedKey, Unknown}
-use Rattle.gix_object_signature.specs.declared.verify.TrustLevel.{TrustLevel}
-use Rattle.gix_object_signature.specs.declared.verify.TrustLevel.TheVariants.{Undefined, Never, Marginal, Fully, Ultimate}
+use Rattle.gix_object_signature.specs.declared.verify.trust.TrustLevel.{TrustLevel}
+use Rattle.gix_object_signature.specs.declared.verify.trust.TrustLevel.TheVariants.{Undefined, Never, Marginal, Fully, Ultimate}
 
 abbrev pub lines_of : List ℕ → List (List ℕ)
 lines_of text = slice_split (λ byte. byte == 10) text

@@ -1,8 +1,8 @@
 -- Levels of trust in a key's owner (git-config, `gpg.minTrustLevel`; GnuPG, doc/DETAILS, `TRUST_..`).
 use Rattle.std.specs.Prelude.{ℕ, ◌≡◌, List, codes, map}
 use Rattle.std.specs.Char.{to_ascii_lowercase}
-use Rattle.gix_object_signature.specs.declared.verify.TrustLevel.{TrustLevel}
-use Rattle.gix_object_signature.specs.declared.verify.TrustLevel.TheVariants.{Undefined, Never, Marginal, Fully, Ultimate}
+use Rattle.gix_object_signature.specs.declared.verify.trust.TrustLevel.{TrustLevel}
+use Rattle.gix_object_signature.specs.declared.verify.trust.TrustLevel.TheVariants.{Undefined, Never, Marginal, Fully, Ultimate}
 
 abbrev pub level_word : TrustLevel → List ℕ
 level_word Undefined = codes "undefined"

@@ -3,6 +3,7 @@
 #![tactic(auto)]
 
 mod format;
+mod returns;
 pub mod run;
 pub mod sign;
 mod signed;

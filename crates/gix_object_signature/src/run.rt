@@ -1,7 +1,10 @@
 //! Programs that sign and verify, as a runner starts them.
+//!
+//! A runner is a closure, which may be called again and again: it is handed the words of a command line and the bytes of a
+//! standard input, runs the program that the first word names until it ends, and answers what the program did, or why there is
+//! no answer. One may start a process for each call, or answer from a table.
 
-ghost use Rattle.std.specs.Prelude.{Result};
-ghost use Rattle.gix_object_signature.specs.Run.{Request, request_of};
+ghost use Rattle.gix_object_signature.specs.Run.{Answers, request_of};
 
 use bstr::BStr;
 use gix_object_lines::ByteString;
@@ -48,15 +51,15 @@ pub enum RunError {
     Memory,
 }
 
-/// What runs programs: a process of its own for each call, or a table in a test.
-pub trait Run {
-    ghost use Rattle.gix_object_signature.specs.declared.run.Answer.{Answer};
-    ghost use Rattle.gix_object_signature.specs.declared.run.RunError.{RunError};
-
-    /// What may be answered to a request, and the runner that stands then.
-    ghost answers: { Self → Request → Result Answer RunError → Self → Type 0 };
-
-    /// Runs the program that the first word names until it ends, with this standard input.
-    fn run(&mut self, words: &[Word<'_>], input: &[u8]) -> Result<Answer, RunError>
-        ensures { answers self.old (request_of words.now input.now) result self.new };
+/// Runs the program that the first word names, with this standard input, by the runner: see the module.
+pub(crate) fn run<F: FnMut(&[Word<'_>], &[u8]) -> Result<Answer, RunError>>(
+    words: &[Word<'_>],
+    input: &[u8],
+    runner: &mut F,
+) -> Result<Answer, RunError>
+    requires { F.IsAlwaysCallable runner.old }
+    ensures asked { Answers F.FnMut runner.old (request_of words.now input.now) result runner.new }
+    ensures callable { F.IsAlwaysCallable runner.new }
+{
+    runner(words, input)
 }

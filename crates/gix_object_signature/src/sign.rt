@@ -3,12 +3,13 @@
 ghost use Rattle.std.specs.Prelude.{◌≡◌, [], ◌∷◌, codes, IfOk, option_map};
 ghost use Rattle.bstr.specs.BStr.{bstr_bytes};
 ghost use Rattle.gix_object_signature.specs.declared.sign.Error.TheVariants.{Memory};
-ghost use Rattle.gix_object_signature.specs.Run.{Plain, File};
+ghost use Rattle.gix_object_signature.specs.Run.{Answers, Plain, File};
 ghost use Rattle.gix_object_signature.specs.Signing as spec;
-ghost use Rattle.gix_object_signature.specs.Signing.{IsOrMemory, Signs, gpg_request, ssh_request, ssh_request_by, error_of, is_confirmed, literal_key, without_cr};
+ghost use Rattle.gix_object_signature.specs.Signing.{IsOrMemory, Signs, gpg_request, ssh_request, ssh_request_by, error_of, is_confirmed, literal_key};
 
 use crate::Format;
-use crate::run::{Answer, Run, RunError, Word};
+use crate::returns::drop_returns;
+use crate::run::{Answer, RunError, Word, run};
 use bstr::BStr;
 use gix_object_lines::{ByteString, decode, write};
 use std::alloc::{AllocError, Global};
@@ -101,13 +102,15 @@ pub fn is_literal_ssh_key(key: &[u8]) -> Option<&[u8]>
 /// `Failed` where the program failed; `MissingSignatureConfirmation` where it is one of OpenPGP or X.509 and no line of its
 /// errors begins with `[GNUPG:] SIG_CREATED `; `MissingSshSignature` where the secure shell's wrote no signature; and
 /// `Memory` where the signature's copy has none. A carriage return before a line feed is dropped from the signature.
-pub fn sign<R: Run>(
+pub fn sign<F: FnMut(&[Word<'_>], &[u8]) -> Result<Answer, RunError>>(
     alloc: Global,
     content: &[u8],
     options: &Options<'_>,
-    runner: &mut R,
+    runner: &mut F,
 ) -> Result<ByteString, Error>
-    ensures { Signs R.answers runner.old content.now options.now result runner.new }
+    requires { F.IsAlwaysCallable runner.old }
+    ensures signed { Signs (Answers F.FnMut) runner.old content.now options.now result runner.new }
+    ensures callable { F.IsAlwaysCallable runner.new }
 {
     let Some(key) = options.signing_key else {
         return Err(Error::MissingSigningKey);
@@ -163,13 +166,15 @@ fn ssh_signature(alloc: Global, answer: &Answer) -> Result<ByteString, Error>
     Ok(drop_returns(alloc, answer.output.as_bytes())?)
 }
 
-fn run_gpg<'a, R: Run>(
+fn run_gpg<'a, F: FnMut(&[Word<'_>], &[u8]) -> Result<Answer, RunError>>(
     content: &'a [u8],
     program: BStr<'a>,
     key: BStr<'a>,
-    runner: &mut R,
+    runner: &mut F,
 ) -> Result<Answer, RunError>
-    ensures { R.answers runner.old (gpg_request (bstr_bytes program.entry) (bstr_bytes key.entry) content.now) result runner.new }
+    requires { F.IsAlwaysCallable runner.old }
+    ensures asked { Answers F.FnMut runner.old (gpg_request (bstr_bytes program.entry) (bstr_bytes key.entry) content.now) result runner.new }
+    ensures callable { F.IsAlwaysCallable runner.new }
 {
     let words = [
         Word::Text(program),
@@ -177,16 +182,18 @@ fn run_gpg<'a, R: Run>(
         Word::Text(BStr::new(b"-bsau")),
         Word::Text(key),
     ];
-    runner.run(&words, content)
+    run(&words, content, runner)
 }
 
-fn run_ssh<'a, R: Run>(
+fn run_ssh<'a, F: FnMut(&[Word<'_>], &[u8]) -> Result<Answer, RunError>>(
     content: &'a [u8],
     program: BStr<'a>,
     key: BStr<'a>,
-    runner: &mut R,
+    runner: &mut F,
 ) -> Result<Answer, RunError>
-    ensures { R.answers runner.old (ssh_request (bstr_bytes program.entry) (bstr_bytes key.entry) content.now) result runner.new }
+    requires { F.IsAlwaysCallable runner.old }
+    ensures asked { Answers F.FnMut runner.old (ssh_request (bstr_bytes program.entry) (bstr_bytes key.entry) content.now) result runner.new }
+    ensures callable { F.IsAlwaysCallable runner.new }
 {
     match is_literal_ssh_key(key.as_bytes()) {
         Some(literal) => run_with_literal(content, program, BStr::new(literal), runner),
@@ -195,13 +202,15 @@ fn run_ssh<'a, R: Run>(
 }
 
 // The run of a key that is told itself.
-fn run_with_literal<'a, R: Run>(
+fn run_with_literal<'a, F: FnMut(&[Word<'_>], &[u8]) -> Result<Answer, RunError>>(
     content: &'a [u8],
     program: BStr<'a>,
     literal: BStr<'a>,
-    runner: &mut R,
+    runner: &mut F,
 ) -> Result<Answer, RunError>
-    ensures { R.answers runner.old (ssh_request_by (File (bstr_bytes literal.entry) ∷ Plain (codes "-U") ∷ []) (bstr_bytes program.entry) content.now) result runner.new }
+    requires { F.IsAlwaysCallable runner.old }
+    ensures asked { Answers F.FnMut runner.old (ssh_request_by (File (bstr_bytes literal.entry) ∷ Plain (codes "-U") ∷ []) (bstr_bytes program.entry) content.now) result runner.new }
+    ensures callable { F.IsAlwaysCallable runner.new }
 {
     let words = [
         Word::Text(program),
@@ -214,17 +223,19 @@ fn run_with_literal<'a, R: Run>(
         Word::Text(BStr::new(b"-U")),
         Word::FileToSign(BStr::new(content)),
     ];
-    runner.run(&words, b"")
+    run(&words, b"", runner)
 }
 
 // The run of a key whose file is told.
-fn run_with_file<'a, R: Run>(
+fn run_with_file<'a, F: FnMut(&[Word<'_>], &[u8]) -> Result<Answer, RunError>>(
     content: &'a [u8],
     program: BStr<'a>,
     file: BStr<'a>,
-    runner: &mut R,
+    runner: &mut F,
 ) -> Result<Answer, RunError>
-    ensures { R.answers runner.old (ssh_request_by (Plain (bstr_bytes file.entry) ∷ []) (bstr_bytes program.entry) content.now) result runner.new }
+    requires { F.IsAlwaysCallable runner.old }
+    ensures asked { Answers F.FnMut runner.old (ssh_request_by (Plain (bstr_bytes file.entry) ∷ []) (bstr_bytes program.entry) content.now) result runner.new }
+    ensures callable { F.IsAlwaysCallable runner.new }
 {
     let words = [
         Word::Text(program),
@@ -236,7 +247,7 @@ fn run_with_file<'a, R: Run>(
         Word::Text(file),
         Word::FileToSign(BStr::new(content)),
     ];
-    runner.run(&words, b"")
+    run(&words, b"", runner)
 }
 
 // Whether a line of the status tells that a signature was made.
@@ -246,19 +257,4 @@ fn tells_signature(status: &[u8]) -> bool
     status
         .split(|byte| *byte == b'\n')
         .any(|line| line.starts_with(b"[GNUPG:] SIG_CREATED "))
-}
-
-// A copy without each carriage return that a line feed follows.
-fn drop_returns(alloc: Global, text: &[u8]) -> Result<ByteString, AllocError>
-    ensures { IfOk result (λ copy. copy ≡ without_cr text.now) }
-{
-    let mut copy = Vec::with_capacity(alloc, text.len())?;
-    let mut rest = text;
-    'bytes: while let Some((byte, behind)) = rest.split_first() {
-        if *byte != b'\r' || !behind.starts_with(b"\n") {
-            copy.push(*byte)?;
-        }
-        rest = behind;
-    }
-    Ok(ByteString::new(copy))
 }

@@ -1,16 +1,20 @@
 //! Verifying, after git's gpg-interface.c.
 
-ghost use Rattle.std.specs.Prelude.{◌≡◌, ◌↔◌, IsTrue, MatchOption};
-ghost use Rattle.bstr.specs.BStr.{bstr_bytes};
-ghost use Rattle.gix_object_signature.specs.Run.{Request};
+ghost use Rattle.std.specs.Prelude.{◌≡◌, ◌↔◌, IsTrue};
+ghost use Rattle.gix_object_signature.specs.Asking.{error_of};
+ghost use Rattle.gix_object_signature.specs.Run.{Answers};
 ghost use Rattle.gix_object_signature.specs.Signed.{signed_bytes};
-ghost use Rattle.gix_object_signature.specs.Trust.{NamesLevel, NamesNoLevel};
-ghost use Rattle.gix_object_signature.specs.Verifying.{IsValid, Verifies, error_of, format_of, minimum_of, outcome_of, rank_of, request_for};
+ghost use Rattle.gix_object_signature.specs.Verifying.{IsValid, Verifies, format_of};
 ghost use Rattle.gix_object_signature.specs.declared.verify.Error.TheVariants.{Memory};
 
+mod gnupg;
 mod lines;
+mod signed_time;
+mod ssh;
+mod trust;
 
-use crate::run::{Answer, Run, RunError, Word};
+use crate::run::{Answer, RunError, Word};
+pub use crate::verify::trust::TrustLevel;
 use crate::{Format, SignedData};
 use bstr::BStr;
 use std::alloc::{AllocError, Global};
@@ -32,6 +36,18 @@ pub enum Options<'a> {
         /// The level at which its key must be trusted at least (`gpg.minTrustLevel`).
         minimum_trust: TrustLevel,
     },
+    /// Of a signature of the secure shell.
+    Ssh {
+        /// The program that verifies (`gpg.ssh.program`).
+        program: BStr<'a>,
+        /// The path of the file that tells whose keys are whose (`gpg.ssh.allowedSignersFile`).
+        allowed_signers: BStr<'a>,
+        /// The path of the file of keys that are revoked (`gpg.ssh.revocationFile`), where there is one; Git takes none where
+        /// no file stands there, which the caller looks after.
+        revoked_keys: Option<BStr<'a>>,
+        /// The level at which its key must be trusted at least (`gpg.minTrustLevel`): `Fully` is that of a principal's key.
+        minimum_trust: TrustLevel,
+    },
 }
 
 impl<'a> Options<'a> {
@@ -41,15 +57,7 @@ impl<'a> Options<'a> {
         match self {
             Options::OpenPgp { .. } => format == Format::OpenPgp,
             Options::X509 { .. } => format == Format::X509,
-        }
-    }
-
-    fn minimum_trust(&self) -> TrustLevel
-        ensures { result ≡ minimum_of self.now }
-    {
-        match self {
-            Options::OpenPgp { minimum_trust, .. } => *minimum_trust,
-            Options::X509 { minimum_trust, .. } => *minimum_trust,
+            Options::Ssh { .. } => format == Format::Ssh,
         }
     }
 }
@@ -73,55 +81,6 @@ pub enum Status {
     Unknown,
 }
 
-/// How far a key's owner is trusted, from least to most.
-#[derive(Debug, Clone, Copy, PartialEq, Eq, PartialOrd, Ord)]
-pub enum TrustLevel {
-    /// It isn't told.
-    Undefined,
-    /// Not at all.
-    Never,
-    /// A little.
-    Marginal,
-    /// Fully.
-    Fully,
-    /// As oneself.
-    Ultimate,
-}
-
-impl TrustLevel {
-    /// The level that the word names, in any letter case, as `gpg.minTrustLevel` is read; `None` where it names none.
-    pub fn from_bytes(value: &[u8]) -> Option<TrustLevel>
-        ensures { MatchOption result (NamesNoLevel value.now) (NamesLevel value.now) }
-    {
-        if value.eq_ignore_ascii_case(b"undefined") {
-            Some(TrustLevel::Undefined)
-        } else if value.eq_ignore_ascii_case(b"never") {
-            Some(TrustLevel::Never)
-        } else if value.eq_ignore_ascii_case(b"marginal") {
-            Some(TrustLevel::Marginal)
-        } else if value.eq_ignore_ascii_case(b"fully") {
-            Some(TrustLevel::Fully)
-        } else if value.eq_ignore_ascii_case(b"ultimate") {
-            Some(TrustLevel::Ultimate)
-        } else {
-            None
-        }
-    }
-
-    // How many levels are below.
-    fn rank(self) -> u8
-        ensures { result ≡ rank_of self }
-    {
-        match self {
-            TrustLevel::Undefined => 0,
-            TrustLevel::Never => 1,
-            TrustLevel::Marginal => 2,
-            TrustLevel::Fully => 3,
-            TrustLevel::Ultimate => 4,
-        }
-    }
-}
-
 /// What came of verifying.
 #[derive(Debug, Drop)]
 pub struct Outcome {
@@ -131,17 +90,20 @@ pub struct Outcome {
     pub trust: TrustLevel,
     /// How far it must be trusted.
     pub minimum_trust: TrustLevel,
-    /// The program's whole answer: its output is the status, its errors are for people.
+    /// Whether someone is known to have made it: false only for a key of the secure shell that is none of the allowed signers'.
+    pub has_signer: bool,
+    /// The program's whole answer, the last of several: its output is the status, its errors are for people.
     pub answer: Answer,
 }
 
 impl Outcome {
-    /// Whether the signature holds, by Git's rule: the program's status is 0, the signature is good, and its key is trusted as
-    /// far as it must be.
+    /// Whether the signature holds, by Git's rule: the program's status is 0, the signature is good and someone's, and its key
+    /// is trusted as far as it must be.
     pub fn is_valid(&self) -> bool
         ensures { IsTrue result ↔ IsValid self.now }
     {
         self.answer.succeeded
+            && self.has_signer
             && self.status == Status::Good
             && self.minimum_trust.rank() <= self.trust.rank()
     }
@@ -165,6 +127,9 @@ pub enum Error {
     /// The program's input wasn't written, or what it wrote wasn't read.
     #[error("the program that verifies didn't communicate")]
     Communicate,
+    /// The object tells no time of signing, or none that the secure shell's program takes.
+    #[error("the time of signing can't be told")]
+    CommitTime,
     /// No memory is left.
     #[error("out of memory")]
     Memory,
@@ -192,19 +157,28 @@ impl From<AllocError> for Error {
 }
 
 impl<'a> SignedData<'a> {
-    /// What a program, which the runner runs once, tells of this signature of the bytes.
+    /// What a program tells of this signature of the bytes: the runner runs it once, or, for the secure shell, as often as Git
+    /// does.
     ///
     /// It is `UnsupportedFormat` where no known armor begins the signature, `FormatMismatch` where the options are of another
-    /// format, and nothing is run then; what the runner refuses where it does; and `Memory` where a copy of the bytes has
-    /// none. A signature that doesn't hold is no error: `Outcome::is_valid` tells it.
-    pub fn verify<R: Run>(
+    /// format, `CommitTime` where the secure shell's program can't be told the time of signing, and nothing is run then; what
+    /// the runner refuses where it does; and `Memory` where a copy of the bytes, or of what is asked, has none. A signature
+    /// that doesn't hold is no error: `Outcome::is_valid` tells it.
+    ///
+    /// The secure shell's program is asked for the principals that may have made the signature, and then whether it is one's,
+    /// each in turn until one's it is; where there are none, whether it is a signature of the bytes at all. Each time it is
+    /// told the time of signing, that of the committer or tagger in the bytes' own header lines; where no line tells one, or
+    /// it is zero seconds, no time is. Git tells it as local time, here it is coordinated universal time with a `Z` behind.
+    pub fn verify<F: FnMut(&[Word<'_>], &[u8]) -> Result<Answer, RunError>>(
         &self,
         alloc: Global,
         signature: &[u8],
         options: &Options<'_>,
-        runner: &mut R,
+        runner: &mut F,
     ) -> Result<Outcome, Error>
-        ensures { Verifies R.answers runner.old (signed_bytes self.now) signature.now options.now result runner.new }
+        requires { F.IsAlwaysCallable runner.old }
+        ensures told { Verifies (Answers F.FnMut) runner.old (signed_bytes self.now) signature.now options.now result runner.new }
+        ensures callable { F.IsAlwaysCallable runner.new }
     {
         let Some(format) = Format::from_signature(signature) else {
             return Err(Error::UnsupportedFormat);
@@ -212,61 +186,32 @@ impl<'a> SignedData<'a> {
         if !options.takes(format) {
             return Err(Error::FormatMismatch);
         }
-        let Ok(content) = self.to_bstring(alloc) else {
+        let Ok(copy) = self.to_bstring(alloc) else {
             return Err(Error::Memory);
         };
-        let answer = run_verifier(*options, signature, content.as_bytes(), runner);
-        read_answer(options.minimum_trust(), answer)
-    }
-}
-
-// What the answer means.
-fn read_answer(
-    minimum_trust: TrustLevel,
-    answer: Result<Answer, RunError>,
-) -> Result<Outcome, Error>
-    ensures { result ≡ outcome_of minimum_trust answer }
-{
-    let answer = answer?;
-    let status = lines::status_of(answer.output.as_bytes());
-    let trust = lines::trust_of(answer.output.as_bytes());
-    Ok(Outcome {
-        status,
-        trust,
-        minimum_trust,
-        answer,
-    })
-}
-
-fn run_verifier<'a, R: Run>(
-    options: Options<'a>,
-    signature: &'a [u8],
-    content: &'a [u8],
-    runner: &mut R,
-) -> Result<Answer, RunError>
-    ensures { R.answers runner.old (request_for options.entry signature.now content.now) result runner.new }
-{
-    match options {
-        Options::OpenPgp { program, .. } => {
-            let words = [
-                Word::Text(program),
-                Word::Text(BStr::new(b"--keyid-format=long")),
-                Word::Text(BStr::new(b"--status-fd=1")),
-                Word::Text(BStr::new(b"--verify")),
-                Word::FileWith(BStr::new(signature)),
-                Word::Text(BStr::new(b"-")),
-            ];
-            runner.run(&words, content)
-        }
-        Options::X509 { program, .. } => {
-            let words = [
-                Word::Text(program),
-                Word::Text(BStr::new(b"--status-fd=1")),
-                Word::Text(BStr::new(b"--verify")),
-                Word::FileWith(BStr::new(signature)),
-                Word::Text(BStr::new(b"-")),
-            ];
-            runner.run(&words, content)
+        let content = copy.as_bytes();
+        match *options {
+            Options::OpenPgp {
+                program,
+                minimum_trust,
+            } => gnupg::ask_gpg(program, minimum_trust, signature, content, runner),
+            Options::X509 {
+                program,
+                minimum_trust,
+            } => gnupg::ask_gpgsm(program, minimum_trust, signature, content, runner),
+            Options::Ssh {
+                program,
+                allowed_signers,
+                revoked_keys,
+                minimum_trust,
+            } => {
+                let signers = ssh::Signers {
+                    program,
+                    allowed: allowed_signers,
+                    revoked: revoked_keys,
+                };
+                ssh::verify(alloc, signers, minimum_trust, signature, content, runner)
+            }
         }
     }
 }

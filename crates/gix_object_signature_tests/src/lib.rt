@@ -8,4 +8,6 @@ mod table;
 #[cfg(test)]
 mod verifying;
 #[cfg(test)]
+mod verifying_ssh;
+#[cfg(test)]
 mod words;

@@ -32,22 +32,47 @@ fn asks_gpg_as_git_does(rt: HostRuntime) -> Result<(), Fail> {
         output: SIGNATURE,
         errors: SIGNING,
     };
-    let Ok(signature) = sign(rt.alloc(), COMMIT, &options, &mut runner) else {
+    let Ok(signature) = sign(
+        rt.alloc(),
+        COMMIT,
+        &options,
+        &mut |words: &[Word<'_>], input: &[u8]| { runner.answer(words, input) },
+    ) else {
         return Err("gpg's signature was refused".into());
     };
     assert_eq!(rt; signature.as_bytes(), SIGNATURE);
     runner.output = b"a\r\nb\r\r\nc\r";
-    let Ok(signature) = sign(rt.alloc(), COMMIT, &options, &mut runner) else {
+    let Ok(signature) = sign(
+        rt.alloc(),
+        COMMIT,
+        &options,
+        &mut |words: &[Word<'_>], input: &[u8]| { runner.answer(words, input) },
+    ) else {
         return Err("a signature with carriage returns was refused".into());
     };
     assert_eq!(rt; signature.as_bytes(), b"a\nb\r\nc\r".as_slice());
     runner.errors = b" [GNUPG:] SIG_CREATED D\n";
-    let result = sign(rt.alloc(), COMMIT, &options, &mut runner);
+    let result = sign(
+        rt.alloc(),
+        COMMIT,
+        &options,
+        &mut |words: &[Word<'_>], input: &[u8]| { runner.answer(words, input) },
+    );
     assert!(rt; matches!(result, Err(Error::MissingSignatureConfirmation)));
     runner.succeeded = false;
-    let result = sign(rt.alloc(), COMMIT, &options, &mut runner);
+    let result = sign(
+        rt.alloc(),
+        COMMIT,
+        &options,
+        &mut |words: &[Word<'_>], input: &[u8]| { runner.answer(words, input) },
+    );
     assert!(rt; matches!(result, Err(Error::Failed)));
-    let result = sign(rt.alloc(), b"other", &options, &mut runner);
+    let result = sign(
+        rt.alloc(),
+        b"other",
+        &options,
+        &mut |words: &[Word<'_>], input: &[u8]| { runner.answer(words, input) },
+    );
     assert!(rt; matches!(result, Err(Error::Spawn)));
     Ok(())
 }
@@ -73,15 +98,30 @@ fn asks_the_secure_shell_as_git_does(rt: HostRuntime) -> Result<(), Fail> {
         errors: b"",
     };
     let by_file = options(Format::Ssh, b"ssh-keygen", b"/home/ann/key.pub");
-    let Ok(signature) = sign(rt.alloc(), COMMIT, &by_file, &mut runner) else {
+    let Ok(signature) = sign(
+        rt.alloc(),
+        COMMIT,
+        &by_file,
+        &mut |words: &[Word<'_>], input: &[u8]| { runner.answer(words, input) },
+    ) else {
         return Err("the signature of the secure shell was refused".into());
     };
     assert_eq!(rt; signature.as_bytes(), SSH_SIGNATURE);
     runner.output = b"";
-    let result = sign(rt.alloc(), COMMIT, &by_file, &mut runner);
+    let result = sign(
+        rt.alloc(),
+        COMMIT,
+        &by_file,
+        &mut |words: &[Word<'_>], input: &[u8]| { runner.answer(words, input) },
+    );
     assert!(rt; matches!(result, Err(Error::MissingSshSignature)));
     let by_nothing = options(Format::Ssh, b"ssh-keygen", b"");
-    let result = sign(rt.alloc(), COMMIT, &by_nothing, &mut runner);
+    let result = sign(
+        rt.alloc(),
+        COMMIT,
+        &by_nothing,
+        &mut |words: &[Word<'_>], input: &[u8]| { runner.answer(words, input) },
+    );
     assert!(rt; matches!(result, Err(Error::MissingSigningKey)));
     Ok(())
 }
@@ -108,7 +148,12 @@ fn puts_a_key_into_a_file(rt: HostRuntime) -> Result<(), Fail> {
         errors: b"",
     };
     let by_key = options(Format::Ssh, b"ssh-keygen", b"key::ssh-ed25519 AAAA ann");
-    let Ok(signature) = sign(rt.alloc(), COMMIT, &by_key, &mut runner) else {
+    let Ok(signature) = sign(
+        rt.alloc(),
+        COMMIT,
+        &by_key,
+        &mut |words: &[Word<'_>], input: &[u8]| { runner.answer(words, input) },
+    ) else {
         return Err("the signature of a literal key was refused".into());
     };
     assert_eq!(rt; signature.as_bytes(), SSH_SIGNATURE);

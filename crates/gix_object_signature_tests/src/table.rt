@@ -1,11 +1,9 @@
-//! A runner that answers one request, and what git 2.39.5 asked GnuPG 2.2.40 and OpenSSH 9.2 for: `gpg.program` and
-//! `gpg.ssh.program` were a script that wrote its words, input and answer down.
-
-ghost use Rattle.std.specs.Prelude.{⊤};
+//! Tables that answer one request, or several in their order, and what git 2.39.5 asked GnuPG 2.2.40 and OpenSSH 9.2 for:
+//! `gpg.program` and `gpg.ssh.program` were a script that wrote its words, input and answer down.
 
 use bstr::BStr;
 use gix_object_lines::ByteString;
-use gix_object_signature::run::{Answer, Run, RunError, Word};
+use gix_object_signature::run::{Answer, RunError, Word};
 use std::alloc::Global;
 
 /// Answers this request alone; to another it is as if no program were there.
@@ -19,10 +17,8 @@ pub struct Table<'a> {
     pub errors: &'a [u8],
 }
 
-impl<'a> Run for Table<'a> {
-    ghost answers = { λ _ _ _ _. ⊤ };
-
-    fn run(&mut self, words: &[Word<'_>], input: &[u8]) -> Result<Answer, RunError> {
+impl<'a> Table<'a> {
+    pub fn answer(&self, words: &[Word<'_>], input: &[u8]) -> Result<Answer, RunError> {
         if words != self.words || input != self.input {
             return Err(RunError::Spawn);
         }
@@ -34,6 +30,48 @@ impl<'a> Run for Table<'a> {
         };
         Ok(Answer {
             succeeded: self.succeeded,
+            output,
+            errors,
+        })
+    }
+}
+
+/// One request, and what is answered.
+#[derive(Clone, Copy)]
+pub struct Exchange<'a> {
+    pub words: &'a [Word<'a>],
+    pub input: &'a [u8],
+    pub succeeded: bool,
+    pub output: &'a [u8],
+    pub errors: &'a [u8],
+}
+
+/// Answers these requests, in this order; to another it is as if no program were there.
+#[derive(Drop)]
+pub struct Session<'a> {
+    pub alloc: Global,
+    pub exchanges: &'a [Exchange<'a>],
+    /// How many were answered.
+    pub answered: usize,
+}
+
+impl<'a> Session<'a> {
+    pub fn answer(&mut self, words: &[Word<'_>], input: &[u8]) -> Result<Answer, RunError> {
+        let Some(exchange) = self.exchanges.get(self.answered) else {
+            return Err(RunError::Spawn);
+        };
+        if words != exchange.words || input != exchange.input {
+            return Err(RunError::Spawn);
+        }
+        self.answered = self.answered.saturating_add(1);
+        let Ok(output) = ByteString::from_slice(self.alloc, exchange.output) else {
+            return Err(RunError::Memory);
+        };
+        let Ok(errors) = ByteString::from_slice(self.alloc, exchange.errors) else {
+            return Err(RunError::Memory);
+        };
+        Ok(Answer {
+            succeeded: exchange.succeeded,
             output,
             errors,
         })

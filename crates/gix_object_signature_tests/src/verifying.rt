@@ -87,7 +87,12 @@ fn tells_what_gpg_told_git(rt: HostRuntime) -> Result<(), Fail> {
     for (output, status, trust, is_valid) in &rows {
         runner.output = output;
         let outcome = signed
-            .verify(rt.alloc(), SIGNATURE, &options, &mut runner)
+            .verify(
+                rt.alloc(),
+                SIGNATURE,
+                &options,
+                &mut |words: &[Word<'_>], input: &[u8]| { runner.answer(words, input) },
+            )
             .map_err(|_| "gpg's answer was refused")?;
         assert_eq!(rt; outcome.status, *status);
         assert_eq!(rt; outcome.trust, *trust);
@@ -121,7 +126,12 @@ fn refuses_signatures_of_other_formats(rt: HostRuntime) -> Result<(), Fail> {
         (b"-----BEGIN SIGNED MESSAGE-----\n", Error::Spawn),
     ];
     for (signature, error) in &rows {
-        let result = signed.verify(rt.alloc(), signature, &options, &mut runner);
+        let result = signed.verify(
+            rt.alloc(),
+            signature,
+            &options,
+            &mut |words: &[Word<'_>], input: &[u8]| { runner.answer(words, input) },
+        );
         assert_eq!(rt; result.err(), Some(*error));
     }
     Ok(())

@@ -6,3 +6,8 @@ pub mod PieceLemmas
 pub mod ReadBack
 pub mod ActorLines
 pub mod WholeLemmas
+pub mod SigningLemmas
+pub mod SignedLemmas
+pub mod WrittenBack
+pub mod OwnedReadBack
+pub mod ReadFormat

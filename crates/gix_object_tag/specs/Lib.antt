@@ -10,3 +10,4 @@ pub mod Format
 pub mod Owned
 pub mod OwnedText
 pub mod Whole
+pub mod Signing

@@ -1,13 +1,14 @@
 -- Tags that own their parts.
 use Rattle.std.specs.Prelude.{ℕ, ◌≡◌, ◌⊎◌, ⊤, List, Option, None, Some}
-use Rattle.gix_hash.specs.Id.{Id}
+use Rattle.gix_hash.specs.Id.{Id, id_of}
 use Rattle.gix_hash.specs.Views.{IsHexOfId}
 use Rattle.gix_object_lines.specs.Time.{SpellsTime}
 use Rattle.gix_object_lines.specs.declared.decode.Error.{Error}
 use Rattle.gix_object_lines.specs.declared.decode.Error.TheVariants.{HexDigits, InvalidTime, Memory}
 use Rattle.gix_object_lines.specs.declared.lines.actor.Actor.{Actor}
 use Rattle.gix_object_tag.specs.Format.{TellsWhen}
-use Rattle.gix_object_tag.specs.Tag.{Tagger}
+use Rattle.gix_object_tag.specs.Tag.{Tagger, Parts}
+use Rattle.gix_object_tag.specs.declared.tag.owned.Tag.{Tag}
 
 -- the same name and email, and the time that the text tells
 pub record IsActorOf (tagger : Tagger) (actor : Actor) : Type 0 where
@@ -20,6 +21,15 @@ IsOwnTagger None None = ⊤
 IsOwnTagger None (Some actor) = ⊥
 IsOwnTagger (Some tagger) None = ⊥
 IsOwnTagger (Some tagger) (Some actor) = IsActorOf tagger actor
+
+-- the id that the digits spell, and each part as it is told
+pub record IsTagOf (parts : Parts) (tag : Tag) : Type 0 where
+  pub target : IsHexOfId parts.target (id_of tag.target)
+  pub target_kind : tag.target_kind ≡ parts.target_kind
+  pub name : tag.name ≡ parts.name
+  pub tagger : IsOwnTagger parts.tagger tag.tagger
+  pub message : tag.message ≡ parts.message
+  pub signature : tag.pgp_signature ≡ parts.signature
 
 -- the digits are no id's, the text tells no time, or no memory is left
 abbrev pub OwningFault : List ℕ → Option Tagger → Error → Type 0

@@ -1,18 +1,25 @@
 //! Laws of tags and their spellings: the contract is the law. Where it speaks of a call the function makes
 //! that call, and else it does nothing.
 
-ghost use Rattle.std.specs.Prelude.{◌≡◌, ◌↔◌, None, IsTrue};
+ghost use Rattle.std.specs.Prelude.{ℕ, List, ◌≡◌, ◌≢◌, ◌↔◌, ◌++◌, [], None, IsTrue, IsOkAnd};
 ghost use Rattle.gix_object_lines.specs.PartialName.{IsPartialName};
 ghost use Rattle.gix_object_lines.specs.Writes.{cause_of};
 ghost use Rattle.gix_object_tag.specs.Format.{IsInFormat};
 ghost use Rattle.gix_object_tag.specs.NameTest.{is_partial};
+ghost use Rattle.gix_object_tag.specs.OwnedText.{parts_of_tag};
+ghost use Rattle.gix_object_tag.specs.Signing.{IsTextToSign, TellsSigned, with_signature, write_fault};
 ghost use Rattle.gix_object_tag.specs.Tag.{Parts, SpellsTag};
 ghost use Rattle.gix_object_tag.specs.TagText.{tag_text, tag_refusal, is_bad_tagger};
 ghost use Rattle.gix_object_tag.specs.Whole.{IsTag, tells_name};
 ghost use Rattle.gix_object_tag.specs.Views.{parts_of, tagger_of};
+ghost use Rattle.gix_object_tag.specs.declared.tag.owned.Tag.{Tag};
+
+pub mod owned;
 
 use crate::tag::ref_iter::Token;
 use crate::{TagRef, TagRefIter};
+use gix_object_lines::decode::Error;
+use gix_object_signature::{SignatureRef, SignedData};
 
 /// Bytes spell at most one tag.
 pub fn bytes_spell_one_tag(input: &[u8], hash_kind: gix_hash::Kind)
@@ -31,6 +38,30 @@ pub fn test_is_the_rules(name: &[u8])
 pub fn written_tag_is_read_back(tag: &TagRef<'_>, hash_kind: gix_hash::Kind)
     ensures { cause_of (tag_refusal (parts_of tag.now) (is_bad_tagger (tagger_of tag.now.tagger))) ≡ None
         → IsInFormat hash_kind (parts_of tag.now) → SpellsTag hash_kind (tag_text (parts_of tag.now)) (parts_of tag.now) }
+{}
+
+/// What is read of a signed tag as it is written: its signature, and as its signed data exactly the text that was signed.
+/// The tag is one that can be written; its tagger tells a time, and its signature has its only armor at its start.
+pub fn signed_data_is_the_text_that_was_signed<'a>(
+    written: &'a [u8],
+    hash_kind: gix_hash::Kind,
+) -> Result<Option<(SignatureRef<'a>, SignedData<'a>)>, Error>
+    ensures { (tag : Tag) (text signature : List ℕ) → write_fault tag ≡ None → IsInFormat hash_kind (parts_of_tag (with_signature signature tag))
+        → IsTextToSign tag text → written.now ≡ text ++ signature → IsOkAnd result (TellsSigned text signature) }
+{
+    TagRefIter::signature(written, hash_kind)
+}
+
+/// A tag that was read is in the format: its target is an id's digits, its tagger tells a time, and its message holds no armor
+/// or its signature has its only armor at its start.
+pub fn read_tag_is_in_format(_input: &[u8], _hash_kind: gix_hash::Kind)
+    ensures { (parts : Parts) → SpellsTag _hash_kind _input.now parts → IsInFormat _hash_kind parts }
+{}
+
+/// A tag that was read is written to the bytes that it was read from, unless its message is empty: such a tag may end behind
+/// its lines, or have a line feed more before its signature.
+pub fn read_tag_is_written_back(_input: &[u8], _hash_kind: gix_hash::Kind)
+    ensures { (parts : Parts) → SpellsTag _hash_kind _input.now parts → parts.message ≢ [] → tag_text parts ≡ _input.now }
 {}
 
 /// Whether the token reader gives no error, and the name among its tokens: exactly where the bytes spell a tag, and so

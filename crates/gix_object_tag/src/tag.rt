@@ -12,6 +12,7 @@ ghost use Rattle.gix_object_tag.specs.Faults.{TagFault};
 mod decode;
 mod owned;
 pub mod ref_iter;
+mod sign;
 mod write;
 mod write_owned;
 

@@ -4,6 +4,10 @@
 #[cfg(test)]
 mod rows;
 #[cfg(test)]
+mod signing;
+#[cfg(test)]
+mod signing_table;
+#[cfg(test)]
 mod table;
 #[cfg(test)]
 mod texts;

@@ -4,3 +4,4 @@ pub mod Views
 pub mod Readers
 pub mod Checks
 pub mod Owned
+pub mod Format

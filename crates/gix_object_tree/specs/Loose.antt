@@ -1,6 +1,6 @@
 -- Loose objects: a header and the content behind it, as many bytes as the header tells (Git User Manual, "Object storage
 -- format"; git-fsck refuses fewer bytes than that, and more).
-use Rattle.std.specs.Prelude.{ℕ, ◌≡◌, ◌≢◌, List, ◌++◌, length, None, Some}
+use Rattle.std.specs.Prelude.{ℕ, ◌≡◌, ◌≢◌, ◌<◌, ◌^◌, List, ◌++◌, length, None, Some}
 use Rattle.gix_hash.specs.declared.kind.Kind as hash
 use Rattle.gix_object_lines.specs.Header.{header_text, HeaderFault}
 use Rattle.gix_object_lines.specs.declared.kind.Kind.{Kind}
@@ -21,12 +21,13 @@ pub record IsLoose (ids : hash.Kind) (input : List ℕ) (value : Value) : Type 0
   pub spelled : input ≡ loose_text kind content
   pub told : Tells ids kind content value
 
--- the header tells another length than what stands behind it has
+-- the header tells another length than what stands behind it has, and one that a header can tell
 pub record HasOtherLength (input : List ℕ) : Type 0 where
   pub kind : Kind
   pub size : ℕ
   pub content : List ℕ
   pub spelled : input ≡ header_text kind size ++ content
+  pub counted : size < 2 ^ 64
   pub other : size ≢ length content
 
 -- why bytes aren't cut into a header and its content

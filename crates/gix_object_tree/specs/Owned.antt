@@ -1,19 +1,15 @@
 -- Objects that own their parts.
 use Rattle.std.specs.Prelude.{◌≡◌, Option, None}
-use Rattle.gix_hash.specs.Id.{id_of}
-use Rattle.gix_hash.specs.Views.{IsHexOfId}
 use Rattle.gix_object_lines.specs.Writes.{Refusal}
 use Rattle.gix_object_lines.specs.declared.decode.Error.{Error}
 use Rattle.gix_object_lines.specs.declared.decode.Error.TheVariants.{Memory}
 use Rattle.gix_object_commit.specs.Owned.{IsCommitOf}
 use Rattle.gix_object_commit.specs.Owned as commit_owned
 use Rattle.gix_object_commit.specs.OwnedText.{own_parts, own_refusal}
-use Rattle.gix_object_tag.specs.Owned.{IsOwnTagger}
+use Rattle.gix_object_tag.specs.Owned.{IsTagOf}
 use Rattle.gix_object_tag.specs.Owned as tag_owned
 use Rattle.gix_object_tag.specs.OwnedText.{parts_of_tag, is_bad_actor}
-use Rattle.gix_object_tag.specs.Tag as tag_parts
 use Rattle.gix_object_tag.specs.TagText.{tag_refusal}
-use Rattle.gix_object_tag.specs.declared.tag.owned.Tag as tag_type
 use Rattle.gix_object_tree.specs.Object.{Value, Blob, Commit, Tag}
 use Rattle.gix_object_tree.specs.declared.owned.Object.{Object}
 use Rattle.gix_object_tree.specs.declared.owned.Object.TheVariants as object
@@ -31,14 +27,6 @@ own_value_refusal (object.Commit commit) = own_refusal commit
 own_value_refusal (object.Tag tag) = tag_refusal (parts_of_tag tag) (is_bad_actor tag.tagger)
 
 -- ---- owned from borrowed parts
-
-pub record IsTagOf (parts : tag_parts.Parts) (tag : tag_type.Tag) : Type 0 where
-  pub target : IsHexOfId parts.target (id_of tag.target)
-  pub target_kind : tag.target_kind ≡ parts.target_kind
-  pub name : tag.name ≡ parts.name
-  pub tagger : IsOwnTagger parts.tagger tag.tagger
-  pub message : tag.message ≡ parts.message
-  pub signature : tag.pgp_signature ≡ parts.signature
 
 -- of the same kind, and each part is owned
 abbrev pub IsOwned : Value → Object → Type 0

@@ -1,31 +1,73 @@
 //! A commit's further headers by name.
 
-ghost use Rattle.std.specs.Prelude.{◌≡◌, map, position, codes};
+ghost use Rattle.std.specs.Prelude.{◌≡◌, ◌<◌, ◌+◌, ◌^◌, map, position, codes, IfSome};
 ghost use Rattle.std.specs.Iterator.{YieldsFirstBy, item_count};
+ghost use Rattle.std.specs.List.{slice_get};
 ghost use Rattle.std.specs.Option.{option_map};
 ghost use Rattle.bstr.specs.BStr.{bstr_bytes};
 ghost use Rattle.gix_object_commit.specs.Headers.{is_named as is_field_named, first_value, values_named};
-ghost use Rattle.gix_object_commit.specs.HeaderViews.{headers_of, values_left, merge_tags_left};
+ghost use Rattle.gix_object_commit.specs.HeaderViews.{own_header, fields_in, headers_of, values_left, merge_tags_left};
 ghost use Rattle.gix_object_commit.specs.Views.{field_of};
 
-use crate::commit::HeaderRef;
+use crate::commit::{ExtraHeader, HeaderRef};
 use bstr::BStr;
 
-/// The further headers of a commit, in order.
+/// The further headers of a commit, in order. Of a `CommitRef` each value is as it stands in the commit, with a space
+/// behind each of its line feeds, and `HeaderRef::unfolded` gives it without; of a `Commit` it is without them.
 #[derive(Debug, Clone, Copy)]
 pub struct ExtraHeaders<'h, 'a> {
-    headers: &'h [HeaderRef<'a>],
+    headers: Headers<'h, 'a>,
+}
+
+// As a `CommitRef` or a `Commit` has them.
+#[derive(Debug, Clone, Copy)]
+enum Headers<'h, 'a> {
+    Lent(&'h [HeaderRef<'a>]),
+    Own(&'a [ExtraHeader]),
+}
+
+impl<'h, 'a> Headers<'h, 'a> {
+    // The name and the value at this place. An owned value has no spaces behind its line feeds.
+    fn get(self, place: usize) -> Option<HeaderRef<'a>>
+        ensures given { option_map field_of result ≡ slice_get (fields_in self.entry) place }
+        ensures in_range { IfSome result (λ _. place + 1 < 2 ^ 64) }
+    {
+        match self {
+            Headers::Lent(headers) => headers.get(place).copied(),
+            Headers::Own(headers) => headers.get(place).map(lend),
+        }
+    }
+}
+
+fn lend(header: &ExtraHeader) -> HeaderRef<'_>
+    ensures { field_of result ≡ own_header header.now }
+{
+    HeaderRef {
+        name: header.name.as_bstr(),
+        value: header.value.as_bstr(),
+    }
 }
 
 impl<'h, 'a> ExtraHeaders<'h, 'a> {
-    /// These headers.
+    /// These headers of a `CommitRef`.
     pub fn new(headers: &'h [HeaderRef<'a>]) -> ExtraHeaders<'h, 'a>
         ensures { headers_of result ≡ map field_of headers.now }
     {
-        ExtraHeaders { headers }
+        ExtraHeaders {
+            headers: Headers::Lent(headers),
+        }
     }
 
-    /// The value of the first header of this name, as it stands in the commit.
+    /// These headers of a `Commit`.
+    pub fn from_owned(headers: &'a [ExtraHeader]) -> ExtraHeaders<'h, 'a>
+        ensures { headers_of result ≡ map own_header headers.now }
+    {
+        ExtraHeaders {
+            headers: Headers::Own(headers),
+        }
+    }
+
+    /// The value of the first header of this name.
     pub fn find(&self, name: &[u8]) -> Option<BStr<'a>>
         ensures { option_map bstr_bytes result ≡ first_value name.now (headers_of self.now) }
     {
@@ -37,10 +79,17 @@ impl<'h, 'a> ExtraHeaders<'h, 'a> {
     pub fn find_pos(&self, name: &[u8]) -> Option<usize>
         ensures { result ≡ position (is_field_named name.now) (headers_of self.now) }
     {
-        find_place(self.headers, name)
+        let mut place = 0;
+        while let Some(header) = self.headers.get(place) {
+            if is_named(header, name) {
+                return Some(place);
+            }
+            place += 1;
+        }
+        None
     }
 
-    /// The values of all headers of this name, in order, each as it stands in the commit.
+    /// The values of all headers of this name, in order.
     pub fn find_all<'n>(&self, name: &'n [u8]) -> FindAll<'h, 'a, 'n>
         ensures { values_left result ≡ values_named name.now (headers_of self.now) }
     {
@@ -51,8 +100,7 @@ impl<'h, 'a> ExtraHeaders<'h, 'a> {
         }
     }
 
-    /// The tags that were merged, in order, each as its header's value stands in the commit; `HeaderRef::unfolded` gives a
-    /// tag's bytes of such a value.
+    /// The tags that were merged, in order: the values of the headers of the name `mergetag`.
     pub fn mergetags(&self) -> MergeTags<'h, 'a>
         ensures { merge_tags_left result ≡ values_named (codes "mergetag") (headers_of self.now) }
     {
@@ -61,7 +109,7 @@ impl<'h, 'a> ExtraHeaders<'h, 'a> {
         }
     }
 
-    /// The signature over the commit with SHA-1 ids, as it stands in the commit.
+    /// The signature over the commit with SHA-1 ids: the value of the first header of the name `gpgsig`.
     pub fn pgp_signature(&self) -> Option<BStr<'a>>
         ensures { option_map bstr_bytes result ≡ first_value (codes "gpgsig") (headers_of self.now) }
     {
@@ -69,10 +117,10 @@ impl<'h, 'a> ExtraHeaders<'h, 'a> {
     }
 }
 
-/// The values of all headers of a name, in order, each as it stands in the commit.
+/// The values of all headers of a name, in order.
 #[derive(Debug, Clone, Copy)]
 pub struct FindAll<'h, 'a, 'n> {
-    headers: &'h [HeaderRef<'a>],
+    headers: Headers<'h, 'a>,
     place: usize,
     name: &'n [u8],
 }
@@ -95,7 +143,7 @@ impl<'h, 'a, 'n> Iterator for FindAll<'h, 'a, 'n> {
     }
 }
 
-/// The tags that a commit merged, in order, each as its header's value stands in the commit.
+/// The tags that a commit merged, in order.
 #[derive(Debug, Clone, Copy)]
 pub struct MergeTags<'h, 'a> {
     values: FindAll<'h, 'a, 'static>,
@@ -113,15 +161,9 @@ impl<'h, 'a> Iterator for MergeTags<'h, 'a> {
     }
 }
 
-fn find_place(headers: &[HeaderRef<'_>], name: &[u8]) -> Option<usize>
-    ensures { result ≡ position (λ header. is_field_named name.now (field_of header)) headers.now }
-{
-    headers.iter().position(|header| is_named(header, name))
-}
-
-// Whether the header has this name.
-fn is_named(header: &HeaderRef<'_>, name: &[u8]) -> bool
-    ensures { result ≡ is_field_named name.now (field_of header.now) }
+/// Whether the header has this name.
+pub(crate) fn is_named(header: HeaderRef<'_>, name: &[u8]) -> bool
+    ensures { result ≡ is_field_named name.now (field_of header.entry) }
 {
     header.name.as_bytes() == name
 }

@@ -6,10 +6,11 @@ ghost use Rattle.std.specs.Option.{option_map};
 ghost use Rattle.bstr.specs.BStr.{bstr_bytes};
 ghost use Rattle.gix_object_lines.specs.Actor.{TellsTime};
 ghost use Rattle.gix_object_lines.specs.declared.decode.Error.TheVariants.{HexDigits, InvalidTime, Memory};
+ghost use Rattle.gix_object_commit.specs.HeaderViews.{own_header, headers_of};
 ghost use Rattle.gix_object_commit.specs.Owned.{IsOwnId, IsActorOf, IsHeaderOf, IsCommitOf, SpellsNoId, OwningFault};
 ghost use Rattle.gix_object_commit.specs.Views.{person_of, field_of, parts_of};
 
-use crate::commit::{CommitRef, HeaderRef};
+use crate::commit::{CommitRef, ExtraHeaders, HeaderRef};
 use bstr::BStr;
 use gix_hash::ObjectId;
 use gix_object_lines::ByteString;
@@ -44,6 +45,15 @@ pub struct Commit {
     pub message: ByteString,
     /// The further headers, in order.
     pub extra_headers: Vec<ExtraHeader>,
+}
+
+impl Commit {
+    /// The further headers, each value without the spaces that stand in the commit.
+    pub fn extra_headers(&self) -> ExtraHeaders<'_, '_>
+        ensures { headers_of result ≡ map own_header self.now.extra_headers.items }
+    {
+        ExtraHeaders::from_owned(self.extra_headers.as_slice())
+    }
 }
 
 impl<'a> CommitRef<'a> {

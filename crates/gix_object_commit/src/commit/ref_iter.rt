@@ -1,20 +1,27 @@
 //! Reading commits token by token.
 
-ghost use Rattle.std.specs.Prelude.{ℕ, List, ◌≡◌, length, IfOk, IsOkAnd};
+ghost use Rattle.std.specs.Prelude.{ℕ, List, ◌≡◌, length, codes, IfOk, IfErr, IsOkAnd};
 ghost use Rattle.std.specs.Iterator.{at_most};
 ghost use Rattle.std.specs.Option.{option_map};
 ghost use Rattle.gix_hash.specs.Id.{Id, id_of};
+ghost use Rattle.gix_hash.specs.Kind.{hex_len};
 ghost use Rattle.gix_hash.specs.Views.{viewed_id};
 ghost use Rattle.gix_hash.specs.declared.kind.Kind.{Kind};
+ghost use Rattle.gix_object_lines.specs.HexLine.{HexLineFault};
+ghost use Rattle.gix_object_commit.specs.Faults.{PersonFault};
+ghost use Rattle.gix_object_commit.specs.TokenFaults.{FirstHeaderFault, FurtherHeaderFault, IsFaultAt};
 ghost use Rattle.gix_object_commit.specs.Tokens.{Part, part_of, id_told, IsIdLine, IsPartAt, GivesToken, place_of, start, stage_after as after};
 ghost use Rattle.gix_object_commit.specs.declared.commit.ref_iter.Stage.TheVariants as stages;
 
 mod reading_on;
+mod signature;
 
 use crate::commit::HeaderRef;
 use crate::commit::decode::{read_encoding, read_person};
 use crate::commit::header::read_header;
 pub use crate::commit::ref_iter::reading_on::{ParentIds, Signatures};
+pub use crate::commit::ref_iter::signature::CommitSignature;
+use crate::id::id_of_digits;
 use bstr::BStr;
 use gix_hash::{Kind, ObjectId, oid};
 use gix_object_lines::cut::{begins_with, behind};
@@ -78,6 +85,11 @@ pub(crate) enum Stage {
 /// A reader of a commit's parts, which takes no memory. It gives the parts in their order, then nothing; where what
 /// stands next is no part, it gives one error and then nothing. So it has read a whole commit where its last token
 /// is the message.
+///
+/// The error tells what the line lacks that may stand there: it is `FieldName` where that line doesn't begin,
+/// `HexDigits` where behind `tree ` or `parent ` stand fewer digits than an id has, `InvalidActor` where the line of
+/// author or committer isn't a name, an email and a time, `InvalidTime` where it tells no time, and `LineEnd` where the
+/// line lacks its line feed. A line that begins with `parent ` or `encoding ` is read as that, where it may stand.
 #[derive(Debug, Clone, Copy)]
 pub struct CommitRefIter<'a> {
     rest: &'a [u8],
@@ -145,6 +157,7 @@ fn read_token<'a>(
     ensures read { IfOk result (λ read. IsPartAt hash_kind stage input.now (part_of read.0) read.1.now) }
     ensures every { (part : Part) (rest : List ℕ) → IsPartAt hash_kind stage input.now part rest
         → IsOkAnd result (λ read. (part_of read.0 ≡ part) × (read.1.now ≡ rest)) }
+    ensures refused { IfErr result (λ error. IsFaultAt hash_kind stage input.now error) }
 {
     match stage {
         Stage::Tree => read_tree(input, hash_kind),
@@ -159,6 +172,7 @@ fn read_tree(input: &[u8], hash_kind: Kind) -> Result<(Token<'_>, &[u8]), Error>
     ensures read { IfOk result (λ read. IsPartAt hash_kind stages.Tree input.now (part_of read.0) read.1.now) }
     ensures every { (part : Part) (rest : List ℕ) → IsPartAt hash_kind stages.Tree input.now part rest
         → IsOkAnd result (λ read. (part_of read.0 ≡ part) × (read.1.now ≡ rest)) }
+    ensures refused { IfErr result (λ error. IsFaultAt hash_kind stages.Tree input.now error) }
 {
     let (id, rest) = read_id(input, b"tree", hash_kind)?;
     Ok((Token::Tree(id), rest))
@@ -168,6 +182,7 @@ fn read_parent_or_author(input: &[u8], hash_kind: Kind) -> Result<(Token<'_>, &[
     ensures read { IfOk result (λ read. IsPartAt hash_kind stages.Parents input.now (part_of read.0) read.1.now) }
     ensures every { (part : Part) (rest : List ℕ) → IsPartAt hash_kind stages.Parents input.now part rest
         → IsOkAnd result (λ read. (part_of read.0 ≡ part) × (read.1.now ≡ rest)) }
+    ensures refused { IfErr result (λ error. IsFaultAt hash_kind stages.Parents input.now error) }
 {
     if begins_with(input, b"parent ") {
         let (id, rest) = read_id(input, b"parent", hash_kind)?;
@@ -182,6 +197,7 @@ fn read_committer(input: &[u8]) -> Result<(Token<'_>, &[u8]), Error>
     ensures read { (kind : Kind) → IfOk result (λ read. IsPartAt kind stages.Committer input.now (part_of read.0) read.1.now) }
     ensures every { (kind : Kind) (part : Part) (rest : List ℕ) → IsPartAt kind stages.Committer input.now part rest
         → IsOkAnd result (λ read. (part_of read.0 ≡ part) × (read.1.now ≡ rest)) }
+    ensures refused { IfErr result (λ error. PersonFault (codes "committer") input.now error) }
 {
     let (committer, rest) = read_person(input, b"committer")?;
     Ok((Token::Committer(committer), rest))
@@ -192,6 +208,7 @@ fn read_first_header(input: &[u8]) -> Result<(Token<'_>, &[u8]), Error>
     ensures read { (kind : Kind) → IfOk result (λ read. IsPartAt kind stages.Encoding input.now (part_of read.0) read.1.now) }
     ensures every { (kind : Kind) (part : Part) (rest : List ℕ) → IsPartAt kind stages.Encoding input.now part rest
         → IsOkAnd result (λ read. (part_of read.0 ≡ part) × (read.1.now ≡ rest)) }
+    ensures refused { IfErr result (λ error. FirstHeaderFault input.now error) }
 {
     match read_encoding(input)? {
         (Some(name), rest) => Ok((Token::Encoding(name), rest)),
@@ -204,6 +221,7 @@ fn read_further_header(input: &[u8]) -> Result<(Token<'_>, &[u8]), Error>
     ensures read { (kind : Kind) → IfOk result (λ read. IsPartAt kind stages.Headers input.now (part_of read.0) read.1.now) }
     ensures every { (kind : Kind) (part : Part) (rest : List ℕ) → IsPartAt kind stages.Headers input.now part rest
         → IsOkAnd result (λ read. (part_of read.0 ≡ part) × (read.1.now ≡ rest)) }
+    ensures refused { IfErr result (λ error. FurtherHeaderFault input.now error) }
 {
     if let Some(message) = behind(input, b"\n") {
         return Ok((
@@ -220,10 +238,8 @@ fn read_id<'a>(input: &'a [u8], word: &[u8], hash_kind: Kind) -> Result<(ObjectI
     ensures read { IfOk result (λ read. IsIdLine hash_kind word.now input.now (id_of read.0) read.1.now) }
     ensures every { (id : Id) (rest : List ℕ) → IsIdLine hash_kind word.now input.now id rest
         → IsOkAnd result (λ read. (id_of read.0 ≡ id) × (read.1.now ≡ rest)) }
+    ensures refused { IfErr result (λ error. HexLineFault word.now (hex_len hash_kind) input.now error) }
 {
     let (digits, rest) = read_hex_line(input, word, hash_kind.len_in_hex())?;
-    match ObjectId::from_hex(digits) {
-        Ok(id) => Ok((id, rest)),
-        Err(_) => Err(Error::HexDigits),
-    }
+    Ok((id_of_digits(digits), rest))
 }

@@ -1,13 +1,14 @@
 //! Writing commits that own their parts.
 
-ghost use Rattle.std.specs.Prelude.{◌+◌, ◌^◌, ◌≤◌, ◌≡◌, ◌==◌, [], ◌∷◌, map, length, count_by, codes, MatchOption};
+ghost use Rattle.std.specs.Prelude.{◌+◌, ◌^◌, ◌≤◌, ◌≡◌, ◌==◌, List, [], ◌∷◌, map, length, count_by, codes, MatchOption};
 ghost use Rattle.std.specs.Option.{option_map};
 ghost use Rattle.bstr.specs.BStr.{bstr_bytes};
 ghost use Rattle.gix_object_lines.specs.HexLine.{hex_line};
 ghost use Rattle.gix_object_lines.specs.declared.kind.Kind.TheVariants as kinds;
-ghost use Rattle.gix_object_commit.specs.Commit.{commit_text, field_text, folded};
-ghost use Rattle.gix_object_commit.specs.OwnedText.{own_digits, own_field, own_parts, own_person_piece, own_refusal, text_piece};
-ghost use Rattle.gix_object_commit.specs.Writing.{WritesPieces, pieces_text, tree_piece, parent_piece, field_piece, id_pieces, encoding_pieces, header_pieces, is_encoding_first};
+ghost use Rattle.gix_object_commit.specs.Commit.{Field, commit_text, field_text, folded};
+ghost use Rattle.gix_object_commit.specs.OwnedText.{own_digits, own_field, own_front_pieces, own_parts, own_person_piece, own_refusal, text_piece};
+ghost use Rattle.gix_object_commit.specs.Writing.{WritesPieces, pieces_text, tree_piece, parent_piece, field_piece, id_pieces, header_pieces, is_encoding_first as is_named_first};
+ghost use Rattle.gix_object_commit.specs.Headers.{is_named};
 
 use crate::commit::spelling::{is_name, is_own_person, unless};
 use crate::commit::write::{
@@ -32,11 +33,9 @@ impl WriteTo for Commit {
     ghost object_kind = { λ _. kinds.Commit };
 
     fn write_to<W: io::Write>(&self, out: &mut W) -> Result<(), Error> {
-        write_own_ids(self, out)?;
-        write_own_person(b"author", &self.author, out)?;
-        write_own_person(b"committer", &self.committer, out)?;
-        write_own_encoding(self, out)?;
-        write_own_headers(self, out)?;
+        let headers = self.extra_headers.as_slice();
+        write_own_front(self, is_own_encoding_first(headers), out)?;
+        write_own_header_lines(headers, out)?;
         write_message(self.message.as_bstr(), out)
     }
 
@@ -52,6 +51,21 @@ impl WriteTo for Commit {
         let total = add_own_headers(total, self)?;
         add_message(total, self.message.as_bstr())
     }
+}
+
+/// Writes the lines before the further headers, of which the first may be named as the line for the encoding is.
+pub(crate) fn write_own_front<W: io::Write>(
+    commit: &Commit,
+    is_encoding_first: bool,
+    out: &mut W,
+) -> Result<(), Error>
+    ensures { (headers : List Field) → is_encoding_first ≡ is_named_first headers
+        → WritesPieces (W.contents out.old) (W.contents out.new) (own_front_pieces headers commit.now) result }
+{
+    write_own_ids(commit, out)?;
+    write_own_person(b"author", &commit.author, out)?;
+    write_own_person(b"committer", &commit.committer, out)?;
+    write_encoding_line(bstr_of(&commit.encoding), is_encoding_first, out)
 }
 
 // The ids of the tree and the parents.
@@ -94,21 +108,20 @@ fn write_own_person<W: io::Write>(word: &[u8], actor: &Actor, out: &mut W) -> Re
     write_piece(None, &[b"\n"], out)
 }
 
-// The line for the encoding, if there is one.
-fn write_own_encoding<W: io::Write>(commit: &Commit, out: &mut W) -> Result<(), Error>
-    ensures { WritesPieces (W.contents out.old) (W.contents out.new) (encoding_pieces (own_parts commit.now)) result }
-{
-    let is_named_first = is_own_encoding_first(commit.extra_headers.as_slice());
-    write_encoding_line(bstr_of(&commit.encoding), is_named_first, out)
-}
-
 fn is_own_encoding_first(headers: &[ExtraHeader]) -> bool
-    ensures { result ≡ is_encoding_first (map own_field headers.now) }
+    ensures { result ≡ is_named_first (map own_field headers.now) }
 {
     match headers.first() {
-        Some(header) => header.name.as_bytes() == b"encoding".as_slice(),
+        Some(header) => is_named_encoding(header),
         None => false,
     }
+}
+
+/// Whether the header is named as the line for the encoding is.
+pub(crate) fn is_named_encoding(header: &ExtraHeader) -> bool
+    ensures { result ≡ is_named (codes "encoding") (own_field header.now) }
+{
+    header.name.as_bytes() == b"encoding".as_slice()
 }
 
 fn bstr_of(text: &Option<ByteString>) -> Option<BStr<'_>>
@@ -121,12 +134,6 @@ fn bstr_of(text: &Option<ByteString>) -> Option<BStr<'_>>
 }
 
 // The further headers.
-fn write_own_headers<W: io::Write>(commit: &Commit, out: &mut W) -> Result<(), Error>
-    ensures { WritesPieces (W.contents out.old) (W.contents out.new) (header_pieces (own_parts commit.now)) result }
-{
-    write_own_header_lines(commit.extra_headers.as_slice(), out)
-}
-
 fn write_own_header_lines<W: io::Write>(headers: &[ExtraHeader], out: &mut W) -> Result<(), Error>
     ensures { WritesPieces (W.contents out.old) (W.contents out.new) (map field_piece (map own_field headers.now)) result }
 {
@@ -136,7 +143,8 @@ fn write_own_header_lines<W: io::Write>(headers: &[ExtraHeader], out: &mut W) ->
     Ok(())
 }
 
-fn write_own_header<W: io::Write>(header: &ExtraHeader, out: &mut W) -> Result<(), Error>
+/// Writes a further header.
+pub(crate) fn write_own_header<W: io::Write>(header: &ExtraHeader, out: &mut W) -> Result<(), Error>
     ensures { WritesPieces (W.contents out.old) (W.contents out.new) (field_piece (own_field header.now) ∷ []) result }
 {
     let name = header.name.as_bytes();

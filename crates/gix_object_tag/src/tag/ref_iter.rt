@@ -1,6 +1,6 @@
 //! Tags, token by token.
 
-ghost use Rattle.std.specs.Prelude.{ℕ, List, Some, None, ◌≡◌, IsOk, IfOk, IfErr, MatchOption};
+ghost use Rattle.std.specs.Prelude.{ℕ, List, Some, None, ◌≡◌, IsOk, IsOkAnd, IfOk, IfErr, MatchOption};
 ghost use Rattle.std.specs.Iterator.{at_most};
 ghost use Rattle.gix_object_tag.specs.Tokens.{Stands, HasPart, IsFault, Steps, tokens_left, place_of, token_id, TargetIs, TargetIsNot, TaggerIs, TaggerIsNot, TaggerBehindTarget, NoTaggerBehindTarget, TaggerBehindKind, NoTaggerBehindKind};
 ghost use Rattle.gix_object_tag.specs.Faults.{TagFault};
@@ -100,6 +100,7 @@ impl<'a> TagRefIter<'a> {
         hash_kind: gix_hash::Kind,
     ) -> Result<Option<(SignatureRef<'a>, SignedData<'a>)>, Error>
         ensures read { IfOk result (λ found. (parts : Parts) × SpellsTag hash_kind input.now parts × IsSignedBy input.now parts.signature found) }
+        ensures every { (parts : Parts) → SpellsTag hash_kind input.now parts → IsOkAnd result (IsSignedBy input.now parts.signature) }
         ensures refused { IfErr result (λ error. TagFault hash_kind input.now error) }
     {
         let tag = TagRef::from_bytes(input, hash_kind)?;

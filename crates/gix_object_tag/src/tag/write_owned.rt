@@ -1,13 +1,14 @@
 //! Writing tags that own their parts.
 
 ghost use Rattle.std.specs.Prelude.{◌≡◌, ◌≤◌, ◌^◌, Some, None, true, false, IsTrue, IsFalse, length, MatchOption};
+ghost use Rattle.bstr.specs.BStr.{bstr_bytes};
 ghost use Rattle.gix_object_lines.specs.Writes.{Writes};
 ghost use Rattle.gix_object_lines.specs.Actor.{IsSpellable};
 ghost use Rattle.gix_object_lines.specs.declared.kind.Kind.TheVariants.{Tag as TagKind};
 ghost use Rattle.gix_object_tag.specs.OwnedText.{actor_of, parts_of_tag, is_bad_actor};
 ghost use Rattle.gix_object_tag.specs.OwnedText as owned_text;
 ghost use Rattle.gix_object_tag.specs.Views.{text_of};
-ghost use Rattle.gix_object_tag.specs.TagText.{head_text, name_line, name_refusal, tagger_line, tagger_refusal, body_text, tag_text, tag_refusal};
+ghost use Rattle.gix_object_tag.specs.TagText.{head_text, name_line, name_refusal, tagger_line, tagger_refusal, tag_text, tag_refusal};
 ghost use Rattle.gix_object_tag.specs.NameTest.{name_fault};
 ghost use Rattle.gix_hash.specs.Id.{id_of};
 ghost use Rattle.gix_hash.specs.Spelling.{hex_text};
@@ -25,6 +26,24 @@ use gix_object_lines::write::Error;
 use gix_object_lines::{ByteString, Kind, WriteTo, encode};
 use std::io;
 
+impl Tag {
+    // Writes the tag with this message and signature in the place of its own.
+    pub(crate) fn write_with<W: io::Write>(
+        &self,
+        message: BStr<'_>,
+        signature: Option<BStr<'_>>,
+        out: &mut W,
+    ) -> Result<(), Error>
+        ensures { Writes (W.contents out.old) (W.contents out.new) (tag_text (parts_of_tag (record self.now { message = bstr_bytes message.entry; pgp_signature = text_of signature.entry })))
+            (tag_refusal (parts_of_tag self.now) (is_bad_actor self.now.tagger)) result }
+    {
+        write_target(self.target, self.target_kind, out)?;
+        write_own_name(&self.name, out)?;
+        write_actor_line(&self.tagger, out)?;
+        write_body(message, signature, out)
+    }
+}
+
 impl WriteTo for Tag {
     ghost text = { λ tag. tag_text (parts_of_tag tag) };
 
@@ -33,10 +52,7 @@ impl WriteTo for Tag {
     ghost object_kind = { λ _. TagKind };
 
     fn write_to<W: io::Write>(&self, out: &mut W) -> Result<(), Error> {
-        write_target(self.target, self.target_kind, out)?;
-        write_own_name(&self.name, out)?;
-        write_actor_line(&self.tagger, out)?;
-        write_own_body(&self.message, &self.pgp_signature, out)
+        self.write_with(self.message.as_bstr(), bstr_of(&self.pgp_signature), out)
     }
 
     fn kind(&self) -> Kind {
@@ -68,16 +84,6 @@ fn write_own_name<W: io::Write>(name: &ByteString, out: &mut W) -> Result<(), Er
     ensures { Writes (W.contents out.old) (W.contents out.new) (name_line name.now) (name_refusal (name_fault name.now)) result }
 {
     write_name(name.as_bstr(), out)
-}
-
-fn write_own_body<W: io::Write>(
-    message: &ByteString,
-    signature: &Option<ByteString>,
-    out: &mut W,
-) -> Result<(), Error>
-    ensures { Writes (W.contents out.old) (W.contents out.new) (body_text message.now signature.now) None result }
-{
-    write_body(message.as_bstr(), bstr_of(signature), out)
 }
 
 fn bstr_of(text: &Option<ByteString>) -> Option<BStr<'_>>

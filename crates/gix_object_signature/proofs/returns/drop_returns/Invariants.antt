@@ -1,6 +1,6 @@
 use Rattle.std.proofs.Common.{◌≡◌, ◌++◌, length}
 use Rattle.gix_object_signature.specs.Signing.{without_cr}
-use Rattle.gix_object_signature.proofs.sign.drop_returns.Given as goal
+use Rattle.gix_object_signature.proofs.returns.drop_returns.Given as goal
 
 -- what stands already, and what is to come of the rest
 abbrev pub invariant-bytes : goal.invariant-bytes

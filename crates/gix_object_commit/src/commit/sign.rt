@@ -1,0 +1,126 @@
+//! Signing commits.
+
+ghost use Rattle.std.specs.Prelude.{◌≡◌, ◌≢◌, ◌⊎◌, None, Some, [], ◌∷◌, ◌++◌, IfOk, IfErr, OnOk, OnErr};
+ghost use Rattle.gix_object_lines.specs.Bytes.{without_last_feed};
+ghost use Rattle.gix_object_lines.specs.declared.decode.Error as decode;
+ghost use Rattle.gix_object_lines.specs.declared.decode.Error.TheVariants as cause;
+ghost use Rattle.gix_object_lines.specs.declared.write.Error as write;
+ghost use Rattle.gix_object_signature.specs.Run.{Answers};
+ghost use Rattle.gix_object_signature.specs.declared.sign.Error.TheVariants.{Decode, Encode, Memory};
+ghost use Rattle.gix_object_commit.specs.Owned.{IsCommitOf, OwningFault};
+ghost use Rattle.gix_object_commit.specs.Signature.{signature_name};
+ghost use Rattle.gix_object_commit.specs.Signing as spec;
+ghost use Rattle.gix_object_commit.specs.Signing.{IsAsBefore, IsWithHeaders, SignsCommit, SignsParts, unsigned, unsigned_fault};
+ghost use Rattle.gix_object_commit.specs.Views.{parts_of};
+
+use crate::commit::unsigned::{is_signature, write_unsigned};
+use crate::commit::{Commit, CommitRef, ExtraHeader, signature_field_name};
+use gix_hash::Kind;
+use gix_object_lines::{ByteString, decode, write};
+use gix_object_signature::run::{Answer, RunError, Word};
+use gix_object_signature::sign::{Error, Options, sign};
+use std::alloc::{AllocError, Global};
+
+impl Commit {
+    /// Signs the commit: what `write_to` writes of it without the headers of signatures, `gpgsig` and `gpgsig-sha256`, is signed
+    /// as `gix_object_signature::sign::sign` does. The signature then stands in the last of the further headers, named by
+    /// `signature_field_name` for the tree's id, and each signature that stood there before is gone.
+    ///
+    /// The header's value is the signature without the line feed that ends it, so that `write_to` writes the bytes that Git
+    /// does. Two signatures that no signer makes are taken otherwise: the line of one that ends without a line feed is ended by
+    /// the header's, where Git loses the empty line before the message; and an empty one gives an empty value, where Git
+    /// leaves the commit unsigned, so that who looks for the signature finds one that no program verifies.
+    ///
+    /// It is `Encode` where the commit without signatures can't be written, and nothing is run then; else the error of
+    /// `gix_object_signature::sign::sign`; and `Memory` where no memory is left, which may come after the program has run.
+    /// The commit is as it was after each error.
+    pub fn sign<F: FnMut(&[Word<'_>], &[u8]) -> Result<Answer, RunError>>(
+        &mut self,
+        alloc: Global,
+        options: &Options<'_>,
+        runner: &mut F,
+    ) -> Result<(), Error>
+        requires { F.IsAlwaysCallable runner.old }
+        ensures signed { SignsCommit (Answers F.FnMut) runner.old self.old options.now result runner.new self.new }
+        ensures callable { F.IsAlwaysCallable runner.new }
+    {
+        let text = unsigned_text(alloc, self)?;
+        let signature = sign(alloc, text.as_slice(), options, runner)?;
+        let header = signature_header(alloc, self.tree.kind(), signature)?;
+        put_signature(self, header)?;
+        Ok(())
+    }
+}
+
+impl<'a> CommitRef<'a> {
+    /// The commit with copies of its parts, signed as `Commit::sign` does.
+    ///
+    /// It is `Decode` where `into_owned` refuses the commit, and nothing is run then; else the error of `Commit::sign`; and
+    /// `Memory` where no memory is left.
+    pub fn sign<F: FnMut(&[Word<'_>], &[u8]) -> Result<Answer, RunError>>(
+        self,
+        alloc: Global,
+        options: &Options<'_>,
+        runner: &mut F,
+    ) -> Result<Commit, Error>
+        requires { F.IsAlwaysCallable runner.old }
+        ensures signed { SignsParts (Answers F.FnMut) runner.old (parts_of self.entry) options.now result runner.new }
+        ensures callable { F.IsAlwaysCallable runner.new }
+    {
+        let mut commit = own(alloc, self)?;
+        commit.sign(alloc, options, runner)?;
+        Ok(commit)
+    }
+}
+
+// The commit with copies of its parts.
+fn own(alloc: Global, commit: CommitRef<'_>) -> Result<Commit, Error>
+    ensures own { IfOk result (IsCommitOf (parts_of commit.entry)) }
+    ensures refused { IfErr result (λ error. (error ≡ Memory) ⊎ ((fault : decode.Error) × (fault ≢ cause.Memory)
+        × OwningFault (parts_of commit.entry) fault × (error ≡ Decode fault))) }
+{
+    match commit.into_owned(alloc) {
+        Ok(commit) => Ok(commit),
+        Err(decode::Error::Memory) => Err(Error::Memory),
+        Err(fault) => Err(Error::Decode(fault)),
+    }
+}
+
+// What is written of the commit without its signatures.
+fn unsigned_text(alloc: Global, commit: &Commit) -> Result<Vec<u8>, Error>
+    ensures text { IfOk result (λ text. (unsigned_fault commit.now ≡ None) × (text.items ≡ spec.unsigned_text commit.now)) }
+    ensures refused { IfErr result (λ error. (error ≡ Memory) ⊎ ((fault : write.Error) × (unsigned_fault commit.now ≡ Some fault) × (error ≡ Encode fault))) }
+{
+    let mut text = Vec::new(alloc);
+    match write_unsigned(commit, &mut text) {
+        Ok(()) => Ok(text),
+        Err(write::Error::Writer(_)) => Err(Error::Memory),
+        Err(fault) => Err(Error::Encode(fault)),
+    }
+}
+
+// The header that holds the signature of a commit whose ids are of this hash function.
+fn signature_header(
+    alloc: Global,
+    hash_kind: Kind,
+    signature: ByteString,
+) -> Result<ExtraHeader, AllocError>
+    ensures name { IfOk result (λ header. header.name ≡ signature_name hash_kind) }
+    ensures value { IfOk result (λ header. header.value ≡ without_last_feed signature) }
+{
+    let name = ByteString::from_slice(alloc, signature_field_name(hash_kind).as_bytes())?;
+    let value = signature.without_last_feed();
+    Ok(ExtraHeader { name, value })
+}
+
+// Puts the header behind the others but signatures, which go. The room for it is made first, so that nothing is lost for want
+// of memory.
+fn put_signature(commit: &mut Commit, header: ExtraHeader) -> Result<(), AllocError>
+    ensures put { OnOk result (IsWithHeaders commit.old (unsigned commit.old.extra_headers.items ++ header ∷ []) commit.new) }
+    ensures kept { OnErr result (IsAsBefore commit.old commit.new) }
+{
+    commit.extra_headers.reserve(1)?;
+    commit.extra_headers.retain(|header| !is_signature(header));
+    commit.extra_headers.push(header)?;
+    Ok(())
+}

@@ -1,0 +1,70 @@
+-- What is written of a tag that owns its parts spells it.
+use Rattle.std.proofs.Common.{◌≡◌, ◌∙◌, ap, refl, sym, ℕ, Bool, true, false, ◌||◌, ◌&&◌, List, [], ◌∷◌, length, map, Option, Some, None}
+use Rattle.std.specs.Prelude.{FitsSigned, IfSome, if◌then◌else◌, nat_le, ◌-◌}
+use Rattle.std.specs.Char.{is_ascii_hexdigit}
+use Rattle.std.specs.Int.{w64}
+use Rattle.hex.specs.Hex.{hex_digit_value}
+use Rattle.gix_hash.specs.Id.{id_of}
+use Rattle.gix_hash.specs.Kind.{hex_len}
+use Rattle.gix_hash.specs.Spelling.{hex_text, IsHexOf}
+use Rattle.gix_object_lines.specs.HexLine.{is_hex}
+use Rattle.gix_object_lines.specs.Writes.{cause_of}
+use Rattle.gix_object_lines.specs.declared.lines.actor.Actor.{Actor}
+use Rattle.gix_object_lines.proofs.TimeLemmas.{time_written}
+use Rattle.gix_object_tag.specs.Format.{TellsWhen, IsWholeBody}
+use Rattle.gix_object_tag.specs.OwnedText.{actor_of, parts_of_tag, is_bad_actor, is_bad_offset}
+use Rattle.gix_object_tag.specs.Tag.{SpellsTag}
+use Rattle.gix_object_tag.specs.TagText.{is_marked, is_bad_tagger, tag_text, tag_refusal}
+use Rattle.gix_object_tag.specs.declared.tag.owned.Tag.{Tag}
+use Rattle.gix_object_tag.proofs.ActorLines.{spellable}
+use Rattle.gix_object_tag.proofs.ReadBack.{passes, written_spells}
+
+-- ---- digits
+
+one_of : (upper lower digit : Bool) (x y z d : ℕ) → (if upper then Some x else if lower then Some y else if digit then Some z else None) ≡ Some d → ((digit || upper) || lower) ≡ true
+one_of upper lower true x y z d e = refl
+one_of true lower false x y z d e = refl
+one_of false true false x y z d e = refl
+one_of false false false x y z d e = absurd cc
+
+-- characters with values are digits
+digits_are_hex : (text digits : List ℕ) → IsHexOf text digits → is_hex text ≡ true
+digits_are_hex [] digits is = refl
+digits_are_hex (c ∷ text) [] is = absurd cc
+digits_are_hex (c ∷ text) (d ∷ digits) is =
+    let first : hex_digit_value c ≡ Some d = cc in
+    let rest : map hex_digit_value text ≡ map (λ (d : ℕ). Some d) digits = cc in
+    let digit : is_ascii_hexdigit c ≡ true = one_of (nat_le 65 c && nat_le c 70) (nat_le 97 c && nat_le c 102) (nat_le 48 c && nat_le c 57) (c - 55) (c - 87) (c - 48) d first in
+    ap (λ b. b && is_hex text) digit ∙ digits_are_hex text digits rest
+
+-- ---- taggers
+
+or_false : (a b : Bool) → (a || b) ≡ false → (a ≡ false) × (b ≡ false)
+or_false true b e = absurd cc
+or_false false b e = (refl, e)
+
+good_tagger : (tagger : Option Actor) → is_bad_actor tagger ≡ false → is_bad_tagger (actor_of tagger) ≡ false
+good_tagger None e = refl
+good_tagger (Some actor) e = (or_false (is_marked actor.name || is_marked actor.email) (is_bad_offset actor.time.offset) e).0
+
+tells_when : (tagger : Option Actor) → IfSome tagger (λ actor. FitsSigned w64 actor.time.seconds) → is_bad_actor tagger ≡ false → TellsWhen (actor_of tagger)
+tells_when None fits e = tt
+tells_when (Some actor) fits e =
+    let both = or_false (is_marked actor.name || is_marked actor.email) (is_bad_offset actor.time.offset) e in
+    let marks = or_false (is_marked actor.name) (is_marked actor.email) both.0 in
+    (actor.time, time_written actor.time fits (spellable actor.name actor.email actor.time marks.0 marks.1 both.1).1.offset_spellable)
+
+-- ---- the whole
+
+pub owned_spells : (tag : Tag) → length (hex_text (id_of tag.target).digits) ≡ hex_len (id_of tag.target).kind → IsHexOf (hex_text (id_of tag.target).digits) (id_of tag.target).digits
+    → IfSome tag.tagger (λ actor. FitsSigned w64 actor.time.seconds) → cause_of (tag_refusal (parts_of_tag tag) (is_bad_actor tag.tagger)) ≡ None → IsWholeBody tag.message tag.pgp_signature
+    → SpellsTag (id_of tag.target).kind (tag_text (parts_of_tag tag)) (parts_of_tag tag)
+owned_spells tag whole spelled fits ok body =
+    let parts = parts_of_tag tag in
+    let good = (passes parts (is_bad_actor tag.tagger) ok).1 in
+    let fine : cause_of (tag_refusal parts (is_bad_tagger parts.tagger)) ≡ None = ap (λ bad. cause_of (tag_refusal parts bad)) (good_tagger tag.tagger good ∙ sym good) ∙ ok in
+    written_spells (id_of tag.target).kind parts fine (record {
+      target = (whole, digits_are_hex (hex_text (id_of tag.target).digits) (id_of tag.target).digits spelled);
+      tagger = tells_when tag.tagger fits good;
+      body = body;
+    })

@@ -1,0 +1,108 @@
+//! Signing tags.
+
+ghost use Rattle.std.specs.Prelude.{◌≡◌, ◌≢◌, ◌⊎◌, None, Some, IfOk, IfErr, OnErr};
+ghost use Rattle.bstr.specs.BStr.{bstr_bytes};
+ghost use Rattle.gix_object_lines.specs.declared.decode.Error as decode;
+ghost use Rattle.gix_object_lines.specs.declared.decode.Error.TheVariants as cause;
+ghost use Rattle.gix_object_lines.specs.declared.write.Error as write;
+ghost use Rattle.gix_object_signature.specs.Run.{Answers};
+ghost use Rattle.gix_object_signature.specs.declared.sign.Error.TheVariants.{Decode, Encode, Memory};
+ghost use Rattle.gix_object_tag.specs.Owned.{IsTagOf, OwningFault};
+ghost use Rattle.gix_object_tag.specs.Signing.{IsTextToSign, SignsParts, SignsTag, left_of, parted, write_fault};
+ghost use Rattle.gix_object_tag.specs.Views.{parts_of};
+
+use crate::tag::{Tag, TagRef};
+use bstr::BStr;
+use gix_object_lines::{ByteString, decode, write};
+use gix_object_signature::run::{Answer, RunError, Word};
+use gix_object_signature::sign::{Error, Options, sign};
+use std::alloc::{AllocError, Global};
+
+impl Tag {
+    /// Signs the tag: its text is signed as `gix_object_signature::sign::sign` does, and `pgp_signature` is the signature
+    /// then. A signature that stood there before is replaced, and is no part of what is signed.
+    ///
+    /// The text is all that `write_to` writes of the signed tag before the signature, so with the line feed that parts the
+    /// message from it. A tag without a signature mostly has a message that ends with a line feed: that one parts the two
+    /// then, and is told in the message no more. So the text that Git makes of a tag is signed as it stands.
+    ///
+    /// It is `Encode` where the tag can't be written, and nothing is run then; else the error of
+    /// `gix_object_signature::sign::sign`; and `Memory` where no memory is left. The tag is as it was after each error.
+    pub fn sign<F: FnMut(&[Word<'_>], &[u8]) -> Result<Answer, RunError>>(
+        &mut self,
+        alloc: Global,
+        options: &Options<'_>,
+        runner: &mut F,
+    ) -> Result<(), Error>
+        requires { F.IsAlwaysCallable runner.old }
+        ensures signed { SignsTag (Answers F.FnMut) runner.old self.old options.now (left_of result self.new) runner.new }
+        ensures callable { F.IsAlwaysCallable runner.new }
+        ensures kept { OnErr result (self.new ≡ self.old) }
+    {
+        let message = message_to_sign(alloc, self)?;
+        let text = text_to_sign(alloc, self, message.as_bstr())?;
+        let signature = sign(alloc, text.as_slice(), options, runner)?;
+        self.message = message;
+        self.pgp_signature = Some(signature);
+        Ok(())
+    }
+}
+
+impl<'a> TagRef<'a> {
+    /// The tag with copies of its parts, signed as `Tag::sign` does.
+    ///
+    /// It is `Decode` where `into_owned` refuses the tag, and nothing is run then; else the error of `Tag::sign`; and `Memory`
+    /// where no memory is left.
+    pub fn sign<F: FnMut(&[Word<'_>], &[u8]) -> Result<Answer, RunError>>(
+        self,
+        alloc: Global,
+        options: &Options<'_>,
+        runner: &mut F,
+    ) -> Result<Tag, Error>
+        requires { F.IsAlwaysCallable runner.old }
+        ensures signed { SignsParts (Answers F.FnMut) runner.old (parts_of self.entry) options.now result runner.new }
+        ensures callable { F.IsAlwaysCallable runner.new }
+    {
+        let mut tag = own_tag(alloc, self)?;
+        tag.sign(alloc, options, runner)?;
+        Ok(tag)
+    }
+}
+
+// The tag with copies of its parts.
+fn own_tag(alloc: Global, tag: TagRef<'_>) -> Result<Tag, Error>
+    ensures own { IfOk result (IsTagOf (parts_of tag.entry)) }
+    ensures refused { IfErr result (λ error. (error ≡ Memory) ⊎ ((fault : decode.Error) × (fault ≢ cause.Memory)
+        × OwningFault (parts_of tag.entry).target (parts_of tag.entry).tagger fault × (error ≡ Decode fault))) }
+{
+    match tag.into_owned(alloc) {
+        Ok(tag) => Ok(tag),
+        Err(decode::Error::Memory) => Err(Error::Memory),
+        Err(fault) => Err(Error::Decode(fault)),
+    }
+}
+
+// The message as it stands before a signature.
+fn message_to_sign(alloc: Global, tag: &Tag) -> Result<ByteString, AllocError>
+    ensures { IfOk result (λ message. message ≡ parted tag.now.pgp_signature tag.now.message) }
+{
+    let message = ByteString::from_slice(alloc, tag.message.as_bytes())?;
+    match &tag.pgp_signature {
+        Some(_) => Ok(message),
+        None => Ok(message.without_last_feed()),
+    }
+}
+
+// All that is written of the tag with this message before its signature.
+fn text_to_sign(alloc: Global, tag: &Tag, message: BStr<'_>) -> Result<Vec<u8>, Error>
+    ensures text { bstr_bytes message.entry ≡ parted tag.now.pgp_signature tag.now.message
+        → IfOk result (λ text. (write_fault tag.now ≡ None) × IsTextToSign tag.now text.items) }
+    ensures refused { IfErr result (λ error. (error ≡ Memory) ⊎ ((fault : write.Error) × (write_fault tag.now ≡ Some fault) × (error ≡ Encode fault))) }
+{
+    let mut text = Vec::new(alloc);
+    match tag.write_with(message, Some(BStr::new(b"")), &mut text) {
+        Ok(()) => Ok(text),
+        Err(write::Error::Writer(_)) => Err(Error::Memory),
+        Err(fault) => Err(Error::Encode(fault)),
+    }
+}

@@ -1,0 +1,85 @@
+//! Laws of loose objects: the contract is the law. The functions call the laws of commits and tags, and do nothing else.
+
+ghost use Rattle.std.specs.Prelude.{◌≡◌, ℕ, List, None};
+ghost use Rattle.gix_object_lines.specs.declared.kind.Kind.{Kind};
+ghost use Rattle.gix_object_tree.specs.Format.{IsInFormat, IsWritable, HasOneSpelling};
+ghost use Rattle.gix_object_tree.specs.Loose.{IsLoose, loose_text};
+ghost use Rattle.gix_object_tree.specs.Object.{Value, Tells, kind_of, value_text, value_refusal};
+ghost use Rattle.gix_object_tree.specs.Views.{value_of};
+
+pub mod owned;
+
+use crate::ObjectRef;
+use gix_object_commit::laws::{one_commit, read_is_written, written_is_read};
+use gix_object_lines::decode::loose_header;
+use gix_object_tag::laws::{
+    bytes_spell_one_tag, read_tag_is_in_format, read_tag_is_written_back, written_tag_is_read_back,
+};
+
+/// Bytes are a header and as much content as it tells in one way at most.
+pub fn one_kind_and_content(bytes: &[u8])
+    ensures { (kind other : Kind) (content rest : List ℕ) → bytes.now ≡ loose_text kind content
+        → bytes.now ≡ loose_text other rest → (kind ≡ other) × (content ≡ rest) }
+{
+    let _header = loose_header(bytes);
+}
+
+/// Content of a kind tells one value at most.
+pub fn one_value(content: &[u8], hash_kind: gix_hash::Kind)
+    ensures { (kind : Kind) (one other : Value) → Tells hash_kind kind content.now one
+        → Tells hash_kind kind content.now other → one ≡ other }
+{
+    one_commit(content, hash_kind);
+    bytes_spell_one_tag(content, hash_kind);
+}
+
+/// Bytes are one loose object at most, so they alone tell what `ObjectRef::from_loose` reads.
+pub fn one_loose_object(bytes: &[u8], hash_kind: gix_hash::Kind)
+    ensures { (one other : Value) → IsLoose hash_kind bytes.now one → IsLoose hash_kind bytes.now other → one ≡ other }
+{
+    one_kind_and_content(bytes);
+    one_value(content_of(bytes), hash_kind);
+}
+
+/// What is written of an object that isn't refused, behind its header, is a loose object that tells the same value, where
+/// its ids are of this hash function, its actors tell times, and a tag's message holds no armor or its signature has its
+/// only armor at its start. So `ObjectRef::from_loose` reads it as that value.
+pub fn written_object_is_read_back(object: &ObjectRef<'_>, hash_kind: gix_hash::Kind)
+    ensures { let value = value_of object.now in value_refusal value ≡ None → IsInFormat hash_kind value
+        → IsLoose hash_kind (loose_text (kind_of value) (value_text value)) value }
+{
+    match object {
+        ObjectRef::Blob(_) => {}
+        ObjectRef::Commit(_) => written_is_read(),
+        ObjectRef::Tag(tag) => written_tag_is_read_back(tag, hash_kind),
+    }
+}
+
+/// An object that was read is in the format, so that it is read back where its writing isn't refused.
+pub fn read_object_is_in_format(bytes: &[u8], hash_kind: gix_hash::Kind)
+    ensures { (value : Value) → IsLoose hash_kind bytes.now value → IsInFormat hash_kind value }
+{
+    read_tag_is_in_format(content_of(bytes), hash_kind);
+}
+
+/// An object that was read is written to the bytes that it was read from, unless it is a tag with an empty message: such a
+/// tag may end behind its lines, or have a line feed more before its signature. Its writing is refused only where a name or
+/// an email holds `<` or `>`, a commit's encoding has no name, or a tag's name is none that Git makes.
+pub fn read_object_is_written_back(bytes: &[u8], hash_kind: gix_hash::Kind)
+    ensures bytes { (value : Value) → IsLoose hash_kind bytes.now value → HasOneSpelling value
+        → loose_text (kind_of value) (value_text value) ≡ bytes.now }
+    ensures accepted { (value : Value) → IsLoose hash_kind bytes.now value → IsWritable value → value_refusal value ≡ None }
+{
+    read_is_written(content_of(bytes), hash_kind);
+    read_tag_is_written_back(content_of(bytes), hash_kind);
+}
+
+// What stands behind the header of a loose object.
+fn content_of(bytes: &[u8]) -> &[u8]
+    ensures { (kind : Kind) (content : List ℕ) → bytes.now ≡ loose_text kind content → result.now ≡ content }
+{
+    match loose_header(bytes) {
+        Ok((_, _, header)) => &bytes[header..],
+        Err(_) => bytes,
+    }
+}
