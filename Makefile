@@ -7,7 +7,7 @@ HASHING := crates/gix_hash_bench/out/gix_hash_bench
 
 # The merge gate: every proof from nothing, the must-fail edits, the tests and the program.
 test:
-	rt ci
+	RT_JOBS=$${RT_JOBS:-$$(.ci/lanes)} rt ci
 
 # Runs the program on a stream of several commands and prints its replies.
 demo: program

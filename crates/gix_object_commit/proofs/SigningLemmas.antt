@@ -1,21 +1,17 @@
 -- A commit that is signed, or that stays as it was.
-use Rattle.std.proofs.Common.{◌≡◌, ◌≢◌, ◌∙◌, ap, refl, ℕ, List, Some, Result, Err, ◌⊎◌, inl, inr}
+use Rattle.std.proofs.Common.{◌≡◌, ◌∙◌, ap, refl, ℕ, List, Some, Result, Err, ◌⊎◌, inl, inr}
 use Rattle.gix_hash.specs.declared.kind.Kind.{Kind}
 use Rattle.gix_hash.specs.Id.{id_of}
-use Rattle.gix_object_lines.specs.declared.decode.Error as decode
-use Rattle.gix_object_lines.specs.declared.decode.Error.TheVariants as cause
 use Rattle.gix_object_lines.specs.declared.write.Error as write
 use Rattle.gix_object_signature.specs.Run.{Request}
 use Rattle.gix_object_signature.specs.declared.run.Answer.{Answer}
 use Rattle.gix_object_signature.specs.declared.run.RunError as run
 use Rattle.gix_object_signature.specs.declared.sign.Error.{Error}
-use Rattle.gix_object_signature.specs.declared.sign.Error.TheVariants.{Decode, Encode, Memory}
+use Rattle.gix_object_signature.specs.declared.sign.Error.TheVariants.{Encode, Memory}
 use Rattle.gix_object_signature.specs.declared.sign.Options.{Options}
 use Rattle.gix_object_lines.specs.Bytes.{without_last_feed}
-use Rattle.gix_object_commit.specs.Commit.{Parts}
-use Rattle.gix_object_commit.specs.Owned.{OwningFault}
 use Rattle.gix_object_commit.specs.Signature.{signature_name}
-use Rattle.gix_object_commit.specs.Signing.{IsAsBefore, SignsCommit, SignsParts, Unwritten, NoMemory, NoCommit, NoCopy, unsigned_fault, signature_header}
+use Rattle.gix_object_commit.specs.Signing.{IsAsBefore, SignsCommit, Unwritten, NoMemory, unsigned_fault, signature_header}
 use Rattle.gix_object_commit.specs.declared.commit.owned.Commit.{Commit}
 use Rattle.gix_object_commit.specs.declared.commit.owned.ExtraHeader.{ExtraHeader}
 
@@ -34,8 +30,3 @@ module _ {R : Type 0} (answers : R → Request → Result Answer run.RunError �
       → SignsCommit answers before commit options (Err error) before commit
   no_text commit error (inl is) = NoMemory (ap Err is) refl (stays commit)
   no_text commit error (inr fault) = Unwritten fault.0 fault.1 (ap Err fault.2) refl (stays commit)
-
-  pub not_owned : (parts : Parts) (error : Error) → (error ≡ Memory) ⊎ ((fault : decode.Error) × (fault ≢ cause.Memory) × OwningFault parts fault × (error ≡ Decode fault))
-      → SignsParts answers before parts options (Err error) before
-  not_owned parts error (inl is) = NoCopy (ap Err is) refl
-  not_owned parts error (inr fault) = NoCommit fault.0 fault.1 fault.2 (ap Err fault.3) refl

@@ -1,19 +1,19 @@
 -- Signing a commit (Git's commit.c: `commit_tree_extended`, `sign_with_header`; builtin/commit.c: `exclude_gpgsig`).
-use Rattle.std.specs.Prelude.{ℕ, nat_eq, Bool, not, ◌||◌, ◌≡◌, ◌≢◌, ◌-◌, List, [], ◌∷◌, ◌++◌, codes, length, take, filter, Option, None, Some, Result, Ok, Err, if◌then◌else◌}
+use Rattle.std.specs.Prelude.{ℕ, nat_eq, Bool, not, ◌||◌, ◌≡◌, ◌-◌, List, [], ◌∷◌, ◌++◌, length, take, filter, Option, None, Some, Result, Ok, Err, if◌then◌else◌}
 use Rattle.std.specs.List.{ends_with}
 use Rattle.std.specs.Cmp.Lexicographic.{pointwise}
 use Rattle.gix_hash.specs.Id.{id_of}
+use Rattle.gix_hash.specs.declared.kind.Kind.TheVariants.{Sha1, Sha256}
 use Rattle.gix_object_lines.specs.Bytes.{without_last_feed}
 use Rattle.gix_object_lines.specs.Writes.{cause_of}
 use Rattle.gix_object_lines.specs.declared.decode.Error as decode
-use Rattle.gix_object_lines.specs.declared.decode.Error.TheVariants as cause
 use Rattle.gix_object_lines.specs.declared.write.Error as write
 use Rattle.gix_object_signature.specs.Run.{Request}
-use Rattle.gix_object_signature.specs.Signing.{Signs}
+use Rattle.gix_object_signature.specs.Signing.{Signs, reading_error}
 use Rattle.gix_object_signature.specs.declared.run.Answer.{Answer}
 use Rattle.gix_object_signature.specs.declared.run.RunError as run
 use Rattle.gix_object_signature.specs.declared.sign.Error.{Error}
-use Rattle.gix_object_signature.specs.declared.sign.Error.TheVariants.{Decode, Encode, Memory}
+use Rattle.gix_object_signature.specs.declared.sign.Error.TheVariants.{Encode, Memory}
 use Rattle.gix_object_signature.specs.declared.sign.Options.{Options}
 use Rattle.gix_object_commit.specs.Commit.{Parts, commit_text}
 use Rattle.gix_object_commit.specs.Owned.{IsCommitOf, OwningFault}
@@ -25,7 +25,7 @@ use Rattle.gix_object_commit.specs.declared.commit.owned.ExtraHeader.{ExtraHeade
 -- ---- what is signed: the commit as it is written without signatures of either hash function
 
 abbrev pub is_signature : ExtraHeader → Bool
-is_signature header = pointwise nat_eq header.name (codes "gpgsig") || pointwise nat_eq header.name (codes "gpgsig-sha256")
+is_signature header = pointwise nat_eq header.name (signature_name Sha1) || pointwise nat_eq header.name (signature_name Sha256)
 
 abbrev pub unsigned : List ExtraHeader → List ExtraHeader
 unsigned headers = filter (λ header. not (is_signature header)) headers
@@ -80,7 +80,6 @@ pub data SignsCommit {R : Type 0} (answers : R → Request → Result Answer run
 
 -- the same of a borrowed commit's parts, which are owned first
 pub data SignsParts {R : Type 0} (answers : R → Request → Result Answer run.RunError → R → Type 0) (before : R) (parts : Parts) (options : Options) (result : Result Commit Error) (after : R) : Type 0 where
-  NoCommit : (fault : decode.Error) → fault ≢ cause.Memory → OwningFault parts fault → result ≡ Err (Decode fault) → after ≡ before → SignsParts answers before parts options result after
-  NoCopy : result ≡ Err Memory → after ≡ before → SignsParts answers before parts options result after
+  NotOwned : (fault : decode.Error) → OwningFault parts fault → result ≡ Err (reading_error fault) → after ≡ before → SignsParts answers before parts options result after
   Signed : (own left : Commit) → IsCommitOf parts own → SignsCommit answers before own options (Ok tt) after left → result ≡ Ok left → SignsParts answers before parts options result after
   Unsigned : (own left : Commit) (error : Error) → IsCommitOf parts own → SignsCommit answers before own options (Err error) after left → result ≡ Err error → SignsParts answers before parts options result after

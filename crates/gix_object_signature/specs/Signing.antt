@@ -4,6 +4,8 @@ use Rattle.std.specs.List.{list_any, slice_split, starts_with}
 use Rattle.std.specs.Str.{bytes_eq}
 use Rattle.bstr.specs.BStr.{bstr_bytes}
 use Rattle.bstr.specs.declared.bstr.BStr.{BStr}
+use Rattle.gix_object_lines.specs.declared.decode.Error as decode
+use Rattle.gix_object_lines.specs.declared.decode.Error.TheVariants as reading
 use Rattle.gix_object_signature.specs.Run.{Argument, Plain, File, ToSign, Request}
 use Rattle.gix_object_signature.specs.declared.format.Format.{Format}
 use Rattle.gix_object_signature.specs.declared.format.Format.TheVariants.{OpenPgp, X509, Ssh}
@@ -11,7 +13,7 @@ use Rattle.gix_object_signature.specs.declared.run.Answer.{Answer}
 use Rattle.gix_object_signature.specs.declared.run.RunError as run
 use Rattle.gix_object_signature.specs.declared.run.RunError.TheVariants as cause
 use Rattle.gix_object_signature.specs.declared.sign.Error.{Error}
-use Rattle.gix_object_signature.specs.declared.sign.Error.TheVariants.{TemporaryFile, Spawn, Communicate, Memory, Failed, MissingSigningKey, MissingSignatureConfirmation, MissingSshSignature}
+use Rattle.gix_object_signature.specs.declared.sign.Error.TheVariants.{Decode, TemporaryFile, Spawn, Communicate, Memory, Failed, MissingSigningKey, MissingSignatureConfirmation, MissingSshSignature}
 use Rattle.gix_object_signature.specs.declared.sign.Options.{Options}
 
 -- ---- keys
@@ -70,6 +72,11 @@ error_of cause.TemporaryFile = TemporaryFile
 error_of cause.Spawn = Spawn
 error_of cause.Communicate = Communicate
 error_of cause.Memory = Memory
+
+-- what was to be signed wasn't read, or no memory was left for it
+abbrev pub reading_error : decode.Error → Error
+reading_error reading.Memory = Memory
+reading_error fault = Decode fault
 
 -- a line of the status tells that a signature was made (GnuPG, doc/DETAILS)
 abbrev pub is_confirmed : List ℕ → Bool

@@ -5,7 +5,7 @@ ghost use Rattle.bstr.specs.BStr.{bstr_bytes};
 ghost use Rattle.gix_object_signature.specs.declared.sign.Error.TheVariants.{Memory};
 ghost use Rattle.gix_object_signature.specs.Run.{Answers, Plain, File};
 ghost use Rattle.gix_object_signature.specs.Signing as spec;
-ghost use Rattle.gix_object_signature.specs.Signing.{IsOrMemory, Signs, gpg_request, ssh_request, ssh_request_by, error_of, is_confirmed, literal_key};
+ghost use Rattle.gix_object_signature.specs.Signing.{IsOrMemory, Signs, gpg_request, ssh_request, ssh_request_by, error_of, is_confirmed, literal_key, reading_error};
 
 use crate::Format;
 use crate::returns::drop_returns;
@@ -71,6 +71,17 @@ impl From<RunError> for Error {
             RunError::Spawn => Error::Spawn,
             RunError::Communicate => Error::Communicate,
             RunError::Memory => Error::Memory,
+        }
+    }
+}
+
+impl From<decode::Error> for Error {
+    ghost from_gives = { λ cause error. error ≡ reading_error cause };
+
+    fn from(cause: decode::Error) -> Error {
+        match cause {
+            decode::Error::Memory => Error::Memory,
+            fault => Error::Decode(fault),
         }
     }
 }

@@ -4,7 +4,7 @@ ghost use Rattle.std.specs.Prelude.{◌≡◌, ◌↔◌, IsTrue};
 ghost use Rattle.gix_object_signature.specs.Asking.{error_of};
 ghost use Rattle.gix_object_signature.specs.Run.{Answers};
 ghost use Rattle.gix_object_signature.specs.Signed.{signed_bytes};
-ghost use Rattle.gix_object_signature.specs.Verifying.{IsValid, Verifies, format_of};
+ghost use Rattle.gix_object_signature.specs.Verifying.{IsValid, Verifies, VerifiesBy, format_of};
 ghost use Rattle.gix_object_signature.specs.declared.verify.Error.TheVariants.{Memory};
 
 mod gnupg;
@@ -58,6 +58,43 @@ impl<'a> Options<'a> {
             Options::OpenPgp { .. } => format == Format::OpenPgp,
             Options::X509 { .. } => format == Format::X509,
             Options::Ssh { .. } => format == Format::Ssh,
+        }
+    }
+
+    // What the program of these options tells.
+    fn ask<'b, F: FnMut(&[Word<'_>], &[u8]) -> Result<Answer, RunError>>(
+        &self,
+        alloc: Global,
+        signature: &'b [u8],
+        content: &'b [u8],
+        runner: &mut F,
+    ) -> Result<Outcome, Error>
+        requires { F.IsAlwaysCallable runner.old }
+        ensures told { VerifiesBy (Answers F.FnMut) runner.old content.now signature.now self.now result runner.new }
+        ensures callable { F.IsAlwaysCallable runner.new }
+    {
+        match *self {
+            Options::OpenPgp {
+                program,
+                minimum_trust,
+            } => gnupg::ask_gpg(program, minimum_trust, signature, content, runner),
+            Options::X509 {
+                program,
+                minimum_trust,
+            } => gnupg::ask_gpgsm(program, minimum_trust, signature, content, runner),
+            Options::Ssh {
+                program,
+                allowed_signers,
+                revoked_keys,
+                minimum_trust,
+            } => {
+                let signers = ssh::Signers {
+                    program,
+                    allowed: allowed_signers,
+                    revoked: revoked_keys,
+                };
+                ssh::verify(alloc, signers, minimum_trust, signature, content, runner)
+            }
         }
     }
 }
@@ -186,32 +223,7 @@ impl<'a> SignedData<'a> {
         if !options.takes(format) {
             return Err(Error::FormatMismatch);
         }
-        let Ok(copy) = self.to_bstring(alloc) else {
-            return Err(Error::Memory);
-        };
-        let content = copy.as_bytes();
-        match *options {
-            Options::OpenPgp {
-                program,
-                minimum_trust,
-            } => gnupg::ask_gpg(program, minimum_trust, signature, content, runner),
-            Options::X509 {
-                program,
-                minimum_trust,
-            } => gnupg::ask_gpgsm(program, minimum_trust, signature, content, runner),
-            Options::Ssh {
-                program,
-                allowed_signers,
-                revoked_keys,
-                minimum_trust,
-            } => {
-                let signers = ssh::Signers {
-                    program,
-                    allowed: allowed_signers,
-                    revoked: revoked_keys,
-                };
-                ssh::verify(alloc, signers, minimum_trust, signature, content, runner)
-            }
-        }
+        let content = self.to_bstring(alloc)?;
+        options.ask(alloc, signature, content.as_bytes(), runner)
     }
 }

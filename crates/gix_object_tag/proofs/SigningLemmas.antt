@@ -1,22 +1,18 @@
 -- Signing a tag.
 use Rattle.std.proofs.Common.{◌≡◌, ◌∙◌, ap, refl, sym, List, [], ◌∷◌, ◌++◌, ℕ, append_assoc, Some, Result, Err, inl, inr}
-use Rattle.std.specs.Prelude.{◌≢◌, ◌⊎◌}
+use Rattle.std.specs.Prelude.{◌⊎◌}
 use Rattle.std.proofs.lemmas.List.{append-nil}
 use Rattle.gix_object_lines.specs.Kind.{kind_word}
-use Rattle.gix_object_lines.specs.declared.decode.Error as decode
-use Rattle.gix_object_lines.specs.declared.decode.Error.TheVariants as cause
 use Rattle.gix_object_lines.specs.declared.write.Error as write
 use Rattle.gix_object_signature.specs.Run.{Request}
 use Rattle.gix_object_signature.specs.declared.run.Answer.{Answer}
 use Rattle.gix_object_signature.specs.declared.run.RunError as run
 use Rattle.gix_object_signature.specs.declared.sign.Error.{Error}
-use Rattle.gix_object_signature.specs.declared.sign.Error.TheVariants.{Decode, Encode, Memory}
+use Rattle.gix_object_signature.specs.declared.sign.Error.TheVariants.{Encode, Memory}
 use Rattle.gix_object_signature.specs.declared.sign.Options.{Options}
-use Rattle.gix_object_tag.specs.Owned.{OwningFault}
 use Rattle.gix_object_tag.specs.OwnedText.{parts_of_tag}
-use Rattle.gix_object_tag.specs.Signing.{with_signature, parted, IsTextToSign, SignsTag, Unwritten, SignsParts, NoTag, NoCopy, write_fault}
+use Rattle.gix_object_tag.specs.Signing.{with_signature, parted, IsTextToSign, SignsTag, Unwritten, write_fault}
 use Rattle.gix_object_tag.specs.Signing as signing
-use Rattle.gix_object_tag.specs.Tag.{Parts}
 use Rattle.gix_object_tag.specs.TagText.{head_text, name_line, tagger_line, body_text, tag_text}
 use Rattle.gix_object_tag.specs.declared.tag.owned.Tag.{Tag}
 
@@ -44,8 +40,3 @@ pub not_asked : {R : Type 0} (answers : R → Request → Result Answer run.RunE
     → (error ≡ Memory) ⊎ ((fault : write.Error) × (write_fault tag ≡ Some fault) × (error ≡ Encode fault)) → SignsTag answers before tag options (Err error) before
 not_asked answers before tag options error (inl none) = signing.NoMemory (ap Err none) refl
 not_asked answers before tag options error (inr (fault, told, is)) = Unwritten fault told (ap Err is) refl
-
-pub not_owned : {R : Type 0} (answers : R → Request → Result Answer run.RunError → R → Type 0) (before : R) (parts : Parts) (options : Options) (error : Error)
-    → (error ≡ Memory) ⊎ ((fault : decode.Error) × (fault ≢ cause.Memory) × OwningFault parts.target parts.tagger fault × (error ≡ Decode fault)) → SignsParts answers before parts options (Err error) before
-not_owned answers before parts options error (inl none) = NoCopy (ap Err none) refl
-not_owned answers before parts options error (inr (fault, other, told, is)) = NoTag fault other told (ap Err is) refl

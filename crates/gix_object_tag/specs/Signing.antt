@@ -1,20 +1,19 @@
 -- What signing makes of a tag: the signature stands behind the text that it signs (git, builtin/tag.c: `build_tag_object` makes
 -- the text, and `do_sign` puts the signature behind it).
-use Rattle.std.specs.Prelude.{ℕ, ◌≡◌, ◌≢◌, List, ◌++◌, Option, None, Some, Result, Ok, Err}
+use Rattle.std.specs.Prelude.{ℕ, ◌≡◌, List, ◌++◌, Option, None, Some, Result, Ok, Err}
 use Rattle.bstr.specs.BStr.{bstr_bytes}
 use Rattle.gix_object_lines.specs.Bytes.{without_last_feed}
 use Rattle.gix_object_lines.specs.Writes.{cause_of}
 use Rattle.gix_object_lines.specs.declared.decode.Error as decode
-use Rattle.gix_object_lines.specs.declared.decode.Error.TheVariants as cause
 use Rattle.gix_object_lines.specs.declared.write.Error as write
 use Rattle.gix_object_signature.specs.Run.{Request}
 use Rattle.gix_object_signature.specs.Signed.{signed_bytes}
-use Rattle.gix_object_signature.specs.Signing.{Signs}
+use Rattle.gix_object_signature.specs.Signing.{Signs, reading_error}
 use Rattle.gix_object_signature.specs.declared.format.SignatureRef.{SignatureRef}
 use Rattle.gix_object_signature.specs.declared.run.Answer.{Answer}
 use Rattle.gix_object_signature.specs.declared.run.RunError as run
 use Rattle.gix_object_signature.specs.declared.sign.Error.{Error}
-use Rattle.gix_object_signature.specs.declared.sign.Error.TheVariants.{Decode, Encode, Memory}
+use Rattle.gix_object_signature.specs.declared.sign.Error.TheVariants.{Encode, Memory}
 use Rattle.gix_object_signature.specs.declared.sign.Options.{Options}
 use Rattle.gix_object_signature.specs.declared.signed.SignedData.{SignedData}
 use Rattle.gix_object_tag.specs.Owned.{IsTagOf, OwningFault}
@@ -61,8 +60,7 @@ pub data SignsTag {R : Type 0} (answers : R → Request → Result Answer run.Ru
 
 -- the same of a borrowed tag's parts, which are owned first
 pub data SignsParts {R : Type 0} (answers : R → Request → Result Answer run.RunError → R → Type 0) (before : R) (parts : Parts) (options : Options) (result : Result Tag Error) (after : R) : Type 0 where
-  NoTag : (fault : decode.Error) → fault ≢ cause.Memory → OwningFault parts.target parts.tagger fault → result ≡ Err (Decode fault) → after ≡ before → SignsParts answers before parts options result after
-  NoCopy : result ≡ Err Memory → after ≡ before → SignsParts answers before parts options result after
+  NotOwned : (fault : decode.Error) → OwningFault parts.target parts.tagger fault → result ≡ Err (reading_error fault) → after ≡ before → SignsParts answers before parts options result after
   Owned : (tag : Tag) → IsTagOf parts tag → SignsTag answers before tag options result after → SignsParts answers before parts options result after
 
 -- ---- reading a signed tag

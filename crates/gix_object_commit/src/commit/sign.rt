@@ -1,13 +1,10 @@
 //! Signing commits.
 
-ghost use Rattle.std.specs.Prelude.{◌≡◌, ◌≢◌, ◌⊎◌, None, Some, [], ◌∷◌, ◌++◌, IfOk, IfErr, OnOk, OnErr};
+ghost use Rattle.std.specs.Prelude.{◌≡◌, ◌⊎◌, None, Some, [], ◌∷◌, ◌++◌, IfOk, IfErr, OnOk, OnErr};
 ghost use Rattle.gix_object_lines.specs.Bytes.{without_last_feed};
-ghost use Rattle.gix_object_lines.specs.declared.decode.Error as decode;
-ghost use Rattle.gix_object_lines.specs.declared.decode.Error.TheVariants as cause;
 ghost use Rattle.gix_object_lines.specs.declared.write.Error as write;
 ghost use Rattle.gix_object_signature.specs.Run.{Answers};
-ghost use Rattle.gix_object_signature.specs.declared.sign.Error.TheVariants.{Decode, Encode, Memory};
-ghost use Rattle.gix_object_commit.specs.Owned.{IsCommitOf, OwningFault};
+ghost use Rattle.gix_object_signature.specs.declared.sign.Error.TheVariants.{Encode, Memory};
 ghost use Rattle.gix_object_commit.specs.Signature.{signature_name};
 ghost use Rattle.gix_object_commit.specs.Signing as spec;
 ghost use Rattle.gix_object_commit.specs.Signing.{IsAsBefore, IsWithHeaders, SignsCommit, SignsParts, unsigned, unsigned_fault};
@@ -16,7 +13,7 @@ ghost use Rattle.gix_object_commit.specs.Views.{parts_of};
 use crate::commit::unsigned::{is_signature, write_unsigned};
 use crate::commit::{Commit, CommitRef, ExtraHeader, signature_field_name};
 use gix_hash::Kind;
-use gix_object_lines::{ByteString, decode, write};
+use gix_object_lines::{ByteString, write};
 use gix_object_signature::run::{Answer, RunError, Word};
 use gix_object_signature::sign::{Error, Options, sign};
 use std::alloc::{AllocError, Global};
@@ -67,22 +64,9 @@ impl<'a> CommitRef<'a> {
         ensures signed { SignsParts (Answers F.FnMut) runner.old (parts_of self.entry) options.now result runner.new }
         ensures callable { F.IsAlwaysCallable runner.new }
     {
-        let mut commit = own(alloc, self)?;
+        let mut commit = self.into_owned(alloc)?;
         commit.sign(alloc, options, runner)?;
         Ok(commit)
-    }
-}
-
-// The commit with copies of its parts.
-fn own(alloc: Global, commit: CommitRef<'_>) -> Result<Commit, Error>
-    ensures own { IfOk result (IsCommitOf (parts_of commit.entry)) }
-    ensures refused { IfErr result (λ error. (error ≡ Memory) ⊎ ((fault : decode.Error) × (fault ≢ cause.Memory)
-        × OwningFault (parts_of commit.entry) fault × (error ≡ Decode fault))) }
-{
-    match commit.into_owned(alloc) {
-        Ok(commit) => Ok(commit),
-        Err(decode::Error::Memory) => Err(Error::Memory),
-        Err(fault) => Err(Error::Decode(fault)),
     }
 }
 

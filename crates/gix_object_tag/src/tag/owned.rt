@@ -2,13 +2,11 @@
 
 ghost use Rattle.std.specs.Prelude.{◌≡◌, ◌⊎◌, IfOk, IfErr, MatchOption};
 ghost use Rattle.bstr.specs.BStr.{bstr_bytes};
-ghost use Rattle.gix_hash.specs.Id.{id_of};
-ghost use Rattle.gix_hash.specs.Views.{IsHexOfId};
 ghost use Rattle.gix_object_lines.specs.declared.decode.Error.TheVariants.{InvalidTime, Memory};
 ghost use Rattle.gix_object_tag.specs.Format.{TellsWhen};
-ghost use Rattle.gix_object_tag.specs.Owned.{IsOwnTagger, OwningFault};
+ghost use Rattle.gix_object_tag.specs.Owned.{IsOwnTagger, IsTagOf, OwningFault};
 ghost use Rattle.gix_object_tag.specs.Signature.{IsBare, IsSignatureOf};
-ghost use Rattle.gix_object_tag.specs.Views.{tagger_of, text_of};
+ghost use Rattle.gix_object_tag.specs.Views.{parts_of, tagger_of, text_of};
 
 use crate::tag::TagRef;
 use bstr::BStr;
@@ -51,12 +49,7 @@ impl<'a> TagRef<'a> {
     /// The tag with copies of its parts. It is `HexDigits` where the target is no id's digits, and `InvalidTime` where the
     /// tagger tells no time, neither of which a tag that was read is; and `Memory` where no memory is left.
     pub fn into_owned(self, alloc: Global) -> Result<Tag, Error>
-        ensures target { IfOk result (λ tag. IsHexOfId (bstr_bytes self.entry.target) (id_of tag.target)) }
-        ensures target_kind { IfOk result (λ tag. tag.target_kind ≡ self.entry.target_kind) }
-        ensures name { IfOk result (λ tag. tag.name ≡ bstr_bytes self.entry.name) }
-        ensures tagger { IfOk result (λ tag. IsOwnTagger (tagger_of self.entry.tagger) tag.tagger) }
-        ensures message { IfOk result (λ tag. tag.message ≡ bstr_bytes self.entry.message) }
-        ensures signature { IfOk result (λ tag. tag.pgp_signature ≡ text_of self.entry.pgp_signature) }
+        ensures own { IfOk result (IsTagOf (parts_of self.entry)) }
         ensures refused { IfErr result (λ error. OwningFault (bstr_bytes self.entry.target) (tagger_of self.entry.tagger) error) }
     {
         let Ok(target) = ObjectId::from_hex(self.target.as_bytes()) else {

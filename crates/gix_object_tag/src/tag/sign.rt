@@ -1,19 +1,16 @@
 //! Signing tags.
 
-ghost use Rattle.std.specs.Prelude.{◌≡◌, ◌≢◌, ◌⊎◌, None, Some, IfOk, IfErr, OnErr};
+ghost use Rattle.std.specs.Prelude.{◌≡◌, ◌⊎◌, None, Some, IfOk, IfErr, OnErr};
 ghost use Rattle.bstr.specs.BStr.{bstr_bytes};
-ghost use Rattle.gix_object_lines.specs.declared.decode.Error as decode;
-ghost use Rattle.gix_object_lines.specs.declared.decode.Error.TheVariants as cause;
 ghost use Rattle.gix_object_lines.specs.declared.write.Error as write;
 ghost use Rattle.gix_object_signature.specs.Run.{Answers};
-ghost use Rattle.gix_object_signature.specs.declared.sign.Error.TheVariants.{Decode, Encode, Memory};
-ghost use Rattle.gix_object_tag.specs.Owned.{IsTagOf, OwningFault};
+ghost use Rattle.gix_object_signature.specs.declared.sign.Error.TheVariants.{Encode, Memory};
 ghost use Rattle.gix_object_tag.specs.Signing.{IsTextToSign, SignsParts, SignsTag, left_of, parted, write_fault};
 ghost use Rattle.gix_object_tag.specs.Views.{parts_of};
 
 use crate::tag::{Tag, TagRef};
 use bstr::BStr;
-use gix_object_lines::{ByteString, decode, write};
+use gix_object_lines::{ByteString, write};
 use gix_object_signature::run::{Answer, RunError, Word};
 use gix_object_signature::sign::{Error, Options, sign};
 use std::alloc::{AllocError, Global};
@@ -63,22 +60,9 @@ impl<'a> TagRef<'a> {
         ensures signed { SignsParts (Answers F.FnMut) runner.old (parts_of self.entry) options.now result runner.new }
         ensures callable { F.IsAlwaysCallable runner.new }
     {
-        let mut tag = own_tag(alloc, self)?;
+        let mut tag = self.into_owned(alloc)?;
         tag.sign(alloc, options, runner)?;
         Ok(tag)
-    }
-}
-
-// The tag with copies of its parts.
-fn own_tag(alloc: Global, tag: TagRef<'_>) -> Result<Tag, Error>
-    ensures own { IfOk result (IsTagOf (parts_of tag.entry)) }
-    ensures refused { IfErr result (λ error. (error ≡ Memory) ⊎ ((fault : decode.Error) × (fault ≢ cause.Memory)
-        × OwningFault (parts_of tag.entry).target (parts_of tag.entry).tagger fault × (error ≡ Decode fault))) }
-{
-    match tag.into_owned(alloc) {
-        Ok(tag) => Ok(tag),
-        Err(decode::Error::Memory) => Err(Error::Memory),
-        Err(fault) => Err(Error::Decode(fault)),
     }
 }
 

@@ -1,15 +1,12 @@
 use Rattle.std.proofs.Common.{refl}
 use Rattle.std.proofs.lemmas.Result.{err_from_is_err_and}
-use Rattle.gix_object_signature.specs.Run.{Answers}
-use Rattle.gix_object_commit.specs.Views.{parts_of}
-use Rattle.gix_object_commit.specs.Signing.{Signed, Unsigned}
-use Rattle.gix_object_commit.proofs.SigningLemmas.{not_owned}
+use Rattle.gix_object_commit.specs.Signing.{NotOwned, Signed, Unsigned}
 use Rattle.gix_object_commit.proofs.commit.CommitRef.sign.Goals as goal
 
 pub returns-in_err-commit-clause-signed : goal.returns-in_err-commit-clause-signed
 returns-in_err-commit-clause-signed g c =
     let p = err_from_is_err_and c.from_residual.result c.from_residual.ensures.1 in
-    rw (p.1, p.2) (not_owned (Answers g.F.FnMut) c.args.runner.now c.args.options.now (parts_of c.args.self) c.in_err-commit.field-0.0 c.in_err-commit.ensures.refused)
+    rw (p.1, p.2) (NotOwned c.in_err-commit.field-0.0 c.in_err-commit.ensures.refused refl refl)
 
 pub returns-in_err-sign-clause-signed : goal.returns-in_err-sign-clause-signed
 returns-in_err-sign-clause-signed g c =

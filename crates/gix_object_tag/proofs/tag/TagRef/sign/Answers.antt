@@ -1,14 +1,12 @@
+use Rattle.std.proofs.Common.{refl}
 use Rattle.std.proofs.lemmas.Result.{err_from_is_err_and}
-use Rattle.gix_object_signature.specs.Run.{Answers}
-use Rattle.gix_object_tag.specs.Signing.{Owned}
-use Rattle.gix_object_tag.specs.Views.{parts_of}
-use Rattle.gix_object_tag.proofs.SigningLemmas.{not_owned}
+use Rattle.gix_object_tag.specs.Signing.{NotOwned, Owned}
 use Rattle.gix_object_tag.proofs.tag.TagRef.sign.Goals as goal
 
 pub returns-in_err-tag-clause-signed : goal.returns-in_err-tag-clause-signed
 returns-in_err-tag-clause-signed g c =
     let p = err_from_is_err_and c.from_residual.result c.from_residual.ensures.1 in
-    rw (p.1, p.2) (not_owned (Answers g.F.FnMut) _ (parts_of c.args.self) c.args.options.now c.in_err-tag.field-0.0 c.in_err-tag.ensures.refused)
+    rw (p.1, p.2) (NotOwned c.in_err-tag.field-0.0 c.in_err-tag.ensures.refused refl refl)
 
 pub returns-in_err-sign-clause-signed : goal.returns-in_err-sign-clause-signed
 returns-in_err-sign-clause-signed g c =
