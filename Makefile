@@ -3,11 +3,15 @@ PREFIX ?= /usr/local
 PROGRAM := crates/history_program/out/history_program
 HASHING := crates/gix_hash_bench/out/gix_hash_bench
 
-.PHONY: test demo bench faults install program hashing
+.PHONY: test planted demo bench faults install program hashing
 
 # The merge gate: every proof from nothing, the must-fail edits, the tests and the program.
 test:
 	RT_JOBS=$${RT_JOBS:-$$(.ci/lanes)} rt ci
+
+# Tries the further wrong bodies that stand in planted/, which the gate leaves out for its time.
+planted:
+	planted/try
 
 # Runs the program on a stream of several commands and prints its replies.
 demo: program

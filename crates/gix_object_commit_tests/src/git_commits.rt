@@ -1,6 +1,6 @@
 //! Each commit that Git stored is read, whole and token by token, written again and hashed to Git's own id.
 
-use crate::table::ROWS;
+use crate::table::rows;
 use gix_hash::{Kind, ObjectId};
 use gix_object_commit::commit::ref_iter::Token;
 use gix_object_commit::laws::tokens_tell_a_commit;
@@ -21,7 +21,7 @@ fn id_of(alloc: Global, commit: &CommitRef<'_>, kind: Kind) -> Option<ObjectId> 
 
 #[test]
 fn reads_and_writes_what_git_stored(rt: HostRuntime) -> Result<(), Fail> {
-    for row in ROWS {
+    for row in rows() {
         let commit = CommitRef::from_bytes(rt.alloc(), row.content, row.kind)?;
         assert_eq!(rt; commit.parents.len(), row.parents);
         assert_eq!(rt; commit.extra_headers.len(), row.headers);
@@ -37,7 +37,7 @@ fn reads_and_writes_what_git_stored(rt: HostRuntime) -> Result<(), Fail> {
 
 #[test]
 fn tokens_are_the_parts(rt: HostRuntime) -> Result<(), Fail> {
-    for row in ROWS {
+    for row in rows() {
         let commit = CommitRef::from_bytes(rt.alloc(), row.content, row.kind)?;
         let mut parents: usize = 0;
         let mut headers: usize = 0;

@@ -1,6 +1,6 @@
 //! Commits and blobs that own their parts, and content that comes as a stream.
 
-use crate::table::ROWS;
+use crate::table::rows;
 use bstr::BStr;
 use gix_hash::io::{self, Interrupt, Progress};
 use gix_hash::{Kind, ObjectId};
@@ -18,7 +18,7 @@ const COMMIT: &[u8] =
 
 #[test]
 fn owns_and_writes_what_git_stored(rt: HostRuntime) -> Result<(), Fail> {
-    for row in ROWS {
+    for row in rows() {
         let commit = CommitRef::from_bytes(rt.alloc(), row.content, row.kind)?;
         let own = commit.to_owned(rt.alloc())?;
         assert_eq!(rt; own.parents.len(), row.parents);
@@ -71,7 +71,7 @@ fn holds_the_tag(headers: ExtraHeaders<'_, '_>) -> bool {
 #[test]
 fn own_headers_of_a_name_are_told(rt: HostRuntime) -> Result<(), Fail> {
     let mut seen: usize = 0;
-    for row in ROWS {
+    for row in rows() {
         let own = CommitRef::from_bytes(rt.alloc(), row.content, row.kind)?.into_owned(rt.alloc())?;
         if row.id == SIGNED {
             assert!(rt; holds_the_signatures(own.extra_headers()));

@@ -1,6 +1,6 @@
 //! What the tokens to come tell, from the start of a commit, behind some of its parts, and where it is cut.
 
-use crate::table::ROWS;
+use crate::table::rows;
 use gix_hash::{Kind, ObjectId};
 use gix_object_commit::CommitRefIter;
 use gix_object_lines::decode::Error;
@@ -37,7 +37,7 @@ fn parts_are_told(rt: HostRuntime) -> Result<(), Fail> {
 
 #[test]
 fn what_git_stored_is_told(rt: HostRuntime) -> Result<(), Fail> {
-    for row in ROWS {
+    for row in rows() {
         let tokens = CommitRefIter::from_bytes(row.content, row.kind);
         assert_eq!(rt; tokens.parent_ids().count(), row.parents);
         assert_eq!(rt; tokens.signatures().count(), 2);

@@ -1,6 +1,6 @@
 //! What git signed, and the signature that it made, are found in the commits that it stored; and where none is found.
 
-use crate::signature_table::ROWS;
+use crate::signature_table::rows;
 use gix_hash::Kind;
 use gix_object_commit::CommitRefIter;
 use gix_object_lines::decode::Error;
@@ -16,7 +16,7 @@ const BEHIND: &[u8] = b"gpgsig four\na b\n\ngpgsig five\n";
 
 #[test]
 fn what_git_signed_is_found(rt: HostRuntime) -> Result<(), Fail> {
-    for row in ROWS {
+    for row in rows() {
         let found = CommitRefIter::signature(row.content, row.kind)?.ok_or("no signature")?;
         let signed = found.signed_data.to_bstring(rt.alloc())?;
         assert_eq!(rt; signed.as_bytes(), row.signed);

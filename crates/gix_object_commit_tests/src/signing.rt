@@ -83,9 +83,14 @@ static ROWS: &[Row] = &[
     },
 ];
 
+// A test that names the table itself is proved with each of its bytes at hand, which takes minutes.
+fn rows() -> &'static [Row] {
+    ROWS
+}
+
 #[test]
 fn signs_as_git_does(rt: HostRuntime) -> Result<(), Fail> {
-    for row in ROWS {
+    for row in rows() {
         let mut runner = Table {
             alloc: rt.alloc(),
             text: row.text,
@@ -123,7 +128,7 @@ fn signs_as_git_does(rt: HostRuntime) -> Result<(), Fail> {
 
 #[test]
 fn a_refused_commit_is_as_it_was(rt: HostRuntime) -> Result<(), Fail> {
-    let row = ROWS.first().ok_or("no row")?;
+    let row = rows().first().ok_or("no row")?;
     let mut runner = Table {
         alloc: rt.alloc(),
         text: b"other",

@@ -110,6 +110,12 @@ def rows(name, kind):
         return made
 
 
+ROWS = """/// The rows, for the tests: a test that names the table itself is proved with each of its bytes at hand, which takes minutes.
+pub fn rows() -> &'static [Row] {
+    ROWS
+}"""
+
+
 def main():
     made = rows("sha1", "Sha1") + rows("sha256", "Sha256")
     print("//! Tags that git made. Made by scripts/tags.py, which says how.\n")
@@ -117,10 +123,10 @@ def main():
     print("/// A tag's bytes, and what git tells of it.\n#[derive(Clone, Copy)]\npub struct Row {")
     for field in ("hash_kind: Kind", "id: &'static [u8]", "text: &'static [u8]", "target: &'static [u8]", "target_kind: &'static [u8]", "name: &'static [u8]", "tagger: Option<&'static [u8]>", "message: &'static [u8]", "signature: Option<(Format, &'static [u8])>"):
         print("    pub %s," % field)
-    print("}\n\npub static ROWS: [Row; %d] = [" % len(made))
+    print("}\n\nstatic ROWS: &[Row] = &[")
     for text in made:
         print("    %s," % text)
-    print("];")
+    print("];\n\n%s" % ROWS)
 
 
 main()

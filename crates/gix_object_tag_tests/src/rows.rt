@@ -1,6 +1,6 @@
 //! Each tag of the table is read whole and token by token, and written again.
 
-use crate::table::{ROWS, Row};
+use crate::table::{Row, rows};
 use bstr::BStr;
 use gix_hash::ObjectId;
 use gix_hash::hasher::hasher;
@@ -35,7 +35,7 @@ fn expected<R: Abort>(rt: &R, row: Row) -> Result<TagRef<'static>, Fail> {
 
 #[test]
 fn reads_the_tags_of_git(rt: HostRuntime) -> Result<(), Fail> {
-    for row in &ROWS {
+    for row in rows() {
         let tag = TagRef::from_bytes(row.text, row.hash_kind).map_err(|_| "not read")?;
         assert_eq!(rt; tag, expected(&rt, *row)?);
         assert_eq!(rt; tag.tagger(), tag.tagger);
@@ -45,7 +45,7 @@ fn reads_the_tags_of_git(rt: HostRuntime) -> Result<(), Fail> {
 
 #[test]
 fn owns_the_tags_of_git(rt: HostRuntime) -> Result<(), Fail> {
-    for row in &ROWS {
+    for row in rows() {
         let tag = TagRef::from_bytes(row.text, row.hash_kind).map_err(|_| "not read")?;
         let target = ObjectId::from_hex(row.target).map_err(|_| "no id")?;
         let own = tag.into_owned(rt.alloc()).map_err(|_| "not owned")?;
@@ -67,7 +67,7 @@ fn is_written_so(row: Row) -> bool {
 
 #[test]
 fn writes_the_tags_of_git(rt: HostRuntime) -> Result<(), Fail> {
-    for row in &ROWS {
+    for row in rows() {
         let tag = TagRef::from_bytes(row.text, row.hash_kind).map_err(|_| "not read")?;
         let mut text = Vec::new(rt.alloc());
         let mut again = Vec::new(rt.alloc());
@@ -95,7 +95,7 @@ fn writes_the_tags_of_git(rt: HostRuntime) -> Result<(), Fail> {
 
 #[test]
 fn tells_signatures_and_what_they_sign(rt: HostRuntime) -> Result<(), Fail> {
-    for row in &ROWS {
+    for row in rows() {
         let tag = TagRef::from_bytes(row.text, row.hash_kind).map_err(|_| "not read")?;
         let found = TagRefIter::signature(row.text, row.hash_kind).map_err(|_| "not read")?;
         match (row.signature, found) {
@@ -118,7 +118,7 @@ fn tells_signatures_and_what_they_sign(rt: HostRuntime) -> Result<(), Fail> {
 
 #[test]
 fn gives_the_tokens_of_git(rt: HostRuntime) -> Result<(), Fail> {
-    for row in &ROWS {
+    for row in rows() {
         let tag = expected(&rt, *row)?;
         let id = ObjectId::from_hex(row.target).map_err(|_| "no id")?;
         let mut tokens = TagRefIter::from_bytes(row.text, row.hash_kind);

@@ -1,6 +1,6 @@
 //! Tags are signed as git signs them.
 
-use crate::signing_table::{SIGNATURE, SIGNED, STATUS, Signed, WORDS};
+use crate::signing_table::{SIGNATURE, STATUS, Signed, WORDS, signed_tags};
 use bstr::BStr;
 use gix_hash::Kind;
 use gix_object_lines::write::TagNameError;
@@ -79,7 +79,7 @@ fn text_of(alloc: Global, tag: &Tag) -> Result<Vec<u8>, Fail> {
 
 #[test]
 fn signs_the_tags_of_git(rt: HostRuntime) -> Result<(), Fail> {
-    for row in &SIGNED {
+    for row in signed_tags() {
         let tag = tag_with(*row, b"old")?;
         let mut runner = program_for(rt.alloc(), row.asked);
         let signed = tag
@@ -106,7 +106,7 @@ fn signs_the_tags_of_git(rt: HostRuntime) -> Result<(), Fail> {
 // What git handed to its program is the tag as it stands unsigned.
 #[test]
 fn signs_what_git_makes_of_an_unsigned_tag(rt: HostRuntime) -> Result<(), Fail> {
-    for row in &SIGNED {
+    for row in signed_tags() {
         let tag = TagRef::from_bytes(row.asked, Kind::Sha1).map_err(|_| "not read")?;
         let mut runner = program_for(rt.alloc(), row.asked);
         let signed = tag
@@ -124,7 +124,7 @@ fn signs_what_git_makes_of_an_unsigned_tag(rt: HostRuntime) -> Result<(), Fail> 
 
 #[test]
 fn keeps_a_tag_that_is_not_signed(rt: HostRuntime) -> Result<(), Fail> {
-    let row = SIGNED[0];
+    let row = *signed_tags().first().ok_or("no row")?;
     let mut tag = tag_with(row, b"old")?;
     let mut runner = program_for(rt.alloc(), row.asked);
     let mut own = tag.into_owned(rt.alloc()).map_err(|_| "not owned")?;

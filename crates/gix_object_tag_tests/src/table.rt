@@ -17,7 +17,7 @@ pub struct Row {
     pub signature: Option<(Format, &'static [u8])>,
 }
 
-pub static ROWS: [Row; 34] = [
+static ROWS: &[Row] = &[
     Row {
         hash_kind: Kind::Sha1,
         id: b"2f93a106a56e8e3c012e17417a010be4f80e5ed1",
@@ -411,3 +411,8 @@ pub static ROWS: [Row; 34] = [
         signature: None,
     },
 ];
+
+/// The rows, for the tests: a test that names the table itself is proved with each of its bytes at hand, which takes minutes.
+pub fn rows() -> &'static [Row] {
+    ROWS
+}

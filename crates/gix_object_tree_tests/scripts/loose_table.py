@@ -64,8 +64,14 @@ pub struct Row {
     pub bytes: &'static [u8],
 }
 
-pub const ROWS: &[Row] = &[
+static ROWS: &[Row] = &[
 """)
     for hash_kind, kind, name, data in rows():
         out.write(f"    Row {{\n        hash_kind: gix_hash::Kind::{hash_kind},\n        kind: Kind::{kind},\n        id: \"{name}\",\n        bytes: {literal(data)},\n    }},\n")
-    out.write("];\n")
+    out.write("""];
+
+/// The rows, for the tests: a test that names the table itself is proved with each of its bytes at hand, which takes minutes.
+pub fn rows() -> &'static [Row] {
+    ROWS
+}
+""")

@@ -1,6 +1,6 @@
 //! Loose objects: read, written again and hashed to Git's own id; and bytes that are none.
 
-use crate::table::ROWS;
+use crate::table::rows;
 use gix_hash::ObjectId;
 use gix_object_lines::decode::{Error, LooseHeaderDecodeError};
 use gix_object_lines::{Kind, WriteTo, kind};
@@ -11,7 +11,7 @@ use std::test::Fail;
 
 #[test]
 fn reads_and_writes_what_git_stored(rt: HostRuntime) -> Result<(), Fail> {
-    for row in ROWS {
+    for row in rows() {
         let object = ObjectRef::from_loose(rt.alloc(), row.bytes, row.hash_kind)?;
         assert!(rt; ObjectRef::kind(&object) == row.kind);
         let mut written = Vec::new(rt.alloc());
