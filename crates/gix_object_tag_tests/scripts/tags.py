@@ -4,7 +4,8 @@
 The tags are those that the `git` on the path makes, by `git tag` and `git hash-object`, in a repository of each hash
 function. Target, kind, name, tagger and signature of a row are what `git for-each-ref` tells of the tag, its id is git's.
 The signatures of one SSH key are ssh-keygen's; those in the other armors are a fixed text that a program of git's
-configuration prints.
+configuration prints. What is told of a row is one text of parts with a zero byte between them, since a table of many byte
+strings takes minutes to prove.
 """
 import os
 import subprocess
@@ -14,7 +15,7 @@ ARMORS = {
     "openpgp": ("-----BEGIN PGP SIGNATURE-----", "-----END PGP SIGNATURE-----"),
     "x509": ("-----BEGIN SIGNED MESSAGE-----", "-----END SIGNED MESSAGE-----"),
 }
-FORMATS = {"PGP": "Format::OpenPgp", "SIGNED": "Format::X509", "SSH": "Format::Ssh"}
+FORMATS = {"PGP": b"openpgp", "SIGNED": b"x509", "SSH": b"ssh"}
 TAGGER = "T <t@x> 1 +0000"
 RAW = [
     # the lines' ends, then what follows the name
@@ -81,19 +82,9 @@ def row(name, kind):
     if signature and message:
         message = message[:-1]
     tagger = [line[7:] for line in head.split(b"\n") if line.startswith(b"tagger ")]
-    answer = FORMATS[signature.split(b" ")[1].decode()] if signature else None
-    fields = {
-        "hash_kind": "Kind::" + kind,
-        "id": literal(tag),
-        "text": literal(text),
-        "target": literal(atom(name, "object").encode()),
-        "target_kind": literal(atom(name, "type").encode()),
-        "name": literal(atom(name, "tag").encode()),
-        "tagger": "Some(%s)" % literal(tagger[0]) if tagger else "None",
-        "message": literal(message),
-        "signature": "Some((%s, %s))" % (answer, literal(signature)) if signature else "None",
-    }
-    return "Row { %s }" % ", ".join("%s: %s" % field for field in fields.items())
+    answer = FORMATS[signature.split(b" ")[1].decode()] if signature else b""
+    told = [tag, atom(name, "object").encode(), atom(name, "type").encode(), atom(name, "tag").encode(), tagger[0] if tagger else b"", message, answer, signature]
+    return "Row { hash_kind: Kind::%s, text: %s, told: %s }" % (kind, literal(text), literal(b"\0".join(told)))
 
 
 def rows(name, kind):
@@ -119,9 +110,9 @@ pub fn rows() -> &'static [Row] {
 def main():
     made = rows("sha1", "Sha1") + rows("sha256", "Sha256")
     print("//! Tags that git made. Made by scripts/tags.py, which says how.\n")
-    print("use gix_hash::Kind;\nuse gix_object_signature::Format;\n")
-    print("/// A tag's bytes, and what git tells of it.\n#[derive(Clone, Copy)]\npub struct Row {")
-    for field in ("hash_kind: Kind", "id: &'static [u8]", "text: &'static [u8]", "target: &'static [u8]", "target_kind: &'static [u8]", "name: &'static [u8]", "tagger: Option<&'static [u8]>", "message: &'static [u8]", "signature: Option<(Format, &'static [u8])>"):
+    print("use gix_hash::Kind;\n")
+    print("/// A tag's bytes, and what git tells of it, as `Told` reads it.\n#[derive(Clone, Copy)]\npub struct Row {")
+    for field in ("hash_kind: Kind", "text: &'static [u8]", "told: &'static [u8]"):
         print("    pub %s," % field)
     print("}\n\nstatic ROWS: &[Row] = &[")
     for text in made:

@@ -11,3 +11,5 @@ mod signing_table;
 mod table;
 #[cfg(test)]
 mod texts;
+#[cfg(test)]
+mod told;

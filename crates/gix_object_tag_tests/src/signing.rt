@@ -45,6 +45,23 @@ impl<'a> Program<'a> {
             errors,
         })
     }
+
+    // The tag that this program signs.
+    fn sign(&mut self, tag: TagRef<'_>) -> Result<Tag, Error> {
+        tag.sign(
+            self.alloc,
+            &options(),
+            &mut |words: &[Word<'_>], input: &[u8]| { self.answer(words, input) },
+        )
+    }
+
+    fn sign_own(&mut self, tag: &mut Tag) -> Result<(), Error> {
+        tag.sign(
+            self.alloc,
+            &options(),
+            &mut |words: &[Word<'_>], input: &[u8]| { self.answer(words, input) },
+        )
+    }
 }
 
 fn program_for(alloc: Global, asked: &[u8]) -> Program<'_> {
@@ -71,34 +88,46 @@ fn tag_with(row: Signed, signature: &'static [u8]) -> Result<TagRef<'static>, Fa
     Ok(tag)
 }
 
-fn text_of(alloc: Global, tag: &Tag) -> Result<Vec<u8>, Fail> {
+fn own_tag_with(alloc: Global, row: Signed, signature: &'static [u8]) -> Result<Tag, Fail> {
+    Ok(
+        tag_with(row, signature)?
+            .into_owned(alloc)
+            .map_err(|_| "not owned")?,
+    )
+}
+
+fn is_written_as(alloc: Global, tag: &Tag, wanted: &[u8]) -> bool {
     let mut text = Vec::new(alloc);
-    tag.write_to(&mut text).map_err(|_| "not written")?;
-    Ok(text)
+    tag.write_to(&mut text).is_ok() && text.as_slice() == wanted
+}
+
+// Whether this is the tag that git signed.
+fn is_signed(alloc: Global, signed: Result<Tag, Error>, row: Signed) -> bool {
+    match signed {
+        Ok(tag) => is_written_as(alloc, &tag, row.text),
+        Err(_) => false,
+    }
 }
 
 #[test]
 fn signs_the_tags_of_git(rt: HostRuntime) -> Result<(), Fail> {
     for row in signed_tags() {
-        let tag = tag_with(*row, b"old")?;
         let mut runner = program_for(rt.alloc(), row.asked);
-        let signed = tag
-            .sign(
-                rt.alloc(),
-                &options(),
-                &mut |words: &[Word<'_>], input: &[u8]| { runner.answer(words, input) },
-            )
-            .map_err(|_| "not signed")?;
-        assert_eq!(rt; text_of(rt.alloc(), &signed)?.as_slice(), row.text);
-        let mut own = tag.into_owned(rt.alloc()).map_err(|_| "not owned")?;
-        own.sign(
-            rt.alloc(),
-            &options(),
-            &mut |words: &[Word<'_>], input: &[u8]| { runner.answer(words, input) },
-        )
-        .map_err(|_| "not signed")?;
-        assert_eq!(rt; text_of(rt.alloc(), &own)?.as_slice(), row.text);
-        assert_eq!(rt; runner.runs, 2);
+        let signed = runner.sign(tag_with(*row, b"old")?);
+        assert!(rt; is_signed(rt.alloc(), signed, *row));
+        assert_eq!(rt; runner.runs, 1);
+    }
+    Ok(())
+}
+
+#[test]
+fn signs_owned_tags_alike(rt: HostRuntime) -> Result<(), Fail> {
+    for row in signed_tags() {
+        let mut runner = program_for(rt.alloc(), row.asked);
+        let mut own = own_tag_with(rt.alloc(), *row, b"old")?;
+        assert!(rt; runner.sign_own(&mut own).is_ok());
+        assert!(rt; is_written_as(rt.alloc(), &own, row.text));
+        assert_eq!(rt; runner.runs, 1);
     }
     Ok(())
 }
@@ -107,16 +136,10 @@ fn signs_the_tags_of_git(rt: HostRuntime) -> Result<(), Fail> {
 #[test]
 fn signs_what_git_makes_of_an_unsigned_tag(rt: HostRuntime) -> Result<(), Fail> {
     for row in signed_tags() {
-        let tag = TagRef::from_bytes(row.asked, Kind::Sha1).map_err(|_| "not read")?;
         let mut runner = program_for(rt.alloc(), row.asked);
-        let signed = tag
-            .sign(
-                rt.alloc(),
-                &options(),
-                &mut |words: &[Word<'_>], input: &[u8]| { runner.answer(words, input) },
-            )
-            .map_err(|_| "not signed")?;
-        assert_eq!(rt; text_of(rt.alloc(), &signed)?.as_slice(), row.text);
+        let tag = TagRef::from_bytes(row.asked, Kind::Sha1).map_err(|_| "not read")?;
+        let signed = runner.sign(tag);
+        assert!(rt; is_signed(rt.alloc(), signed, *row));
         assert_eq!(rt; runner.runs, 1);
     }
     Ok(())
@@ -125,38 +148,44 @@ fn signs_what_git_makes_of_an_unsigned_tag(rt: HostRuntime) -> Result<(), Fail> 
 #[test]
 fn keeps_a_tag_that_is_not_signed(rt: HostRuntime) -> Result<(), Fail> {
     let row = *signed_tags().first().ok_or("no row")?;
-    let mut tag = tag_with(row, b"old")?;
     let mut runner = program_for(rt.alloc(), row.asked);
-    let mut own = tag.into_owned(rt.alloc()).map_err(|_| "not owned")?;
-    let before = text_of(rt.alloc(), &own)?;
     runner.succeeds = false;
-    let result = own.sign(
-        rt.alloc(),
-        &options(),
-        &mut |words: &[Word<'_>], input: &[u8]| { runner.answer(words, input) },
-    );
-    assert!(rt; matches!(result, Err(Error::Failed)));
-    assert_eq!(rt; text_of(rt.alloc(), &own)?.as_slice(), before.as_slice());
+    let before = own_tag_with(rt.alloc(), row, b"old")?;
+    let mut own = own_tag_with(rt.alloc(), row, b"old")?;
+    assert!(rt; matches!(runner.sign_own(&mut own), Err(Error::Failed)));
+    assert!(rt; own == before);
     assert_eq!(rt; runner.runs, 1);
+    Ok(())
+}
+
+#[test]
+fn runs_nothing_for_a_tag_that_cannot_be_written(rt: HostRuntime) -> Result<(), Fail> {
+    let row = *signed_tags().first().ok_or("no row")?;
+    let mut runner = program_for(rt.alloc(), row.asked);
+    let mut tag = tag_with(row, b"old")?;
     tag.name = BStr::new(b"-v");
-    let result = tag.sign(
-        rt.alloc(),
-        &options(),
-        &mut |words: &[Word<'_>], input: &[u8]| { runner.answer(words, input) },
-    );
     assert!(rt;
         matches!(
-            result,
+            runner.sign(tag),
             Err(Error::Encode(write::Error::TagName(TagNameError::StartsWithDash)))
         )
     );
+    assert_eq!(rt; runner.runs, 0);
+    Ok(())
+}
+
+#[test]
+fn runs_nothing_for_a_tag_of_no_id(rt: HostRuntime) -> Result<(), Fail> {
+    let row = *signed_tags().first().ok_or("no row")?;
+    let mut runner = program_for(rt.alloc(), row.asked);
+    let mut tag = tag_with(row, b"old")?;
     tag.target = BStr::new(b"id");
-    let result = tag.sign(
-        rt.alloc(),
-        &options(),
-        &mut |words: &[Word<'_>], input: &[u8]| { runner.answer(words, input) },
+    assert!(rt;
+        matches!(
+            runner.sign(tag),
+            Err(Error::Decode(decode::Error::HexDigits))
+        )
     );
-    assert!(rt; matches!(result, Err(Error::Decode(decode::Error::HexDigits))));
-    assert_eq!(rt; runner.runs, 1);
+    assert_eq!(rt; runner.runs, 0);
     Ok(())
 }

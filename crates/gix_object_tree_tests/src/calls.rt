@@ -7,6 +7,7 @@ use gix_object_lines::decode::Error;
 use gix_object_tag::TagRef;
 use gix_object_tree::data::verify;
 use gix_object_tree::{Data, ObjectRef};
+use std::alloc::Global;
 use std::convert::TryFrom;
 use std::process::Abort;
 use std::test::Fail;
@@ -19,27 +20,45 @@ const TAG: &[u8] =
 
 const SHA1: gix_hash::Kind = gix_hash::Kind::Sha1;
 
+fn read(alloc: Global, kind: Kind, content: &[u8]) -> Result<ObjectRef<'_>, Fail> {
+    Ok(ObjectRef::from_bytes(alloc, kind, content, SHA1)?)
+}
+
 #[test]
-fn an_object_is_of_one_kind(rt: HostRuntime) -> Result<(), Fail> {
-    let blob = ObjectRef::from_bytes(rt.alloc(), Kind::Blob, b"hello", SHA1)?;
+fn a_blob_is_lent(rt: HostRuntime) -> Result<(), Fail> {
+    let blob = read(rt.alloc(), Kind::Blob, b"hello")?;
     assert!(rt; blob.as_blob().is_some());
     assert!(rt; blob.as_commit().is_none());
     assert!(rt; blob.as_tag().is_none());
-    let commit = ObjectRef::from_bytes(rt.alloc(), Kind::Commit, COMMIT, SHA1)?;
+    Ok(())
+}
+
+#[test]
+fn a_commit_is_lent_and_given(rt: HostRuntime) -> Result<(), Fail> {
+    let commit = read(rt.alloc(), Kind::Commit, COMMIT)?;
     assert!(rt; commit.as_blob().is_none());
     assert!(rt; commit.as_commit().is_some());
     let commit = commit.into_commit().ok_or("no commit")?;
     assert_eq!(rt; commit.message.as_bytes(), b"one".as_slice());
-    let tag = ObjectRef::from_bytes(rt.alloc(), Kind::Tag, TAG, SHA1)?;
+    Ok(())
+}
+
+#[test]
+fn a_tag_is_lent_and_given(rt: HostRuntime) -> Result<(), Fail> {
+    let tag = read(rt.alloc(), Kind::Tag, TAG)?;
     assert!(rt; tag.as_tag().is_some());
     let tag = tag.into_tag().ok_or("no tag")?;
     assert_eq!(rt; tag.name.as_bytes(), b"v1".as_slice());
     assert!(rt; ObjectRef::from(tag).into_blob().is_none());
+    Ok(())
+}
+
+#[test]
+fn a_tree_is_refused(rt: HostRuntime) {
     assert_eq!(rt;
         ObjectRef::from_bytes(rt.alloc(), Kind::Tree, b"", SHA1),
         Err(Error::FieldName)
     );
-    Ok(())
 }
 
 #[test]

@@ -1,6 +1,6 @@
 //! Objects that own their parts.
 
-use crate::table::rows;
+use crate::table::{Row, rows};
 use gix_object_commit::{Blob, Commit};
 use gix_object_lines::{ByteString, Kind, WriteTo};
 use gix_object_tag::Tag;
@@ -18,18 +18,43 @@ const COMMIT: &[u8] =
 const TAG: &[u8] =
     b"object 4b825dc642cb6eb9a060e54bf8d69288fbee4904\ntype tree\ntag v1\ntagger A <a@b> 1 +0000\n\none";
 
+fn read(alloc: Global, bytes: &[u8], hash_kind: gix_hash::Kind) -> Result<ObjectRef<'_>, Fail> {
+    Ok(ObjectRef::from_loose(alloc, bytes, hash_kind)?)
+}
+
+fn owned(alloc: Global, row: Row) -> Result<Object, Fail> {
+    Ok(read(alloc, row.bytes, row.hash_kind)?.to_owned(alloc)?)
+}
+
+fn written(alloc: Global, object: &Object) -> Result<Vec<u8>, Fail> {
+    let header = object.loose_header(alloc).ok_or("too long")?;
+    let mut written = Vec::from_slice(alloc, header.as_slice())?;
+    object.write_to(&mut written).map_err(|_| "not written")?;
+    Ok(written)
+}
+
 #[test]
 fn owned_objects_are_written_back(rt: HostRuntime) -> Result<(), Fail> {
     for row in rows() {
-        let borrowed = ObjectRef::from_loose(rt.alloc(), row.bytes, row.hash_kind)?;
-        let object = borrowed.to_owned(rt.alloc())?;
-        assert!(rt; Object::kind(&object) == row.kind);
-        let mut written = Vec::new(rt.alloc());
-        let header = object.loose_header(rt.alloc()).ok_or("too long")?;
-        written.extend_from_slice(header.as_slice())?;
-        assert!(rt; object.write_to(&mut written).is_ok());
-        assert_eq!(rt; written.as_slice(), row.bytes);
-        assert!(rt; borrowed.into_owned(rt.alloc())? == object);
+        let text = written(rt.alloc(), &owned(rt.alloc(), *row)?)?;
+        assert_eq!(rt; text.as_slice(), row.bytes);
+    }
+    Ok(())
+}
+
+#[test]
+fn owned_objects_are_of_their_kind(rt: HostRuntime) -> Result<(), Fail> {
+    for row in rows() {
+        assert!(rt; Object::kind(&owned(rt.alloc(), *row)?) == row.kind);
+    }
+    Ok(())
+}
+
+#[test]
+fn objects_given_or_lent_are_owned_alike(rt: HostRuntime) -> Result<(), Fail> {
+    for row in rows() {
+        let given = read(rt.alloc(), row.bytes, row.hash_kind)?.into_owned(rt.alloc())?;
+        assert!(rt; given == owned(rt.alloc(), *row)?);
     }
     Ok(())
 }
@@ -39,10 +64,10 @@ fn hello(alloc: Global) -> Result<Object, Fail> {
     Ok(Object::from(Blob { content }))
 }
 
-fn is_hello(object: &Object) -> bool {
-    match object.as_blob() {
-        Some(blob) => blob.content.as_bytes() == b"hello".as_slice(),
-        None => false,
+fn is_hello(object: Object) -> bool {
+    match object.try_into_blob() {
+        Ok(blob) => blob.content.as_bytes() == b"hello".as_slice(),
+        Err(_) => false,
     }
 }
 
@@ -56,7 +81,7 @@ fn handed_back<T: Drop>(tried: Result<T, Object>) -> Result<Object, Fail> {
 #[test]
 fn an_owned_blob_is_lent(rt: HostRuntime) -> Result<(), Fail> {
     let object = hello(rt.alloc())?;
-    assert!(rt; is_hello(&object));
+    assert!(rt; object.as_blob().is_some());
     assert!(rt; object.as_commit().is_none());
     assert!(rt; object.as_tag().is_none());
     let blob = object.try_into_blob_ref().ok_or("no blob")?;
@@ -67,14 +92,14 @@ fn an_owned_blob_is_lent(rt: HostRuntime) -> Result<(), Fail> {
 #[test]
 fn an_owned_blob_is_no_commit(rt: HostRuntime) -> Result<(), Fail> {
     let object = handed_back(hello(rt.alloc())?.try_into_commit())?;
-    assert!(rt; is_hello(&object));
+    assert!(rt; is_hello(object));
     Ok(())
 }
 
 #[test]
 fn an_owned_blob_is_no_tag(rt: HostRuntime) -> Result<(), Fail> {
     let object = handed_back(hello(rt.alloc())?.try_into_tag())?;
-    assert!(rt; is_hello(&object));
+    assert!(rt; is_hello(object));
     Ok(())
 }
 
@@ -88,12 +113,27 @@ fn an_owned_blob_is_given(rt: HostRuntime) -> Result<(), Fail> {
     Ok(())
 }
 
+fn own(alloc: Global, kind: Kind, content: &[u8]) -> Result<Object, Fail> {
+    Ok(ObjectRef::from_bytes(alloc, kind, content, SHA1)?.into_owned(alloc)?)
+}
+
+fn commit_of(object: Object) -> Result<Commit, Fail> {
+    match Commit::try_from(object) {
+        Ok(commit) => Ok(commit),
+        Err(_) => Err("a commit is one".into()),
+    }
+}
+
+fn tag_of(object: Object) -> Result<Tag, Fail> {
+    match Tag::try_from(object) {
+        Ok(tag) => Ok(tag),
+        Err(_) => Err("a tag is one".into()),
+    }
+}
+
 #[test]
 fn an_owned_commit_is_given_back(rt: HostRuntime) -> Result<(), Fail> {
-    let commit = ObjectRef::from_bytes(rt.alloc(), Kind::Commit, COMMIT, SHA1)?;
-    let Ok(commit) = Commit::try_from(commit.into_owned(rt.alloc())?) else {
-        return Err("a commit is one".into());
-    };
+    let commit = commit_of(own(rt.alloc(), Kind::Commit, COMMIT)?)?;
     let commit = Object::from(commit).into_commit();
     assert_eq!(rt; commit.message.as_bytes(), b"one".as_slice());
     Ok(())
@@ -101,10 +141,7 @@ fn an_owned_commit_is_given_back(rt: HostRuntime) -> Result<(), Fail> {
 
 #[test]
 fn an_owned_tag_is_given_back(rt: HostRuntime) -> Result<(), Fail> {
-    let tag = ObjectRef::from_bytes(rt.alloc(), Kind::Tag, TAG, SHA1)?;
-    let Ok(tag) = Tag::try_from(tag.into_owned(rt.alloc())?) else {
-        return Err("a tag is one".into());
-    };
+    let tag = tag_of(own(rt.alloc(), Kind::Tag, TAG)?)?;
     let tag = Object::from(tag).into_tag();
     assert_eq!(rt; tag.name.as_bytes(), b"v1".as_slice());
     Ok(())
