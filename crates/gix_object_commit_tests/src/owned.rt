@@ -1,11 +1,11 @@
 //! Commits and blobs that own their parts, and content that comes as a stream.
 
-use crate::table::rows;
+use crate::table::{Row, rows};
 use bstr::BStr;
 use gix_hash::io::{self, Interrupt, Progress};
 use gix_hash::{Kind, ObjectId};
 use gix_object_commit::commit::ExtraHeaders;
-use gix_object_commit::{BlobRef, CommitRef, compute_stream_hash};
+use gix_object_commit::{BlobRef, Commit, CommitRef, compute_stream_hash};
 use gix_object_lines::decode::Error;
 use gix_object_lines::lines::{ActorRef, Time};
 use gix_object_lines::{WriteTo, encode, write};
@@ -16,19 +16,43 @@ use std::test::Fail;
 const COMMIT: &[u8] =
     b"tree 4b825dc642cb6eb9a060e54bf8d69288fbee4904\nauthor A <a@b> 1 +0000\ncommitter A <a@b> 1 +0000\ngpgsig one\n two\n \n  three\n\nmessage";
 
+fn own(alloc: Global, row: Row) -> Result<Commit, Fail> {
+    Ok(CommitRef::from_bytes(alloc, row.content, row.kind)?.into_owned(alloc)?)
+}
+
+fn written(alloc: Global, commit: &Commit) -> Result<Vec<u8>, Fail> {
+    let mut written = Vec::new(alloc);
+    commit.write_to(&mut written).map_err(|_| "not written")?;
+    Ok(written)
+}
+
 #[test]
-fn owns_and_writes_what_git_stored(rt: HostRuntime) -> Result<(), Fail> {
+fn owns_what_git_stored(rt: HostRuntime) -> Result<(), Fail> {
+    for row in rows() {
+        let commit = own(rt.alloc(), *row)?;
+        assert_eq!(rt; commit.parents.len(), row.parents);
+        assert_eq!(rt; commit.extra_headers.len(), row.headers);
+        assert_eq!(rt; commit.size(), Some(row.content.len() as u64));
+        assert!(rt; commit.kind() == gix_object_lines::Kind::Commit);
+    }
+    Ok(())
+}
+
+#[test]
+fn writes_what_git_stored(rt: HostRuntime) -> Result<(), Fail> {
+    for row in rows() {
+        let text = written(rt.alloc(), &own(rt.alloc(), *row)?)?;
+        assert_eq!(rt; text.as_slice(), row.content);
+    }
+    Ok(())
+}
+
+#[test]
+fn commits_given_or_lent_are_owned_alike(rt: HostRuntime) -> Result<(), Fail> {
     for row in rows() {
         let commit = CommitRef::from_bytes(rt.alloc(), row.content, row.kind)?;
-        let own = commit.to_owned(rt.alloc())?;
-        assert_eq!(rt; own.parents.len(), row.parents);
-        assert_eq!(rt; own.extra_headers.len(), row.headers);
-        let mut written = Vec::new(rt.alloc());
-        assert!(rt; own.write_to(&mut written).is_ok());
-        assert_eq!(rt; written.as_slice(), row.content);
-        assert_eq!(rt; own.size(), Some(row.content.len() as u64));
-        assert!(rt; own.kind() == gix_object_lines::Kind::Commit);
-        assert!(rt; commit.into_owned(rt.alloc())? == own);
+        let lent = commit.to_owned(rt.alloc())?;
+        assert!(rt; own(rt.alloc(), *row)? == lent);
     }
     Ok(())
 }
