@@ -6,5 +6,6 @@ pub mod Trust
 pub mod Status
 pub mod Asking
 pub mod SignedTime
+pub mod SshVerdict
 pub mod VerifyingSsh
 pub mod Verifying

@@ -1,6 +1,6 @@
 -- What Git asks ssh-keygen when it verifies, one request after another, and what the last answer means (gpg-interface.c:
 -- `verify_ssh_signed_buffer`, `parse_ssh_output`).
-use Rattle.std.specs.Prelude.{ℕ, ⊤, Bool, true, false, not, ◌&&◌, ◌||◌, ◌==◌, ◌≡◌, nat_eq, List, [], ◌∷◌, ◌++◌, codes, filter, length, IsTrue, IsFalse, Option, None, Some, Result, Ok, Err, if◌then◌else◌}
+use Rattle.std.specs.Prelude.{ℕ, ⊤, Bool, true, false, not, ◌&&◌, ◌==◌, ◌≡◌, nat_eq, List, [], ◌∷◌, ◌++◌, codes, filter, length, IsTrue, IsFalse, Option, None, Some, Result, Ok, Err}
 use Rattle.std.specs.List.{slice_split, starts_with}
 use Rattle.std.specs.Str.{bytes_eq}
 use Rattle.bstr.specs.BStr.{bstr_bytes}
@@ -9,16 +9,14 @@ use Rattle.gix_object_signature.specs.Asking.{Asks}
 use Rattle.gix_object_signature.specs.Run.{Argument, Plain, File, Request}
 use Rattle.gix_object_signature.specs.Signing.{without_cr}
 use Rattle.gix_object_signature.specs.SignedTime.{TimeWord, TellsNoTime}
+use Rattle.gix_object_signature.specs.SshVerdict.{status_of, trust_of}
 use Rattle.gix_object_signature.specs.declared.run.Answer.{Answer}
 use Rattle.gix_object_signature.specs.declared.run.RunError as run
 use Rattle.gix_object_signature.specs.declared.verify.Error as verify
 use Rattle.gix_object_signature.specs.declared.verify.Error.TheVariants.{CommitTime, Memory}
 use Rattle.gix_object_signature.specs.declared.verify.Outcome.{Outcome}
-use Rattle.gix_object_signature.specs.declared.verify.Status.{Status}
-use Rattle.gix_object_signature.specs.declared.verify.Status.TheVariants.{Good, Bad}
 use Rattle.gix_object_signature.specs.declared.verify.trust.TrustLevel.{TrustLevel}
 use Rattle.gix_object_signature.specs.declared.verify.ssh.Keygen.{Keygen}
-use Rattle.gix_object_signature.specs.declared.verify.trust.TrustLevel.TheVariants.{Undefined, Never, Fully}
 
 -- ---- the requests
 
@@ -82,18 +80,6 @@ principals text = filter (λ line. not (length line == 0)) (slice_split (λ byte
 -- it is this one's
 abbrev pub agrees : Answer → Bool
 agrees answer = answer.succeeded && starts_with nat_eq answer.output (codes "Good")
-
-unfoldable pub names_signer : List ℕ → Bool
-names_signer text = starts_with nat_eq text (codes "Good \"git\" signature for ")
-
-unfoldable pub names_key : List ℕ → Bool
-names_key text = starts_with nat_eq text (codes "Good \"git\" signature with ")
-
-abbrev pub status_of : List ℕ → Status
-status_of text = if names_signer text || names_key text then Good else Bad
-
-abbrev pub trust_of : List ℕ → TrustLevel
-trust_of text = if names_signer text then Fully else (if names_key text then Undefined else Never)
 
 -- a signature of no principal is never valid, whatever is told of it
 abbrev pub outcome_of : TrustLevel → Bool → Result Answer verify.Error → Result Outcome verify.Error

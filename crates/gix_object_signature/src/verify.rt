@@ -11,6 +11,7 @@ mod gnupg;
 mod lines;
 mod signed_time;
 mod ssh;
+mod ssh_verdict;
 mod trust;
 
 use crate::run::{Answer, RunError, Word};

@@ -6,12 +6,13 @@ ghost use Rattle.bstr.specs.BStr.{bstr_bytes};
 ghost use Rattle.gix_object_signature.specs.Asking.{Asks, told};
 ghost use Rattle.gix_object_signature.specs.Run.{Answers, Plain, File, argument_of};
 ghost use Rattle.gix_object_signature.specs.VerifyingSsh as spec;
-ghost use Rattle.gix_object_signature.specs.VerifyingSsh.{Asked, Tries, VerifiesSsh, agrees, check_request, find_request, finds, names_key, names_signer, path_of, question_of, revoked_words, time_words, verify_request};
+ghost use Rattle.gix_object_signature.specs.VerifyingSsh.{Asked, Tries, VerifiesSsh, agrees, check_request, find_request, finds, path_of, question_of, revoked_words, time_words, verify_request};
 
 use crate::returns::drop_returns;
 use crate::run::{Answer, RunError, Word, run};
 use crate::verify::signed_time::time_word;
-use crate::verify::{Error, Outcome, Status, TrustLevel};
+use crate::verify::ssh_verdict::verdict_of;
+use crate::verify::{Error, Outcome, TrustLevel};
 use bstr::BStr;
 use std::alloc::{AllocError, Global};
 
@@ -238,49 +239,12 @@ fn agrees(answer: &Answer) -> bool
 fn outcome(minimum_trust: TrustLevel, has_signer: bool, answer: Answer) -> Outcome
     ensures { Ok result ≡ spec.outcome_of minimum_trust has_signer (Ok answer) }
 {
-    let status = status_of(answer.output.as_bytes());
-    let trust = trust_of(answer.output.as_bytes());
+    let verdict = verdict_of(answer.output.as_bytes());
     Outcome {
-        status,
-        trust,
+        status: verdict.status,
+        trust: verdict.trust,
         minimum_trust,
         has_signer,
         answer,
     }
-}
-
-fn status_of(output: &[u8]) -> Status
-    ensures { result ≡ spec.status_of output.now }
-{
-    if names_signer(output) || names_key(output) {
-        Status::Good
-    } else {
-        Status::Bad
-    }
-}
-
-fn trust_of(output: &[u8]) -> TrustLevel
-    ensures { result ≡ spec.trust_of output.now }
-{
-    if names_signer(output) {
-        TrustLevel::Fully
-    } else if names_key(output) {
-        TrustLevel::Undefined
-    } else {
-        TrustLevel::Never
-    }
-}
-
-#[tactic(auto, unfolding(crate::specs::VerifyingSsh::names_signer))]
-fn names_signer(output: &[u8]) -> bool
-    ensures { result ≡ names_signer output.now }
-{
-    output.starts_with(b"Good \"git\" signature for ")
-}
-
-#[tactic(auto, unfolding(crate::specs::VerifyingSsh::names_key))]
-fn names_key(output: &[u8]) -> bool
-    ensures { result ≡ names_key output.now }
-{
-    output.starts_with(b"Good \"git\" signature with ")
 }
