@@ -4,6 +4,8 @@
 #[cfg(test)]
 mod signing;
 #[cfg(test)]
+mod ssh_verdict;
+#[cfg(test)]
 mod table;
 #[cfg(test)]
 mod verifying;
