@@ -35,6 +35,23 @@ fn reads_and_writes_what_git_stored(rt: HostRuntime) -> Result<(), Fail> {
     Ok(())
 }
 
+fn trailers_of(commit: &CommitRef<'_>) -> usize {
+    let mut number: usize = 0;
+    for _ in commit.message_trailers() {
+        number = number.saturating_add(1);
+    }
+    number
+}
+
+#[test]
+fn has_the_trailers_that_git_prints(rt: HostRuntime) -> Result<(), Fail> {
+    for row in rows() {
+        let commit = CommitRef::from_bytes(rt.alloc(), row.content, row.kind)?;
+        assert_eq!(rt; trailers_of(&commit), row.trailers);
+    }
+    Ok(())
+}
+
 #[test]
 fn tokens_are_the_parts(rt: HostRuntime) -> Result<(), Fail> {
     for row in rows() {
