@@ -7,6 +7,7 @@ use gix_object_commit::laws::tokens_tell_a_commit;
 use gix_object_commit::{CommitRef, CommitRefIter};
 use gix_object_lines::WriteTo;
 use std::alloc::Global;
+use std::io::Write;
 use std::process::Abort;
 use std::test::Fail;
 
@@ -35,19 +36,27 @@ fn reads_and_writes_what_git_stored(rt: HostRuntime) -> Result<(), Fail> {
     Ok(())
 }
 
-fn trailers_of(commit: &CommitRef<'_>) -> usize {
-    let mut number: usize = 0;
-    for _ in commit.message_trailers() {
-        number = number.saturating_add(1);
+fn printed_trailers(alloc: Global, commit: &CommitRef<'_>) -> Option<Vec<u8>> {
+    let mut text = Vec::new(alloc);
+    for trailer in commit.message_trailers() {
+        for part in [
+            trailer.token.as_bytes(),
+            b": ",
+            trailer.value.as_bytes(),
+            b"\n",
+        ] {
+            text.write_all(part).ok()?;
+        }
     }
-    number
+    Some(text)
 }
 
 #[test]
 fn has_the_trailers_that_git_prints(rt: HostRuntime) -> Result<(), Fail> {
     for row in rows() {
         let commit = CommitRef::from_bytes(rt.alloc(), row.content, row.kind)?;
-        assert_eq!(rt; trailers_of(&commit), row.trailers);
+        let printed = printed_trailers(rt.alloc(), &commit).ok_or("no text")?;
+        assert_eq!(rt; printed.as_slice(), row.trailers);
     }
     Ok(())
 }

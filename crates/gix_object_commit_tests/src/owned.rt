@@ -68,7 +68,7 @@ fn headers_are_owned_without_their_spaces(rt: HostRuntime) -> Result<(), Fail> {
 
 const SIGNED: &str = "c8f7e5e25f888586c47a3b1d544a7428b1a5cbe2";
 
-const MERGE: &str = "e857c0a806ed622b17493a53bd4c7bdd7c8aa103";
+const MERGE: &str = "1040da21f9e207d8c7c282c5ba79cecb95347fb2";
 
 // The signature and the merged tag that `scripts/commit_table.py` hands to git, each without its last line feed.
 const SIGNATURE: &[u8] =
