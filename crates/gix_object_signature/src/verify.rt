@@ -165,7 +165,7 @@ pub enum Error {
     /// The program's input wasn't written, or what it wrote wasn't read.
     #[error("the program that verifies didn't communicate")]
     Communicate,
-    /// The object tells no time of signing, or none that the secure shell's program takes.
+    /// The object tells a time of signing that the secure shell's program doesn't take.
     #[error("the time of signing can't be told")]
     CommitTime,
     /// No memory is left.

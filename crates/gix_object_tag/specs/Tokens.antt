@@ -59,7 +59,7 @@ IsFault kind BeforeBody input error = RestFault input error
 abbrev pub Steps : Place → Option (Result Token Error) → Place → Type 0
 Steps before None after = (before.input ≡ []) × (after ≡ before)
 Steps before (Some (Ok token)) after = (before.input ≢ []) × (after.kind ≡ before.kind) × Stands before.kind before.stage before.input token after.stage after.input
-Steps before (Some (Err error)) after = (before.input ≢ []) × IsFault before.kind before.stage before.input error × (¬ HasPart before.kind before.stage before.input) × (after.input ≡ [])
+Steps before (Some (Err error)) after = (before.input ≢ []) × IsFault before.kind before.stage before.input error × (¬ HasPart before.kind before.stage before.input) × (after.kind ≡ before.kind) × (after.stage ≡ before.stage) × (after.input ≡ [])
 
 -- how many tokens come at most
 abbrev pub stages_left : Stage → ℕ

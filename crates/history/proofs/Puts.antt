@@ -5,8 +5,9 @@ use Rattle.std.specs.Prelude.{IsFalse, Option, Some, None, is_some, option_map, 
 use Rattle.std.specs.declared.alloc.Global.{Global}
 use Rattle.std.specs.FinMap.{FinMap, get, insert, contains_key, empty, entries, len-entries, len-empty}
 use Rattle.std.specs.List.{flat_map}
-use Rattle.gix_ref_file.specs.History.{History}
-use Rattle.gix_ref_file.specs.Tree.{Tree}
+use Rattle.gix_ref_file.specs.History.{History, Adds}
+use Rattle.gix_ref_file.specs.Tree.{Tree, folder}
+use Rattle.gix_ref_file.proofs.Rooted.{adds_now}
 use Rattle.history_model.specs.Bytes.{Bytes, by_bytes}
 use Rattle.history_model.specs.FileMap.{Content}
 use Rattle.history_model.specs.Offered.{file_entry_text}
@@ -342,3 +343,11 @@ module _ {F : Type 0} (IsHonest : F → Type 0) (history : F → History) (failu
         subst (StoresValues D old.objects.kind values (map blob_value blobs) (objects_tree history old) (objects_tree history new)) (sym is_end)
         (subst (λ more. StoresValues D old.objects.kind values more (objects_tree history old) (objects_tree history new) (Err stopped)) whole
         (stores_stopped D D old.objects.kind values (map blob_value (take (i + 1) blobs)) (map blob_value (drop (i + 1) blobs)) (objects_tree history old) (objects_tree history new) (objects_tree history new) stopped (λ h. h) here))
+
+-- what stands at each moment stands now
+pub folders_now : (path : Bytes) (old new : History) → Adds (FoldersAbove path old.tree) old new → FoldersAbove path old.tree new.tree
+folders_now path old new adds = from_now (adds_now _ old new adds)
+  where
+    from_now : (new.tree ≡ old.tree) ⊎ FoldersAbove path old.tree new.tree → FoldersAbove path old.tree new.tree
+    from_now (inl same) = λ place is. inl (ap (λ t. get t place) (sym same) ∙ is)
+    from_now (inr above) = above

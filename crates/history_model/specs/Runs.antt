@@ -41,7 +41,7 @@ pub record Ran (CallFailed : Type 0) (old : Repository) (input output rest last 
 abbrev pub Ends : Type 0 → Bytes → Bytes → End → Bool → Type 0
 Ends AtEnd rest last Input failed = (rest ≡ []) × AtEnd × (last ≡ []) × (failed ≡ false)
 Ends AtEnd rest last ByRefusal failed = (cause : Cause) × IsNoCommand AtEnd rest cause × (last ≡ reply_text (RefusedFor cause)) × (failed ≡ false)
--- a changing command had a fault, and what follows it is not read
+-- a changing command had a fault: what follows it is not acted on
 Ends AtEnd rest last ByFault true = last ≡ []
 -- memory ran out while a rest that is no command was read: nothing changes
 Ends AtEnd rest last ByFault false = (cause : Cause) × IsNoCommand AtEnd rest cause × (last ≡ reply_text (Faulted Memory))

@@ -71,22 +71,25 @@ above_slash path at below is = (drop (suc at) path, cut path at below is)
     cut (x ∷ path) (suc at) below is = ap (λ t. x ∷ t) (cut path at (omega (arith, below)) is)
 
 -- ---- a put and a move
-pub nowhere_more : (path : Bytes) (t : Tree) → FoldersAbove path t t
-nowhere_more path t = λ q is. inl is
+-- no folder comes
+abbrev pub BringsNone : Tree → Tree → Type 0
+BringsNone t x = (q : Bytes) → get x q ≡ Some folder → get t q ≡ Some folder
 
-pub put_above : (path k bytes : Bytes) (old made new : Tree) → FoldersAbove path old made → new ≡ insert made k (file bytes) → FoldersAbove path old new
-put_above path k bytes old made new first is_new = λ q is. first q (file_put made k bytes q (ap (λ y. get y q) (sym is_new) ∙ is))
+pub written_brings : (k bytes : Bytes) (t x : Tree) → MayLeave (to_write k bytes) t x → BringsNone t x
+written_brings k bytes t x (inl same) q is = ap (λ y. get y q) (sym same) ∙ is
+written_brings k bytes t x (inr (n, may, made)) q is = file_put t k (take n bytes) q (ap (λ y. get y q) (sym made) ∙ is)
 
-pub renamed_above : (path from to : Bytes) (old mid new : Tree) → FoldersAbove path old mid → new ≡ after (to_rename from to) mid → FoldersAbove path old new
-renamed_above path from to old mid new first is_new = λ q is. first q (removed mid from q (file_put (remove mid from) to (bytes_at mid from) q (ap (λ y. get y q) (sym is_new) ∙ is)))
+pub appended_brings : (k bytes : Bytes) (t x : Tree) → MayLeave (to_append k bytes) t x → BringsNone t x
+appended_brings k bytes t x (inl same) q is = ap (λ y. get y q) (sym same) ∙ is
+appended_brings k bytes t x (inr (n, may, made)) q is = file_put t k (bytes_at t k ++ take n bytes) q (ap (λ y. get y q) (sym made) ∙ is)
 
-module _ (place header content : Bytes) (old made written appended new : History) where
-  pub object_folders : Adds (FoldersAbove place old.tree) old made → written.tree ≡ after (to_write unfinished_place header) made.tree → appended.tree ≡ after (to_append unfinished_place content) written.tree
-      → new.tree ≡ after (to_rename unfinished_place place) appended.tree → FoldersAbove place old.tree new.tree
-  object_folders first is_written is_appended is_new =
-      renamed_above place unfinished_place place old.tree appended.tree new.tree
-      (put_above place unfinished_place (bytes_at written.tree unfinished_place ++ content) old.tree written.tree appended.tree
-      (put_above place unfinished_place header old.tree made.tree written.tree (now_above place old made first) is_written) is_appended) is_new
+pub renamed_brings : (from to : Bytes) (t x : Tree) → MayLeave (to_rename from to) t x → BringsNone t x
+renamed_brings from to t x (inl same) q is = ap (λ y. get y q) (sym same) ∙ is
+renamed_brings from to t x (inr (n, may, made)) q is = removed t from q (file_put (remove t from) to (bytes_at t from) q (ap (λ y. get y q) (sym made) ∙ is))
+
+pub then_above : {P : Tree → Type 0} (path : Bytes) (old mid new : History) → Adds (FoldersAbove path old.tree) old mid → Adds P mid new → ((x : Tree) → P x → BringsNone mid.tree x)
+    → Adds (FoldersAbove path old.tree) old new
+then_above path old mid new first second brings = adds_joined old mid new first (adds_weaker mid new second (λ x left q is. now_above path old mid first q (brings x left q is)))
 
 pub gone : (place : Bytes) (t new : Tree) → place ≢ unfinished_place → new ≡ after (to_rename unfinished_place place) t → file_at new unfinished_place ≡ None
 gone place t new apart is_new =
@@ -94,13 +97,20 @@ gone place t new apart is_new =
     ∙ apart_from_inserted (remove t unfinished_place) place (file (bytes_at t unfinished_place)) unfinished_place (λ same. apart (sym same))
     ∙ ap bytes_of (get-removed t unfinished_place unfinished_place ∙ ap (λ b. cond b None (get t unfinished_place)) (same_path_itself unfinished_place))
 
-pub name_folders : (name : Bytes) (old mid new : Tree) → FoldersAbove (log_place name) old mid → FoldersAbove name mid new → FoldersOfName name old new
-name_folders name old mid new first second = λ q is. from_last q (second q is)
+pub log_folders : (name : Bytes) (old mid : History) → Adds (FoldersAbove (log_place name) old.tree) old mid → Adds (FoldersOfName name old.tree) old mid
+log_folders name old mid adds = adds_weaker old mid adds (λ x above q is. out (above q is))
   where
-    from_first : (q : Bytes) → (get old q ≡ Some folder) ⊎ IsAbove q (log_place name) → (get old q ≡ Some folder) ⊎ IsAbove q name ⊎ IsAbove q (log_place name)
+    out : {A B C : Type 0} → A ⊎ C → A ⊎ B ⊎ C
+    out (inl a) = inl a
+    out (inr c) = inr (inr c)
+
+pub name_folders : (name : Bytes) (old mid new : History) → Adds (FoldersAbove (log_place name) old.tree) old mid → Adds (FoldersAbove name mid.tree) mid new → Adds (FoldersOfName name old.tree) old new
+name_folders name old mid new first second = adds_joined old mid new (log_folders name old mid first) (adds_weaker mid new second (λ x above q is. from_last q (above q is)))
+  where
+    from_first : (q : Bytes) → (get old.tree q ≡ Some folder) ⊎ IsAbove q (log_place name) → (get old.tree q ≡ Some folder) ⊎ IsAbove q name ⊎ IsAbove q (log_place name)
     from_first q (inl stood) = inl stood
     from_first q (inr above) = inr (inr above)
 
-    from_last : (q : Bytes) → (get mid q ≡ Some folder) ⊎ IsAbove q name → (get old q ≡ Some folder) ⊎ IsAbove q name ⊎ IsAbove q (log_place name)
-    from_last q (inl stood) = from_first q (first q stood)
+    from_last : (q : Bytes) → (get mid.tree q ≡ Some folder) ⊎ IsAbove q name → (get old.tree q ≡ Some folder) ⊎ IsAbove q name ⊎ IsAbove q (log_place name)
+    from_last q (inl stood) = from_first q (now_above (log_place name) old mid first q stood)
     from_last q (inr above) = inr (inl above)

@@ -1,9 +1,8 @@
 -- The plain repository's text of a commit is that of its parts, which tell the commit.
-use Rattle.std.proofs.Common.{◌≡◌, ◌≢◌, ◌∙◌, ap, refl, sym, subst, arith, zero, suc, ℕ, ◌<◌, true, false, not, ◌&&◌, List, [], ◌∷◌, ◌++◌, map, length, get_or, slice_index, append_assoc, nat_lt}
-use Rattle.std.specs.Prelude.{All, IfNone, IsTrue, MatchOption, Option, None, Some, codes, is_some, nat_le, option_map, ◌==◌}
+use Rattle.std.proofs.Common.{◌≡◌, ◌≢◌, ◌∙◌, ap, refl, sym, subst, arith, zero, suc, ℕ, ◌<◌, not, ◌&&◌, List, [], ◌∷◌, ◌++◌, map, length, get_or, slice_index, append_assoc, nat_lt}
+use Rattle.std.specs.Prelude.{All, IfNone, IsTrue, MatchOption, Option, None, Some, codes, nat_le}
 use Rattle.std.specs.Char.{is_ascii_hexdigit}
 use Rattle.std.specs.List.{flat_map, list_all}
-use Rattle.std.proofs.lemmas.Bool.Decides.{Decides-eqb}
 use Rattle.std.proofs.lemmas.List.Elements.{All-nil, All-cons}
 use Rattle.gix_hash.specs.Id.{Id, id_of}
 use Rattle.gix_hash.specs.Kind.{hex_len}

@@ -1,33 +1,51 @@
--- What stands while HEAD is made.
+-- What stands while a repository is made.
 use Rattle.std.proofs.Common.{◌≡◌, ◌⊎◌, inl, inr, ◌∙◌, ap, take}
 use Rattle.std.specs.Prelude.{IsTrue, codes}
-use Rattle.gix_ref_file.specs.Tree.{Tree, file}
-use Rattle.gix_ref_file.specs.Changes.{to_write, to_rename, allows, after, MayLeave}
+use Rattle.std.specs.FinMap.{get}
+use Rattle.gix_ref_file.specs.Tree.{Tree, file, is_folder}
+use Rattle.gix_ref_file.specs.Changes.{to_write, to_rename, to_remove_file, allows, after, MayLeave}
 use Rattle.gix_ref_file.specs.History.{History, Adds}
 use Rattle.gix_ref_file.proofs.Histories.{adds_weaker, adds_joined}
 use Rattle.gix_ref_file.proofs.Rooted.{adds_now}
 use Rattle.history_model.specs.Bytes.{Bytes, line}
 use Rattle.history_model.specs.Places.{file_at, head_place, unfinished_place}
-use Rattle.history_store.specs.Creation.{head_lock, IsCleared, IsNew, SameFolders, HeadMayStand}
+use Rattle.history_store.specs.Creation.{head_lock, HasHead, IsCleared, IsNew, LeftoverMayGo, SameFolders, HeadMayStand}
 use Rattle.history_store.specs.Parts.{IsClear}
 use Rattle.history_store.specs.declared.parts.Part.TheVariants.{Objects, Names}
 use Rattle.history_store.proofs.Made.{head_written}
-use Rattle.history_store.proofs.News.{new_parts, written_folders, renamed_folders, same_twice}
-use Rattle.history_store.proofs.Stored.{apart_from_inserted}
+use Rattle.history_store.proofs.News.{new_parts, written_folders, removed_folders, renamed_folders, same_twice}
+use Rattle.history_store.proofs.Stored.{apart_from_inserted, apart_from_removed}
 
-while_locked : (text : Bytes) (t x : Tree) → MayLeave (to_write head_lock text) t x → file_at x head_place ≡ file_at t head_place
-while_locked text t x (inl same) = ap (λ y. file_at y head_place) same
-while_locked text t x (inr (n, may, is)) = ap (λ y. file_at y head_place) is ∙ apart_from_inserted t head_lock (file (take n text)) head_place (λ same. cc)
+while_locked : (text : Bytes) (t x : Tree) → MayLeave (to_write head_lock text) t x → HeadMayStand t x
+while_locked text t x (inl same) = record {
+  head = inl (ap (λ y. file_at y head_place) same);
+  others = λ path apart other. ap (λ y. file_at y path) same;
+  folders = λ path. ap (λ y. is_folder (get y path)) same;
+}
+while_locked text t x (inr (n, may, is)) = record {
+  head = inl (ap (λ y. file_at y head_place) is ∙ apart_from_inserted t head_lock (file (take n text)) head_place (λ same. cc));
+  others = λ path apart other. ap (λ y. file_at y path) is ∙ apart_from_inserted t head_lock (file (take n text)) path other;
+  folders = written_folders t x head_lock (take n text) may is;
+}
 
 while_renamed : (text : Bytes) (t locked x : Tree) → text ≡ line (codes "ref: refs/heads/main") → IsTrue (allows t (to_write head_lock text)) → locked ≡ after (to_write head_lock text) t
     → MayLeave (to_rename head_lock head_place) locked x → HeadMayStand t x
-while_renamed text t locked x is_text may is_locked (inl same) = inl (ap (λ y. file_at y head_place) (same ∙ is_locked) ∙ apart_from_inserted t head_lock (file text) head_place (λ here. cc))
+while_renamed text t locked x is_text may is_locked (inl same) = record {
+  head = inl (ap (λ y. file_at y head_place) (same ∙ is_locked) ∙ apart_from_inserted t head_lock (file text) head_place (λ here. cc));
+  others = λ path apart other. ap (λ y. file_at y path) (same ∙ is_locked) ∙ apart_from_inserted t head_lock (file text) path other;
+  folders = written_folders t x head_lock text may (same ∙ is_locked);
+}
 while_renamed text t locked x is_text may is_locked (inr (n, may_move, made)) =
-    inr (head_written text t locked x is_text is_locked made, same_twice t locked x (written_folders t locked head_lock text may is_locked) (renamed_folders locked x head_lock head_place may_move made))
+    let has : HasHead t x = head_written text t locked x is_text is_locked made in
+    record {
+      head = inr has;
+      others = has.others;
+      folders = same_twice t locked x (written_folders t locked head_lock text may is_locked) (renamed_folders locked x head_lock head_place may_move made);
+    }
 
 -- HEAD is written beside, and then renamed
 pub lock_moments : (text : Bytes) (old locked : History) → Adds (MayLeave (to_write head_lock text) old.tree) old locked → Adds (HeadMayStand old.tree) old locked
-lock_moments text old locked adds = adds_weaker old locked adds (λ x left. inl (while_locked text old.tree x left))
+lock_moments text old locked adds = adds_weaker old locked adds (λ x left. while_locked text old.tree x left)
 
 pub head_moments : (text : Bytes) (old locked new : History) → text ≡ line (codes "ref: refs/heads/main") → IsTrue (allows old.tree (to_write head_lock text)) → locked.tree ≡ after (to_write head_lock text) old.tree
     → Adds (MayLeave (to_write head_lock text) old.tree) old locked → Adds (MayLeave (to_rename head_lock head_place) locked.tree) locked new → Adds (HeadMayStand old.tree) old new
@@ -42,5 +60,16 @@ head_is_last objects cleared old new clear_objects clear_names is_cleared folder
   where
     from_now : (new.tree ≡ old.tree) ⊎ HeadMayStand old.tree new.tree → (file_at new.tree head_place ≡ file_at old.tree head_place) ⊎ IsNew cleared new.tree
     from_now (inl same) = inl (ap (λ y. file_at y head_place) same)
-    from_now (inr (inl same)) = inl same
-    from_now (inr (inr made)) = inr (new_parts objects old.tree cleared new.tree clear_objects clear_names is_cleared folders made.0 made.1)
+    from_now (inr may) = from_head may.head
+      where
+        from_head : (file_at new.tree head_place ≡ file_at old.tree head_place) ⊎ HasHead old.tree new.tree → (file_at new.tree head_place ≡ file_at old.tree head_place) ⊎ IsNew cleared new.tree
+        from_head (inl same) = inl same
+        from_head (inr made) = inr (new_parts objects old.tree cleared new.tree clear_objects clear_names is_cleared folders made may.folders)
+
+-- ---- the leftover of a put
+while_removed : (t x : Tree) → MayLeave (to_remove_file unfinished_place) t x → LeftoverMayGo t x
+while_removed t x (inl same) = ((λ path apart. ap (λ y. file_at y path) same), (λ path. ap (λ y. is_folder (get y path)) same))
+while_removed t x (inr (n, may, is)) = ((λ path apart. ap (λ y. file_at y path) is ∙ apart_from_removed t unfinished_place path apart), removed_folders t x unfinished_place may is)
+
+pub leftover_moments : (old new : History) → Adds (MayLeave (to_remove_file unfinished_place) old.tree) old new → Adds (LeftoverMayGo old.tree) old new
+leftover_moments old new adds = adds_weaker old new adds (λ x left. while_removed old.tree x left)

@@ -1,15 +1,20 @@
 -- What stands while a name moves.
-use Rattle.std.proofs.Common.{◌≡◌, inl, inr, sym, ◌∙◌, ap, take, ◌++◌}
+use Rattle.std.proofs.Common.{◌≡◌, ◌≢◌, ◌⊎◌, inl, inr, sym, ◌∙◌, ap, take, ◌++◌}
+use Rattle.std.specs.Prelude.{Some}
 use Rattle.gix_ref_file.specs.Tree.{Tree, file, bytes_at}
 use Rattle.gix_ref_file.specs.Changes.{to_write, to_append, MayLeave}
 use Rattle.gix_ref_file.specs.History.{History, Adds}
 use Rattle.gix_ref_file.proofs.Histories.{adds_weaker, adds_joined}
+use Rattle.gix_ref_file.proofs.Rooted.{adds_now}
+use Rattle.gix_hash.specs.Id.{id_of}
+use Rattle.history_model.specs.Logs.{log_line}
 use Rattle.history_model.specs.Bytes.{Bytes}
 use Rattle.history_model.specs.Places.{file_at, log_place}
 use Rattle.history_store.specs.Stores.{SameFiles}
-use Rattle.history_store.specs.References.{Logs, OthersStay, MayMove}
+use Rattle.history_store.specs.Formats.{entry_of}
+use Rattle.history_store.specs.References.{LogMayGrow, Logs, OthersStay, MayLog, MayMove}
 use Rattle.history_store.specs.declared.log_entry.LogEntry.{LogEntry}
-use Rattle.history_store.proofs.Moves.{name_apart}
+use Rattle.history_store.proofs.Moves.{inserted_here, name_apart, same_bytes}
 use Rattle.history_store.proofs.Stored.{now_same, apart_from_inserted}
 
 -- ---- one file is written
@@ -25,10 +30,29 @@ while_written path bytes t x (inr (n, may, is)) other apart = ap (λ y. file_at 
 pub way_moments : (path : Bytes) (old made : History) → Adds (SameFiles old.tree) old made → Adds (OthersStay path old.tree) old made
 way_moments path old made adds = adds_weaker old made adds (λ x same other apart. same other)
 
-pub append_moments : (path place bytes : Bytes) (old made new : History) → place ≡ path → Adds (SameFiles old.tree) old made → Adds (MayLeave (to_append place bytes) made.tree) made new → Adds (OthersStay path old.tree) old new
-append_moments path place bytes old made new at first second =
-    adds_joined old made new (way_moments path old made first)
-    (adds_weaker made new second (λ x left other apart. while_appended path place bytes made.tree x at left other apart ∙ now_same old made first other))
+pub way_log_moments : (name : Bytes) (entry : LogEntry) (old made : History) → Adds (SameFiles old.tree) old made → Adds (MayLog name entry old.tree) old made
+way_log_moments name entry old made adds = adds_weaker old made adds (λ x same. record { log = inl (same (log_place name)); others = λ other apart. same other })
+
+pub append_moments : (name : Bytes) (entry : LogEntry) (place bytes : Bytes) (old made new : History) → id_of entry.before ≢ id_of entry.after → place ≡ log_place name → bytes ≡ log_line (entry_of entry)
+    → Adds (SameFiles old.tree) old made → Adds (MayLeave (to_append place bytes) made.tree) made new → Adds (MayLog name entry old.tree) old new
+append_moments name entry place bytes old made new moves at is_line first second =
+    adds_joined old made new (way_log_moments name entry old made first)
+    (adds_weaker made new second (λ x left. record {
+      log = grown x left;
+      others = λ other apart. while_appended (log_place name) place bytes made.tree x at left other apart ∙ now_same old made first other;
+    }))
+  where
+    grown : (x : Tree) → MayLeave (to_append place bytes) made.tree x → LogMayGrow name entry old.tree x
+    grown x (inl same) = inl (ap (λ y. file_at y (log_place name)) same ∙ now_same old made first (log_place name))
+    grown x (inr (n, may, is)) =
+        inr (
+          moves,
+          (
+            n,
+            ap (file_at x) (sym at) ∙ ap (λ y. file_at y place) is ∙ inserted_here made.tree place (bytes_at made.tree place ++ take n bytes) may
+                ∙ (λ i. Some (same_bytes old.tree made.tree place (now_same old made first) i ++ take n (is_line i))) ∙ ap (λ p. Some (bytes_at old.tree p ++ take n (log_line (entry_of entry)))) at,
+          ),
+        )
 
 pub write_moments : (path bytes : Bytes) (old made new : History) → Adds (SameFiles old.tree) old made → Adds (MayLeave (to_write path bytes) made.tree) made new → Adds (OthersStay path old.tree) old new
 write_moments path bytes old made new first second =
@@ -36,17 +60,30 @@ write_moments path bytes old made new first second =
     (adds_weaker made new second (λ x left other apart. while_written path bytes made.tree x left other apart ∙ now_same old made first other))
 
 -- ---- first the log, then the name
-pub log_moments : (name : Bytes) (entry : LogEntry) (old mid : History) → Adds (OthersStay (log_place name) old.tree) old mid → Adds (MayMove name entry old.tree) old mid
-log_moments name entry old mid adds = adds_weaker old mid adds (λ x stay. record {
-  log_first = inl (stay name (λ same. name_apart name (sym same)));
-  others = λ path apart other. stay path other;
+pub log_moments : (name : Bytes) (entry : LogEntry) (old mid : History) → Adds (MayLog name entry old.tree) old mid → Adds (MayMove name entry old.tree) old mid
+log_moments name entry old mid adds = adds_weaker old mid adds (λ x may. record {
+  log_first = inl (may.others name (λ same. name_apart name (sym same)));
+  log = may.log;
+  others = λ path apart other. may.others path other;
 })
 
-pub move_moments : (name : Bytes) (entry : LogEntry) (old mid new : History) → Logs name entry old.tree mid.tree → Adds (OthersStay (log_place name) old.tree) old mid → Adds (OthersStay name mid.tree) mid new
+log_now : (name : Bytes) (entry : LogEntry) (old mid : History) → Adds (MayLog name entry old.tree) old mid → LogMayGrow name entry old.tree mid.tree
+log_now name entry old mid adds = from_now (adds_now _ old mid adds)
+  where
+    from_now : (mid.tree ≡ old.tree) ⊎ MayLog name entry old.tree mid.tree → LogMayGrow name entry old.tree mid.tree
+    from_now (inl same) = inl (ap (λ y. file_at y (log_place name)) same)
+    from_now (inr may) = may.log
+
+pub move_moments : (name : Bytes) (entry : LogEntry) (old mid new : History) → Logs name entry old.tree mid.tree → Adds (MayLog name entry old.tree) old mid → Adds (OthersStay name mid.tree) mid new
     → Adds (MayMove name entry old.tree) old new
 move_moments name entry old mid new logs first second =
     adds_joined old mid new (log_moments name entry old mid first)
     (adds_weaker mid new second (λ x stay. record {
       log_first = inr (λ moves. stay (log_place name) (name_apart name) ∙ logs.appended moves);
+      log = still x (stay (log_place name) (name_apart name)) (log_now name entry old mid first);
       others = λ path apart other. stay path apart ∙ logs.others path other;
     }))
+  where
+    still : (x : Tree) → file_at x (log_place name) ≡ file_at mid.tree (log_place name) → LogMayGrow name entry old.tree mid.tree → LogMayGrow name entry old.tree x
+    still x same (inl is) = inl (same ∙ is)
+    still x same (inr (moves, (n, is))) = inr (moves, (n, same ∙ is))

@@ -28,7 +28,7 @@ pub one_line : (a b : Bytes) → line a ≡ line b → a ≡ b
 one_line a b same = append_cancel_right a b (10 ∷ []) same
 
 -- ---- files
-inserted_here : (t : Tree) (path bytes : Bytes) → IsTrue (may_hold_file t path) → file_at (insert t path (file bytes)) path ≡ Some bytes
+pub inserted_here : (t : Tree) (path bytes : Bytes) → IsTrue (may_hold_file t path) → file_at (insert t path (file bytes)) path ≡ Some bytes
 inserted_here t path bytes may = ap bytes_of (node_at_path t (insert t path (file bytes)) path may ∙ get_inserted t path (file bytes))
 
 pub written : (path bytes : Bytes) (old made new : History) → Adds (SameFiles old.tree) old made → IsTrue (allows made.tree (to_write path bytes)) → new.tree ≡ after (to_write path bytes) made.tree
@@ -38,7 +38,7 @@ written path bytes old made new first may is = record {
   others = λ other apart. ap (λ t. file_at t other) is ∙ apart_from_inserted made.tree path (file bytes) other apart ∙ now_same old made first other;
 }
 
-same_bytes : (old new : Tree) (path : Bytes) → SameFiles old new → bytes_at new path ≡ bytes_at old path
+pub same_bytes : (old new : Tree) (path : Bytes) → SameFiles old new → bytes_at new path ≡ bytes_at old path
 same_bytes old new path same = ap (λ o. unwrap_or o []) (same path)
 
 pub appended : (name : Bytes) (entry : LogEntry) (log text : Bytes) (old made new : History) → id_of entry.before ≢ id_of entry.after → log ≡ log_place name → text ≡ log_line (entry_of entry)

@@ -5,7 +5,9 @@ use Rattle.std.specs.List.{list_any, list_all, slice_split, onto_first}
 use Rattle.std.specs.FinMap.{get}
 use Rattle.std.proofs.lemmas.Slice.Eq.{bytes_eq-Decides}
 use Rattle.std.proofs.lemmas.Bool.Decides.{Decides-eqb}
+use Rattle.gix_ref_file.specs.History.{History, Adds}
 use Rattle.gix_ref_file.specs.Tree.{Tree, folder}
+use Rattle.gix_ref_file.proofs.Rooted.{adds_now}
 use Rattle.history_model.specs.Bytes.{Bytes, begins, ends}
 use Rattle.history_model.specs.FileMap.{components}
 use Rattle.history_model.specs.Forms.{is_name, is_partial_name, is_name_component}
@@ -154,3 +156,11 @@ name_folders_stay name old new h above before path is = by_case (above path is)
     by_case (inl stood) = before path stood
     by_case (inr (inl placed)) = name_above name path h placed
     by_case (inr (inr placed)) = log_above name path h placed
+
+-- what stands at each moment stands now
+pub folders_now : (name : Bytes) (old new : History) → Adds (FoldersOfName name old.tree) old new → FoldersOfName name old.tree new.tree
+folders_now name old new adds = from_now (adds_now _ old new adds)
+  where
+    from_now : (new.tree ≡ old.tree) ⊎ FoldersOfName name old.tree new.tree → FoldersOfName name old.tree new.tree
+    from_now (inl same) = λ q is. inl (ap (λ y. get y q) (sym same) ∙ is)
+    from_now (inr folders) = folders

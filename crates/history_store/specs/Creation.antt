@@ -6,6 +6,7 @@ use Rattle.gix_ref_file.specs.declared.files.FileError.{FileError}
 use Rattle.gix_ref_file.specs.declared.files.FileError.TheVariants as files
 use Rattle.history_model.specs.Bytes.{Bytes, line}
 use Rattle.history_model.specs.Places.{file_at, head_place, unfinished_place, is_object_folder, is_name_folder}
+use Rattle.history_store.specs.Stores.{KeepsFiles}
 use Rattle.history_store.specs.declared.creation.CreateError.{CreateError}
 use Rattle.history_store.specs.declared.creation.CreateError.TheVariants as errors
 
@@ -28,9 +29,15 @@ pub record HasHead (old new : Tree) : Type 0 where
 abbrev pub SameFolders : Tree → Tree → Type 0
 SameFolders old new = (path : Bytes) → is_folder (get new path) ≡ is_folder (get old path)
 
--- what stands while HEAD is made: HEAD as before, or made, with folders where they stood before
-abbrev pub HeadMayStand : Tree → Tree → Type 0
-HeadMayStand old tree = (file_at tree head_place ≡ file_at old head_place) ⊎ (HasHead old tree × SameFolders old tree)
+-- what stands while a leftover of a put is removed: each folder, and each file but that one, as before
+abbrev pub LeftoverMayGo : Tree → Tree → Type 0
+LeftoverMayGo old tree = KeepsFiles old tree × SameFolders old tree
+
+-- What stands while HEAD is made: HEAD as before, or made; each other file but `HEAD.lock`, and each folder, as before.
+pub record HeadMayStand (old tree : Tree) : Type 0 where
+  pub head : (file_at tree head_place ≡ file_at old head_place) ⊎ HasHead old tree
+  pub others : (path : Bytes) → path ≢ head_place → path ≢ head_lock → file_at tree path ≡ file_at old path
+  pub folders : SameFolders old tree
 
 -- The two parts of a new repository: HEAD, which names the branch main, is the one file, and each folder is one of a repository.
 pub record IsNew (objects names : Tree) : Type 0 where

@@ -1,5 +1,5 @@
 -- What the files of names and logs say (gitrepository-layout(5), git-update-ref(1)), and what a move does to them.
-use Rattle.std.specs.Prelude.{◌≡◌, ◌≢◌, ◌⊎◌, ◌++◌, Option, Some, None, MatchOption, IsTrue, codes}
+use Rattle.std.specs.Prelude.{◌≡◌, ◌≢◌, ◌⊎◌, ◌++◌, ℕ, take, Option, Some, None, MatchOption, IsTrue, codes}
 use Rattle.std.specs.FinMap.{get}
 use Rattle.gix_ref_file.specs.Tree.{Tree, folder, node_at, is_folder, bytes_at}
 use Rattle.history_model.specs.Bytes.{Bytes, line}
@@ -49,10 +49,21 @@ pub record HasMoved (name : Bytes) (entry : LogEntry) (old new : Tree) : Type 0 
 abbrev pub OthersStay : Bytes → Tree → Tree → Type 0
 OthersStay path old new = (other : Bytes) → other ≢ path → file_at new other ≡ file_at old other
 
+-- the log holds what it held, with the entry's line or a beginning of it behind; unless the entry's two ids are one, then it is as before
+abbrev pub LogMayGrow : Bytes → LogEntry → Tree → Tree → Type 0
+LogMayGrow name entry old tree = (file_at tree (log_place name) ≡ file_at old (log_place name))
+    ⊎ ((id_of entry.before ≢ id_of entry.after) × ((n : ℕ) × (file_at tree (log_place name) ≡ Some (bytes_at old (log_place name) ++ take n (log_line (entry_of entry))))))
+
+-- What stands while a log gets its line: each other file is as before.
+pub record MayLog (name : Bytes) (entry : LogEntry) (old tree : Tree) : Type 0 where
+  pub log : LogMayGrow name entry old tree
+  pub others : OthersStay (log_place name) old tree
+
 -- What stands while a name moves: its file is as before until its log has the entry's line (where the entry's two ids aren't one),
--- and each file but these two is as before.
+-- the log loses nothing, and each file but these two is as before.
 pub record MayMove (name : Bytes) (entry : LogEntry) (old tree : Tree) : Type 0 where
   pub log_first : (file_at tree name ≡ file_at old name) ⊎ (id_of entry.before ≢ id_of entry.after → file_at tree (log_place name) ≡ Some (bytes_at old (log_place name) ++ log_line (entry_of entry)))
+  pub log : LogMayGrow name entry old tree
   pub others : (path : Bytes) → path ≢ name → path ≢ log_place name → file_at tree path ≡ file_at old path
 
 -- each folder that stands stood before, or is one that the name's file or its log stands in

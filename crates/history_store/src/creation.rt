@@ -1,7 +1,7 @@
 // Makes a new repository.
 ghost use Rattle.std.specs.Prelude.{◌≡◌, ◌⊎◌, ◌≤◌, OnOk, OnErr, IsErrOf, Vec, ℕ};
 ghost use Rattle.std.specs.declared.alloc.Global.{Global};
-ghost use Rattle.history_store.specs.Creation.{HasHead, HeadMayStand, IsCleared, IsNew, SameFolders, create_fault, head_lock};
+ghost use Rattle.history_store.specs.Creation.{HasHead, HeadMayStand, IsCleared, IsNew, LeftoverMayGo, SameFolders, create_fault, head_lock};
 ghost use Rattle.history_store.specs.Parts.{IsClear, IsStrayAt};
 ghost use Rattle.history_store.specs.declared.parts.Part.TheVariants.{Objects, Names};
 ghost use Rattle.gix_ref_file.specs.History.{Adds, HasRisen};
@@ -65,7 +65,9 @@ pub fn create<F: Files>(
     ensures stands { F.is_honest objects.old → F.is_honest names.old
         → OnOk result (StandsFor kind (record { objects = (F.history objects.new).tree; names = (F.history names.new).tree }) (fresh kind)) }
 
-    // At each moment HEAD is as before or there whole, and it comes last: after an error it is as before, or the repository is made.
+    // At each moment all stands as before, but for the leftovers and HEAD, and HEAD is as before or there whole. It comes last: after
+    // an error it is as before, or the repository is made.
+    ensures leftover { F.is_honest objects.old → Adds (LeftoverMayGo (F.history objects.old).tree) (F.history objects.old) (F.history objects.new) }
     ensures whole { F.is_honest names.old → Adds (HeadMayStand (F.history names.old).tree) (F.history names.old) (F.history names.new) }
     ensures last { F.is_honest objects.old → F.is_honest names.old → OnErr result ((file_at (F.history names.new).tree head_place ≡ file_at (F.history names.old).tree head_place) ⊎ IsNew (F.history objects.new).tree (F.history names.new).tree) }
 
@@ -106,6 +108,7 @@ fn remove_leftover<F: Files>(alloc: Global, objects: &mut F) -> Result<(), FileE
     ensures honest { F.is_honest objects.old → F.is_honest objects.new }
     ensures cleared { F.is_honest objects.old → OnOk result (IsCleared (F.history objects.old).tree (F.history objects.new).tree) }
     ensures folders { F.is_honest objects.old → OnOk result (SameFolders (F.history objects.old).tree (F.history objects.new).tree) }
+    ensures moments { F.is_honest objects.old → Adds (LeftoverMayGo (F.history objects.old).tree) (F.history objects.old) (F.history objects.new) }
     ensures later { F.failures objects.old ≤ F.failures objects.new }
     ensures failed { F.is_honest objects.old → IsClear Objects unfinished_place (F.history objects.old).tree
         → IsErrOf result Failed → HasRisen (F.failures objects.old) (F.failures objects.new) ⊎ F.reading_may_fail }

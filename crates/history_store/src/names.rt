@@ -9,7 +9,7 @@ ghost use Rattle.history_model.specs.Objects.{hex};
 ghost use Rattle.history_model.specs.Places.{file_at, head_place, log_place};
 ghost use Rattle.gix_hash.specs.declared.kind.Kind.{Kind};
 ghost use Rattle.history_store.specs.Stores.{PutsFile, FoldersAbove};
-ghost use Rattle.history_store.specs.References.{SpellsBranch, SpellsId, HeadNames, NameHolds, HasMoved, OthersStay, KeepsOtherFolders, KeepsFoldersOfOthers, MayMove, Logs, FoldersOfName, HasWay};
+ghost use Rattle.history_store.specs.References.{SpellsBranch, SpellsId, HeadNames, NameHolds, HasMoved, OthersStay, KeepsOtherFolders, KeepsFoldersOfOthers, MayLog, MayMove, Logs, FoldersOfName, HasWay};
 ghost use Rattle.gix_hash.specs.Id.{id_of};
 
 use crate::id_text::{parse_hex, push_hex};
@@ -86,7 +86,7 @@ impl<F: Files> Names<F> {
 
     /// Moves a name to the id after: appends the entry's line to the name's log, unless the two ids are one, and then writes the
     /// name's file. Folders without files that stand in the place of either go. After an error the line may stand without the
-    /// move, and of the line or the file a beginning alone.
+    /// move, and of the line or the file a beginning alone; the log keeps what it held.
     pub fn move_name(
         &mut self,
         alloc: Global,
@@ -98,7 +98,7 @@ impl<F: Files> Names<F> {
         ensures moved { F.is_honest self.old.files → OnOk result (HasMoved name.now entry.now (F.history self.old.files).tree (F.history self.new.files).tree) }
         ensures moments { F.is_honest self.old.files → Adds (MayMove name.now entry.now (F.history self.old.files).tree) (F.history self.old.files) (F.history self.new.files) }
         ensures stay { F.is_honest self.old.files → Adds (KeepsFoldersOfOthers name.now (F.history self.old.files).tree) (F.history self.old.files) (F.history self.new.files) }
-        ensures folders { F.is_honest self.old.files → OnOk result (FoldersOfName name.now (F.history self.old.files).tree (F.history self.new.files).tree) }
+        ensures folders { F.is_honest self.old.files → Adds (FoldersOfName name.now (F.history self.old.files).tree) (F.history self.old.files) (F.history self.new.files) }
         ensures later { F.failures self.old.files ≤ F.failures self.new.files }
         ensures failed { F.is_honest self.old.files → IsTrue (is_name name.now) → HasWay name.now (F.history self.old.files).tree → HasWay (log_place name.now) (F.history self.old.files).tree
             → IsErrOf result Failed → HasRisen (F.failures self.old.files) (F.failures self.new.files) ⊎ F.reading_may_fail }
@@ -116,9 +116,9 @@ impl<F: Files> Names<F> {
         ensures honest { F.is_honest self.old.files → F.is_honest self.new.files }
         ensures kind { self.new.kind ≡ self.old.kind }
         ensures logged { F.is_honest self.old.files → OnOk result (Logs name.now entry.now (F.history self.old.files).tree (F.history self.new.files).tree) }
-        ensures moments { F.is_honest self.old.files → Adds (OthersStay (log_place name.now) (F.history self.old.files).tree) (F.history self.old.files) (F.history self.new.files) }
+        ensures moments { F.is_honest self.old.files → Adds (MayLog name.now entry.now (F.history self.old.files).tree) (F.history self.old.files) (F.history self.new.files) }
         ensures stay { F.is_honest self.old.files → Adds (KeepsOtherFolders (log_place name.now) (F.history self.old.files).tree) (F.history self.old.files) (F.history self.new.files) }
-        ensures folders { F.is_honest self.old.files → OnOk result (FoldersAbove (log_place name.now) (F.history self.old.files).tree (F.history self.new.files).tree) }
+        ensures folders { F.is_honest self.old.files → Adds (FoldersAbove (log_place name.now) (F.history self.old.files).tree) (F.history self.old.files) (F.history self.new.files) }
         ensures later { F.failures self.old.files ≤ F.failures self.new.files }
         ensures failed { F.is_honest self.old.files → IsTrue (is_name name.now) → HasWay (log_place name.now) (F.history self.old.files).tree
             → IsErrOf result Failed → HasRisen (F.failures self.old.files) (F.failures self.new.files) ⊎ F.reading_may_fail }
@@ -138,7 +138,7 @@ impl<F: Files> Names<F> {
         ensures written { F.is_honest self.old.files → OnOk result (PutsFile name.now (line (hex (id_of id.now))) (F.history self.old.files).tree (F.history self.new.files).tree) }
         ensures moments { F.is_honest self.old.files → Adds (OthersStay name.now (F.history self.old.files).tree) (F.history self.old.files) (F.history self.new.files) }
         ensures stay { F.is_honest self.old.files → Adds (KeepsOtherFolders name.now (F.history self.old.files).tree) (F.history self.old.files) (F.history self.new.files) }
-        ensures folders { F.is_honest self.old.files → OnOk result (FoldersAbove name.now (F.history self.old.files).tree (F.history self.new.files).tree) }
+        ensures folders { F.is_honest self.old.files → Adds (FoldersAbove name.now (F.history self.old.files).tree) (F.history self.old.files) (F.history self.new.files) }
         ensures later { F.failures self.old.files ≤ F.failures self.new.files }
         ensures failed { F.is_honest self.old.files → IsTrue (is_name name.now) → HasWay name.now (F.history self.old.files).tree
             → IsErrOf result Failed → HasRisen (F.failures self.old.files) (F.failures self.new.files) ⊎ F.reading_may_fail }

@@ -118,9 +118,8 @@ impl<F: Files> Objects<F> {
         // The object's file is there, and each other file as before.
         ensures stored { F.is_honest self.old.files → OnOk result (HoldsFile (object_place (object_id self.old.kind object content.now)) (object_text object content.now) (F.history self.old.files).tree (F.history self.new.files).tree) }
 
-        // No file is left where it was written, and no folders are made but those that the object's file stands in.
+        // No file is left where it was written.
         ensures unfinished { F.is_honest self.old.files → OnOk result ((file_at (F.history self.new.files).tree unfinished_place ≡ None) ⊎ (self.new.files ≡ self.old.files)) }
-        ensures folders { F.is_honest self.old.files → OnOk result (FoldersAbove (object_place (object_id self.old.kind object content.now)) (F.history self.old.files).tree (F.history self.new.files).tree) }
 
         // The id is known from then on; else the ids are as before.
         ensures known { OnOk result (self.new.ids ≡ with_id self.old.ids (object_id self.old.kind object content.now)) }
@@ -129,7 +128,8 @@ impl<F: Files> Objects<F> {
         // At each moment the object's file is as before, or there whole.
         ensures moments { F.is_honest self.old.files → Adds (MayStand (object_place (object_id self.old.kind object content.now)) (object_text object content.now) (F.history self.old.files).tree) (F.history self.old.files) (F.history self.new.files) }
 
-        // And each folder that stood stands.
+        // And each folder that stood stands, and no other but those that the object's file stands in.
+        ensures folders { F.is_honest self.old.files → Adds (FoldersAbove (object_place (object_id self.old.kind object content.now)) (F.history self.old.files).tree) (F.history self.old.files) (F.history self.new.files) }
         ensures stay { F.is_honest self.old.files → Adds (KeepsFolders (F.history self.old.files).tree) (F.history self.old.files) (F.history self.new.files) }
 
         // Where the object stands already, nothing is written.
@@ -205,7 +205,7 @@ impl<F: Files> Objects<F> {
         ensures ids { self.new.ids ≡ self.old.ids }
         ensures stored { F.is_honest self.old.files → OnOk result (HoldsFile place.now (header.now ++ content.now) (F.history self.old.files).tree (F.history self.new.files).tree) }
         ensures unfinished { F.is_honest self.old.files → place.now ≢ unfinished_place → OnOk result (file_at (F.history self.new.files).tree unfinished_place ≡ None) }
-        ensures folders { F.is_honest self.old.files → OnOk result (FoldersAbove place.now (F.history self.old.files).tree (F.history self.new.files).tree) }
+        ensures folders { F.is_honest self.old.files → Adds (FoldersAbove place.now (F.history self.old.files).tree) (F.history self.old.files) (F.history self.new.files) }
         ensures moments { F.is_honest self.old.files → Adds (MayStand place.now (header.now ++ content.now) (F.history self.old.files).tree) (F.history self.old.files) (F.history self.new.files) }
         ensures stay { F.is_honest self.old.files → Adds (KeepsFolders (F.history self.old.files).tree) (F.history self.old.files) (F.history self.new.files) }
         ensures later { F.failures self.old.files ≤ F.failures self.new.files }

@@ -25,7 +25,7 @@ pub record Came {S : Type 0} (left : S → Option (List ℕ)) (readings : S → 
   pub made_through : readings_made c ≡ readings_made b + made
   pub counted : min (readings s + made) (2 ^ 64 - 1) ≤ readings t
 
--- The source was asked only where what was taken didn't stand in the buffer yet.
+-- Where what was taken stood in the buffer already, the source wasn't asked. Else nothing is said of how often it was.
 abbrev pub AsksForMore : {S : Type 0} → S → Buffer → S → List ℕ → Type 0
 AsksForMore s b t taken = length taken ≤ length (unread b) → t ≡ s
 

@@ -129,8 +129,8 @@ impl<'a> TagRefIter<'a> {
 }
 
 impl<'a> TagRefIter<'a> {
-    /// Who made the tag, and when, from the tokens to come; `None` where the tag doesn't tell, or ends before. It is
-    /// `FieldName` where the tagger's token has been given, and else an error as the first token's that has one.
+    /// Who made the tag, and when, from the tokens to come; `None` where the tag doesn't tell, or ends behind its
+    /// name. It is `FieldName` where the tagger's token has been given, and else an error as the first token's that has one.
     pub fn tagger(self) -> Result<Option<ActorRef<'a>>, Error>
         ensures read { IfOk result (λ tagger. TaggerIs (place_of self.entry) tagger) }
         ensures refused { IfErr result (λ error. TaggerIsNot (place_of self.entry) error) }

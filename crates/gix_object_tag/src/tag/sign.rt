@@ -21,7 +21,8 @@ impl Tag {
     ///
     /// The text is all that `write_to` writes of the signed tag before the signature, so with the line feed that parts the
     /// message from it. A tag without a signature mostly has a message that ends with a line feed: that one parts the two
-    /// then, and is told in the message no more. So the text that Git makes of a tag is signed as it stands.
+    /// then, and is told in the message no more. So the text that Git makes of a tag is signed as it stands where its message
+    /// ends with a line feed behind at least one byte.
     ///
     /// It is `Encode` where the tag can't be written, and nothing is run then; else the error of
     /// `gix_object_signature::sign::sign`; and `Memory` where no memory is left. The tag is as it was after each error.

@@ -1,5 +1,6 @@
 use Rattle.std.proofs.Common.{◌⊎◌, inl, inr, ◌∙◌, ap, Err, arith}
 use Rattle.std.proofs.lemmas.Result.{err_from_is_err_and}
+use Rattle.history_store.proofs.NameFolders.{folders_now}
 use Rattle.history.proofs.Moving.{is_formed, way, log_way, moved, move_stopped}
 use Rattle.history.proofs.repository.Repository.move_names.Goals as goal
 
@@ -29,6 +30,7 @@ returns-in_err-move_name-clause-moves g c = λ r order stand ours is.
 pub returns-clause-moves : goal.returns-clause-moves
 returns-clause-moves g c = λ r order stand ours is.
     let name = c.deref.result.now in
-    let old = (g.F.Files.history c.args.self.now.names.files).tree in
-    let new = (g.F.Files.history c.move_name.new.self.files).tree in
-    moved r order c.args.moves.now stand.offered ours is name c.deref.ensures.value old new stand.holds (c.in_ok-move_name.ensures.moved stand.honest) (c.in_ok-move_name.ensures.folders stand.honest)
+    let old = g.F.Files.history c.args.self.now.names.files in
+    let new = g.F.Files.history c.move_name.new.self.files in
+    moved r order c.args.moves.now stand.offered ours is name c.deref.ensures.value old.tree new.tree stand.holds (c.in_ok-move_name.ensures.moved stand.honest)
+    (folders_now name old new (c.move_name.ensures.folders stand.honest))

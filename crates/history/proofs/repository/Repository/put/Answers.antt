@@ -1,6 +1,6 @@
 use Rattle.std.proofs.lemmas.Result.{err_from_is_err_and}
 use Rattle.std.proofs.Common.{◌≡◌, Err, [], ◌∷◌, ◌⊎◌, ap, refl, inl, inr, arith, ◌∙◌}
-use Rattle.history.proofs.Puts.{same_id, value_put, value_free, value_taken, value_known, put_stopped}
+use Rattle.history.proofs.Puts.{folders_now, same_id, value_put, value_free, value_taken, value_known, put_stopped}
 use Rattle.history_store.proofs.ObjectParts.{values_are_objects}
 use Rattle.history.proofs.repository.Repository.put.Goals as goal
 
@@ -38,7 +38,7 @@ returns-clause-stores g c = λ values value stand typed same.
       value_free kind old new values value c.args.object c.args.content.now typed same stand.holds stand.own_ids (put.free stand.honest),
       (
         new,
-        value_put kind old new values value c.args.object c.args.content.now typed same stand.holds stand.own_ids (put.stored stand.honest) (put.folders stand.honest)
+        value_put kind old new values value c.args.object c.args.content.now typed same stand.holds stand.own_ids (put.stored stand.honest) (folders_now _ (g.F.Files.history c.args.self.now.objects.files) (g.F.Files.history c.put.new.self.files) (c.put.ensures.folders stand.honest))
             (unchanged (λ files. (g.F.Files.history files).tree) _ _ (put.unfinished stand.honest)),
         refl,
       ),

@@ -1,18 +1,17 @@
-use Rattle.std.proofs.Common.{◌≡◌, ◌≢◌, ◌∙◌, ◌++◌, sym, subst, rules}
+use Rattle.std.proofs.Common.{◌≡◌, ◌≢◌, ◌∙◌, sym, subst, rules}
 use Rattle.history_store.proofs.Stored.{on_ok_both}
 use Rattle.history_store.specs.Stores.{FoldersAbove}
 use Rattle.history_store.specs.References.{HasWay, KeepsOtherFolders}
 use Rattle.gix_ref_file.specs.History.{Adds}
-use Rattle.std.proofs.lemmas.Result.{on_ok_weaker}
 use Rattle.std.specs.Prelude.{IsTrue}
-use Rattle.gix_ref_file.specs.Tree.{bytes_at, is_path}
+use Rattle.gix_ref_file.specs.Tree.{is_path}
 use Rattle.gix_ref_file.specs.Changes.{may_hold_file}
 use Rattle.history_model.specs.Places.{log_place}
 use Rattle.history_model.proofs.IdLemmas.{one_id, apart_ids}
 use Rattle.history_store.proofs.FoldersKept.{file_stay, while_appended}
-use Rattle.history_store.proofs.MoveMoments.{way_moments, append_moments}
+use Rattle.history_store.proofs.MoveMoments.{way_log_moments, append_moments}
 use Rattle.history_store.proofs.Moves.{appended, not_logged}
-use Rattle.history_store.proofs.Above.{now_above, put_above}
+use Rattle.history_store.proofs.Above.{then_above, appended_brings}
 use Rattle.history_store.proofs.Clearings.{caused, later_risen}
 use Rattle.history_store.proofs.Ways.{log_path}
 use Rattle.history_store.proofs.names.Names.append_to_log.Goals as goal
@@ -34,17 +33,19 @@ returns-clause-logged g c = λ honest.
     (c.deref-2.ensures.value ∙ c.in_ok-log.ensures) (c.deref-3.ensures.value ∙ c.in_ok-line.ensures) made)
     change.allowed change.made
 
+pub returns-in_err-make_way-clause-folders : goal.returns-in_err-make_way-clause-folders
+returns-in_err-make_way-clause-folders g c = λ honest.
+    let old = g.F.Files.history c.args.self.now.files in
+    subst (λ path. Adds (FoldersAbove path old.tree) old (g.F.Files.history c.make_way.new.files)) (c.deref.ensures.value ∙ c.in_ok-log.ensures) (c.make_way.ensures.folders honest)
+
 pub returns-clause-folders : goal.returns-clause-folders
 returns-clause-folders g c = λ honest.
-    let log = c.deref-2.result.now in
     let old = g.F.Files.history c.args.self.now.files in
     let made = g.F.Files.history c.make_way.new.files in
     let new = g.F.Files.history c.append.new.self in
     let change = c.append.ensures.change (c.make_way.ensures.honest honest) in
-    let above = now_above _ old made (c.make_way.ensures.folders honest) in
-    on_ok_weaker c.append.result
-    (λ is. subst (λ path. FoldersAbove path old.tree new.tree) (c.deref.ensures.value ∙ c.in_ok-log.ensures) (put_above _ log (bytes_at made.tree log ++ c.deref-3.result.now) old.tree made.tree new.tree above is))
-    change.made
+    subst (λ path. Adds (FoldersAbove path old.tree) old new) (c.deref.ensures.value ∙ c.in_ok-log.ensures)
+    (then_above c.deref.result.now old made new (c.make_way.ensures.folders honest) change.moments (λ x left. appended_brings c.deref-2.result.now c.deref-3.result.now made.tree x left))
 
 pub returns-in_err-make_way-clause-failed : goal.returns-in_err-make_way-clause-failed
 returns-in_err-make_way-clause-failed g c = λ honest named way failed.
@@ -67,13 +68,15 @@ returns-clause-failed g c = λ honest named way failed.
 
 pub returns-in_err-make_way-clause-moments : goal.returns-in_err-make_way-clause-moments
 returns-in_err-make_way-clause-moments g c = λ honest.
-    way_moments (log_place c.args.name.now) (g.F.Files.history c.args.self.now.files) (g.F.Files.history c.make_way.new.files) (c.make_way.ensures.moments honest)
+    way_log_moments c.args.name.now c.args.entry.now (g.F.Files.history c.args.self.now.files) (g.F.Files.history c.make_way.new.files) (c.make_way.ensures.moments honest)
 
 pub returns-clause-moments : goal.returns-clause-moments
 returns-clause-moments g c = λ honest.
+    let entry = c.args.entry.now in
     let change = c.append.ensures.change (c.make_way.ensures.honest honest) in
-    append_moments (log_place c.args.name.now) c.deref-2.result.now c.deref-3.result.now (g.F.Files.history c.args.self.now.files) (g.F.Files.history c.make_way.new.files) (g.F.Files.history c.append.new.self)
-    (c.deref-2.ensures.value ∙ c.in_ok-log.ensures) (c.make_way.ensures.moments honest) change.moments
+    let moves : id_of entry.before ≢ id_of entry.after = apart_ids (id_of entry.before) (id_of entry.after) (sym c.eq.ensures ∙ c.if-eq.false) in
+    append_moments c.args.name.now entry c.deref-2.result.now c.deref-3.result.now (g.F.Files.history c.args.self.now.files) (g.F.Files.history c.make_way.new.files) (g.F.Files.history c.append.new.self) moves
+    (c.deref-2.ensures.value ∙ c.in_ok-log.ensures) (c.deref-3.ensures.value ∙ c.in_ok-line.ensures) (c.make_way.ensures.moments honest) change.moments
 
 pub returns-in_err-make_way-clause-stay : goal.returns-in_err-make_way-clause-stay
 returns-in_err-make_way-clause-stay g c = λ honest.

@@ -5,7 +5,7 @@ use Rattle.history_store.proofs.Stored.{on_ok_both}
 use Rattle.history_store.proofs.FoldersKept.{file_stay, while_written}
 use Rattle.history_store.proofs.MoveMoments.{way_moments, write_moments}
 use Rattle.history_store.proofs.Moves.{written}
-use Rattle.history_store.proofs.Above.{now_above, put_above}
+use Rattle.history_store.proofs.Above.{then_above, written_brings}
 use Rattle.history_store.proofs.Clearings.{caused, later_risen}
 use Rattle.history_store.proofs.Ways.{name_path}
 use Rattle.history_store.proofs.names.Names.write_name.Goals as goal
@@ -19,13 +19,15 @@ returns-clause-written g c = λ honest.
     on_ok_weaker c.write.result (λ puts. subst (λ bytes. PutsFile c.args.name.now bytes old.tree new.tree) (c.deref.ensures.value ∙ c.in_ok-text.ensures) puts)
     (on_ok_both c.write.result (written c.args.name.now c.deref.result.now old (g.F.Files.history c.make_way.new.files) new made) change.allowed change.made)
 
+pub returns-in_err-make_way-clause-folders : goal.returns-in_err-make_way-clause-folders
+returns-in_err-make_way-clause-folders g c = λ honest. c.make_way.ensures.folders honest
+
 pub returns-clause-folders : goal.returns-clause-folders
 returns-clause-folders g c = λ honest.
-    let old = g.F.Files.history c.args.self.now.files in
     let made = g.F.Files.history c.make_way.new.files in
-    let new = g.F.Files.history c.write.new.self in
     let change = c.write.ensures.change (c.make_way.ensures.honest honest) in
-    on_ok_weaker c.write.result (put_above c.args.name.now c.args.name.now c.deref.result.now old.tree made.tree new.tree (now_above _ old made (c.make_way.ensures.folders honest))) change.made
+    then_above c.args.name.now (g.F.Files.history c.args.self.now.files) made (g.F.Files.history c.write.new.self) (c.make_way.ensures.folders honest) change.moments
+    (λ x left. written_brings c.args.name.now c.deref.result.now made.tree x left)
 
 pub returns-in_err-make_way-clause-failed : goal.returns-in_err-make_way-clause-failed
 returns-in_err-make_way-clause-failed g c = λ honest named way failed.

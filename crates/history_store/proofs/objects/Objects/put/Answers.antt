@@ -1,4 +1,4 @@
-use Rattle.std.proofs.Common.{◌≡◌, ◌∙◌, inl, inr, refl, sym, subst, ap, ◌++◌, Err}
+use Rattle.std.proofs.Common.{◌≡◌, ◌∙◌, inr, refl, sym, subst, ap, ◌++◌, Err}
 use Rattle.std.proofs.lemmas.Result.{err_from_is_err_and}
 use Rattle.gix_ref_file.specs.declared.files.FileError.{FileError}
 use Rattle.gix_ref_file.specs.declared.files.FileError.TheVariants as files
@@ -9,7 +9,7 @@ use Rattle.history_store.specs.Stores.{FoldersAbove, KeepsFolders, IsObjectPlace
 use Rattle.history_store.specs.declared.objects.PutError.TheVariants as errors
 use Rattle.std.specs.Prelude.{length}
 use Rattle.gix_object_lines.specs.Header.{header_text}
-use Rattle.gix_ref_file.specs.Tree.{Tree, bytes_at}
+use Rattle.gix_ref_file.specs.Tree.{bytes_at}
 use Rattle.gix_ref_file.specs.Changes.{is_file_at}
 use Rattle.gix_ref_file.specs.History.{History, Adds}
 use Rattle.gix_ref_file.proofs.Histories.{adds_nothing}
@@ -102,18 +102,29 @@ returns-in_err-insert-clause-moments g c = λ honest.
           (ap (λ h. h ++ content) w.deref-else-branch-2.ensures ∙ spelled c.args.object content _ c.loose_header-header.ensures.items) (w.write.ensures.moments honest))
     ]
 
-above_at : (written place : Bytes) (old new : Tree) → written ≡ place → FoldersAbove written old new → FoldersAbove place old new
-above_at written place old new same above = subst (λ p. FoldersAbove p old new) same above
+above_at : (written place : Bytes) (old new : History) → written ≡ place → Adds (FoldersAbove written old.tree) old new → Adds (FoldersAbove place old.tree) old new
+above_at written place old new same above = subst (λ p. Adds (FoldersAbove p old.tree) old new) same above
 
 pub returns-clause-folders : goal.returns-clause-folders
 returns-clause-folders g c = λ honest.
-    let old = (g.F.Files.history c.args.self.now.files).tree in
+    let old = g.F.Files.history c.args.self.now.files in
     let place = object_place (object_id c.args.self.now.kind c.args.object c.args.content.now) in
     elim c.if-branch.branch [
-      | then-branch+in_ok-holds+else-not-branch w ↦ subst (λ s. FoldersAbove place old (g.F.Files.history s.files).tree) (sym w.self-is) (λ path stood. inl stood)
+      | then-branch+in_ok-holds+else-not-branch w ↦ subst (λ s. Adds (FoldersAbove place old.tree) old (g.F.Files.history s.files)) (sym w.self-is) (adds_nothing old)
       | else-branch+in_ok-write w ↦
-          subst (λ s. FoldersAbove place old (g.F.Files.history s.files).tree) (sym w.self-is)
-          (above_at _ _ old _ (w.deref-else-branch.ensures.value ∙ c.in_ok-place.ensures ∙ ap object_place c.object_id-id.ensures) (w.in_ok-write.ensures.folders honest))
+          subst (λ s. Adds (FoldersAbove place old.tree) old (g.F.Files.history s.files)) (sym w.self-is)
+          (above_at _ _ old _ (w.deref-else-branch.ensures.value ∙ c.in_ok-place.ensures ∙ ap object_place c.object_id-id.ensures) (w.write.ensures.folders honest))
+    ]
+
+pub returns-in_err-insert-clause-folders : goal.returns-in_err-insert-clause-folders
+returns-in_err-insert-clause-folders g c = λ honest.
+    let old = g.F.Files.history c.args.self.now.files in
+    let place = object_place (object_id c.args.self.now.kind c.args.object c.args.content.now) in
+    elim c.if-branch.branch [
+      | then-branch+in_ok-holds+else-not-branch w ↦ subst (λ s. Adds (FoldersAbove place old.tree) old (g.F.Files.history s.files)) (sym w.self-is) (adds_nothing old)
+      | else-branch+in_ok-write w ↦
+          subst (λ s. Adds (FoldersAbove place old.tree) old (g.F.Files.history s.files)) (sym w.self-is)
+          (above_at _ _ old _ (w.deref-else-branch.ensures.value ∙ c.in_ok-place.ensures ∙ ap object_place c.object_id-id.ensures) (w.write.ensures.folders honest))
     ]
 
 pub returns-clause-stay : goal.returns-clause-stay

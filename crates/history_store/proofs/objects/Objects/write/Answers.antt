@@ -8,7 +8,7 @@ use Rattle.history_store.proofs.ObjectFiles.{fits_when_written, may_rename, unfi
 use Rattle.history_store.proofs.ObjectParts.{no_file_above, object_place_is_path}
 use Rattle.history_store.proofs.Stored.{may_from_same, may_from_write, may_from_append, may_from_rename, stored, on_ok_both}
 use Rattle.std.proofs.lemmas.Result.{on_ok_weaker}
-use Rattle.history_store.proofs.Above.{gone, object_folders}
+use Rattle.history_store.proofs.Above.{appended_brings, gone, renamed_brings, then_above, written_brings}
 use Rattle.history_store.proofs.objects.Objects.write.Goals as goal
 
 pub returns-in_err-make_folders-clause-moments : goal.returns-in_err-make_folders-clause-moments
@@ -75,21 +75,46 @@ returns-clause-unfinished g c = λ honest apart.
     let renamed = c.rename.ensures.change (c.append.ensures.honest honest_2) in
     on_ok_weaker c.rename.result (gone c.args.place.now appended_1.tree new.tree apart) renamed.made
 
+pub returns-in_err-make_folders-clause-folders : goal.returns-in_err-make_folders-clause-folders
+returns-in_err-make_folders-clause-folders g c = λ honest. c.make_folders.ensures.folders honest
+
+pub returns-in_err-write-clause-folders : goal.returns-in_err-write-clause-folders
+returns-in_err-write-clause-folders g c = λ honest.
+    let old = g.F.Files.history c.args.self.now.files in
+    let made_1 = g.F.Files.history c.make_folders.new.files in
+    let written_1 = g.F.Files.history c.write.new.self in
+    let written = c.write.ensures.change (c.make_folders.ensures.honest honest) in
+    then_above c.args.place.now old made_1 written_1 (c.make_folders.ensures.folders honest) written.moments (written_brings unfinished_place c.args.header.now made_1.tree)
+
+pub returns-in_err-append-clause-folders : goal.returns-in_err-append-clause-folders
+returns-in_err-append-clause-folders g c = λ honest.
+    let place = c.args.place.now in
+    let old = g.F.Files.history c.args.self.now.files in
+    let made_1 = g.F.Files.history c.make_folders.new.files in
+    let written_1 = g.F.Files.history c.write.new.self in
+    let appended_1 = g.F.Files.history c.append.new.self in
+    let honest_1 = c.make_folders.ensures.honest honest in
+    let written = c.write.ensures.change honest_1 in
+    let appended = c.append.ensures.change (c.write.ensures.honest honest_1) in
+    let first = then_above place old made_1 written_1 (c.make_folders.ensures.folders honest) written.moments (written_brings unfinished_place c.args.header.now made_1.tree) in
+    then_above place old written_1 appended_1 first appended.moments (appended_brings unfinished_place c.args.content.now written_1.tree)
+
 pub returns-clause-folders : goal.returns-clause-folders
 returns-clause-folders g c = λ honest.
+    let place = c.args.place.now in
     let old = g.F.Files.history c.args.self.now.files in
     let made_1 = g.F.Files.history c.make_folders.new.files in
     let written_1 = g.F.Files.history c.write.new.self in
     let appended_1 = g.F.Files.history c.append.new.self in
     let new = g.F.Files.history c.rename.new.self in
     let honest_1 = c.make_folders.ensures.honest honest in
-    let written = c.in_ok-write.ensures.change honest_1 in
     let honest_2 = c.write.ensures.honest honest_1 in
-    let appended = c.in_ok-append.ensures.change honest_2 in
+    let written = c.write.ensures.change honest_1 in
+    let appended = c.append.ensures.change honest_2 in
     let renamed = c.rename.ensures.change (c.append.ensures.honest honest_2) in
-    on_ok_weaker c.rename.result
-    (object_folders c.args.place.now c.args.header.now c.args.content.now old made_1 written_1 appended_1 new (c.make_folders.ensures.folders honest) written.made appended.made)
-    renamed.made
+    let first = then_above place old made_1 written_1 (c.make_folders.ensures.folders honest) written.moments (written_brings unfinished_place c.args.header.now made_1.tree) in
+    let second = then_above place old written_1 appended_1 first appended.moments (appended_brings unfinished_place c.args.content.now written_1.tree) in
+    then_above place old appended_1 new second renamed.moments (renamed_brings unfinished_place place appended_1.tree)
 
 pub returns-in_err-make_folders-clause-failed : goal.returns-in_err-make_folders-clause-failed
 returns-in_err-make_folders-clause-failed g c = λ honest part placed failed.
