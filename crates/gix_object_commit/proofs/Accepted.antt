@@ -12,12 +12,12 @@ use Rattle.gix_object_lines.specs.Actor.{IsPlain, TellsTime}
 use Rattle.gix_object_lines.specs.Bytes.{Lacks}
 use Rattle.gix_object_lines.specs.HexLine.{IsHex, is_hex}
 use Rattle.gix_object_lines.specs.declared.encode.Error.TheVariants.{NewlineInHeaderValue, EmptyValue}
-use Rattle.gix_object_lines.proofs.ActorLemmas as marks
+use Rattle.gix_object_lines.specs.TimeTest.{tells_time}
+use Rattle.gix_object_lines.proofs.TimeTests.{tells_time-Decides}
 use Rattle.gix_object_commit.specs.Commit.{Person, Field, Parts, IsField, IsEncodingFirst, SpellsCommit}
 use Rattle.gix_object_commit.specs.Writable.{IsPlainPerson, IsWritable}
 use Rattle.gix_object_commit.specs.Writing.{Piece, first_refused, refused_or, holds, is_id_like, is_plain, is_person, is_folded, is_empty, is_word, is_field, is_encoding_first, encoding_cause, unspellable_unless, tree_piece, parent_piece, person_piece, encoding_piece, field_piece, message_piece, commit_refusal}
 use Rattle.gix_object_commit.proofs.HexDigits.{is_id_of_hex}
-use Rattle.gix_object_commit.proofs.Lines.{time_lacks}
 use Rattle.gix_object_commit.proofs.OwnTexts.{folded_is}
 
 -- ---- a piece that is accepted, before others
@@ -49,10 +49,8 @@ plain part is =
 
 person : (who : Person) → IsPlainPerson who → TellsTime who.time → is_person who ≡ true
 person who is told =
-    and_true (is_plain who.name) (is_plain who.email && (not (holds 62 who.time) && not (holds 10 who.time))) (plain who.name is.name)
-    (and_true (is_plain who.email) (not (holds 62 who.time) && not (holds 10 who.time)) (plain who.email is.email)
-    (and_true (not (holds 62 who.time)) (not (holds 10 who.time))
-    (not_held 62 who.time (marks.time_lacks who.time told.0 told.1)) (not_held 10 who.time (time_lacks who.time told.0 told.1))))
+    and_true (is_plain who.name) (is_plain who.email && tells_time who.time) (plain who.name is.name)
+    (and_true (is_plain who.email) (tells_time who.time) (plain who.email is.email) ((tells_time-Decides who.time).1 told))
 
 not_empty : (text : List ℕ) → text ≢ [] → is_empty text ≡ false
 not_empty [] some = absurd (some refl)

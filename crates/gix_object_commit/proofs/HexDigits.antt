@@ -20,7 +20,7 @@ use Rattle.gix_hash.specs.Id.{Id}
 use Rattle.gix_hash.specs.Kind.{hex_len}
 use Rattle.gix_hash.specs.Views.{IsHexOfId, IsFaultOf}
 use Rattle.gix_object_lines.specs.HexLine.{IsHex, is_hex}
-use Rattle.gix_object_commit.specs.Writing.{is_id}
+use Rattle.gix_object_lines.specs.HexLine.{is_id}
 use Rattle.gix_object_commit.proofs.Progress.{all_head, all_tail}
 
 one_of : (upper lower digit : Bool) (x y z : ℕ) → ((digit || upper) || lower) ≡ true → (value : ℕ) × ((if upper then Some x else if lower then Some y else if digit then Some z else None) ≡ Some value)

@@ -17,6 +17,7 @@ pub mod SignedLaws
 pub mod Written
 pub mod HexDigits
 pub mod Left
+pub mod WholeReadings
 pub mod Positions
 pub mod NamedValues
 pub mod Owning

@@ -1,18 +1,17 @@
 -- What is written of a commit that owns its parts without a refusal spells them.
-use Rattle.std.proofs.Common.{◌≡◌, ◌∙◌, ap, refl, ℕ, Bool, true, not, ◌&&◌, None, List, [], ◌∷◌, ◌++◌, length}
+use Rattle.std.proofs.Common.{◌≡◌, ◌∙◌, ap, refl, ℕ, Bool, true, ◌&&◌, None, List, [], ◌∷◌, ◌++◌, length}
 use Rattle.std.specs.Prelude.{FitsSigned, codes}
 use Rattle.std.specs.Int.{w64}
-use Rattle.gix_object_lines.specs.Bytes.{Lacks}
 use Rattle.gix_object_lines.specs.Actor.{TellsTime}
 use Rattle.gix_object_lines.specs.Time.{time_text}
 use Rattle.gix_object_lines.specs.declared.lines.actor.Actor.{Actor}
-use Rattle.gix_object_lines.proofs.ActorLemmas as marks
+use Rattle.gix_object_lines.specs.TimeTest.{tells_time}
+use Rattle.gix_object_lines.proofs.TimeTests.{tells_time-Decides}
 use Rattle.gix_object_lines.proofs.TimeLemmas.{time_written}
 use Rattle.gix_object_commit.specs.Commit.{SpellsCommit, commit_text}
 use Rattle.gix_object_commit.specs.OwnedText.{own_parts, own_person, own_person_piece, own_refusal, is_own_person, is_whole_offset}
-use Rattle.gix_object_commit.specs.Writing.{Piece, first_refused, refused_or, holds, is_plain, is_person, unspellable_unless, id_pieces, person_piece, encoding_pieces, header_pieces, message_pieces, commit_refusal}
+use Rattle.gix_object_commit.specs.Writing.{Piece, first_refused, refused_or, is_plain, is_person, unspellable_unless, id_pieces, person_piece, encoding_pieces, header_pieces, message_pieces, commit_refusal}
 use Rattle.gix_object_commit.specs.declared.commit.owned.Commit.{Commit}
-use Rattle.gix_object_commit.proofs.Lines.{time_lacks}
 use Rattle.gix_object_commit.proofs.OwnTexts.{own_spellable}
 use Rattle.gix_object_commit.proofs.Written.{both, fine, none_refused, written}
 
@@ -35,11 +34,8 @@ exchanged before (piece ∷ ps) a b c d rest s t f g none =
 
 -- ---- an actor that is written
 
-lacks_holds : (byte : ℕ) (text : List ℕ) → Lacks byte text → not (holds byte text) ≡ true
-lacks_holds byte text l = ap not l
-
-all_true : (a b c d : Bool) → a ≡ true → b ≡ true → c ≡ true → d ≡ true → (a && (b && (c && d))) ≡ true
-all_true a b c d p q r s = λ i. p i && (q i && (r i && s i))
+all_true : (a b c : Bool) → a ≡ true → b ≡ true → c ≡ true → (a && (b && c)) ≡ true
+all_true a b c p q r = λ i. p i && (q i && r i)
 
 told : (actor : Actor) → FitsSigned w64 actor.time.seconds → is_own_person actor ≡ true → TellsTime (time_text actor.time)
 told actor fits e = (actor.time, time_written actor.time fits (own_spellable actor e).offset_spellable)
@@ -48,10 +44,7 @@ person_fits : (actor : Actor) → FitsSigned w64 actor.time.seconds → is_own_p
 person_fits actor fits e =
     let a = both (is_plain actor.name) (is_plain actor.email && is_whole_offset actor.time.offset) e in
     let b = both (is_plain actor.email) (is_whole_offset actor.time.offset) a.1 in
-    let time = told actor fits e in
-    all_true (is_plain actor.name) (is_plain actor.email) (not (holds 62 (time_text actor.time))) (not (holds 10 (time_text actor.time))) a.0 b.0
-    (lacks_holds 62 (time_text actor.time) (marks.time_lacks (time_text actor.time) time.0 time.1))
-    (lacks_holds 10 (time_text actor.time) (time_lacks (time_text actor.time) time.0 time.1))
+    all_true (is_plain actor.name) (is_plain actor.email) (tells_time (time_text actor.time)) a.0 b.0 ((tells_time-Decides (time_text actor.time)).1 (told actor fits e))
 
 piece_fits : (word : List ℕ) (actor : Actor) → FitsSigned w64 actor.time.seconds → (own_person_piece word actor).cause ≡ None → (person_piece word (own_person actor)).cause ≡ None
 piece_fits word actor fits none = ap unspellable_unless (person_fits actor fits (fine (is_own_person actor) none))
@@ -76,4 +69,4 @@ owned_written commit author committer none =
     exchanged [] (id_pieces parts) (own_person_piece (codes "author") commit.author) (own_person_piece (codes "committer") commit.committer)
     (person_piece (codes "author") parts.author) (person_piece (codes "committer") parts.committer) end refl refl
     (piece_fits (codes "author") commit.author author) (piece_fits (codes "committer") commit.committer committer) none in
-    written parts fits (told commit.author author a.0) (told commit.committer committer c.0)
+    written parts fits

@@ -4,12 +4,14 @@ use Rattle.std.specs.Prelude.{codes, All, IfSome, ◌==◌, ◌&&◌, ◌||◌, 
 use Rattle.std.proofs.lemmas.Bool.Decides.{Decides-eqb}
 use Rattle.std.proofs.lemmas.List.Elements.{All-nil, All-cons}
 use Rattle.gix_object_lines.specs.Bytes.{Lacks}
-use Rattle.gix_object_lines.specs.HexLine.{IsHex, is_hex}
-use Rattle.gix_object_lines.specs.Actor.{TellsTime}
+use Rattle.gix_object_lines.specs.HexLine.{IsHex, is_hex, is_id}
+use Rattle.gix_object_lines.specs.TimeTest.{tells_time}
+use Rattle.gix_object_lines.proofs.ActorLemmas as marks
+use Rattle.gix_object_lines.proofs.TimeTests.{tells_time-Decides}
 use Rattle.gix_object_lines.specs.declared.encode.Error as encode
 use Rattle.gix_object_lines.specs.declared.encode.Error.TheVariants.{NewlineInHeaderValue, EmptyValue}
 use Rattle.gix_object_commit.specs.Commit.{Person, Field, Parts, IsFolded, IsPerson, IsField, IsEncodingFirst, commit_text, SpellsCommit}
-use Rattle.gix_object_commit.specs.Writing.{Piece, first_refused, refused_or, holds, is_id, is_id_like, is_plain, is_person, is_folded, begins_with_space, is_empty, is_word, is_field, is_encoding_first, encoding_cause, unspellable_unless, tree_piece, parent_piece, person_piece, encoding_piece, field_piece, message_piece, commit_refusal}
+use Rattle.gix_object_commit.specs.Writing.{Piece, first_refused, refused_or, holds, is_id_like, is_plain, is_person, is_folded, begins_with_space, is_empty, is_word, is_field, is_encoding_first, encoding_cause, unspellable_unless, tree_piece, parent_piece, person_piece, encoding_piece, field_piece, message_piece, commit_refusal}
 use Rattle.gix_object_commit.proofs.Folds.{by_feed, plain_folded}
 use Rattle.gix_object_commit.proofs.FoldedTests.{plain_byte}
 
@@ -58,13 +60,13 @@ plain_name part e =
     let b = both (not (holds 62 part)) (not (holds 10 part)) a.1 in
     (lacks_of 60 part a.0, lacks_of 62 part b.0, lacks_of 10 part b.1)
 
-person_fits : (person : Person) → is_person person ≡ true → TellsTime person.time → IsPerson person
-person_fits person e told =
-    let a = both (is_plain person.name) (is_plain person.email && (not (holds 62 person.time) && not (holds 10 person.time))) e in
-    let b = both (is_plain person.email) (not (holds 62 person.time) && not (holds 10 person.time)) a.1 in
-    let c = both (not (holds 62 person.time)) (not (holds 10 person.time)) b.1 in
+person_fits : (person : Person) → is_person person ≡ true → IsPerson person
+person_fits person e =
+    let a = both (is_plain person.name) (is_plain person.email && tells_time person.time) e in
+    let b = both (is_plain person.email) (tells_time person.time) a.1 in
+    let told = (tells_time-Decides person.time).0 b.1 in
     record {
-      cut = record { spelled = refl; first = (plain_name person.name a.0).0; last = lacks_of 62 person.time c.0; name_in_line = (plain_name person.name a.0).2; email_in_line = (plain_name person.email b.0).2 };
+      cut = record { spelled = refl; first = (plain_name person.name a.0).0; last = marks.time_lacks person.time told.0 told.1; name_in_line = (plain_name person.name a.0).2; email_in_line = (plain_name person.email b.0).2 };
       time_told = told;
     }
 
@@ -117,8 +119,8 @@ encoding_fits : (encoding : Option (List ℕ)) (headers : List Field) → encodi
 encoding_fits None headers none = (tt, λ e named. not_true (is_encoding_first headers) (fine (not (is_encoding_first headers)) none) (first_named headers named))
 encoding_fits (Some name) headers none = (some (is_empty name) (holds 10 name) none, λ e. absurd cc)
 
-pub written : (parts : Parts) → commit_refusal parts ≡ None → TellsTime parts.author.time → TellsTime parts.committer.time → SpellsCommit (length parts.tree) (commit_text parts) parts
-written parts none author_told committer_told =
+pub written : (parts : Parts) → commit_refusal parts ≡ None → SpellsCommit (length parts.tree) (commit_text parts) parts
+written parts none =
     let tree = parts.tree in
     let tail = encoding_piece parts.encoding parts.headers ∷ (map field_piece parts.headers ++ (message_piece parts.message ∷ [])) in
     let people = person_piece (codes "author") parts.author ∷ (person_piece (codes "committer") parts.committer ∷ tail) in
@@ -133,8 +135,8 @@ written parts none author_told committer_told =
       spelled = refl;
       tree = (refl, (both (length tree == 40 || length tree == 64) (is_hex tree) (fine (is_id tree) t.0)).1);
       parents = ps.0;
-      author = person_fits parts.author (fine (is_person parts.author) a.0) author_told;
-      committer = person_fits parts.committer (fine (is_person parts.committer) c.0) committer_told;
+      author = person_fits parts.author (fine (is_person parts.author) a.0);
+      committer = person_fits parts.committer (fine (is_person parts.committer) c.0);
       encoding = told.0;
       headers = hs.0;
       no_encoding = told.1;

@@ -1,6 +1,5 @@
 -- Signing a commit (Git's commit.c: `commit_tree_extended`, `sign_with_header`; builtin/commit.c: `exclude_gpgsig`).
-use Rattle.std.specs.Prelude.{ℕ, nat_eq, Bool, not, ◌||◌, ◌≡◌, ◌-◌, List, [], ◌∷◌, ◌++◌, length, take, filter, Option, None, Some, Result, Ok, Err, if◌then◌else◌}
-use Rattle.std.specs.List.{ends_with}
+use Rattle.std.specs.Prelude.{ℕ, nat_eq, Bool, not, ◌||◌, ◌≡◌, List, [], ◌∷◌, ◌++◌, filter, Option, None, Some, Result, Ok, Err}
 use Rattle.std.specs.Cmp.Lexicographic.{pointwise}
 use Rattle.gix_hash.specs.Id.{id_of}
 use Rattle.gix_hash.specs.declared.kind.Kind.TheVariants.{Sha1, Sha256}

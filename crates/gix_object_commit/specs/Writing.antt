@@ -1,8 +1,9 @@
 -- How a commit is written, and which parts the format never writes.
-use Rattle.std.specs.Prelude.{ℕ, nat_eq, ◌==◌, ◌||◌, ◌&&◌, Bool, true, false, not, List, [], ◌∷◌, ◌++◌, codes, map, flat_map, length, if◌then◌else◌, Option, None, Some, Result}
+use Rattle.std.specs.Prelude.{ℕ, nat_eq, ◌==◌, ◌&&◌, Bool, true, false, not, List, [], ◌∷◌, ◌++◌, codes, map, flat_map, length, if◌then◌else◌, Option, None, Some, Result}
 use Rattle.std.specs.List.{list_any}
 use Rattle.std.specs.Cmp.Lexicographic.{pointwise}
-use Rattle.gix_object_lines.specs.HexLine.{hex_line, is_hex}
+use Rattle.gix_object_lines.specs.HexLine.{hex_line, is_hex, is_id}
+use Rattle.gix_object_lines.specs.TimeTest.{tells_time}
 use Rattle.gix_object_lines.specs.Writes.{Refusal, Writes}
 use Rattle.gix_object_lines.specs.declared.write.Error.{Error}
 use Rattle.gix_object_lines.specs.declared.write.Error.TheVariants.{Header}
@@ -38,10 +39,6 @@ holds byte text = list_any (λ other. other == byte) text
 abbrev pub unspellable_unless : Bool → Option encode.Error
 unspellable_unless fine = if fine then None else Some Unspellable
 
--- the digits of an id of a hash function
-abbrev pub is_id : List ℕ → Bool
-is_id digits = (length digits == 40 || length digits == 64) && is_hex digits
-
 -- an id in as many digits as the tree's
 abbrev pub is_id_like : List ℕ → List ℕ → Bool
 is_id_like tree digits = length digits == length tree && is_hex digits
@@ -50,9 +47,9 @@ is_id_like tree digits = length digits == length tree && is_hex digits
 abbrev pub is_plain : List ℕ → Bool
 is_plain part = not (holds 60 part) && (not (holds 62 part) && not (holds 10 part))
 
--- the text of a time holds no `>` or line feed
+-- such a name and email, and a text that tells a time
 abbrev pub is_person : Person → Bool
-is_person person = is_plain person.name && (is_plain person.email && (not (holds 62 person.time) && not (holds 10 person.time)))
+is_person person = is_plain person.name && (is_plain person.email && tells_time person.time)
 
 abbrev pub begins_with_space : List ℕ → Bool
 begins_with_space [] = false

@@ -3,7 +3,7 @@
 ghost use Rattle.std.specs.Prelude.{IsTrue};
 ghost use Rattle.gix_hash.specs.Id.{id_of};
 ghost use Rattle.gix_hash.specs.Views.{IsHexOfId};
-ghost use Rattle.gix_object_commit.specs.Writing.{is_id};
+ghost use Rattle.gix_object_lines.specs.HexLine.{is_id};
 
 use gix_hash::ObjectId;
 

@@ -3,12 +3,12 @@
 ghost use Rattle.std.specs.Prelude.{◌≡◌, ◌↔◌, None, IsTrue, length};
 ghost use Rattle.std.specs.List.{list_all};
 ghost use Rattle.gix_hash.specs.Kind.{hex_len};
-ghost use Rattle.gix_object_lines.specs.Actor.{TellsTime};
+ghost use Rattle.gix_object_lines.specs.HexLine.{is_id};
 ghost use Rattle.gix_object_commit.specs.Commit.{Parts, SpellsCommit, commit_text};
-ghost use Rattle.gix_object_commit.specs.Tokens.{part_of};
-ghost use Rattle.gix_object_commit.specs.Whole.{IsCommit, is_message as is_the_message};
+ghost use Rattle.gix_object_commit.specs.Tokens.{part_of, start};
+ghost use Rattle.gix_object_commit.specs.Whole.{IsCommit, ReadsToMessage, is_message as is_the_message};
 ghost use Rattle.gix_object_commit.specs.Writable.{IsWritable};
-ghost use Rattle.gix_object_commit.specs.Writing.{commit_refusal, is_id};
+ghost use Rattle.gix_object_commit.specs.Writing.{commit_refusal};
 
 pub mod owned;
 pub mod signed;
@@ -23,11 +23,10 @@ pub fn one_commit(_input: &[u8], _hash_kind: Kind)
     ensures { (a b : Parts) → SpellsCommit (hex_len _hash_kind) _input.now a → SpellsCommit (hex_len _hash_kind) _input.now b → a ≡ b }
 {}
 
-/// What is written of parts of which none is refused, and whose actors tell times, spells these parts; so it is read back
-/// to them. Nothing is done: the contract is the law.
+/// What is written of parts of which none is refused spells these parts; so it is read back to them. Nothing is done: the
+/// contract is the law.
 pub fn written_is_read()
-    ensures { (parts : Parts) → commit_refusal parts ≡ None → TellsTime parts.author.time → TellsTime parts.committer.time
-        → SpellsCommit (length parts.tree) (commit_text parts) parts }
+    ensures { (parts : Parts) → commit_refusal parts ≡ None → SpellsCommit (length parts.tree) (commit_text parts) parts }
 {}
 
 /// The ids of a commit that was read are ids' digits, as `CommitRef::tree` and `CommitRef::parents` ask. Nothing is done:
@@ -42,6 +41,12 @@ pub fn ids_read_are_ids(_input: &[u8], _hash_kind: Kind)
 pub fn read_is_written(_input: &[u8], _hash_kind: Kind)
     ensures accepted { (parts : Parts) → SpellsCommit (hex_len _hash_kind) _input.now parts → IsWritable parts → commit_refusal parts ≡ None }
     ensures bytes { (parts : Parts) → SpellsCommit (hex_len _hash_kind) _input.now parts → commit_text parts ≡ _input.now }
+{}
+
+/// The token reader gives its parts without an error, the message as the last, exactly where the bytes spell a commit. Nothing
+/// is done: the contract is the law.
+pub fn tokens_end_with_the_message(_input: &[u8], _hash_kind: Kind)
+    ensures { IsCommit _hash_kind _input.now ↔ ReadsToMessage (start _hash_kind _input.now) }
 {}
 
 /// Whether the token reader gives no error, and the message as its last token: exactly where the bytes spell a commit, and

@@ -60,6 +60,21 @@ fn an_empty_encoding_is_not_written(rt: HostRuntime) -> Result<(), Fail> {
 }
 
 #[test]
+fn an_actor_without_a_time_is_not_written(rt: HostRuntime) -> Result<(), Fail> {
+    let mut commit = CommitRef::from_bytes(rt.alloc(), COMMIT, Kind::Sha1)?;
+    commit.author.time = BStr::new(b"today");
+    let mut written = Vec::new(rt.alloc());
+    assert!(rt;
+        matches!(
+            commit.write_to(&mut written),
+            Err(write::Error::Header(encode::Error::Unspellable))
+        )
+    );
+    assert_eq!(rt; written.as_slice(), &COMMIT[..46]);
+    Ok(())
+}
+
+#[test]
 fn a_header_of_two_words_is_not_written(rt: HostRuntime) -> Result<(), Fail> {
     let mut commit = CommitRef::from_bytes(rt.alloc(), COMMIT, Kind::Sha1)?;
     let header = HeaderRef {

@@ -7,5 +7,6 @@ pub mod Refusals
 pub mod CutLemmas
 pub mod TimeLemmas
 pub mod SecondsLemmas
+pub mod TimeTests
 pub mod ActorLemmas
 pub mod NameLemmas

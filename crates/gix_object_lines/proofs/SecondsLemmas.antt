@@ -26,14 +26,14 @@ fits_below : (n : ℕ) → FitsSigned w64 (neg_ℤ (pos n)) → n ≤ 2 ^ 63
 fits_below zero fits = omega arith
 fits_below (suc n) fits = omega (arith, fits.sfits)
 
-minus_only : (ds : List ℕ) (z : ℤ) → FitsSigned w64 z → SpellsSeconds (45 ∷ ds) z → AllDigits 10 ds × (0 < length ds) × (digits_value 10 ds ≤ 2 ^ 63)
+pub minus_only : (ds : List ℕ) (z : ℤ) → FitsSigned w64 z → SpellsSeconds (45 ∷ ds) z → AllDigits 10 ds × (0 < length ds) × (digits_value 10 ds ≤ 2 ^ 63)
 minus_only ds z fits (Since numeral is) = absurd (high_45 ds numeral)
 minus_only ds z fits (Before digits spelled numeral is) =
     let same : digits ≡ ds = sym (ap (drop 1) spelled) in
     let n = subst (IsNumeral 10) same numeral in
     (n.1, n.0, fits_below (digits_value 10 ds) (subst (FitsSigned w64) (is ∙ ap (λ d. neg_ℤ (pos (digits_value 10 d))) same) fits))
 
-digits_only : (text : List ℕ) (z : ℤ) → get_or text 0 0 ≢ 45 → FitsSigned w64 z → SpellsSeconds text z → AllDigits 10 text × (0 < length text) × (digits_value 10 text < 2 ^ 63)
+pub digits_only : (text : List ℕ) (z : ℤ) → get_or text 0 0 ≢ 45 → FitsSigned w64 z → SpellsSeconds text z → AllDigits 10 text × (0 < length text) × (digits_value 10 text < 2 ^ 63)
 digits_only text z other fits (Since numeral is) = (numeral.1, numeral.0, (subst (FitsSigned w64) is fits).sfits)
 digits_only text z other fits (Before digits spelled numeral is) = absurd (other (ap (λ t. get_or t 0 0) spelled))
 

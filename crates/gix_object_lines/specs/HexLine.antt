@@ -1,6 +1,6 @@
 -- A line of a word, a space and an id in hexadecimal, as `tree`, `parent` and `object` begin it in commits and tags (Git
 -- User Manual, "Commit Object" and "Tag Object"; git-mktag).
-use Rattle.std.specs.Prelude.{ℕ, ◌≡◌, ◌≢◌, Bool, List, [], ◌∷◌, ◌++◌, length, IsTrue}
+use Rattle.std.specs.Prelude.{ℕ, ◌≡◌, ◌≢◌, ◌==◌, Bool, ◌&&◌, ◌||◌, List, [], ◌∷◌, ◌++◌, length, IsTrue}
 use Rattle.std.specs.List.{list_all}
 use Rattle.std.specs.Char.{is_ascii_hexdigit}
 use Rattle.gix_object_lines.specs.declared.decode.Error.{Error}
@@ -8,6 +8,10 @@ use Rattle.gix_object_lines.specs.declared.decode.Error.TheVariants.{FieldName, 
 
 abbrev pub is_hex : List ℕ → Bool
 is_hex bytes = list_all is_ascii_hexdigit bytes
+
+-- the digits of an id of a hash function
+abbrev pub is_id : List ℕ → Bool
+is_id digits = (length digits == 40 || length digits == 64) && is_hex digits
 
 -- so many hexadecimal digits, in any letter case
 abbrev pub IsHex : ℕ → List ℕ → Type 0

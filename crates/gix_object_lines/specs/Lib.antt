@@ -6,6 +6,7 @@ pub mod HexLine
 pub mod Writes
 pub mod Time
 pub mod Clock
+pub mod TimeTest
 pub mod Actor
 pub mod LineWrites
 pub mod PartialName

@@ -3,6 +3,7 @@
 ghost use Rattle.std.specs.Prelude.{◌≡◌, ◌≢◌, ◌++◌, ◌∷◌, ℕ, List, IsTrue, IfOk, IfErr, IsOkAnd, OnOk, OnErr, MatchOption};
 ghost use Rattle.std.specs.Io.KnownBytes.{Appends};
 ghost use Rattle.gix_object_lines.specs.HexLine.{hex_line, is_hex, IsHex, HexLineFault};
+ghost use Rattle.gix_object_lines.specs.HexLine as test;
 ghost use Rattle.gix_object_lines.specs.Writes.{AppendsFront};
 
 use crate::cut::behind;
@@ -48,6 +49,13 @@ fn is_hexadecimal(bytes: &[u8]) -> bool
     ensures { result ≡ is_hex bytes.now }
 {
     bytes.iter().all(|byte| byte.is_ascii_hexdigit())
+}
+
+/// Whether it is the digits of an id: 40 or 64 hexadecimal digits, in any letter case.
+pub fn is_id(digits: &[u8]) -> bool
+    ensures { result ≡ test.is_id digits.now }
+{
+    (digits.len() == 40 || digits.len() == 64) && is_hexadecimal(digits)
 }
 
 /// Writes a line: the word, a space, the digits as they are, and a line feed. Where the writer fails it has taken a

@@ -8,4 +8,4 @@ mod time;
 
 pub use crate::lines::actor::{Actor, ActorRef, read_actor, write_actor, write_actor_parts};
 pub use crate::lines::name::is_partial_name;
-pub use crate::lines::time::{Time, read_time, write_time};
+pub use crate::lines::time::{Time, read_time, tells_time, write_time};

@@ -3,7 +3,7 @@
 use crate::table::COMMIT;
 use gix_object::{Header, Kind, decode, encode, kind, tag, tree};
 use gix_object_lines::decimal::read_unsigned;
-use gix_object_lines::hex_line::{read_hex_line, write_hex_line};
+use gix_object_lines::hex_line::{is_id, read_hex_line, write_hex_line};
 use std::alloc::Global;
 use std::fmt::{Debug, Display};
 use std::process::Abort;
@@ -66,6 +66,9 @@ fn unsigned_numbers(rt: HostRuntime) {
 fn hex_lines(rt: HostRuntime) -> Result<(), Fail> {
     let (digits, rest) = read_hex_line(COMMIT, b"tree", 40).map_err(|_| "no tree")?;
     assert_eq!(rt; digits.len(), 40);
+    assert!(rt; is_id(digits));
+    assert!(rt; !is_id(&digits[1..]));
+    assert!(rt; !is_id(&COMMIT[..40]));
     assert!(rt; rest.starts_with(b"author A <a@b> 1700000000 +0100\n"));
     let mut line = Vec::new(rt.alloc());
     write_hex_line(b"tree", digits, &mut line)?;

@@ -23,7 +23,7 @@ pub enum Word<'a> {
 }
 
 /// What a program did.
-#[derive(Debug, Drop)]
+#[derive(Debug, Drop, PartialEq, Eq)]
 pub struct Answer {
     /// Whether its status was 0 in the end.
     pub succeeded: bool,

@@ -120,7 +120,7 @@ pub enum Status {
 }
 
 /// What came of verifying.
-#[derive(Debug, Drop)]
+#[derive(Debug, Drop, PartialEq, Eq)]
 pub struct Outcome {
     /// What was told of the signature.
     pub status: Status,

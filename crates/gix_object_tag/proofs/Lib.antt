@@ -6,8 +6,11 @@ pub mod PieceLemmas
 pub mod ReadBack
 pub mod ActorLines
 pub mod WholeLemmas
+pub mod WholeReadings
 pub mod SigningLemmas
 pub mod SignedLemmas
 pub mod WrittenBack
 pub mod OwnedReadBack
 pub mod ReadFormat
+pub mod BodyTests
+pub mod Accepted

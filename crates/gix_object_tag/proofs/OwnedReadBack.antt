@@ -1,5 +1,5 @@
 -- What is written of a tag that owns its parts spells it.
-use Rattle.std.proofs.Common.{◌≡◌, ◌∙◌, ap, refl, sym, ℕ, Bool, true, false, ◌||◌, ◌&&◌, List, [], ◌∷◌, length, map, Option, Some, None}
+use Rattle.std.proofs.Common.{◌≡◌, ◌∙◌, ap, refl, ℕ, Bool, true, false, ◌||◌, ◌&&◌, List, [], ◌∷◌, length, map, Option, Some, None}
 use Rattle.std.specs.Prelude.{FitsSigned, IfSome, if◌then◌else◌, nat_le, ◌-◌}
 use Rattle.std.specs.Char.{is_ascii_hexdigit}
 use Rattle.std.specs.Int.{w64}
@@ -11,12 +11,14 @@ use Rattle.gix_object_lines.specs.HexLine.{is_hex}
 use Rattle.gix_object_lines.specs.Writes.{cause_of}
 use Rattle.gix_object_lines.specs.declared.lines.actor.Actor.{Actor}
 use Rattle.gix_object_lines.proofs.TimeLemmas.{time_written}
-use Rattle.gix_object_tag.specs.Format.{TellsWhen, IsWholeBody}
+use Rattle.gix_object_tag.specs.Format.{TellsWhen}
 use Rattle.gix_object_tag.specs.OwnedText.{actor_of, parts_of_tag, is_bad_actor, is_bad_offset}
 use Rattle.gix_object_tag.specs.Tag.{SpellsTag}
-use Rattle.gix_object_tag.specs.TagText.{is_marked, is_bad_tagger, tag_text, tag_refusal}
+use Rattle.gix_object_tag.specs.TagText.{is_marked, is_marked_tagger, tag_text, tag_refusal}
 use Rattle.gix_object_tag.specs.declared.tag.owned.Tag.{Tag}
 use Rattle.gix_object_tag.proofs.ActorLines.{spellable}
+use Rattle.gix_object_tag.specs.BodyTest.{is_whole_body}
+use Rattle.gix_object_tag.proofs.BodyTests.{is_whole_body-Decides}
 use Rattle.gix_object_tag.proofs.ReadBack.{passes, written_spells}
 
 -- ---- digits
@@ -43,7 +45,7 @@ or_false : (a b : Bool) → (a || b) ≡ false → (a ≡ false) × (b ≡ false
 or_false true b e = absurd cc
 or_false false b e = (refl, e)
 
-good_tagger : (tagger : Option Actor) → is_bad_actor tagger ≡ false → is_bad_tagger (actor_of tagger) ≡ false
+good_tagger : (tagger : Option Actor) → is_bad_actor tagger ≡ false → is_marked_tagger (actor_of tagger) ≡ false
 good_tagger None e = refl
 good_tagger (Some actor) e = (or_false (is_marked actor.name || is_marked actor.email) (is_bad_offset actor.time.offset) e).0
 
@@ -57,14 +59,13 @@ tells_when (Some actor) fits e =
 -- ---- the whole
 
 pub owned_spells : (tag : Tag) → length (hex_text (id_of tag.target).digits) ≡ hex_len (id_of tag.target).kind → IsHexOf (hex_text (id_of tag.target).digits) (id_of tag.target).digits
-    → IfSome tag.tagger (λ actor. FitsSigned w64 actor.time.seconds) → cause_of (tag_refusal (parts_of_tag tag) (is_bad_actor tag.tagger)) ≡ None → IsWholeBody tag.message tag.pgp_signature
+    → IfSome tag.tagger (λ actor. FitsSigned w64 actor.time.seconds) → cause_of (tag_refusal (parts_of_tag tag) (is_bad_actor tag.tagger)) ≡ None
     → SpellsTag (id_of tag.target).kind (tag_text (parts_of_tag tag)) (parts_of_tag tag)
-owned_spells tag whole spelled fits ok body =
+owned_spells tag whole spelled fits ok =
     let parts = parts_of_tag tag in
-    let good = (passes parts (is_bad_actor tag.tagger) ok).1 in
-    let fine : cause_of (tag_refusal parts (is_bad_tagger parts.tagger)) ≡ None = ap (λ bad. cause_of (tag_refusal parts bad)) (good_tagger tag.tagger good ∙ sym good) ∙ ok in
-    written_spells (id_of tag.target).kind parts fine (record {
+    let pass = passes parts (is_bad_actor tag.tagger) (is_whole_body tag.message tag.pgp_signature) ok in
+    written_spells (id_of tag.target).kind parts pass.1 (good_tagger tag.tagger pass.2) (record {
       target = (whole, digits_are_hex (hex_text (id_of tag.target).digits) (id_of tag.target).digits spelled);
-      tagger = tells_when tag.tagger fits good;
-      body = body;
+      tagger = tells_when tag.tagger fits pass.2;
+      body = (is_whole_body-Decides tag.message tag.pgp_signature).0 pass.3;
     })

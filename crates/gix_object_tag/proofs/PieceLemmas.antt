@@ -37,8 +37,9 @@ then_writes a b c text None rest None u (Err (Filename x)) h k = let e = k.0 in 
 then_writes a b c text None rest (Some r) u (Err (Filename x)) h k = (k.0, Appends-trans a b c text r.before h.1 k.1)
 
 -- the last piece
-pub last_piece : (a b : Option (List ℕ)) (text : List ℕ) (result : Result (Unit {0}) Error) → Writes {U = Unit {0}} a b text None result → Writes {U = Unit {0}} a b (text ++ []) None result
-last_piece a b text result = subst (λ t. Writes {U = Unit {0}} a b t None result) (sym (append-nil text))
+alone : (refusal : Option Refusal) (text : List ℕ) → first_of refusal text None ≡ refusal
+alone None text = refl
+alone (Some refusal) text = refl
 
 -- ---- four pieces
 
@@ -62,14 +63,16 @@ module _ (a b c d : Option (List ℕ)) (p q r s : Piece) (u v : Unit {0}) where
       (then_writes b c d q.text q.refusal (all_text (r ∷ s ∷ [])) (first_refusal (r ∷ s ∷ [])) v (Err e) k
       (first_stops c d r.text r.refusal (all_text (s ∷ [])) (first_refusal (s ∷ [])) e l))
 
-last_of : (a b : Option (List ℕ)) (s : Piece) (result : Result (Unit {0}) Error) → s.refusal ≡ None → Writes {U = Unit {0}} a b s.text None result → Writes {U = Unit {0}} a b (all_text (s ∷ [])) (first_refusal (s ∷ [])) result
-last_of a b s result none h = subst (λ o. Writes {U = Unit {0}} a b (s.text ++ []) (first_of o s.text None) result) (sym none) (last_piece a b s.text result h)
+last_of : (a b : Option (List ℕ)) (s : Piece) (result : Result (Unit {0}) Error) → Writes {U = Unit {0}} a b s.text s.refusal result → Writes {U = Unit {0}} a b (all_text (s ∷ [])) (first_refusal (s ∷ [])) result
+last_of a b s result h =
+    subst (λ o. Writes {U = Unit {0}} a b (s.text ++ []) o result) (sym (alone s.refusal s.text))
+    (subst (λ t. Writes {U = Unit {0}} a b t s.refusal result) (sym (append-nil s.text)) h)
 
 module _ (a b c d e : Option (List ℕ)) (p q r s : Piece) (u v w : Unit {0}) where
-  pub writes_last : (result : Result (Unit {0}) Error) → s.refusal ≡ None → Writes {U = Unit {0}} a b p.text p.refusal (Ok u) → Writes {U = Unit {0}} b c q.text q.refusal (Ok v) → Writes {U = Unit {0}} c d r.text r.refusal (Ok w)
-      → Writes {U = Unit {0}} d e s.text None result → Writes {U = Unit {0}} a e (all_text (p ∷ q ∷ r ∷ s ∷ [])) (first_refusal (p ∷ q ∷ r ∷ s ∷ [])) result
-  writes_last result none h k l m =
+  pub writes_last : (result : Result (Unit {0}) Error) → Writes {U = Unit {0}} a b p.text p.refusal (Ok u) → Writes {U = Unit {0}} b c q.text q.refusal (Ok v) → Writes {U = Unit {0}} c d r.text r.refusal (Ok w)
+      → Writes {U = Unit {0}} d e s.text s.refusal result → Writes {U = Unit {0}} a e (all_text (p ∷ q ∷ r ∷ s ∷ [])) (first_refusal (p ∷ q ∷ r ∷ s ∷ [])) result
+  writes_last result h k l m =
       then_writes a b e p.text p.refusal (all_text (q ∷ r ∷ s ∷ [])) (first_refusal (q ∷ r ∷ s ∷ [])) u result h
       (then_writes b c e q.text q.refusal (all_text (r ∷ s ∷ [])) (first_refusal (r ∷ s ∷ [])) v result k
       (then_writes c d e r.text r.refusal (all_text (s ∷ [])) (first_refusal (s ∷ [])) w result l
-      (last_of d e s result none m)))
+      (last_of d e s result m)))

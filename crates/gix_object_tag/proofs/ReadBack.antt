@@ -1,5 +1,5 @@
 -- What is written of a tag spells it.
-use Rattle.std.proofs.Common.{◌≡◌, ◌∙◌, ap, refl, sym, subst, ℕ, ℤ, ◌+◌, ◌/◌, ◌%◌, ◌<◌, ◌≤◌, Bool, true, false, ◌||◌, List, [], ◌∷◌, ◌++◌, length, length-append, append_assoc, Option, Some, None, inl, inr, arith}
+use Rattle.std.proofs.Common.{◌≡◌, ◌∙◌, ap, refl, sym, subst, ℕ, ℤ, ◌+◌, ◌/◌, ◌%◌, ◌<◌, ◌≤◌, Bool, true, false, not, ◌||◌, ◌&&◌, List, [], ◌∷◌, ◌++◌, length, length-append, append_assoc, Option, Some, None, inl, inr, arith}
 use Rattle.std.specs.Prelude.{codes, ◌==◌, ◌⊎◌, if◌then◌else◌}
 use Rattle.std.specs.List.{list_any}
 use Rattle.std.proofs.lemmas.Bool.{true≢false, cases_lt}
@@ -8,7 +8,7 @@ use Rattle.std.proofs.lemmas.List.{append-nil}
 use Rattle.std.proofs.lemmas.List.Folds.{Any-from_list_any, list_any-from_Any}
 use Rattle.gix_hash.specs.declared.kind.Kind as hash
 use Rattle.gix_object_lines.specs.Bytes.{Lacks}
-use Rattle.gix_object_lines.specs.HexLine.{hex_line}
+use Rattle.gix_object_lines.specs.HexLine.{hex_line, is_hex, is_id, IsHex}
 use Rattle.gix_object_lines.specs.Kind.{kind_word}
 use Rattle.gix_object_lines.specs.PartialName.{IsPartialName}
 use Rattle.gix_object_lines.specs.Time.{SpellsTime, SpellsOffset, Ahead, Behind, two_digits}
@@ -25,7 +25,12 @@ use Rattle.gix_object_tag.specs.NameTest.{is_partial, begins, name_fault}
 use Rattle.gix_object_tag.specs.Pieces.{first_refusal, first_of}
 use Rattle.gix_object_tag.specs.Signature.{IsArmored, IsSigned}
 use Rattle.gix_object_tag.specs.Tag.{Tagger, Parts, IsLine, SpellsTagger, SpellsRest, Body, SpellsTag}
-use Rattle.gix_object_tag.specs.TagText.{name_line, tagger_text, tagger_line, body_text, name_refusal, tagger_refusal, is_marked, is_bad_tagger, tag_text, tag_refusal, head_piece, name_piece, tagger_piece, body_piece}
+use Rattle.gix_object_tag.specs.TagText.{name_line, tagger_text, tagger_line, body_text, name_refusal, tagger_refusal, is_marked, is_marked_tagger, is_bad_tagger, unspellable_unless, tag_text, tag_refusal, pieces_of, head_piece, name_piece, tagger_piece, body_piece}
+use Rattle.gix_object_lines.proofs.TimeTests.{tells_time-Decides}
+use Rattle.gix_object_lines.specs.TimeTest.{tells_time}
+use Rattle.gix_hash.specs.Kind.{hex_len}
+use Rattle.gix_object_tag.specs.BodyTest.{is_whole_body}
+use Rattle.gix_object_tag.proofs.BodyTests.{is_whole_body-Decides}
 use Rattle.gix_object_tag.proofs.NameTests.{is_partial-Decides}
 
 -- ---- what isn't refused
@@ -43,14 +48,19 @@ not_bad : (bad : Bool) → tagger_refusal bad ≡ None → bad ≡ false
 not_bad false e = refl
 not_bad true e = absurd cc
 
-pub passes : (parts : Parts) (bad : Bool) → cause_of (tag_refusal parts bad) ≡ None → (name_fault parts.name ≡ None) × (bad ≡ false)
-passes parts bad e =
-    let last = body_piece parts ∷ [] in
+fine : (b : Bool) → unspellable_unless b ≡ None → b ≡ true
+fine true e = refl
+fine false e = absurd cc
+
+pub passes : (parts : Parts) (bad whole : Bool) → cause_of (first_refusal (pieces_of parts bad whole)) ≡ None → (is_id parts.target ≡ true) × (name_fault parts.name ≡ None) × (bad ≡ false) × (whole ≡ true)
+passes parts bad whole e =
+    let last = body_piece parts whole ∷ [] in
     let later = tagger_piece parts bad ∷ last in
-    let first = not_refused None (head_piece parts).text (first_refusal (name_piece parts ∷ later)) e in
+    let first = not_refused (unspellable_unless (is_id parts.target)) (head_piece parts).text (first_refusal (name_piece parts ∷ later)) e in
     let second = not_refused (name_refusal (name_fault parts.name)) (name_piece parts).text (first_refusal later) first.1 in
     let third = not_refused (tagger_refusal bad) (tagger_piece parts bad).text (first_refusal last) second.1 in
-    (no_fault (name_fault parts.name) second.0, not_bad bad third.0)
+    let fourth = not_refused (unspellable_unless whole) (body_piece parts whole).text None third.1 in
+    (fine (is_id parts.target) first.0, no_fault (name_fault parts.name) second.0, not_bad bad third.0, fine whole fourth.0)
 
 -- ---- names
 
@@ -130,7 +140,7 @@ mark_lacks text time is = subst (Lacks 62) (sym is.spelled)
 pub shape : (a b c d e : List ℕ) → a ++ (b ++ (c ++ (d ++ e))) ≡ a ++ b ++ c ++ d ++ e
 shape a b c d e = simp append_assoc
 
-tagger_reads : (tagger : Option Tagger) (after : List ℕ) → is_bad_tagger tagger ≡ false → TellsWhen tagger → ((rest : List ℕ) → after ≡ codes "tagger " ++ rest → ⊥) → SpellsTagger (tagger_line tagger ++ after) tagger after
+tagger_reads : (tagger : Option Tagger) (after : List ℕ) → is_marked_tagger tagger ≡ false → TellsWhen tagger → ((rest : List ℕ) → after ≡ codes "tagger " ++ rest → ⊥) → SpellsTagger (tagger_line tagger ++ after) tagger after
 tagger_reads None after good tells other = (refl, λ h. other h.0 h.1)
 tagger_reads (Some tagger) after good tells other =
     let both = or_left (is_marked tagger.name) (is_marked tagger.email) good in
@@ -212,10 +222,9 @@ body_begins message None rest e = cc
 body_begins [] (Some signature) rest e = cc
 body_begins (byte ∷ message) (Some signature) rest e = cc
 
-pub written_spells : (kind : hash.Kind) (parts : Parts) → cause_of (tag_refusal parts (is_bad_tagger parts.tagger)) ≡ None → IsInFormat kind parts → SpellsTag kind (tag_text parts) parts
-written_spells kind parts ok format =
-    let pass = passes parts (is_bad_tagger parts.tagger) ok in
-    let name = partial_name parts.name pass.0 in
+pub written_spells : (kind : hash.Kind) (parts : Parts) → name_fault parts.name ≡ None → is_marked_tagger parts.tagger ≡ false → IsInFormat kind parts → SpellsTag kind (tag_text parts) parts
+written_spells kind parts named plain format =
+    let name = partial_name parts.name named in
     let body = body_text parts.message parts.signature in
     let from_body = append-nil body in
     record {
@@ -226,6 +235,35 @@ written_spells kind parts ok format =
       target = record { spelled = append_assoc (hex_line (codes "object") parts.target) (codes "type " ++ (kind_word parts.target_kind ++ 10 ∷ [])) (name_line parts.name ++ (tagger_line parts.tagger ++ (body ++ []))); hex = format.target };
       target_kind = line_of (codes "type ") (kind_word parts.target_kind) (name_line parts.name ++ (tagger_line parts.tagger ++ (body ++ []))) (word_in_line parts.target_kind);
       name = record { line = line_of (codes "tag ") parts.name (tagger_line parts.tagger ++ (body ++ [])) (in_line parts.name name); some = name.some };
-      tagger = subst (λ t. SpellsTagger (tagger_line parts.tagger ++ t) parts.tagger body) (sym from_body) (tagger_reads parts.tagger body pass.1 format.tagger (body_begins parts.message parts.signature));
+      tagger = subst (λ t. SpellsTagger (tagger_line parts.tagger ++ t) parts.tagger body) (sym from_body) (tagger_reads parts.tagger body plain format.tagger (body_begins parts.message parts.signature));
       rest = body_reads parts.message parts.signature format.body;
     }
+
+-- ---- what isn't refused is in the format
+
+and_right : (a b : Bool) → (a && b) ≡ true → b ≡ true
+and_right true b e = e
+and_right false b e = absurd cc
+
+not_false : (b : Bool) → not b ≡ false → b ≡ true
+not_false true e = refl
+not_false false e = absurd cc
+
+good_tagger : (tagger : Option Tagger) → is_bad_tagger tagger ≡ false → (is_marked_tagger tagger ≡ false) × TellsWhen tagger
+good_tagger None e = (refl, tt)
+good_tagger (Some tagger) e =
+    let both = or_left (is_marked tagger.name || is_marked tagger.email) (not (tells_time tagger.time)) e in
+    (both.0, (tells_time-Decides tagger.time).0 (not_false (tells_time tagger.time) both.1))
+
+pub target_hex : (kind : hash.Kind) (target : List ℕ) → is_id target ≡ true → length target ≡ hex_len kind → IsHex (hex_len kind) target
+target_hex kind target is len = (len, and_right (length target == 40 || length target == 64) (is_hex target) is)
+
+pub written_back : (kind : hash.Kind) (parts : Parts) → cause_of (tag_refusal parts (is_bad_tagger parts.tagger)) ≡ None → length parts.target ≡ hex_len kind → SpellsTag kind (tag_text parts) parts
+written_back kind parts ok len =
+    let pass = passes parts (is_bad_tagger parts.tagger) (is_whole_body parts.message parts.signature) ok in
+    let tagger = good_tagger parts.tagger pass.2 in
+    written_spells kind parts pass.1 tagger.0 (record {
+      target = target_hex kind parts.target pass.0 len;
+      tagger = tagger.1;
+      body = (is_whole_body-Decides parts.message parts.signature).0 pass.3;
+    })

@@ -4,7 +4,6 @@ use Rattle.std.specs.Prelude.{IsOkAnd}
 use Rattle.std.proofs.lemmas.List.{append-nil, append_cancel_right}
 use Rattle.bstr.specs.BStr.{bstr_bytes}
 use Rattle.gix_hash.specs.declared.kind.Kind as hash
-use Rattle.gix_object_lines.specs.Writes.{cause_of}
 use Rattle.gix_object_lines.specs.declared.decode.Error.{Error}
 use Rattle.gix_object_lines.specs.declared.lines.actor.Actor.{Actor}
 use Rattle.gix_object_signature.specs.declared.format.SignatureRef.{SignatureRef}
@@ -14,7 +13,7 @@ use Rattle.gix_object_tag.specs.OwnedText.{parts_of_tag, actor_of, is_bad_actor,
 use Rattle.gix_object_tag.specs.Signature.{IsBare, IsSignedBy}
 use Rattle.gix_object_tag.specs.Signing.{IsTextToSign, TellsSigned, with_signature, write_fault}
 use Rattle.gix_object_tag.specs.Tag.{Parts, SpellsRest, Nothing, Body, SpellsTag}
-use Rattle.gix_object_tag.specs.TagText.{is_marked, is_bad_tagger, tag_text, tag_refusal}
+use Rattle.gix_object_tag.specs.TagText.{is_marked, is_marked_tagger, tag_text}
 use Rattle.gix_object_tag.specs.declared.tag.owned.Tag.{Tag}
 use Rattle.gix_object_tag.proofs.ReadBack.{passes, written_spells}
 
@@ -34,16 +33,15 @@ left_false : (a b : Bool) → (a || b) ≡ false → a ≡ false
 left_false true b e = absurd cc
 left_false false b e = refl
 
-good_tagger : (tagger : Option Actor) → is_bad_actor tagger ≡ false → is_bad_tagger (actor_of tagger) ≡ false
+good_tagger : (tagger : Option Actor) → is_bad_actor tagger ≡ false → is_marked_tagger (actor_of tagger) ≡ false
 good_tagger None e = refl
 good_tagger (Some actor) e = left_false (is_marked actor.name || is_marked actor.email) (is_bad_offset actor.time.offset) e
 
 signed_spells : (kind : hash.Kind) (tag : Tag) (signature : List ℕ) → write_fault tag ≡ None → IsInFormat kind (parts_of_tag (with_signature signature tag))
     → SpellsTag kind (tag_text (parts_of_tag (with_signature signature tag))) (parts_of_tag (with_signature signature tag))
 signed_spells kind tag signature fault format =
-    let bad = (passes (parts_of_tag tag) (is_bad_actor tag.tagger) fault).1 in
-    written_spells kind (parts_of_tag (with_signature signature tag))
-    (subst (λ b. cause_of (tag_refusal (parts_of_tag tag) b) ≡ None) (bad ∙ sym (good_tagger tag.tagger bad)) fault) format
+    let pass = passes (parts_of_tag tag) (is_bad_actor tag.tagger) true fault in
+    written_spells kind (parts_of_tag (with_signature signature tag)) pass.1 (good_tagger tag.tagger pass.2) format
 
 tells : (input text signature : List ℕ) (found : Option (SignatureRef × SignedData)) → input ≡ text ++ signature → IsSignedBy input (Some signature) found → TellsSigned text signature found
 tells input text signature None whole h = absurd h

@@ -16,7 +16,7 @@ abbrev pub IsWholeBody : List ℕ → Option (List ℕ) → Type 0
 IsWholeBody message None = IsUnsigned message
 IsWholeBody message (Some signature) = IsSigned signature [] signature
 
--- the format's demands that writing doesn't test
+-- the parts have a written form, the name and the marks of the tagger's name and email aside
 pub record IsInFormat (kind : hash.Kind) (parts : Parts) : Type 0 where
   pub target : IsHex (hex_len kind) parts.target
   pub tagger : TellsWhen parts.tagger

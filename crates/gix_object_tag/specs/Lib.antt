@@ -4,6 +4,7 @@ pub mod Views
 pub mod Faults
 pub mod Tokens
 pub mod NameTest
+pub mod BodyTest
 pub mod Pieces
 pub mod TagText
 pub mod Format

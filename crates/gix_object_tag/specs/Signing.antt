@@ -19,7 +19,7 @@ use Rattle.gix_object_signature.specs.declared.signed.SignedData.{SignedData}
 use Rattle.gix_object_tag.specs.Owned.{IsTagOf, OwningFault}
 use Rattle.gix_object_tag.specs.OwnedText.{parts_of_tag, is_bad_actor}
 use Rattle.gix_object_tag.specs.Tag.{Parts}
-use Rattle.gix_object_tag.specs.TagText.{tag_text, tag_refusal}
+use Rattle.gix_object_tag.specs.TagText.{tag_text, line_refusal}
 use Rattle.gix_object_tag.specs.declared.tag.owned.Tag.{Tag}
 
 -- the message of a tag that has no signature ends with the line feed that parts the two then
@@ -35,9 +35,9 @@ with_signature signature tag = record tag { message = parted tag.pgp_signature t
 abbrev pub IsTextToSign : Tag → List ℕ → Type 0
 IsTextToSign tag text = (signature : List ℕ) → tag_text (parts_of_tag (with_signature signature tag)) ≡ text ++ signature
 
--- why the tag isn't written, if it isn't
+-- why a line of the tag isn't written, if one isn't
 abbrev pub write_fault : Tag → Option write.Error
-write_fault tag = cause_of (tag_refusal (parts_of_tag tag) (is_bad_actor tag.tagger))
+write_fault tag = cause_of (line_refusal (parts_of_tag tag) (is_bad_actor tag.tagger))
 
 -- ---- signing
 
@@ -51,7 +51,7 @@ abbrev pub left_of : {U : Type 0} → Result U Error → Tag → Result Tag Erro
 left_of (Ok _) tag = Ok tag
 left_of (Err error) tag = Err error
 
--- a tag that can't be written runs nothing, nor does one whose text has no memory; else its text is signed once
+-- a tag with a line that can't be written runs nothing, nor does one whose text has no memory; else its text is signed once
 pub data SignsTag {R : Type 0} (answers : R → Request → Result Answer run.RunError → R → Type 0) (before : R) (tag : Tag) (options : Options) (result : Result Tag Error) (after : R) : Type 0 where
   Unwritten : (fault : write.Error) → write_fault tag ≡ Some fault → result ≡ Err (Encode fault) → after ≡ before → SignsTag answers before tag options result after
   NoMemory : result ≡ Err Memory → after ≡ before → SignsTag answers before tag options result after

@@ -1,13 +1,15 @@
 -- A tag as it is written.
-use Rattle.std.specs.Prelude.{ℕ, List, [], ◌∷◌, ◌++◌, codes, Bool, false, ◌||◌, ◌==◌, Option, None, Some, if◌then◌else◌}
+use Rattle.std.specs.Prelude.{ℕ, List, [], ◌∷◌, ◌++◌, codes, Bool, false, true, not, ◌||◌, ◌==◌, Option, None, Some, if◌then◌else◌}
 use Rattle.std.specs.List.{list_any}
 use Rattle.std.specs.Option.{option_map}
-use Rattle.gix_object_lines.specs.HexLine.{hex_line}
+use Rattle.gix_object_lines.specs.HexLine.{hex_line, is_id}
 use Rattle.gix_object_lines.specs.Kind.{kind_word}
+use Rattle.gix_object_lines.specs.TimeTest.{tells_time}
 use Rattle.gix_object_lines.specs.Writes.{Refusal}
 use Rattle.gix_object_lines.specs.declared.encode.Error.TheVariants.{Unspellable}
 use Rattle.gix_object_lines.specs.declared.write.Error.TheVariants.{Header, TagName}
 use Rattle.gix_object_lines.specs.declared.write.TagNameError.{TagNameError}
+use Rattle.gix_object_tag.specs.BodyTest.{is_whole_body}
 use Rattle.gix_object_tag.specs.NameTest.{name_fault}
 use Rattle.gix_object_tag.specs.Pieces.{Piece, all_text, first_refusal}
 use Rattle.gix_object_tag.specs.Tag.{Tagger, Parts}
@@ -34,6 +36,10 @@ body_text (byte ∷ message) (Some signature) = 10 ∷ ((byte ∷ message) ++ 10
 
 -- ---- what isn't written
 
+-- a part that has no written form: nothing of it
+abbrev pub unspellable_unless : Bool → Option Refusal
+unspellable_unless fine = if fine then None else Some (record { before = []; cause = Header Unspellable })
+
 -- a name that is no tag's: nothing of its line
 abbrev pub name_refusal : Option TagNameError → Option Refusal
 name_refusal fault = option_map (λ cause. record { before = []; cause = TagName cause }) fault
@@ -42,18 +48,23 @@ name_refusal fault = option_map (λ cause. record { before = []; cause = TagName
 abbrev pub is_marked : List ℕ → Bool
 is_marked part = list_any (λ byte. byte == 60 || byte == 62 || byte == 10) part
 
+abbrev pub is_marked_tagger : Option Tagger → Bool
+is_marked_tagger None = false
+is_marked_tagger (Some tagger) = is_marked tagger.name || is_marked tagger.email
+
+-- such a name or email, or a text that tells no time
 abbrev pub is_bad_tagger : Option Tagger → Bool
 is_bad_tagger None = false
-is_bad_tagger (Some tagger) = is_marked tagger.name || is_marked tagger.email
+is_bad_tagger (Some tagger) = is_marked_tagger (Some tagger) || not (tells_time tagger.time)
 
 -- a tagger that has no line: nothing of it
 abbrev pub tagger_refusal : Bool → Option Refusal
 tagger_refusal bad = if bad then Some (record { before = []; cause = Header Unspellable }) else None
 
--- ---- the whole, from its parts and whether its tagger has no line
+-- ---- the whole, from its parts, whether its tagger has no line, and whether its body is whole
 
 abbrev pub head_piece : Parts → Piece
-head_piece parts = record { text = head_text parts.target (kind_word parts.target_kind); refusal = None }
+head_piece parts = record { text = head_text parts.target (kind_word parts.target_kind); refusal = unspellable_unless (is_id parts.target) }
 
 abbrev pub name_piece : Parts → Piece
 name_piece parts = record { text = name_line parts.name; refusal = name_refusal (name_fault parts.name) }
@@ -61,14 +72,18 @@ name_piece parts = record { text = name_line parts.name; refusal = name_refusal 
 abbrev pub tagger_piece : Parts → Bool → Piece
 tagger_piece parts bad = record { text = tagger_line parts.tagger; refusal = tagger_refusal bad }
 
-abbrev pub body_piece : Parts → Piece
-body_piece parts = record { text = body_text parts.message parts.signature; refusal = None }
+abbrev pub body_piece : Parts → Bool → Piece
+body_piece parts whole = record { text = body_text parts.message parts.signature; refusal = unspellable_unless whole }
 
-abbrev pub pieces_of : Parts → Bool → List Piece
-pieces_of parts bad = head_piece parts ∷ name_piece parts ∷ tagger_piece parts bad ∷ body_piece parts ∷ []
+abbrev pub pieces_of : Parts → Bool → Bool → List Piece
+pieces_of parts bad whole = head_piece parts ∷ name_piece parts ∷ tagger_piece parts bad ∷ body_piece parts whole ∷ []
 
 abbrev pub tag_text : Parts → List ℕ
-tag_text parts = all_text (pieces_of parts false)
+tag_text parts = all_text (pieces_of parts false true)
 
 abbrev pub tag_refusal : Parts → Bool → Option Refusal
-tag_refusal parts bad = first_refusal (pieces_of parts bad)
+tag_refusal parts bad = first_refusal (pieces_of parts bad (is_whole_body parts.message parts.signature))
+
+-- the same of the lines alone, whatever the body
+abbrev pub line_refusal : Parts → Bool → Option Refusal
+line_refusal parts bad = first_refusal (pieces_of parts bad true)

@@ -31,6 +31,10 @@ pub record Place : Type 0 where
 abbrev pub place_of : TagRefIter → Place
 place_of tokens = record { kind = tokens.hash_kind; stage = tokens.stage; input = tokens.rest.now }
 
+-- at the start of a tag
+abbrev pub start : hash.Kind → List ℕ → Place
+start kind input = record { kind = kind; stage = BeforeTarget; input = input }
+
 -- the part that the token tells begins the input, and what follows it is of the next stage
 abbrev pub Stands : hash.Kind → Stage → List ℕ → Token → Stage → List ℕ → Type 0
 Stands kind BeforeTarget input token next after = (next ≡ BeforeKind) × ((id : ObjectId) × (digits : List ℕ) × (token ≡ Target id) × SpellsTarget kind input digits after × IsHexOfId digits (id_of id))

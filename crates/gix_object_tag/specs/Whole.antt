@@ -1,9 +1,11 @@
 -- Bytes that are a tag, or what is left of one behind some of its parts.
-use Rattle.std.specs.Prelude.{ℕ, Bool, true, false, List, Option}
+use Rattle.std.specs.Prelude.{ℕ, Bool, true, false, ◌≡◌, List, [], ◌∷◌, Option, Some, Ok, IsTrue}
+use Rattle.std.specs.List.{list_any}
 use Rattle.gix_hash.specs.declared.kind.Kind as hash
 use Rattle.gix_object_lines.specs.declared.kind.Kind.{Kind}
 use Rattle.gix_object_tag.specs.Tag as tag
 use Rattle.gix_object_tag.specs.Tag.{Parts, SpellsTarget, SpellsKind, SpellsName, SpellsTagger, SpellsRest, SpellsTag}
+use Rattle.gix_object_tag.specs.Tokens.{Place, Steps}
 use Rattle.gix_object_tag.specs.declared.tag.ref_iter.Token.{Token}
 use Rattle.gix_object_tag.specs.declared.tag.ref_iter.Token.TheVariants.{Target, TargetKind, Name, Tagger, Body}
 use Rattle.gix_object_tag.specs.declared.tag.ref_iter.Stage.{Stage}
@@ -48,3 +50,12 @@ tells_name (TargetKind target) = false
 tells_name (Name name) = true
 tells_name (Tagger tagger) = false
 tells_name (Body message signature) = false
+
+-- from here the reader gives these tokens, one behind the other, and then stands there
+abbrev pub Reads : Place → List Token → Place → Type 0
+Reads here [] there = here ≡ there
+Reads here (token ∷ tokens) there = (next : Place) × Steps here (Some (Ok token)) next × Reads next tokens there
+
+-- from here the reader gives tokens to the input's end, without an error, and the name among them
+abbrev pub ReadsWithName : Place → Type 0
+ReadsWithName here = (tokens : List Token) × (there : Place) × Reads here tokens there × (there.input ≡ []) × IsTrue (list_any tells_name tokens)

@@ -1,16 +1,19 @@
 //! Laws of tags and their spellings: the contract is the law. Where it speaks of a call the function makes
 //! that call, and else it does nothing.
 
-ghost use Rattle.std.specs.Prelude.{ℕ, List, ◌≡◌, ◌≢◌, ◌↔◌, ◌++◌, [], None, IsTrue, IsOkAnd};
+ghost use Rattle.std.specs.Prelude.{ℕ, List, Option, ◌≡◌, ◌≢◌, ◌↔◌, ◌++◌, [], None, false, IsTrue, IsOkAnd, length};
+ghost use Rattle.gix_hash.specs.Kind.{hex_len};
 ghost use Rattle.gix_object_lines.specs.PartialName.{IsPartialName};
 ghost use Rattle.gix_object_lines.specs.Writes.{cause_of};
-ghost use Rattle.gix_object_tag.specs.Format.{IsInFormat};
-ghost use Rattle.gix_object_tag.specs.NameTest.{is_partial};
+ghost use Rattle.gix_object_tag.specs.BodyTest.{is_whole_body};
+ghost use Rattle.gix_object_tag.specs.Format.{IsInFormat, IsWholeBody};
+ghost use Rattle.gix_object_tag.specs.NameTest.{is_partial, name_fault};
 ghost use Rattle.gix_object_tag.specs.OwnedText.{parts_of_tag};
 ghost use Rattle.gix_object_tag.specs.Signing.{IsTextToSign, TellsSigned, with_signature, write_fault};
 ghost use Rattle.gix_object_tag.specs.Tag.{Parts, SpellsTag};
-ghost use Rattle.gix_object_tag.specs.TagText.{tag_text, tag_refusal, is_bad_tagger};
-ghost use Rattle.gix_object_tag.specs.Whole.{IsTag, tells_name};
+ghost use Rattle.gix_object_tag.specs.TagText.{tag_text, tag_refusal, is_bad_tagger, is_marked_tagger};
+ghost use Rattle.gix_object_tag.specs.Tokens.{start};
+ghost use Rattle.gix_object_tag.specs.Whole.{IsTag, ReadsWithName, tells_name};
 ghost use Rattle.gix_object_tag.specs.Views.{parts_of, tagger_of};
 ghost use Rattle.gix_object_tag.specs.declared.tag.owned.Tag.{Tag};
 
@@ -33,11 +36,23 @@ pub fn test_is_the_rules(name: &[u8])
     ensures { IsTrue (is_partial name.now) ↔ IsPartialName name.now }
 {}
 
-/// What is written of a tag that isn't refused spells that tag, and so is read as it, where its target is an id's digits, its
-/// tagger tells a time, and its message holds no armor or its signature has its only armor at its start.
+/// The test of bodies is the format's rule.
+pub fn body_test_is_the_rule()
+    ensures { (message : List ℕ) (signature : Option (List ℕ)) → IsTrue (is_whole_body message signature) ↔ IsWholeBody message signature }
+{}
+
+/// What is written of a tag that isn't refused spells that tag, and so is read as it, in a repository whose ids have as many
+/// digits as its target.
 pub fn written_tag_is_read_back(tag: &TagRef<'_>, hash_kind: gix_hash::Kind)
     ensures { cause_of (tag_refusal (parts_of tag.now) (is_bad_tagger (tagger_of tag.now.tagger))) ≡ None
-        → IsInFormat hash_kind (parts_of tag.now) → SpellsTag hash_kind (tag_text (parts_of tag.now)) (parts_of tag.now) }
+        → length (parts_of tag.now).target ≡ hex_len hash_kind → SpellsTag hash_kind (tag_text (parts_of tag.now)) (parts_of tag.now) }
+{}
+
+/// A tag that was read is written without a refusal, where its name is one that Git makes and its tagger's name and email hold
+/// no `<` and no `>`.
+pub fn read_tag_is_written(_input: &[u8], _hash_kind: gix_hash::Kind)
+    ensures { (parts : Parts) → SpellsTag _hash_kind _input.now parts → name_fault parts.name ≡ None → is_marked_tagger parts.tagger ≡ false
+        → tag_refusal parts (is_bad_tagger parts.tagger) ≡ None }
 {}
 
 /// What is read of a signed tag as it is written: its signature, and as its signed data exactly the text that was signed.
@@ -63,6 +78,20 @@ pub fn read_tag_is_in_format(_input: &[u8], _hash_kind: gix_hash::Kind)
 pub fn read_tag_is_written_back(_input: &[u8], _hash_kind: gix_hash::Kind)
     ensures { (parts : Parts) → SpellsTag _hash_kind _input.now parts → parts.message ≢ [] → tag_text parts ≡ _input.now }
 {}
+
+/// The token reader gives its tokens to the end of the bytes without an error, and the name among them, exactly where the bytes
+/// spell a tag. They are read to that end.
+pub fn tokens_end_with_the_name_told(input: &[u8], hash_kind: gix_hash::Kind)
+    ensures { IsTag hash_kind input.now ↔ ReadsWithName (start hash_kind input.now) }
+{
+    let mut tokens = TagRefIter::from_bytes(input, hash_kind);
+    'tokens: while let Some(token) = tokens.next() {
+        match token {
+            Ok(_token) => {}
+            Err(_) => return,
+        }
+    }
+}
 
 /// Whether the token reader gives no error, and the name among its tokens: exactly where the bytes spell a tag, and so
 /// exactly where `TagRef::from_bytes` succeeds.

@@ -3,7 +3,9 @@
 ghost use Rattle.std.specs.Prelude.{◌≡◌, ◌≤◌, ◌^◌, None, OnOk, OnErr, MatchOption, flat_map, length};
 ghost use Rattle.std.specs.Io.KnownBytes.{Appends};
 ghost use Rattle.gix_object_lines.specs.Writes.{AppendsFront, Writes};
+ghost use Rattle.gix_object_tag.specs.TagText.{unspellable_unless};
 
+use gix_object_lines::encode;
 use gix_object_lines::write::{Error, write_bytes};
 use std::io;
 
@@ -15,6 +17,20 @@ pub(crate) fn write_all<W: io::Write>(parts: &[&[u8]], out: &mut W) -> Result<()
         return Err(Error::Writer(error));
     }
     Ok(())
+}
+
+/// Writes the parts in order where they have a written form. Else it is `Header(Unspellable)`, and nothing is written.
+pub(crate) fn write_spellable<W: io::Write>(
+    fine: bool,
+    parts: &[&[u8]],
+    out: &mut W,
+) -> Result<(), Error>
+    ensures { Writes (W.contents out.old) (W.contents out.new) (flat_map (λ part. part.now) parts.now) (unspellable_unless fine) result }
+{
+    if !fine {
+        return Err(Error::Header(encode::Error::Unspellable));
+    }
+    write_all(parts, out)
 }
 
 fn write_parts<W: io::Write>(parts: &[&[u8]], out: &mut W) -> io::Result<()>

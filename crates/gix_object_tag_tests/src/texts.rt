@@ -99,6 +99,50 @@ fn refuses_names_and_taggers(rt: HostRuntime) -> Result<(), Fail> {
     Ok(())
 }
 
+// What git's reader would take for another tag, or for none.
+#[test]
+fn refuses_what_would_be_read_otherwise(rt: HostRuntime) -> Result<(), Fail> {
+    let plain = TagRef {
+        target: BStr::new(&TARGET[7..47]),
+        target_kind: gix_object_lines::Kind::Commit,
+        name: BStr::new(b"v"),
+        tagger: None,
+        message: BStr::new(b"m"),
+        pgp_signature: None,
+    };
+    let short = TagRef {
+        target: BStr::new(&TARGET[7..46]),
+        ..plain
+    };
+    let untimed = TagRef {
+        tagger: Some(gix_object_lines::lines::ActorRef {
+            name: BStr::new(b"A"),
+            email: BStr::new(b"a"),
+            time: BStr::new(b"today"),
+        }),
+        ..plain
+    };
+    let armored = TagRef {
+        message: BStr::new(b"m\n-----BEGIN SSH SIGNATURE-----\n"),
+        ..plain
+    };
+    let unarmored = TagRef {
+        pgp_signature: Some(BStr::new(b"signed")),
+        ..plain
+    };
+    let mut out = Vec::new(rt.alloc());
+    assert!(rt; plain.write_to(&mut out).is_ok());
+    for tag in [short, untimed, armored, unarmored] {
+        assert!(rt;
+            matches!(
+                tag.write_to(&mut out),
+                Err(write::Error::Header(encode::Error::Unspellable))
+            )
+        );
+    }
+    Ok(())
+}
+
 #[test]
 fn knows_the_armors_of_git(rt: HostRuntime) {
     assert_eq!(rt;

@@ -11,17 +11,13 @@ use Rattle.gix_object_commit.specs.OwnedText.{own_parts, own_refusal}
 use Rattle.gix_object_commit.specs.Writable as writable
 use Rattle.gix_object_commit.specs.Writing.{commit_refusal}
 use Rattle.gix_object_commit.specs.declared.commit.owned.Commit as owned_commit
-use Rattle.gix_object_lines.specs.Actor.{TellsTime}
-use Rattle.gix_object_tag.specs.Format as tag_format
-use Rattle.gix_object_tag.specs.Format.{IsWholeBody}
 use Rattle.gix_object_tag.specs.NameTest.{name_fault}
 use Rattle.gix_object_tag.specs.OwnedText.{parts_of_tag, is_bad_actor}
-use Rattle.gix_object_tag.specs.Pieces.{first_refusal}
 use Rattle.gix_object_tag.specs.Tag as tag
 use Rattle.gix_object_tag.specs.Tag.{SpellsTag}
-use Rattle.gix_object_tag.specs.TagText.{name_line, name_refusal, head_piece, tagger_piece, body_piece, tag_text, tag_refusal, is_bad_tagger}
+use Rattle.gix_object_tag.specs.TagText.{tag_text, tag_refusal, is_bad_tagger, is_marked_tagger}
 use Rattle.gix_object_tag.specs.declared.tag.owned.Tag as owned_tag
-use Rattle.gix_object_tree.specs.Format.{IsInFormat, IsOwnInFormat, IsWritable, HasOneSpelling}
+use Rattle.gix_object_tree.specs.Format.{HasIds, HasOwnIds, IsWritable, HasOneSpelling}
 use Rattle.gix_object_tree.specs.Loose.{IsLoose, loose_text}
 use Rattle.gix_object_tree.specs.Object.{Value, Blob, Commit, Tag, SpellsValue, kind_of, value_text, value_refusal}
 use Rattle.gix_object_tree.specs.Owned.{own_value, own_value_refusal}
@@ -34,32 +30,31 @@ loose ids value is = record { kind = kind_of value; content = value_text value; 
 -- ---- borrowed
 
 abbrev pub IsReadBack : hash.Kind → Value → Type 0
-IsReadBack ids value = value_refusal value ≡ None → IsInFormat ids value → IsLoose ids (loose_text (kind_of value) (value_text value)) value
+IsReadBack ids value = value_refusal value ≡ None → HasIds ids value → IsLoose ids (loose_text (kind_of value) (value_text value)) value
 
 pub blob_back : (ids : hash.Kind) (bytes : List ℕ) → IsReadBack ids (Blob bytes)
 blob_back ids bytes none format = loose ids (Blob bytes) refl
 
-pub commit_back : (ids : hash.Kind) (parts : commit.Parts) → (commit_refusal parts ≡ None → TellsTime parts.author.time → TellsTime parts.committer.time → SpellsCommit (length parts.tree) (commit_text parts) parts) → IsReadBack ids (Commit parts)
-commit_back ids parts law none format =
-    loose ids (Commit parts) (subst (λ n. SpellsCommit n (commit_text parts) parts) format.tree (law none format.author format.committer))
+pub commit_back : (ids : hash.Kind) (parts : commit.Parts) → (commit_refusal parts ≡ None → SpellsCommit (length parts.tree) (commit_text parts) parts) → IsReadBack ids (Commit parts)
+commit_back ids parts law none ids_are = loose ids (Commit parts) (subst (λ n. SpellsCommit n (commit_text parts) parts) ids_are (law none))
 
-pub tag_back : (ids : hash.Kind) (parts : tag.Parts) → (cause_of (tag_refusal parts (is_bad_tagger parts.tagger)) ≡ None → tag_format.IsInFormat ids parts → SpellsTag ids (tag_text parts) parts) → IsReadBack ids (Tag parts)
-tag_back ids parts law none format = loose ids (Tag parts) (law (ap cause_of none) format)
+pub tag_back : (ids : hash.Kind) (parts : tag.Parts) → (cause_of (tag_refusal parts (is_bad_tagger parts.tagger)) ≡ None → length parts.target ≡ hex_len ids → SpellsTag ids (tag_text parts) parts) → IsReadBack ids (Tag parts)
+tag_back ids parts law none ids_are = loose ids (Tag parts) (law (ap cause_of none) ids_are)
 
 -- ---- owned
 
 abbrev pub IsOwnReadBack : hash.Kind → Object → Type 0
-IsOwnReadBack ids own = own_value_refusal own ≡ None → IsOwnInFormat ids own → IsLoose ids (loose_text (kind_of (own_value own)) (value_text (own_value own))) (own_value own)
+IsOwnReadBack ids own = own_value_refusal own ≡ None → HasOwnIds ids own → IsLoose ids (loose_text (kind_of (own_value own)) (value_text (own_value own))) (own_value own)
 
 pub own_commit_back : (ids : hash.Kind) (commit : owned_commit.Commit) → (own_refusal commit ≡ None → SpellsCommit (hex_len (id_of commit.tree).kind) (commit_text (own_parts commit)) (own_parts commit)) → IsOwnReadBack ids (object.Commit commit)
-own_commit_back ids commit law none format =
-    loose ids (Commit (own_parts commit)) (subst (λ k. SpellsCommit (hex_len k) (commit_text (own_parts commit)) (own_parts commit)) format (law none))
+own_commit_back ids commit law none ids_are =
+    loose ids (Commit (own_parts commit)) (subst (λ k. SpellsCommit (hex_len k) (commit_text (own_parts commit)) (own_parts commit)) ids_are (law none))
 
 pub own_tag_back : (ids : hash.Kind) (tag : owned_tag.Tag)
-    → (cause_of (tag_refusal (parts_of_tag tag) (is_bad_actor tag.tagger)) ≡ None → IsWholeBody tag.message tag.pgp_signature → SpellsTag (id_of tag.target).kind (tag_text (parts_of_tag tag)) (parts_of_tag tag))
+    → (cause_of (tag_refusal (parts_of_tag tag) (is_bad_actor tag.tagger)) ≡ None → SpellsTag (id_of tag.target).kind (tag_text (parts_of_tag tag)) (parts_of_tag tag))
     → IsOwnReadBack ids (object.Tag tag)
-own_tag_back ids tag law none format =
-    loose ids (Tag (parts_of_tag tag)) (subst (λ k. SpellsTag k (tag_text (parts_of_tag tag)) (parts_of_tag tag)) format.0 (law (ap cause_of none) format.1))
+own_tag_back ids tag law none ids_are =
+    loose ids (Tag (parts_of_tag tag)) (subst (λ k. SpellsTag k (tag_text (parts_of_tag tag)) (parts_of_tag tag)) ids_are (law (ap cause_of none)))
 
 -- ---- the other way round
 
@@ -74,18 +69,14 @@ bytes_again ids bytes content law value is there one =
     let text = text_again ids content law value (subst (λ c. SpellsValue ids c value) (sym there) is.told.spelled) one ∙ there in
     ap (loose_text (kind_of value)) text ∙ ap (λ k. loose_text k is.content) (sym is.told.of_kind) ∙ sym is.spelled
 
-tag_accepted : (parts : tag.Parts) (bad : Bool) → name_fault parts.name ≡ None → bad ≡ false → tag_refusal parts bad ≡ None
-tag_accepted parts bad name good =
-    ap (λ fault. first_refusal (head_piece parts ∷ record { text = name_line parts.name; refusal = name_refusal fault } ∷ tagger_piece parts bad ∷ body_piece parts ∷ [])) name
-    ∙ ap (λ b. first_refusal (head_piece parts ∷ record { text = name_line parts.name; refusal = None } ∷ tagger_piece parts b ∷ body_piece parts ∷ [])) good
-
 pub accepted : (ids : hash.Kind) (content : List ℕ) → ((parts : commit.Parts) → SpellsCommit (hex_len ids) content parts → writable.IsWritable parts → commit_refusal parts ≡ None)
+    → ((parts : tag.Parts) → SpellsTag ids content parts → name_fault parts.name ≡ None → is_marked_tagger parts.tagger ≡ false → tag_refusal parts (is_bad_tagger parts.tagger) ≡ None)
     → (value : Value) → SpellsValue ids content value → IsWritable value → value_refusal value ≡ None
-accepted ids content law (Blob bytes) is fits = refl
-accepted ids content law (Commit parts) is fits = law parts is fits
-accepted ids content law (Tag parts) is fits = tag_accepted parts (is_bad_tagger parts.tagger) fits.0 fits.1
+accepted ids content law tag_law (Blob bytes) is fits = refl
+accepted ids content law tag_law (Commit parts) is fits = law parts is fits
+accepted ids content law tag_law (Tag parts) is fits = tag_law parts is fits.0 fits.1
 
-pub in_format : (ids : hash.Kind) (content : List ℕ) → ((parts : tag.Parts) → SpellsTag ids content parts → tag_format.IsInFormat ids parts) → (value : Value) → SpellsValue ids content value → IsInFormat ids value
-in_format ids content law (Blob bytes) is = tt
-in_format ids content law (Commit parts) is = record { tree = is.tree.0; author = is.author.time_told; committer = is.committer.time_told }
-in_format ids content law (Tag parts) is = law parts is
+pub has_ids : (ids : hash.Kind) (content : List ℕ) (value : Value) → SpellsValue ids content value → HasIds ids value
+has_ids ids content (Blob bytes) is = tt
+has_ids ids content (Commit parts) is = is.tree.0
+has_ids ids content (Tag parts) is = is.target.hex.0

@@ -5,44 +5,35 @@ use Rattle.gix_hash.specs.Id.{id_of}
 use Rattle.gix_hash.specs.Kind.{hex_len}
 use Rattle.gix_hash.specs.LetterCase.{IsLowerCase}
 use Rattle.gix_hash.specs.declared.kind.Kind as hash
-use Rattle.gix_object_lines.specs.Actor.{TellsTime}
 use Rattle.gix_object_lines.specs.Time.{SpellsTime, time_text}
 use Rattle.gix_object_lines.specs.declared.lines.time.Time.{Time}
 use Rattle.gix_object_commit.specs.Commit as commit
 use Rattle.gix_object_commit.specs.Writable as writable
-use Rattle.gix_object_tag.specs.Format as tag
-use Rattle.gix_object_tag.specs.Format.{IsWholeBody}
 use Rattle.gix_object_tag.specs.NameTest.{name_fault}
 use Rattle.gix_object_tag.specs.Tag as tag_parts
-use Rattle.gix_object_tag.specs.TagText.{is_bad_tagger}
+use Rattle.gix_object_tag.specs.TagText.{is_marked_tagger}
 use Rattle.gix_object_tree.specs.Object.{Value, Blob, Commit, Tag}
 use Rattle.gix_object_tree.specs.declared.owned.Object.{Object}
 use Rattle.gix_object_tree.specs.declared.owned.Object.TheVariants as object
 
--- ids of this hash function, and actors that tell times
-pub record IsCommitInFormat (ids : hash.Kind) (parts : commit.Parts) : Type 0 where
-  pub tree : length parts.tree ≡ hex_len ids
-  pub author : TellsTime parts.author.time
-  pub committer : TellsTime parts.committer.time
+-- its first id has as many digits as one of this hash function
+abbrev pub HasIds : hash.Kind → Value → Type 0
+HasIds ids (Blob bytes) = ⊤
+HasIds ids (Commit parts) = length parts.tree ≡ hex_len ids
+HasIds ids (Tag parts) = length parts.target ≡ hex_len ids
 
--- the format's demands that writing doesn't test
-abbrev pub IsInFormat : hash.Kind → Value → Type 0
-IsInFormat ids (Blob bytes) = ⊤
-IsInFormat ids (Commit parts) = IsCommitInFormat ids parts
-IsInFormat ids (Tag parts) = tag.IsInFormat ids parts
+-- the same for an object that owns its parts
+abbrev pub HasOwnIds : hash.Kind → Object → Type 0
+HasOwnIds ids (object.Blob blob) = ⊤
+HasOwnIds ids (object.Commit commit) = (id_of commit.tree).kind ≡ ids
+HasOwnIds ids (object.Tag tag) = (id_of tag.target).kind ≡ ids
 
--- the same for an object that owns its parts: its ids are of this hash function, and a tag's signature holds its only armor
-abbrev pub IsOwnInFormat : hash.Kind → Object → Type 0
-IsOwnInFormat ids (object.Blob blob) = ⊤
-IsOwnInFormat ids (object.Commit commit) = (id_of commit.tree).kind ≡ ids
-IsOwnInFormat ids (object.Tag tag) = ((id_of tag.target).kind ≡ ids) × IsWholeBody tag.message tag.pgp_signature
-
--- no part is one that the format never writes: a commit's actors are plain and its encoding has a name; a tag's name is one, and its
--- tagger plain
+-- no part is one that is read and never written: a commit's actors are plain and its encoding has a name; a tag's name is one that
+-- Git makes, and its tagger plain
 abbrev pub IsWritable : Value → Type 0
 IsWritable (Blob bytes) = ⊤
 IsWritable (Commit parts) = writable.IsWritable parts
-IsWritable (Tag parts) = (name_fault parts.name ≡ None) × (is_bad_tagger parts.tagger ≡ false)
+IsWritable (Tag parts) = (name_fault parts.name ≡ None) × (is_marked_tagger parts.tagger ≡ false)
 
 -- no other content spells the value: an empty message of a tag may be left out with its empty line, or stand before a signature with
 -- or without a line feed

@@ -2,7 +2,7 @@
 
 ghost use Rattle.std.specs.Prelude.{◌≡◌, ℕ, List, None};
 ghost use Rattle.gix_object_lines.specs.declared.kind.Kind.{Kind};
-ghost use Rattle.gix_object_tree.specs.Format.{IsInFormat, IsWritable, HasOneSpelling};
+ghost use Rattle.gix_object_tree.specs.Format.{HasIds, IsWritable, HasOneSpelling};
 ghost use Rattle.gix_object_tree.specs.Loose.{IsLoose, loose_text};
 ghost use Rattle.gix_object_tree.specs.Object.{Value, Tells, kind_of, value_text, value_refusal};
 ghost use Rattle.gix_object_tree.specs.Views.{value_of};
@@ -13,7 +13,7 @@ use crate::ObjectRef;
 use gix_object_commit::laws::{one_commit, read_is_written, written_is_read};
 use gix_object_lines::decode::loose_header;
 use gix_object_tag::laws::{
-    bytes_spell_one_tag, read_tag_is_in_format, read_tag_is_written_back, written_tag_is_read_back,
+    bytes_spell_one_tag, read_tag_is_written, read_tag_is_written_back, written_tag_is_read_back,
 };
 
 /// Bytes are a header and as much content as it tells in one way at most.
@@ -42,10 +42,9 @@ pub fn one_loose_object(bytes: &[u8], hash_kind: gix_hash::Kind)
 }
 
 /// What is written of an object that isn't refused, behind its header, is a loose object that tells the same value, where
-/// its ids are of this hash function, its actors tell times, and a tag's message holds no armor or its signature has its
-/// only armor at its start. So `ObjectRef::from_loose` reads it as that value.
+/// its ids are of this hash function. So `ObjectRef::from_loose` reads it as that value.
 pub fn written_object_is_read_back(object: &ObjectRef<'_>, hash_kind: gix_hash::Kind)
-    ensures { let value = value_of object.now in value_refusal value ≡ None → IsInFormat hash_kind value
+    ensures { let value = value_of object.now in value_refusal value ≡ None → HasIds hash_kind value
         → IsLoose hash_kind (loose_text (kind_of value) (value_text value)) value }
 {
     match object {
@@ -55,12 +54,11 @@ pub fn written_object_is_read_back(object: &ObjectRef<'_>, hash_kind: gix_hash::
     }
 }
 
-/// An object that was read is in the format, so that it is read back where its writing isn't refused.
-pub fn read_object_is_in_format(bytes: &[u8], hash_kind: gix_hash::Kind)
-    ensures { (value : Value) → IsLoose hash_kind bytes.now value → IsInFormat hash_kind value }
-{
-    read_tag_is_in_format(content_of(bytes), hash_kind);
-}
+/// The ids of an object that was read are of its hash function, so that it is read back where its writing isn't refused.
+/// Nothing is done: the contract is the law.
+pub fn read_object_has_ids(_bytes: &[u8], _hash_kind: gix_hash::Kind)
+    ensures { (value : Value) → IsLoose _hash_kind _bytes.now value → HasIds _hash_kind value }
+{}
 
 /// An object that was read is written to the bytes that it was read from, unless it is a tag with an empty message: such a
 /// tag may end behind its lines, or have a line feed more before its signature. Its writing is refused only where a name or
@@ -70,8 +68,10 @@ pub fn read_object_is_written_back(bytes: &[u8], hash_kind: gix_hash::Kind)
         → loose_text (kind_of value) (value_text value) ≡ bytes.now }
     ensures accepted { (value : Value) → IsLoose hash_kind bytes.now value → IsWritable value → value_refusal value ≡ None }
 {
-    read_is_written(content_of(bytes), hash_kind);
-    read_tag_is_written_back(content_of(bytes), hash_kind);
+    let content = content_of(bytes);
+    read_is_written(content, hash_kind);
+    read_tag_is_written(content, hash_kind);
+    read_tag_is_written_back(content, hash_kind);
 }
 
 // What stands behind the header of a loose object.

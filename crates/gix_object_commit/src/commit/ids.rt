@@ -5,7 +5,7 @@ ghost use Rattle.std.specs.List.{list_all};
 ghost use Rattle.bstr.specs.BStr.{bstr_bytes};
 ghost use Rattle.gix_hash.specs.Id.{id_of};
 ghost use Rattle.gix_hash.specs.Views.{IsHexOfId};
-ghost use Rattle.gix_object_commit.specs.Writing.{is_id};
+ghost use Rattle.gix_object_lines.specs.HexLine.{is_id};
 
 use crate::commit::CommitRef;
 use crate::id::id_of_digits;

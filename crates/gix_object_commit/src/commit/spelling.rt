@@ -7,26 +7,19 @@ ghost use Rattle.gix_object_lines.specs.HexLine.{is_hex};
 ghost use Rattle.gix_object_commit.specs.Commit.{Field};
 ghost use Rattle.gix_object_commit.specs.OwnedText.{is_whole_offset as is_spellable_offset, is_own_person as is_spellable_own_person};
 ghost use Rattle.gix_object_commit.specs.Views.{person_of, field_of};
-ghost use Rattle.gix_object_commit.specs.Writing.{unspellable_unless, holds as holds_byte, is_id as is_hex_id, is_id_like as is_hex_id_like, is_plain as is_plain_text, is_person as is_spellable_person, is_folded as is_folded_text, is_word, is_field as is_spellable_field, is_encoding_first as is_named_first, encoding_cause as cause_of_encoding};
+ghost use Rattle.gix_object_commit.specs.Writing.{unspellable_unless, holds as holds_byte, is_id_like as is_hex_id_like, is_plain as is_plain_text, is_person as is_spellable_person, is_folded as is_folded_text, is_word, is_field as is_spellable_field, is_encoding_first as is_named_first, encoding_cause as cause_of_encoding};
 
 use crate::commit::HeaderRef;
 use bstr::BStr;
 use gix_object_lines::cut::{behind, lacks, split_once};
 use gix_object_lines::encode::Error;
-use gix_object_lines::lines::{Actor, ActorRef};
+use gix_object_lines::lines::{Actor, ActorRef, tells_time};
 
 /// No refusal where the part is fine.
 pub(crate) fn unless(fine: bool) -> Option<Error>
     ensures { result ≡ unspellable_unless fine }
 {
     if fine { None } else { Some(Error::Unspellable) }
-}
-
-/// Whether it is the digits of an id of a hash function.
-pub(crate) fn is_id(digits: &[u8]) -> bool
-    ensures { result ≡ is_hex_id digits.now }
-{
-    (digits.len() == 40 || digits.len() == 64) && is_hexadecimal(digits)
 }
 
 /// Whether it is the digits of an id that has as many as the tree's.
@@ -43,15 +36,13 @@ fn is_hexadecimal(bytes: &[u8]) -> bool
     bytes.iter().all(|byte| byte.is_ascii_hexdigit())
 }
 
-/// Whether an actor's name and email hold no `<`, `>` or line feed, and the text of its time no `>` or line feed.
+/// Whether an actor's name and email hold no `<`, `>` or line feed, and its text of a time tells one.
 pub(crate) fn is_person(actor: &ActorRef<'_>) -> bool
     ensures { result ≡ is_spellable_person (person_of actor.now) }
 {
-    let time = actor.time.as_bytes();
     is_plain(actor.name.as_bytes())
         && is_plain(actor.email.as_bytes())
-        && !holds(time, b'>')
-        && !holds(time, b'\n')
+        && tells_time(actor.time.as_bytes())
 }
 
 fn is_plain(part: &[u8]) -> bool

@@ -10,11 +10,12 @@ ghost use Rattle.gix_object_commit.specs.Views.{person_of, field_of, parts_of};
 ghost use Rattle.gix_object_commit.specs.Writing.{WritesPieces, pieces_text, tree_piece, parent_piece, person_piece, encoding_piece, field_piece, message_piece, id_pieces, encoding_pieces, header_pieces, is_encoding_first as is_named_first, commit_refusal};
 
 use crate::commit::spelling::{
-    encoding_cause, is_encoding_first, is_field, is_id, is_id_like, is_person, unless,
+    encoding_cause, is_encoding_first, is_field, is_id_like, is_person, unless,
 };
 use crate::commit::{CommitRef, HeaderRef};
 use crate::parts::{add_lengths, write_piece};
 use bstr::BStr;
+use gix_object_lines::hex_line::is_id;
 use gix_object_lines::lines::ActorRef;
 use gix_object_lines::write::Error;
 use gix_object_lines::{Kind, WriteTo};

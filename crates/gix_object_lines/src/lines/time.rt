@@ -1,7 +1,9 @@
 //! Times: seconds since 1970 and how far local time is ahead.
 
-ghost use Rattle.std.specs.Prelude.{◌≡◌, Ok, IfOk, IsErrOf, IsOkUnless, MatchOption, OnOk};
+ghost use Rattle.std.specs.Prelude.{◌≡◌, ◌↔◌, IsTrue, Ok, IfOk, IsErrOf, IsOkUnless, MatchOption, OnOk};
 ghost use Rattle.gix_object_lines.specs.Time.{SpellsTime, IsSpellableOffset, time_text};
+ghost use Rattle.gix_object_lines.specs.Actor.{TellsTime};
+ghost use Rattle.gix_object_lines.specs.TimeTest as test;
 ghost use Rattle.gix_object_lines.specs.declared.lines.time.Time.{Time};
 ghost use Rattle.gix_object_lines.specs.LineWrites.{WritesLine};
 ghost use Rattle.gix_object_lines.specs.declared.write.Error.TheVariants.{Header};
@@ -35,6 +37,14 @@ pub fn read_time(text: &[u8]) -> Result<Time, decode::Error>
     ensures refused { IsOkUnless result InvalidTime }
 {
     parse(text).ok_or(decode::Error::InvalidTime)
+}
+
+/// Whether the text tells a time, as `read_time` reads it.
+pub fn tells_time(text: &[u8]) -> bool
+    ensures test { result ≡ test.tells_time text.now }
+    ensures grammar { IsTrue result ↔ TellsTime text.now }
+{
+    read_time(text).is_ok()
 }
 
 fn parse(text: &[u8]) -> Option<Time>

@@ -4,7 +4,6 @@ ghost use Rattle.std.specs.Prelude.{◌≡◌, None, IfSome, FitsSigned};
 ghost use Rattle.std.specs.Int.{w64};
 ghost use Rattle.gix_hash.specs.Id.{id_of};
 ghost use Rattle.gix_object_lines.specs.Writes.{cause_of};
-ghost use Rattle.gix_object_tag.specs.Format.{IsWholeBody};
 ghost use Rattle.gix_object_tag.specs.OwnedText.{parts_of_tag, is_bad_actor};
 ghost use Rattle.gix_object_tag.specs.Tag.{SpellsTag};
 ghost use Rattle.gix_object_tag.specs.TagText.{tag_text, tag_refusal};
@@ -13,10 +12,10 @@ use crate::Tag;
 use gix_hash::laws::printed_id_reads_back;
 use gix_object_lines::lines::Actor;
 
-/// What is written of a tag that owns its parts and isn't refused spells that tag, its id of the target's kind, where its
-/// message holds no armor or its signature has its only armor at its start. The contract is the law.
+/// What is written of a tag that owns its parts and isn't refused spells that tag, its id of the target's kind. The contract is
+/// the law.
 pub fn owned_written_tag_is_read_back(tag: &Tag)
-    ensures { cause_of (tag_refusal (parts_of_tag tag.now) (is_bad_actor tag.now.tagger)) ≡ None → IsWholeBody tag.now.message tag.now.pgp_signature
+    ensures { cause_of (tag_refusal (parts_of_tag tag.now) (is_bad_actor tag.now.tagger)) ≡ None
         → SpellsTag (id_of tag.now.target).kind (tag_text (parts_of_tag tag.now)) (parts_of_tag tag.now) }
 {
     let _bytes = tag.target.as_slice();

@@ -2,11 +2,10 @@
 
 ghost use Rattle.std.specs.Prelude.{ℕ, List, Some, None, ◌≡◌, IsOk, IsOkAnd, IfOk, IfErr, MatchOption};
 ghost use Rattle.std.specs.Iterator.{at_most};
-ghost use Rattle.gix_object_tag.specs.Tokens.{Stands, HasPart, IsFault, Steps, tokens_left, place_of, token_id, TargetIs, TargetIsNot, TaggerIs, TaggerIsNot, TaggerBehindTarget, NoTaggerBehindTarget, TaggerBehindKind, NoTaggerBehindKind};
+ghost use Rattle.gix_object_tag.specs.Tokens.{Stands, HasPart, IsFault, Steps, tokens_left, place_of, start, token_id, TargetIs, TargetIsNot, TaggerIs, TaggerIsNot, TaggerBehindTarget, NoTaggerBehindTarget, TaggerBehindKind, NoTaggerBehindKind};
 ghost use Rattle.gix_object_tag.specs.Faults.{TagFault};
 ghost use Rattle.gix_object_tag.specs.Signature.{IsSignedBy};
 ghost use Rattle.gix_object_tag.specs.Tag.{Parts, SpellsTag};
-ghost use Rattle.gix_object_tag.specs.declared.tag.ref_iter.Stage.TheVariants.{BeforeTarget};
 
 use crate::id::id_of_digits;
 use crate::tag::{TagRef, decode};
@@ -84,7 +83,7 @@ pub struct TagRefIter<'a> {
 impl<'a> TagRefIter<'a> {
     /// The tokens of these bytes, in a repository of this kind of ids.
     pub fn from_bytes(input: &'a [u8], hash_kind: gix_hash::Kind) -> TagRefIter<'a>
-        ensures { place_of result ≡ record { kind = hash_kind; stage = BeforeTarget; input = input.now } }
+        ensures { place_of result ≡ start hash_kind input.now }
     {
         TagRefIter {
             rest: input,

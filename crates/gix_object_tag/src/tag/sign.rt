@@ -24,7 +24,7 @@ impl Tag {
     /// then, and is told in the message no more. So the text that Git makes of a tag is signed as it stands where its message
     /// ends with a line feed behind at least one byte.
     ///
-    /// It is `Encode` where the tag can't be written, and nothing is run then; else the error of
+    /// It is `Encode` where a line before the message can't be written, and nothing is run then; else the error of
     /// `gix_object_signature::sign::sign`; and `Memory` where no memory is left. The tag is as it was after each error.
     pub fn sign<F: FnMut(&[Word<'_>], &[u8]) -> Result<Answer, RunError>>(
         &mut self,

@@ -2,17 +2,21 @@
 
 ghost use Rattle.std.specs.Prelude.{◌≡◌, ◌≤◌, ◌^◌, Some, None, codes, flat_map, length, MatchOption};
 ghost use Rattle.bstr.specs.BStr.{bstr_bytes};
+ghost use Rattle.gix_object_lines.specs.HexLine as hex;
 ghost use Rattle.gix_object_lines.specs.Kind.{kind_word};
 ghost use Rattle.gix_object_lines.specs.Writes.{Writes};
 ghost use Rattle.gix_object_lines.specs.declared.kind.Kind.TheVariants.{Tag as TagKind};
+ghost use Rattle.gix_object_tag.specs.BodyTest as body_test;
 ghost use Rattle.gix_object_tag.specs.NameTest as name_test;
-ghost use Rattle.gix_object_tag.specs.TagText.{head_text, name_line, tagger_line, body_text, name_refusal, tagger_refusal, is_bad_tagger, is_marked, tag_text, tag_refusal};
+ghost use Rattle.gix_object_tag.specs.TagText.{head_text, name_line, tagger_line, body_text, name_refusal, tagger_refusal, unspellable_unless, is_bad_tagger, is_marked, tag_text, tag_refusal};
 ghost use Rattle.gix_object_tag.specs.Views.{parts_of, tagger_of, text_of};
 
+use crate::signature::is_whole_body;
 use crate::tag::TagRef;
-use crate::write::{length_of, write_all};
+use crate::write::{length_of, write_all, write_spellable};
 use bstr::BStr;
-use gix_object_lines::lines::{ActorRef, is_partial_name};
+use gix_object_lines::hex_line::is_id;
+use gix_object_lines::lines::{ActorRef, is_partial_name, tells_time};
 use gix_object_lines::write::{Error, TagNameError};
 use gix_object_lines::{Kind, WriteTo, encode};
 use std::io;
@@ -28,7 +32,7 @@ impl<'a> WriteTo for TagRef<'a> {
         write_head(self.target, self.target_kind, out)?;
         write_name(self.name, out)?;
         write_tagger(self.tagger, out)?;
-        write_body(self.message, self.pgp_signature, out)
+        write_whole_body(self.message, self.pgp_signature, out)
     }
 
     fn kind(&self) -> Kind {
@@ -84,9 +88,10 @@ pub(crate) fn write_head<W: io::Write>(
     kind: Kind,
     out: &mut W,
 ) -> Result<(), Error>
-    ensures { Writes (W.contents out.old) (W.contents out.new) (head_text (bstr_bytes target.entry) (kind_word kind)) None result }
+    ensures { Writes (W.contents out.old) (W.contents out.new) (head_text (bstr_bytes target.entry) (kind_word kind)) (unspellable_unless (hex.is_id (bstr_bytes target.entry))) result }
 {
-    write_all(&head_parts(target.as_bytes(), kind.as_bytes()), out)
+    let target = target.as_bytes();
+    write_spellable(is_id(target), &head_parts(target, kind.as_bytes()), out)
 }
 
 pub(crate) fn write_name<W: io::Write>(name: BStr<'_>, out: &mut W) -> Result<(), Error>
@@ -126,10 +131,11 @@ fn write_tagger<W: io::Write>(tagger: Option<ActorRef<'_>>, out: &mut W) -> Resu
     };
     let name = actor.name.as_bytes();
     let email = actor.email.as_bytes();
-    if is_marked(name) || is_marked(email) {
+    let time = actor.time.as_bytes();
+    if is_marked(name) || is_marked(email) || !tells_time(time) {
         return Err(Error::Header(encode::Error::Unspellable));
     }
-    write_all(&tagger_parts(name, email, actor.time.as_bytes()), out)
+    write_all(&tagger_parts(name, email, time), out)
 }
 
 // Whether a `<`, a `>` or a line feed stands in a name or an email.
@@ -148,6 +154,18 @@ pub(crate) fn write_body<W: io::Write>(
     ensures { Writes (W.contents out.old) (W.contents out.new) (body_text (bstr_bytes message.entry) (text_of signature.entry)) None result }
 {
     write_all(&body_parts(message, signature), out)
+}
+
+pub(crate) fn write_whole_body<W: io::Write>(
+    message: BStr<'_>,
+    signature: Option<BStr<'_>>,
+    out: &mut W,
+) -> Result<(), Error>
+    ensures { Writes (W.contents out.old) (W.contents out.new) (body_text (bstr_bytes message.entry) (text_of signature.entry))
+        (unspellable_unless (body_test.is_whole_body (bstr_bytes message.entry) (text_of signature.entry))) result }
+{
+    let parts = body_parts(message, signature);
+    write_spellable(is_whole_body(message, signature), &parts, out)
 }
 
 // ---- their lengths

@@ -8,7 +8,9 @@ ghost use Rattle.gix_object_lines.specs.declared.kind.Kind.TheVariants.{Tag as T
 ghost use Rattle.gix_object_tag.specs.OwnedText.{actor_of, parts_of_tag, is_bad_actor};
 ghost use Rattle.gix_object_tag.specs.OwnedText as owned_text;
 ghost use Rattle.gix_object_tag.specs.Views.{text_of};
-ghost use Rattle.gix_object_tag.specs.TagText.{head_text, name_line, name_refusal, tagger_line, tagger_refusal, tag_text, tag_refusal};
+ghost use Rattle.gix_object_tag.specs.BodyTest.{is_whole_body};
+ghost use Rattle.gix_object_lines.specs.HexLine.{is_id};
+ghost use Rattle.gix_object_tag.specs.TagText.{body_text, head_text, name_line, name_refusal, tagger_line, tagger_refusal, unspellable_unless, tag_text, tag_refusal, line_refusal};
 ghost use Rattle.gix_object_tag.specs.NameTest.{name_fault};
 ghost use Rattle.gix_hash.specs.Id.{id_of};
 ghost use Rattle.gix_hash.specs.Spelling.{hex_text};
@@ -16,7 +18,8 @@ ghost use Rattle.gix_object_lines.specs.Kind.{kind_word};
 
 use crate::tag::Tag;
 use crate::tag::write::{
-    body_parts, head_parts, is_marked, name_parts, tagger_parts, write_body, write_head, write_name,
+    body_parts, head_parts, is_marked, name_parts, tagger_parts, write_body, write_head,
+    write_name, write_whole_body,
 };
 use crate::write::{length_of, write_all};
 use bstr::BStr;
@@ -27,7 +30,7 @@ use gix_object_lines::{ByteString, Kind, WriteTo, encode};
 use std::io;
 
 impl Tag {
-    // Writes the tag with this message and signature in the place of its own.
+    // Writes the tag with this message and signature in the place of its own, which aren't tested.
     pub(crate) fn write_with<W: io::Write>(
         &self,
         message: BStr<'_>,
@@ -35,7 +38,7 @@ impl Tag {
         out: &mut W,
     ) -> Result<(), Error>
         ensures { Writes (W.contents out.old) (W.contents out.new) (tag_text (parts_of_tag (record self.now { message = bstr_bytes message.entry; pgp_signature = text_of signature.entry })))
-            (tag_refusal (parts_of_tag self.now) (is_bad_actor self.now.tagger)) result }
+            (line_refusal (parts_of_tag self.now) (is_bad_actor self.now.tagger)) result }
     {
         write_target(self.target, self.target_kind, out)?;
         write_own_name(&self.name, out)?;
@@ -52,7 +55,10 @@ impl WriteTo for Tag {
     ghost object_kind = { λ _. TagKind };
 
     fn write_to<W: io::Write>(&self, out: &mut W) -> Result<(), Error> {
-        self.write_with(self.message.as_bstr(), bstr_of(&self.pgp_signature), out)
+        write_target(self.target, self.target_kind, out)?;
+        write_own_name(&self.name, out)?;
+        write_actor_line(&self.tagger, out)?;
+        write_own_body(&self.message, &self.pgp_signature, out)
     }
 
     fn kind(&self) -> Kind {
@@ -73,7 +79,7 @@ impl WriteTo for Tag {
 }
 
 fn write_target<W: io::Write>(target: ObjectId, kind: Kind, out: &mut W) -> Result<(), Error>
-    ensures { Writes (W.contents out.old) (W.contents out.new) (head_text (hex_text (id_of target).digits) (kind_word kind)) None result }
+    ensures { Writes (W.contents out.old) (W.contents out.new) (head_text (hex_text (id_of target).digits) (kind_word kind)) (unspellable_unless (is_id (hex_text (id_of target).digits))) result }
 {
     let mut digits = gix_hash::Kind::hex_buf();
     let target = target.hex_to_buf(&mut digits).as_bytes();
@@ -84,6 +90,16 @@ fn write_own_name<W: io::Write>(name: &ByteString, out: &mut W) -> Result<(), Er
     ensures { Writes (W.contents out.old) (W.contents out.new) (name_line name.now) (name_refusal (name_fault name.now)) result }
 {
     write_name(name.as_bstr(), out)
+}
+
+fn write_own_body<W: io::Write>(
+    message: &ByteString,
+    signature: &Option<ByteString>,
+    out: &mut W,
+) -> Result<(), Error>
+    ensures { Writes (W.contents out.old) (W.contents out.new) (body_text message.now signature.now) (unspellable_unless (is_whole_body message.now signature.now)) result }
+{
+    write_whole_body(message.as_bstr(), bstr_of(signature), out)
 }
 
 fn bstr_of(text: &Option<ByteString>) -> Option<BStr<'_>>

@@ -1,7 +1,7 @@
 //! Laws of loose objects that own their parts.
 
 ghost use Rattle.std.specs.Prelude.{◌≡◌, None};
-ghost use Rattle.gix_object_tree.specs.Format.{IsOwnInFormat, HasOneSpelling, IsKeptWhole};
+ghost use Rattle.gix_object_tree.specs.Format.{HasOwnIds, HasOneSpelling, IsKeptWhole};
 ghost use Rattle.gix_object_tree.specs.Loose.{IsLoose, loose_text};
 ghost use Rattle.gix_object_tree.specs.Object.{Value, kind_of, value_text};
 ghost use Rattle.gix_object_tree.specs.Owned.{own_value, own_value_refusal, IsOwned};
@@ -14,10 +14,9 @@ use gix_object_commit::laws::owned::owned_written_is_read;
 use gix_object_tag::laws::owned::owned_written_tag_is_read_back;
 
 /// What is written of an object that owns its parts and isn't refused, behind its header, is a loose object that tells its
-/// value, where its ids are of this hash function, and a tag's message holds no armor or its signature has its only armor
-/// at its start.
+/// value, where its ids are of this hash function.
 pub fn owned_written_object_is_read_back(object: &Object, _hash_kind: gix_hash::Kind)
-    ensures { let value = own_value object.now in own_value_refusal object.now ≡ None → IsOwnInFormat _hash_kind object.now
+    ensures { let value = own_value object.now in own_value_refusal object.now ≡ None → HasOwnIds _hash_kind object.now
         → IsLoose _hash_kind (loose_text (kind_of value) (value_text value)) value }
 {
     match object {

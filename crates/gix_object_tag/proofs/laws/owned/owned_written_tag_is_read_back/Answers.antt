@@ -14,8 +14,8 @@ twice Sha1 = refl
 twice Sha256 = refl
 
 pub returns : goal.returns
-returns c = λ ok body.
+returns c = λ ok.
     let tag = c.args.tag.now in
     let id = id_of tag.target in
     owned_spells tag (length-map id.digits hex_character ∙ id-digits_len id c.as_slice-bytes.result.now c.as_slice-bytes.ensures ∙ twice id.kind)
-    c.printed_id_reads_back.ensures c.seconds_fit.ensures ok body
+    c.printed_id_reads_back.ensures c.seconds_fit.ensures ok

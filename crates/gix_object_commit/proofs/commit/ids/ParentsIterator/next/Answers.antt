@@ -1,6 +1,6 @@
 use Rattle.std.proofs.Common.{◌∙◌, ap, refl, length}
 use Rattle.std.proofs.lemmas.Option.{slice_get_read}
-use Rattle.gix_object_commit.specs.Writing.{is_id}
+use Rattle.gix_object_lines.specs.HexLine.{is_id}
 use Rattle.gix_object_commit.proofs.HexDigits.{id_at}
 use Rattle.gix_object_commit.proofs.commit.ids.ParentsIterator.next.Goals as goal
 

@@ -1,0 +1,15 @@
+use Rattle.std.proofs.Common.{◌≡◌, List}
+use Rattle.gix_object_tag.specs.Tokens.{place_of, start, tokens_left}
+use Rattle.gix_object_tag.specs.Whole.{IsTag, IsFrom, Reads}
+use Rattle.gix_object_tag.specs.declared.tag.ref_iter.Token.{Token}
+use Rattle.gix_object_tag.proofs.laws.tokens_end_with_the_name_told.Given as goal
+
+abbrev pub invariant-tokens : goal.invariant-tokens
+invariant-tokens l = record {
+  kind : (place_of l.tokens).kind ≡ l.fn.hash_kind;
+  on : IsTag l.fn.hash_kind l.input → IsFrom l.fn.hash_kind (place_of l.tokens).stage (place_of l.tokens).input;
+  read : (tokens : List Token) × Reads (start l.fn.hash_kind l.input) tokens (place_of l.tokens);
+}
+
+abbrev pub decreases-tokens : goal.decreases-tokens
+decreases-tokens l = tokens_left (place_of l.tokens)
