@@ -2,8 +2,8 @@
 
 use crate::{actors, names, offsets, seconds};
 use gix_object_lines::lines::{
-    Actor, Time, is_partial_name, read_actor, read_time, tells_time, write_actor, write_actor_parts,
-    write_time,
+    Actor, Time, is_partial_name, read_actor, read_time, tells_time, write_actor,
+    write_actor_parts, write_time,
 };
 use gix_object_lines::{ByteString, decode, encode, write};
 use std::alloc::{AllocError, Global};
@@ -78,7 +78,10 @@ fn times_read<R: Abort>(rt: &R, alloc: Global, rows: &str) -> Result<u64, Fail> 
         };
         let found = shown(alloc, text)?;
         assert!(rt; found.as_str() == expected, "{text}");
-        assert!(rt; tells_time(text.as_bytes()) == (expected != "none"), "{text}");
+        assert!(rt;
+            tells_time(text.as_bytes()) == (expected != "none"),
+            "{text}"
+        );
         count = count.wrapping_add(1);
     }
     Ok(count)
