@@ -6,6 +6,7 @@ use gix_object_commit::CommitRef;
 use gix_object_commit::commit::{
     HeaderRef, SIGNATURE_FIELD_NAME, SIGNATURE_FIELD_NAME_SHA256, signature_field_name,
 };
+use gix_object_lines::lines::ActorRef;
 use gix_object_lines::{WriteTo, encode, write};
 use std::process::Abort;
 use std::test::Fail;
@@ -62,7 +63,11 @@ fn an_empty_encoding_is_not_written(rt: HostRuntime) -> Result<(), Fail> {
 #[test]
 fn an_actor_without_a_time_is_not_written(rt: HostRuntime) -> Result<(), Fail> {
     let mut commit = CommitRef::from_bytes(rt.alloc(), COMMIT, Kind::Sha1)?;
-    commit.author.time = BStr::new(b"today");
+    commit.author = ActorRef {
+        name: BStr::new(b"A"),
+        email: BStr::new(b"a@b"),
+        time: BStr::new(b"today"),
+    };
     let mut written = Vec::new(rt.alloc());
     assert!(rt;
         matches!(
