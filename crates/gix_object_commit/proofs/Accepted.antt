@@ -10,7 +10,7 @@ use Rattle.gix_hash.specs.Kind.{hex_len}
 use Rattle.gix_hash.specs.declared.kind.Kind as hash
 use Rattle.gix_object_lines.specs.Actor.{IsPlain, TellsTime}
 use Rattle.gix_object_lines.specs.Bytes.{Lacks}
-use Rattle.gix_object_lines.specs.HexLine.{IsHex, is_hex}
+use Rattle.gix_object_lines.specs.HexLine.{IsHex, is_id}
 use Rattle.gix_object_lines.specs.declared.encode.Error.TheVariants.{NewlineInHeaderValue, EmptyValue}
 use Rattle.gix_object_lines.specs.TimeTest.{tells_time}
 use Rattle.gix_object_lines.proofs.TimeTests.{tells_time-Decides}
@@ -39,8 +39,8 @@ module _ {X : Type 0} (f : X → Piece) (Fits : X → Type 0) (fits : (x : X) �
 
 -- ---- what passes each test
 
-id_like : (count : ℕ) (tree digits : List ℕ) → IsHex count tree → IsHex count digits → is_id_like tree digits ≡ true
-id_like count tree digits t d = and_true (length digits == length tree) (is_hex digits) (eq-eqb (length digits) (length tree) (d.0 ∙ sym t.0)) d.1
+id_like : (kind : hash.Kind) (tree digits : List ℕ) → IsHex (hex_len kind) tree → IsHex (hex_len kind) digits → is_id_like tree digits ≡ true
+id_like kind tree digits t d = and_true (length digits == length tree) (is_id digits) (eq-eqb (length digits) (length tree) (d.0 ∙ sym t.0)) (is_id_of_hex kind digits d)
 
 plain : (part : List ℕ) → IsPlain part → is_plain part ≡ true
 plain part is =
@@ -92,7 +92,7 @@ accepted kind input parts is fits =
     let tail = encoding_piece parts.encoding parts.headers ∷ (map field_piece parts.headers ++ last) in
     let people = person_piece (codes "author") parts.author ∷ (person_piece (codes "committer") parts.committer ∷ tail) in
     on [] (tree_piece parts.tree) (map (parent_piece parts.tree) parts.parents ++ people) (ap unspellable_unless (is_id_of_hex kind parts.tree is.tree))
-    (λ b. all_on (parent_piece parts.tree) (IsHex (hex_len kind)) (λ digits hex. ap unspellable_unless (id_like (hex_len kind) parts.tree digits is.tree hex)) b parts.parents people is.parents
+    (λ b. all_on (parent_piece parts.tree) (IsHex (hex_len kind)) (λ digits hex. ap unspellable_unless (id_like kind parts.tree digits is.tree hex)) b parts.parents people is.parents
     (λ c. on c (person_piece (codes "author") parts.author) (person_piece (codes "committer") parts.committer ∷ tail) (ap unspellable_unless (person parts.author fits.author is.author.time_told))
     (λ d. on d (person_piece (codes "committer") parts.committer) tail (ap unspellable_unless (person parts.committer fits.committer is.committer.time_told))
     (λ e. on e (encoding_piece parts.encoding parts.headers) (map field_piece parts.headers ++ last) (encoding parts.encoding parts.headers fits.encoding is.encoding is.no_encoding)

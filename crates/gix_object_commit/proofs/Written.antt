@@ -52,7 +52,9 @@ module _ {X : Type 0} (f : X → Piece) (Fits : X → Type 0) (fits : (x : X) �
 -- ---- what each test tells
 
 id_fits : (tree digits : List ℕ) → is_id_like tree digits ≡ true → IsHex (length tree) digits
-id_fits tree digits e = let parts = both (length digits == length tree) (is_hex digits) e in ((Decides-eqb (length digits) (length tree)).0 parts.0, parts.1)
+id_fits tree digits e =
+    let parts = both (length digits == length tree) (is_id digits) e in
+    ((Decides-eqb (length digits) (length tree)).0 parts.0, (both (length digits == 40 || length digits == 64) (is_hex digits) parts.1).1)
 
 pub plain_name : (part : List ℕ) → is_plain part ≡ true → Lacks 60 part × Lacks 62 part × Lacks 10 part
 plain_name part e =

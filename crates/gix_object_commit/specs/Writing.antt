@@ -2,7 +2,7 @@
 use Rattle.std.specs.Prelude.{ℕ, nat_eq, ◌==◌, ◌&&◌, Bool, true, false, not, List, [], ◌∷◌, ◌++◌, codes, map, flat_map, length, if◌then◌else◌, Option, None, Some, Result}
 use Rattle.std.specs.List.{list_any}
 use Rattle.std.specs.Cmp.Lexicographic.{pointwise}
-use Rattle.gix_object_lines.specs.HexLine.{hex_line, is_hex, is_id}
+use Rattle.gix_object_lines.specs.HexLine.{hex_line, is_id}
 use Rattle.gix_object_lines.specs.TimeTest.{tells_time}
 use Rattle.gix_object_lines.specs.Writes.{Refusal, Writes}
 use Rattle.gix_object_lines.specs.declared.write.Error.{Error}
@@ -41,7 +41,7 @@ unspellable_unless fine = if fine then None else Some Unspellable
 
 -- an id in as many digits as the tree's
 abbrev pub is_id_like : List ℕ → List ℕ → Bool
-is_id_like tree digits = length digits == length tree && is_hex digits
+is_id_like tree digits = length digits == length tree && is_id digits
 
 -- it holds no `<`, `>` or line feed
 abbrev pub is_plain : List ℕ → Bool

@@ -93,7 +93,7 @@ in_line name is = by (list_any (λ other. other == 10) name) refl
 
 -- ---- taggers
 
-or_left : (a b : Bool) → (a || b) ≡ false → (a ≡ false) × (b ≡ false)
+pub or_left : (a b : Bool) → (a || b) ≡ false → (a ≡ false) × (b ≡ false)
 or_left true b e = absurd cc
 or_left false b e = (refl, e)
 

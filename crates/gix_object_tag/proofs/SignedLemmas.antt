@@ -1,20 +1,20 @@
 -- What is read of a signed tag.
-use Rattle.std.proofs.Common.{◌≡◌, ◌∙◌, ap, refl, sym, subst, ℕ, Bool, true, false, ◌||◌, List, ◌++◌, Option, Some, None, Result, Ok, Err}
+use Rattle.std.proofs.Common.{◌≡◌, ◌∙◌, ap, refl, sym, subst, ℕ, true, List, ◌++◌, Option, Some, None, Result, Ok, Err}
 use Rattle.std.specs.Prelude.{IsOkAnd}
 use Rattle.std.proofs.lemmas.List.{append-nil, append_cancel_right}
 use Rattle.bstr.specs.BStr.{bstr_bytes}
 use Rattle.gix_hash.specs.declared.kind.Kind as hash
 use Rattle.gix_object_lines.specs.declared.decode.Error.{Error}
-use Rattle.gix_object_lines.specs.declared.lines.actor.Actor.{Actor}
 use Rattle.gix_object_signature.specs.declared.format.SignatureRef.{SignatureRef}
 use Rattle.gix_object_signature.specs.declared.signed.SignedData.{SignedData}
 use Rattle.gix_object_tag.specs.Format.{IsInFormat}
-use Rattle.gix_object_tag.specs.OwnedText.{parts_of_tag, actor_of, is_bad_actor, is_bad_offset}
+use Rattle.gix_object_tag.specs.OwnedText.{parts_of_tag, is_bad_actor}
 use Rattle.gix_object_tag.specs.Signature.{IsBare, IsSignedBy}
 use Rattle.gix_object_tag.specs.Signing.{IsTextToSign, TellsSigned, with_signature, write_fault}
 use Rattle.gix_object_tag.specs.Tag.{Parts, SpellsRest, Nothing, Body, SpellsTag}
-use Rattle.gix_object_tag.specs.TagText.{is_marked, is_marked_tagger, tag_text}
+use Rattle.gix_object_tag.specs.TagText.{tag_text}
 use Rattle.gix_object_tag.specs.declared.tag.owned.Tag.{Tag}
+use Rattle.gix_object_tag.proofs.OwnedReadBack.{good_tagger}
 use Rattle.gix_object_tag.proofs.ReadBack.{passes, written_spells}
 
 -- ---- a signature that was read begins with an armor
@@ -28,14 +28,6 @@ pub unsigned : (kind : hash.Kind) (input : List ℕ) (parts : Parts) → SpellsT
 unsigned kind input parts is bare = subst (λ o. IsSignedBy input o None) (sym (rest_bare is.after_tagger parts.message parts.signature is.rest bare)) tt
 
 -- ---- the signed tag is read back
-
-left_false : (a b : Bool) → (a || b) ≡ false → a ≡ false
-left_false true b e = absurd cc
-left_false false b e = refl
-
-good_tagger : (tagger : Option Actor) → is_bad_actor tagger ≡ false → is_marked_tagger (actor_of tagger) ≡ false
-good_tagger None e = refl
-good_tagger (Some actor) e = left_false (is_marked actor.name || is_marked actor.email) (is_bad_offset actor.time.offset) e
 
 signed_spells : (kind : hash.Kind) (tag : Tag) (signature : List ℕ) → write_fault tag ≡ None → IsInFormat kind (parts_of_tag (with_signature signature tag))
     → SpellsTag kind (tag_text (parts_of_tag (with_signature signature tag))) (parts_of_tag (with_signature signature tag))

@@ -1,12 +1,12 @@
 -- What is left of a tag, token by token.
-use Rattle.std.proofs.Common.{◌≡◌, ◌∙◌, ap, refl, sym, subst, ℕ, Bool, true, ◌||◌, List, [], ◌∷◌, ◌++◌, length, take, append_assoc, Option, Some, None, Ok}
+use Rattle.std.proofs.Common.{◌≡◌, ◌∙◌, ap, refl, sym, subst, ℕ, true, ◌||◌, List, [], ◌∷◌, ◌++◌, length, take, append_assoc, Option, Some, None}
 use Rattle.std.specs.Prelude.{codes}
 use Rattle.std.proofs.Math.Seq.{take-append_seam}
 use Rattle.std.proofs.lemmas.List.{append_cancel_left}
 use Rattle.bstr.specs.BStr.{bstr_bytes}
 use Rattle.gix_hash.specs.declared.kind.Kind as hash
 use Rattle.gix_object_tag.specs.Tag.{Tagger, SpellsTarget, SpellsTagger, Nothing}
-use Rattle.gix_object_tag.specs.Tokens.{Place, Stands, HasPart, Steps}
+use Rattle.gix_object_tag.specs.Tokens.{Stands, HasPart}
 use Rattle.gix_object_tag.specs.Whole.{IsTag, IsBody, IsFromTagger, IsFromName, IsFromKind, IsFromTarget, IsFrom, is_named, tells_name}
 use Rattle.gix_object_tag.specs.declared.tag.ref_iter.Token.{Token}
 use Rattle.gix_object_tag.specs.declared.tag.ref_iter.Stage.{Stage}
@@ -93,15 +93,3 @@ named_on kind BeforeKind input token next after is = rw (is.0, is.1.1) refl
 named_on kind BeforeName input token next after is = rw (is.0, is.1.1) refl
 named_on kind BeforeTagger input token next after is = rw is.0 refl
 named_on kind BeforeBody input token next after is = rw is.0 refl
-
--- what holds before a step holds behind it
-pub stepped : (kind : hash.Kind) (input : List ℕ) (before after : Place) (token : Token) (named later : Bool) → Steps before (Some (Ok token)) after → before.kind ≡ kind
-    → (IsTag kind input → IsFrom kind before.stage before.input) → (IsFrom kind before.stage before.input → IsTag kind input) → named ≡ is_named before.stage → later ≡ (named || tells_name token)
-    → (after.kind ≡ kind) × (IsTag kind input → IsFrom kind after.stage after.input) × (IsFrom kind after.stage after.input → IsTag kind input) × (later ≡ is_named after.stage)
-stepped kind input before after token named later steps same on back is next =
-    let stands = subst (λ k. Stands k before.stage before.input token after.stage after.input) same steps.2 in (
-      steps.1 ∙ same,
-      (λ tag. step_on kind before.stage before.input token after.stage after.input stands (on tag)),
-      (λ rest. back (step_back kind before.stage before.input token after.stage after.input stands rest)),
-      next ∙ ap (λ n. n || tells_name token) is ∙ named_on kind before.stage before.input token after.stage after.input stands,
-    )

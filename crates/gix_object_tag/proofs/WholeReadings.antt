@@ -22,7 +22,7 @@ or_assoc : (a b c : Bool) → (a || (b || c)) ≡ ((a || b) || c)
 or_assoc true b c = refl
 or_assoc false b c = refl
 
-reads_named : (here there : Place) (tokens : List Token) → Reads here tokens there → (is_named here.stage || list_any tells_name tokens) ≡ is_named there.stage
+pub reads_named : (here there : Place) (tokens : List Token) → Reads here tokens there → (is_named here.stage || list_any tells_name tokens) ≡ is_named there.stage
 reads_named here there [] reads = none (is_named here.stage) ∙ ap (λ (p : Place). is_named p.stage) reads
   where
     none : (b : Bool) → (b || false) ≡ b

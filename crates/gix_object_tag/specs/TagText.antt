@@ -59,7 +59,7 @@ is_bad_tagger (Some tagger) = is_marked_tagger (Some tagger) || not (tells_time 
 
 -- a tagger that has no line: nothing of it
 abbrev pub tagger_refusal : Bool → Option Refusal
-tagger_refusal bad = if bad then Some (record { before = []; cause = Header Unspellable }) else None
+tagger_refusal bad = unspellable_unless (not bad)
 
 -- ---- the whole, from its parts, whether its tagger has no line, and whether its body is whole
 

@@ -79,24 +79,11 @@ pub fn read_tag_is_written_back(_input: &[u8], _hash_kind: gix_hash::Kind)
     ensures { (parts : Parts) → SpellsTag _hash_kind _input.now parts → parts.message ≢ [] → tag_text parts ≡ _input.now }
 {}
 
-/// The token reader gives its tokens to the end of the bytes without an error, and the name among them, exactly where the bytes
-/// spell a tag. They are read to that end.
-pub fn tokens_end_with_the_name_told(input: &[u8], hash_kind: gix_hash::Kind)
-    ensures { IsTag hash_kind input.now ↔ ReadsWithName (start hash_kind input.now) }
-{
-    let mut tokens = TagRefIter::from_bytes(input, hash_kind);
-    'tokens: while let Some(token) = tokens.next() {
-        match token {
-            Ok(_token) => {}
-            Err(_) => return,
-        }
-    }
-}
-
-/// Whether the token reader gives no error, and the name among its tokens: exactly where the bytes spell a tag, and so
-/// exactly where `TagRef::from_bytes` succeeds.
+/// Whether the token reader gives its tokens to the end of the bytes without an error, and the name among them: exactly where
+/// the bytes spell a tag, and so exactly where `TagRef::from_bytes` succeeds.
 pub fn tokens_tell_a_tag(input: &[u8], hash_kind: gix_hash::Kind) -> bool
-    ensures { IsTrue result ↔ IsTag hash_kind input.now }
+    ensures reader { IsTag hash_kind input.now ↔ ReadsWithName (start hash_kind input.now) }
+    ensures answer { IsTrue result ↔ IsTag hash_kind input.now }
 {
     let mut tokens = TagRefIter::from_bytes(input, hash_kind);
     let mut named = false;

@@ -3,7 +3,6 @@
 ghost use Rattle.std.specs.Prelude.{◌≡◌, Option, List, ℕ, map};
 ghost use Rattle.std.specs.Option.{option_map};
 ghost use Rattle.bstr.specs.BStr.{bstr_bytes};
-ghost use Rattle.gix_object_lines.specs.HexLine.{is_hex};
 ghost use Rattle.gix_object_commit.specs.Commit.{Field};
 ghost use Rattle.gix_object_commit.specs.OwnedText.{is_whole_offset as is_spellable_offset, is_own_person as is_spellable_own_person};
 ghost use Rattle.gix_object_commit.specs.Views.{person_of, field_of};
@@ -13,6 +12,7 @@ use crate::commit::HeaderRef;
 use bstr::BStr;
 use gix_object_lines::cut::{behind, lacks, split_once};
 use gix_object_lines::encode::Error;
+use gix_object_lines::hex_line::is_id;
 use gix_object_lines::lines::{Actor, ActorRef, tells_time};
 
 /// No refusal where the part is fine.
@@ -26,14 +26,7 @@ pub(crate) fn unless(fine: bool) -> Option<Error>
 pub(crate) fn is_id_like(tree: &[u8], digits: &[u8]) -> bool
     ensures { result ≡ is_hex_id_like tree.now digits.now }
 {
-    digits.len() == tree.len() && is_hexadecimal(digits)
-}
-
-// Whether all bytes are hexadecimal digits.
-fn is_hexadecimal(bytes: &[u8]) -> bool
-    ensures { result ≡ is_hex bytes.now }
-{
-    bytes.iter().all(|byte| byte.is_ascii_hexdigit())
+    digits.len() == tree.len() && is_id(digits)
 }
 
 /// Whether an actor's name and email hold no `<`, `>` or line feed, and its text of a time tells one.

@@ -85,7 +85,7 @@ fn text_to_sign(alloc: Global, tag: &Tag, message: BStr<'_>) -> Result<Vec<u8>, 
     ensures refused { IfErr result (λ error. (error ≡ Memory) ⊎ ((fault : write.Error) × (write_fault tag.now ≡ Some fault) × (error ≡ Encode fault))) }
 {
     let mut text = Vec::new(alloc);
-    match tag.write_with(message, Some(BStr::new(b"")), &mut text) {
+    match tag.write_with(message, Some(BStr::new(b"")), true, &mut text) {
         Ok(()) => Ok(text),
         Err(write::Error::Writer(_)) => Err(Error::Memory),
         Err(fault) => Err(Error::Encode(fault)),

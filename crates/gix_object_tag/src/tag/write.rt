@@ -6,7 +6,6 @@ ghost use Rattle.gix_object_lines.specs.HexLine as hex;
 ghost use Rattle.gix_object_lines.specs.Kind.{kind_word};
 ghost use Rattle.gix_object_lines.specs.Writes.{Writes};
 ghost use Rattle.gix_object_lines.specs.declared.kind.Kind.TheVariants.{Tag as TagKind};
-ghost use Rattle.gix_object_tag.specs.BodyTest as body_test;
 ghost use Rattle.gix_object_tag.specs.NameTest as name_test;
 ghost use Rattle.gix_object_tag.specs.TagText.{head_text, name_line, tagger_line, body_text, name_refusal, tagger_refusal, unspellable_unless, is_bad_tagger, is_marked, tag_text, tag_refusal};
 ghost use Rattle.gix_object_tag.specs.Views.{parts_of, tagger_of, text_of};
@@ -32,7 +31,8 @@ impl<'a> WriteTo for TagRef<'a> {
         write_head(self.target, self.target_kind, out)?;
         write_name(self.name, out)?;
         write_tagger(self.tagger, out)?;
-        write_whole_body(self.message, self.pgp_signature, out)
+        let is_whole = is_whole_body(self.message, self.pgp_signature);
+        write_body(self.message, self.pgp_signature, is_whole, out)
     }
 
     fn kind(&self) -> Kind {
@@ -149,23 +149,12 @@ pub(crate) fn is_marked(part: &[u8]) -> bool
 pub(crate) fn write_body<W: io::Write>(
     message: BStr<'_>,
     signature: Option<BStr<'_>>,
+    is_whole: bool,
     out: &mut W,
 ) -> Result<(), Error>
-    ensures { Writes (W.contents out.old) (W.contents out.new) (body_text (bstr_bytes message.entry) (text_of signature.entry)) None result }
+    ensures { Writes (W.contents out.old) (W.contents out.new) (body_text (bstr_bytes message.entry) (text_of signature.entry)) (unspellable_unless is_whole) result }
 {
-    write_all(&body_parts(message, signature), out)
-}
-
-pub(crate) fn write_whole_body<W: io::Write>(
-    message: BStr<'_>,
-    signature: Option<BStr<'_>>,
-    out: &mut W,
-) -> Result<(), Error>
-    ensures { Writes (W.contents out.old) (W.contents out.new) (body_text (bstr_bytes message.entry) (text_of signature.entry))
-        (unspellable_unless (body_test.is_whole_body (bstr_bytes message.entry) (text_of signature.entry))) result }
-{
-    let parts = body_parts(message, signature);
-    write_spellable(is_whole_body(message, signature), &parts, out)
+    write_spellable(is_whole, &body_parts(message, signature), out)
 }
 
 // ---- their lengths

@@ -8,18 +8,18 @@ ghost use Rattle.gix_object_lines.specs.declared.kind.Kind.TheVariants.{Tag as T
 ghost use Rattle.gix_object_tag.specs.OwnedText.{actor_of, parts_of_tag, is_bad_actor};
 ghost use Rattle.gix_object_tag.specs.OwnedText as owned_text;
 ghost use Rattle.gix_object_tag.specs.Views.{text_of};
-ghost use Rattle.gix_object_tag.specs.BodyTest.{is_whole_body};
 ghost use Rattle.gix_object_lines.specs.HexLine.{is_id};
-ghost use Rattle.gix_object_tag.specs.TagText.{body_text, head_text, name_line, name_refusal, tagger_line, tagger_refusal, unspellable_unless, tag_text, tag_refusal, line_refusal};
+ghost use Rattle.gix_object_tag.specs.Pieces.{first_refusal};
+ghost use Rattle.gix_object_tag.specs.TagText.{head_text, name_line, name_refusal, pieces_of, tagger_line, tagger_refusal, unspellable_unless, tag_text, tag_refusal};
 ghost use Rattle.gix_object_tag.specs.NameTest.{name_fault};
 ghost use Rattle.gix_hash.specs.Id.{id_of};
 ghost use Rattle.gix_hash.specs.Spelling.{hex_text};
 ghost use Rattle.gix_object_lines.specs.Kind.{kind_word};
 
+use crate::signature::is_whole_body;
 use crate::tag::Tag;
 use crate::tag::write::{
-    body_parts, head_parts, is_marked, name_parts, tagger_parts, write_body, write_head,
-    write_name, write_whole_body,
+    body_parts, head_parts, is_marked, name_parts, tagger_parts, write_body, write_head, write_name,
 };
 use crate::write::{length_of, write_all};
 use bstr::BStr;
@@ -30,20 +30,21 @@ use gix_object_lines::{ByteString, Kind, WriteTo, encode};
 use std::io;
 
 impl Tag {
-    // Writes the tag with this message and signature in the place of its own, which aren't tested.
+    // Writes the tag with this message and signature in the place of its own, which are refused where they aren't whole.
     pub(crate) fn write_with<W: io::Write>(
         &self,
         message: BStr<'_>,
         signature: Option<BStr<'_>>,
+        is_whole: bool,
         out: &mut W,
     ) -> Result<(), Error>
         ensures { Writes (W.contents out.old) (W.contents out.new) (tag_text (parts_of_tag (record self.now { message = bstr_bytes message.entry; pgp_signature = text_of signature.entry })))
-            (line_refusal (parts_of_tag self.now) (is_bad_actor self.now.tagger)) result }
+            (first_refusal (pieces_of (parts_of_tag (record self.now { message = bstr_bytes message.entry; pgp_signature = text_of signature.entry })) (is_bad_actor self.now.tagger) is_whole)) result }
     {
         write_target(self.target, self.target_kind, out)?;
         write_own_name(&self.name, out)?;
         write_actor_line(&self.tagger, out)?;
-        write_body(message, signature, out)
+        write_body(message, signature, is_whole, out)
     }
 }
 
@@ -55,10 +56,9 @@ impl WriteTo for Tag {
     ghost object_kind = { λ _. TagKind };
 
     fn write_to<W: io::Write>(&self, out: &mut W) -> Result<(), Error> {
-        write_target(self.target, self.target_kind, out)?;
-        write_own_name(&self.name, out)?;
-        write_actor_line(&self.tagger, out)?;
-        write_own_body(&self.message, &self.pgp_signature, out)
+        let message = self.message.as_bstr();
+        let signature = bstr_of(&self.pgp_signature);
+        self.write_with(message, signature, is_whole_body(message, signature), out)
     }
 
     fn kind(&self) -> Kind {
@@ -90,16 +90,6 @@ fn write_own_name<W: io::Write>(name: &ByteString, out: &mut W) -> Result<(), Er
     ensures { Writes (W.contents out.old) (W.contents out.new) (name_line name.now) (name_refusal (name_fault name.now)) result }
 {
     write_name(name.as_bstr(), out)
-}
-
-fn write_own_body<W: io::Write>(
-    message: &ByteString,
-    signature: &Option<ByteString>,
-    out: &mut W,
-) -> Result<(), Error>
-    ensures { Writes (W.contents out.old) (W.contents out.new) (body_text message.now signature.now) (unspellable_unless (is_whole_body message.now signature.now)) result }
-{
-    write_whole_body(message.as_bstr(), bstr_of(signature), out)
 }
 
 fn bstr_of(text: &Option<ByteString>) -> Option<BStr<'_>>

@@ -1,4 +1,3 @@
-use Rattle.std.proofs.Common.{true}
 use Rattle.std.proofs.lemmas.Result.{err_from_is_err_and}
 use Rattle.bstr.specs.BStr.{bstr_bytes}
 use Rattle.gix_object_tag.specs.TagText.{head_piece, name_piece, tagger_piece, body_piece}
@@ -12,24 +11,24 @@ returns-in_err-write_target g c =
     let parts = parts_of_tag (record c.args.self.now { message = bstr_bytes c.args.message; pgp_signature = text_of c.args.signature }) in
     let bad = is_bad_actor c.args.self.now.tagger in
     let p = err_from_is_err_and c.from_residual.result c.from_residual.ensures.1 in
-    rw (p.1, p.2) (stops_first _ _ (head_piece parts) (name_piece parts) (tagger_piece parts bad) (body_piece parts true) c.in_err-write_target.field-0.0 c.in_err-write_target.ensures)
+    rw (p.1, p.2) (stops_first _ _ (head_piece parts) (name_piece parts) (tagger_piece parts bad) (body_piece parts c.args.is_whole) c.in_err-write_target.field-0.0 c.in_err-write_target.ensures)
 
 pub returns-in_err-write_own_name : goal.returns-in_err-write_own_name
 returns-in_err-write_own_name g c =
     let parts = parts_of_tag (record c.args.self.now { message = bstr_bytes c.args.message; pgp_signature = text_of c.args.signature }) in
     let bad = is_bad_actor c.args.self.now.tagger in
     let p = err_from_is_err_and c.from_residual-in_err-write_own_name.result c.from_residual-in_err-write_own_name.ensures.1 in
-    rw (p.1, p.2) (stops_second _ _ _ (head_piece parts) (name_piece parts) (tagger_piece parts bad) (body_piece parts true) tt c.in_err-write_own_name.field-0.0 c.in_ok-write_target.ensures c.in_err-write_own_name.ensures)
+    rw (p.1, p.2) (stops_second _ _ _ (head_piece parts) (name_piece parts) (tagger_piece parts bad) (body_piece parts c.args.is_whole) tt c.in_err-write_own_name.field-0.0 c.in_ok-write_target.ensures c.in_err-write_own_name.ensures)
 
 pub returns-in_err-write_actor_line : goal.returns-in_err-write_actor_line
 returns-in_err-write_actor_line g c =
     let parts = parts_of_tag (record c.args.self.now { message = bstr_bytes c.args.message; pgp_signature = text_of c.args.signature }) in
     let bad = is_bad_actor c.args.self.now.tagger in
     let p = err_from_is_err_and c.from_residual-in_err-write_actor_line.result c.from_residual-in_err-write_actor_line.ensures.1 in
-    rw (p.1, p.2) (stops_third _ _ _ _ (head_piece parts) (name_piece parts) (tagger_piece parts bad) (body_piece parts true) tt tt c.in_err-write_actor_line.field-0.0 c.in_ok-write_target.ensures c.in_ok-write_own_name.ensures c.in_err-write_actor_line.ensures)
+    rw (p.1, p.2) (stops_third _ _ _ _ (head_piece parts) (name_piece parts) (tagger_piece parts bad) (body_piece parts c.args.is_whole) tt tt c.in_err-write_actor_line.field-0.0 c.in_ok-write_target.ensures c.in_ok-write_own_name.ensures c.in_err-write_actor_line.ensures)
 
 pub returns : goal.returns
 returns g c =
     let parts = parts_of_tag (record c.args.self.now { message = bstr_bytes c.args.message; pgp_signature = text_of c.args.signature }) in
     let bad = is_bad_actor c.args.self.now.tagger in
-    writes_last _ _ _ _ _ (head_piece parts) (name_piece parts) (tagger_piece parts bad) (body_piece parts true) tt tt tt c.write_body.result c.in_ok-write_target.ensures c.in_ok-write_own_name.ensures c.in_ok-write_actor_line.ensures c.write_body.ensures
+    writes_last _ _ _ _ _ (head_piece parts) (name_piece parts) (tagger_piece parts bad) (body_piece parts c.args.is_whole) tt tt tt c.write_body.result c.in_ok-write_target.ensures c.in_ok-write_own_name.ensures c.in_ok-write_actor_line.ensures c.write_body.ensures

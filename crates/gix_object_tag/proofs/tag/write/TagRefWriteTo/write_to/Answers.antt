@@ -34,4 +34,4 @@ returns g c =
     let parts = parts_of c.args.self.now in
     let bad = is_bad_tagger (tagger_of c.args.self.now.tagger) in
     let whole = is_whole_body parts.message parts.signature in
-    writes_last _ _ _ _ _ (head_piece parts) (name_piece parts) (tagger_piece parts bad) (body_piece parts whole) tt tt tt c.write_whole_body.result c.in_ok-write_head.ensures c.in_ok-write_name.ensures c.in_ok-write_tagger.ensures c.write_whole_body.ensures
+    writes_last _ _ _ _ _ (head_piece parts) (name_piece parts) (tagger_piece parts bad) (body_piece parts whole) tt tt tt c.write_body.result c.in_ok-write_head.ensures c.in_ok-write_name.ensures c.in_ok-write_tagger.ensures (rw c.is_whole_body-is_whole.ensures at c.write_body.ensures)

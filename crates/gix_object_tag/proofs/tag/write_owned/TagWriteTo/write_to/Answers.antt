@@ -1,37 +1,4 @@
-use Rattle.std.proofs.lemmas.Result.{err_from_is_err_and}
-use Rattle.gix_object_tag.specs.BodyTest.{is_whole_body}
-use Rattle.gix_object_tag.specs.TagText.{head_piece, name_piece, tagger_piece, body_piece}
-use Rattle.gix_object_tag.specs.OwnedText.{parts_of_tag, is_bad_actor}
-use Rattle.gix_object_tag.proofs.PieceLemmas.{stops_first, stops_second, stops_third, writes_last}
 use Rattle.gix_object_tag.proofs.tag.write_owned.TagWriteTo.write_to.Goals as goal
 
-pub returns-in_err-write_target : goal.returns-in_err-write_target
-returns-in_err-write_target g c =
-    let parts = parts_of_tag c.args.self.now in
-    let bad = is_bad_actor c.args.self.now.tagger in
-    let whole = is_whole_body parts.message parts.signature in
-    let p = err_from_is_err_and c.from_residual.result c.from_residual.ensures.1 in
-    rw (p.1, p.2) (stops_first _ _ (head_piece parts) (name_piece parts) (tagger_piece parts bad) (body_piece parts whole) c.in_err-write_target.field-0.0 c.in_err-write_target.ensures)
-
-pub returns-in_err-write_own_name : goal.returns-in_err-write_own_name
-returns-in_err-write_own_name g c =
-    let parts = parts_of_tag c.args.self.now in
-    let bad = is_bad_actor c.args.self.now.tagger in
-    let whole = is_whole_body parts.message parts.signature in
-    let p = err_from_is_err_and c.from_residual-in_err-write_own_name.result c.from_residual-in_err-write_own_name.ensures.1 in
-    rw (p.1, p.2) (stops_second _ _ _ (head_piece parts) (name_piece parts) (tagger_piece parts bad) (body_piece parts whole) tt c.in_err-write_own_name.field-0.0 c.in_ok-write_target.ensures c.in_err-write_own_name.ensures)
-
-pub returns-in_err-write_actor_line : goal.returns-in_err-write_actor_line
-returns-in_err-write_actor_line g c =
-    let parts = parts_of_tag c.args.self.now in
-    let bad = is_bad_actor c.args.self.now.tagger in
-    let whole = is_whole_body parts.message parts.signature in
-    let p = err_from_is_err_and c.from_residual-in_err-write_actor_line.result c.from_residual-in_err-write_actor_line.ensures.1 in
-    rw (p.1, p.2) (stops_third _ _ _ _ (head_piece parts) (name_piece parts) (tagger_piece parts bad) (body_piece parts whole) tt tt c.in_err-write_actor_line.field-0.0 c.in_ok-write_target.ensures c.in_ok-write_own_name.ensures c.in_err-write_actor_line.ensures)
-
 pub returns : goal.returns
-returns g c =
-    let parts = parts_of_tag c.args.self.now in
-    let bad = is_bad_actor c.args.self.now.tagger in
-    let whole = is_whole_body parts.message parts.signature in
-    writes_last _ _ _ _ _ (head_piece parts) (name_piece parts) (tagger_piece parts bad) (body_piece parts whole) tt tt tt c.write_own_body.result c.in_ok-write_target.ensures c.in_ok-write_own_name.ensures c.in_ok-write_actor_line.ensures c.write_own_body.ensures
+returns g c = rw (c.is_whole_body.ensures, c.as_bstr-message.ensures, c.bstr_of-signature.ensures) at c.write_with.ensures
