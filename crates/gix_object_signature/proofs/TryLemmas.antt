@@ -1,13 +1,15 @@
 -- The names that are tried, one step at a time.
-use Rattle.std.proofs.Common.{◌≡◌, ◌∙◌, ◌+◌, ◌<◌, ◌≤◌, ap, sym, subst, List, ℕ, ◌∷◌, map, drop, length, get_or, false, Bor, Result, Ok}
+use Rattle.std.proofs.Common.{◌≡◌, ◌∙◌, ◌+◌, ◌<◌, ◌≤◌, ap, sym, subst, List, ℕ, ◌∷◌, map, drop, length, get_or, false, true, Bor, Result, Ok}
 use Rattle.std.proofs.lemmas.List.{drop_all}
 use Rattle.std.proofs.Common.{drop-cons, add-one}
 use Rattle.gix_object_signature.specs.Asking.{Asks}
 use Rattle.gix_object_signature.specs.Run.{Request}
-use Rattle.gix_object_signature.specs.VerifyingSsh.{Tries, NoneLeft, Ended, Refused, Ends, agrees}
+use Rattle.gix_object_signature.specs.VerifyingSsh.{Question, Asked, NoNames, Tried, Tries, TriesFound, NoMemory, TriedAll, NoneLeft, Ended, Refused, Ends, agrees, find_request, finds, outcome_of}
 use Rattle.gix_object_signature.specs.declared.run.Answer.{Answer}
 use Rattle.gix_object_signature.specs.declared.run.RunError as run
 use Rattle.gix_object_signature.specs.declared.verify.Error as verify
+use Rattle.gix_object_signature.specs.declared.verify.Outcome.{Outcome}
+use Rattle.gix_object_signature.specs.declared.verify.trust.TrustLevel.{TrustLevel}
 
 abbrev pub texts : List (Bor (List ℕ)) → List (List ℕ)
 texts names = map (λ name. name.now) names
@@ -30,3 +32,12 @@ pub refused : {R : Type 0} (answers : R → Request → Result Answer run.RunErr
     → Tries answers ask between (texts (drop (i + 1) names)) answer result after → Tries answers ask before (texts (drop i names)) last result after
 refused answers ask before between after names i d last answer result inside asked unlike rest =
     subst (λ ns. Tries answers ask before ns last result after) (sym (one_more names i d inside)) (Refused before between after _ _ last answer result asked unlike rest)
+
+-- what comes of the principals that were found is what comes of verifying
+pub asked_by_found : {R : Type 0} (answers : R → Request → Result Answer run.RunError → R → Type 0) (before between after : R) (question : Question) (content : List ℕ) (minimum : TrustLevel) (found : Answer) (last : Result Answer verify.Error) (result : Result Outcome verify.Error)
+    → Asks answers before (find_request question) (Ok found) between → finds found ≡ true → TriesFound answers question content between found last after → result ≡ outcome_of minimum true last
+    → Asked answers before question content minimum result after
+asked_by_found answers before between after question content minimum found last result asked some (NoMemory same unmoved) told =
+    NoNames found (subst (λ r. Asks answers before (find_request question) (Ok found) r) (sym unmoved) asked) some (told ∙ ap (outcome_of minimum true) same)
+asked_by_found answers before between after question content minimum found last result asked some (TriedAll tries) told =
+    Tried found between asked some last tries told

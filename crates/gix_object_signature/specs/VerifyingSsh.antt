@@ -101,6 +101,11 @@ pub data Tries {R : Type 0} (answers : R → Request → Result Answer run.RunEr
   Refused : (before between after : R) (name : List ℕ) (more : List (List ℕ)) (last answer : Answer) (result : Result Answer verify.Error) → Asks answers before (ask name) (Ok answer) between → IsFalse (agrees answer)
       → Tries answers ask between more answer result after → Tries answers ask before (name ∷ more) last result after
 
+-- each of the principals that an answer tells is asked for in turn; or their names had no memory, and nothing is run
+pub data TriesFound {R : Type 0} (answers : R → Request → Result Answer run.RunError → R → Type 0) (question : Question) (content : List ℕ) (before : R) (found : Answer) (result : Result Answer verify.Error) (after : R) : Type 0 where
+  NoMemory : result ≡ Err Memory → after ≡ before → TriesFound answers question content before found result after
+  TriedAll : Tries answers (verify_request question content) before (principals found.output) found result after → TriesFound answers question content before found result after
+
 -- the principals are asked for first; where none is found, whether it is a signature at all
 pub data Asked {R : Type 0} (answers : R → Request → Result Answer run.RunError → R → Type 0) (before : R) (question : Question) (content : List ℕ) (minimum : TrustLevel) (result : Result Outcome verify.Error) (after : R) : Type 0 where
   NotFound : (error : verify.Error) → Asks answers before (find_request question) (Err error) after → result ≡ Err error

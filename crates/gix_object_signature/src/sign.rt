@@ -5,7 +5,7 @@ ghost use Rattle.bstr.specs.BStr.{bstr_bytes};
 ghost use Rattle.gix_object_signature.specs.declared.sign.Error.TheVariants.{Memory};
 ghost use Rattle.gix_object_signature.specs.Run.{Answers, Plain, File};
 ghost use Rattle.gix_object_signature.specs.Signing as spec;
-ghost use Rattle.gix_object_signature.specs.Signing.{IsOrMemory, Signs, gpg_request, ssh_request, ssh_request_by, error_of, is_confirmed, literal_key, reading_error};
+ghost use Rattle.gix_object_signature.specs.Signing.{IsOrMemory, Signs, gpg_request, request_for, ssh_request, ssh_request_by, error_of, is_confirmed, key_of, literal_key, reading_error, text_of};
 
 use crate::Format;
 use crate::returns::drop_returns;
@@ -123,19 +123,38 @@ pub fn sign<F: FnMut(&[Word<'_>], &[u8]) -> Result<Answer, RunError>>(
     ensures signed { Signs (Answers F.FnMut) runner.old content.now options.now result runner.new }
     ensures callable { F.IsAlwaysCallable runner.new }
 {
-    let Some(key) = options.signing_key else {
+    let Some(key) = key_of(options) else {
         return Err(Error::MissingSigningKey);
     };
-    let answer = match options.format {
-        Format::OpenPgp | Format::X509 => run_gpg(content, options.program, key, runner),
-        Format::Ssh => {
-            if key.as_bytes().is_empty() {
-                return Err(Error::MissingSigningKey);
-            }
-            run_ssh(content, options.program, key, runner)
-        }
-    };
+    let answer = run_for(content, options, key, runner);
     signature_of(alloc, options.format, answer)
+}
+
+// The key that signs; an empty one is none of the secure shell.
+fn key_of<'a>(options: &Options<'a>) -> Option<BStr<'a>>
+    ensures { text_of result ≡ key_of options.now }
+{
+    match (options.format, options.signing_key) {
+        (Format::Ssh, Some(key)) if key.as_bytes().is_empty() => None,
+        (_, key) => key,
+    }
+}
+
+// The run of the format's program.
+fn run_for<'a, F: FnMut(&[Word<'_>], &[u8]) -> Result<Answer, RunError>>(
+    content: &'a [u8],
+    options: &Options<'a>,
+    key: BStr<'a>,
+    runner: &mut F,
+) -> Result<Answer, RunError>
+    requires { F.IsAlwaysCallable runner.old }
+    ensures asked { Answers F.FnMut runner.old (request_for options.now.format (bstr_bytes options.now.program) (bstr_bytes key.entry) content.now) result runner.new }
+    ensures callable { F.IsAlwaysCallable runner.new }
+{
+    match options.format {
+        Format::OpenPgp | Format::X509 => run_gpg(content, options.program, key, runner),
+        Format::Ssh => run_ssh(content, options.program, key, runner),
+    }
 }
 
 // What the answer means.

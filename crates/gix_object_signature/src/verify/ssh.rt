@@ -6,7 +6,7 @@ ghost use Rattle.bstr.specs.BStr.{bstr_bytes};
 ghost use Rattle.gix_object_signature.specs.Asking.{Asks, told};
 ghost use Rattle.gix_object_signature.specs.Run.{Answers, Plain, File, argument_of};
 ghost use Rattle.gix_object_signature.specs.VerifyingSsh as spec;
-ghost use Rattle.gix_object_signature.specs.VerifyingSsh.{Asked, Tries, VerifiesSsh, agrees, check_request, find_request, finds, path_of, question_of, revoked_words, time_words, verify_request};
+ghost use Rattle.gix_object_signature.specs.VerifyingSsh.{Asked, Tries, TriesFound, VerifiesSsh, agrees, check_request, find_request, finds, path_of, question_of, revoked_words, time_words, verify_request};
 
 use crate::returns::drop_returns;
 use crate::run::{Answer, RunError, Word, run};
@@ -82,10 +82,25 @@ impl<'a> Keygen<'a> {
             let answer = self.check(alloc, content, runner)?;
             return Ok(outcome(minimum_trust, false, answer));
         }
+        let answer = self.try_found(alloc, found, content, runner)?;
+        Ok(outcome(minimum_trust, true, answer))
+    }
+
+    // Asks for each of the principals that this answer tells.
+    fn try_found<F: FnMut(&[Word<'_>], &[u8]) -> Result<Answer, RunError>>(
+        &self,
+        alloc: Global,
+        found: Answer,
+        content: &[u8],
+        runner: &mut F,
+    ) -> Result<Answer, Error>
+        requires { F.IsAlwaysCallable runner.old }
+        ensures told { TriesFound (Answers F.FnMut) (question_of self.now) content.now runner.old found result runner.new }
+        ensures callable { F.IsAlwaysCallable runner.new }
+    {
         let text = drop_returns(alloc, found.output.as_bytes())?;
         let names = names(alloc, text.as_bytes())?;
-        let answer = self.try_each(alloc, names.as_slice(), found, content, runner)?;
-        Ok(outcome(minimum_trust, true, answer))
+        self.try_each(alloc, names.as_slice(), found, content, runner)
     }
 
     // Asks for each name up to the first that made the signature; else the last answer counts.
