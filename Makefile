@@ -2,20 +2,28 @@
 PREFIX ?= /usr/local
 PROGRAM := crates/history_program/out/history_program
 HASHING := crates/gix_hash_bench/out/gix_hash_bench
+# Names a source that is newer than the program, if there is one.
+NEWER = find crates.txt crates -name out -prune -o -type f -newer $(PROGRAM) -print -quit
 
-.PHONY: test planted demo bench faults install program hashing
+.PHONY: test wrong-bodies demo bench faults install program hashing
 
-# The merge gate: every proof from nothing, the must-fail edits, the tests and the program.
+# The merge gate: every proof from nothing, the must-fail edits, the tests and the program. docs/GATE.md says how long it takes.
 test:
 	RT_JOBS=$${RT_JOBS:-$$(.ci/lanes)} rt ci
 
-# Tries the further wrong bodies that stand in planted/, which the gate leaves out for its time.
-planted:
-	planted/try
+# Tries all wrong bodies, of planted/ and of must-fail/, many in one check; CRATES="gix_hash history" those of some crates.
+wrong-bodies:
+	planted/try $(CRATES)
 
-# Runs the program on a stream of several commands and prints its replies.
-demo: program
-	$(PROGRAM) < demo/first.stream
+# Runs the program on a stream of several commands and prints its replies: the proved program where it stands and is of these
+# sources, else the sources as they are, by rt try, which proves nothing and takes under a minute.
+demo:
+	@if [ -x $(PROGRAM) ] && [ -z "$$($(NEWER))" ]; then \
+	  $(PROGRAM) < demo/first.stream; \
+	else \
+	  echo 'This run is not the proved build, which make program makes.' >&2; \
+	  cd crates/history_program && rt try < ../../demo/first.stream; \
+	fi
 
 # A report, no test: commits per second as the history grows, one large content, the hashing of a stream and look-ups of prefixes.
 bench: program hashing
