@@ -7,8 +7,10 @@ NEWER = find crates.txt crates -name out -prune -o -type f -newer $(PROGRAM) -pr
 
 .PHONY: test wrong-bodies demo bench faults install program hashing
 
-# The merge gate: every proof from nothing, the must-fail edits, the tests and the program. docs/GATE.md says how long it takes.
+# The merge gate: the documents' names, every proof from nothing, the must-fail edits, the tests and the program. docs/GATE.md says
+# how long it takes.
 test:
+	docs/check
 	RT_JOBS=$${RT_JOBS:-$$(.ci/lanes)} rt ci
 
 # Tries all wrong bodies, of planted/ and of must-fail/, many in one check; CRATES="gix_hash history" those of some crates.
