@@ -205,14 +205,12 @@ impl<'a> Keygen<'a> {
             ≡ map argument_of front.now ++ (Plain (codes "-s") ∷ File (bstr_bytes self.now.signature) ∷ (time_words (path_of self.now.time) ++ revoked_words (path_of revoked_keys.entry)))) }
     {
         let mut words = Vec::from_slice(alloc, front)?;
-        words.push(text(b"-s"))?;
-        words.push(Word::FileWith(self.signature))?;
+        words.extend_from_slice(&[text(b"-s"), Word::FileWith(self.signature)])?;
         if let Some(time) = self.time {
             words.push(Word::Text(time))?;
         }
         if let Some(path) = revoked_keys {
-            words.push(text(b"-r"))?;
-            words.push(Word::Text(path))?;
+            words.extend_from_slice(&[text(b"-r"), Word::Text(path)])?;
         }
         Ok(words)
     }
