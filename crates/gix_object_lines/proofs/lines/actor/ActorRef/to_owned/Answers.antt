@@ -1,8 +1,4 @@
-use Rattle.std.proofs.Common.{◌≡◌, sym, subst, refl, List, ℕ, Result, Ok, Err}
-use Rattle.bstr.specs.BStr.{bstr_bytes}
-use Rattle.gix_object_lines.specs.Time.{SpellsTime}
-use Rattle.gix_object_lines.specs.Actor.{TellsTime}
-use Rattle.gix_object_lines.specs.declared.lines.time.Time.{Time}
+use Rattle.std.proofs.Common.{refl}
 use Rattle.gix_object_lines.proofs.ActorLemmas.{untold}
 use Rattle.gix_object_lines.proofs.lines.actor.ActorRef.to_owned.Goals as goal
 
