@@ -13,7 +13,7 @@ use Rattle.gix_hash.specs.declared.run.Edge.TheVariants.{First, Past}
 use Rattle.gix_hash.specs.Order.{digits_cmp, IsBeginningOf}
 use Rattle.gix_hash.specs.declared.object_id.ObjectId.{ObjectId}
 use Rattle.gix_hash.specs.Id.{Id, id_of, digits_of}
-use Rattle.gix_hash.specs.Run.{comes_before, against, IsAscending, HasEnoughDigits, IsMatchingRun}
+use Rattle.gix_hash.specs.Run.{comes_before, against, IsAscending, HasEnoughDigits, IsMatchingRun, FallsAt}
 use Rattle.gix_hash.proofs.ByteLists.{length-digits_of}
 use Rattle.gix_hash.proofs.Compared.{cmp_less, cmp_equal, cmp_greater}
 
@@ -195,6 +195,34 @@ between_edges ids prefix first past before_first after_first before_past after_p
 
     under : (past ≤ i → ⊥) → i < past
     under f = elim (cases_lt i past) [ inl low ↦ low | inr high ↦ absurd (f high) ]
+
+-- and so how the prefix compares before the edges, between and behind them
+pub falls_at : (ids : List ObjectId) (prefix : Id) (first past : ℕ) → past ≤ length ids
+    → ((i : ℕ) (id : ObjectId) → i < first → comes_before First (against prefix (get_or ids i id)) ≡ true)
+    → ((i : ℕ) (id : ObjectId) → first ≤ i → i < length ids → comes_before First (against prefix (get_or ids i id)) ≡ false)
+    → ((i : ℕ) (id : ObjectId) → i < past → comes_before Past (against prefix (get_or ids i id)) ≡ true)
+    → ((i : ℕ) (id : ObjectId) → past ≤ i → i < length ids → comes_before Past (against prefix (get_or ids i id)) ≡ false)
+    → FallsAt ids prefix first past
+falls_at ids prefix first past within before_first after_first before_past after_past = record {
+  greater = λ i id low. greater_is (against prefix (get_or ids i id)) (before_first i id low);
+  equal = λ i id from low. equal_is (against prefix (get_or ids i id)) (after_first i id from (omega arith)) (before_past i id low);
+  less = λ i id from low. less_is (against prefix (get_or ids i id)) (after_past i id from low);
+}
+  where
+    greater_is : (o : Ordering) → is_gt o ≡ true → o ≡ Greater
+    greater_is Less e = cc
+    greater_is Equal e = cc
+    greater_is Greater e = refl
+
+    equal_is : (o : Ordering) → is_gt o ≡ false → is_ge o ≡ true → o ≡ Equal
+    equal_is Less e f = cc
+    equal_is Equal e f = refl
+    equal_is Greater e f = cc
+
+    less_is : (o : Ordering) → is_ge o ≡ false → o ≡ Less
+    less_is Less e = refl
+    less_is Equal e = cc
+    less_is Greater e = cc
 
 -- the run's ends are in order
 pub edges_in_order : (ids : List ObjectId) (prefix : Id) (first past : ℕ) (d : ObjectId) → first ≤ length ids

@@ -17,3 +17,4 @@ pub mod OrderLaws
 pub mod ChangeIdInside
 pub mod Lending
 pub mod LetterCase
+pub mod Writes

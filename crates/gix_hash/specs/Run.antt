@@ -2,6 +2,7 @@
 use Rattle.std.specs.Prelude.{ℕ, ◌≡◌, ◌<◌, ◌≤◌, ◌↔◌, ◌*◌, ◌^◌, List, length, take, false, Bool, AllPairs, All}
 use Rattle.std.specs.List.{slice_index_or}
 use Rattle.std.specs.declared.cmp.Ordering.{Ordering}
+use Rattle.std.specs.declared.cmp.Ordering.TheVariants.{Less, Equal, Greater}
 use Rattle.std.specs.Ordering.{is_gt, is_ge}
 use Rattle.gix_hash.specs.declared.run.Edge.{Edge}
 use Rattle.gix_hash.specs.declared.run.Edge.TheVariants.{First, Past}
@@ -22,13 +23,19 @@ abbrev pub IsMatchingRun : List ObjectId → Id → ℕ → ℕ → Type 0
 IsMatchingRun ids prefix first past = (i : ℕ) (id : ObjectId) → i < length ids → slice_index_or ids i id ≡ id
     → IsBeginningOf prefix.digits (id_of id).digits ↔ ((first ≤ i) × (i < past))
 
--- the count is at most twice the number of binary digits of n: n has at most k exactly if n is below 2 ^ k
-abbrev pub IsWithinTwiceDigits : ℕ → ℕ → Type 0
-IsWithinTwiceDigits count n = (k : ℕ) → n < 2 ^ k → count ≤ 2 * k
-
 -- how the prefix compares with an id's first digits
 abbrev pub against : Id → ObjectId → Ordering
 against prefix id = digits_cmp prefix.digits (take (length prefix.digits) (id_of id).digits)
+
+-- the prefix compares as greater before `first`, as equal from there up to `past`, and as less from `past` on
+pub record FallsAt (ids : List ObjectId) (prefix : Id) (first past : ℕ) : Type 0 where
+  pub greater : (i : ℕ) (id : ObjectId) → i < first → against prefix (slice_index_or ids i id) ≡ Greater
+  pub equal : (i : ℕ) (id : ObjectId) → first ≤ i → i < past → against prefix (slice_index_or ids i id) ≡ Equal
+  pub less : (i : ℕ) (id : ObjectId) → past ≤ i → i < length ids → against prefix (slice_index_or ids i id) ≡ Less
+
+-- the count is at most twice the number of binary digits of n: n has at most k exactly if n is below 2 ^ k
+abbrev pub IsWithinTwiceDigits : ℕ → ℕ → Type 0
+IsWithinTwiceDigits count n = (k : ℕ) → n < 2 ^ k → count ≤ 2 * k
 
 -- an id that compares so stands before the edge
 abbrev pub comes_before : Edge → Ordering → Bool

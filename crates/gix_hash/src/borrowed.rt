@@ -1,6 +1,6 @@
 //! Object ids as views of bytes.
 
-ghost use Rattle.std.specs.Prelude.{◌≡◌, ◌≢◌, ◌↔◌, ◌≤◌, ◌*◌, ℕ, List, [], ◌∷◌, ◌⊎◌, length, take, Some, IsTrue, MatchResult, OnOk, IsOk, IfErr};
+ghost use Rattle.std.specs.Prelude.{◌≡◌, ◌≢◌, ◌↔◌, ◌≤◌, ◌*◌, ℕ, List, [], ◌∷◌, ◌⊎◌, length, take, Some, IsTrue, MatchResult, OnOk, OnErr, IsOk, IfErr};
 ghost use Rattle.std.specs.Io.KnownBytes.{Appends};
 ghost use Rattle.bstr.specs.BStr.{bstr_bytes};
 ghost use Rattle.gix_hash.specs.Id.{Id, id_of, null_id, digits_of};
@@ -9,11 +9,13 @@ ghost use Rattle.gix_hash.specs.Hasher.{id_of_message, empty_blob_text, empty_tr
 ghost use Rattle.gix_hash.specs.Spelling.{hex_text};
 ghost use Rattle.gix_hash.specs.Views.{viewed_id, IsBytesOf, IsWrongLength, debug_text};
 ghost use Rattle.gix_hash.specs.Displays.{shown_hex};
+ghost use Rattle.gix_hash.specs.Writes.{AppendsFewer};
 
 mod view;
 
 use crate::display::HexDisplay;
 use crate::spelling::{hex_digits, written};
+use crate::write::write_bytes;
 use crate::{Kind, ObjectId, verify};
 use bstr::BStr;
 use std::convert::TryFrom;
@@ -110,12 +112,14 @@ impl<'a> oid<'a> {
         written(&digits[..2 * self.bytes.len()], buf)
     }
 
-    /// Writes the id in lower-case hexadecimal. An error is the writer's.
+    /// Writes the id in lower-case hexadecimal. An error is the writer's, which has then taken fewer than all of
+    /// its characters: the first of them. A write that a signal interrupted is tried again.
     pub fn write_hex_to<W: io::Write>(&self, out: &mut W) -> io::Result<()>
-        ensures { OnOk result (Appends (W.contents out.old) (W.contents out.new) (hex_text (viewed_id self.now).digits)) }
+        ensures written { OnOk result (Appends (W.contents out.old) (W.contents out.new) (hex_text (viewed_id self.now).digits)) }
+        ensures stopped { OnErr result (AppendsFewer (W.contents out.old) (W.contents out.new) (hex_text (viewed_id self.now).digits)) }
     {
         let mut buffer = [0u8; 64];
-        out.write_all(self.hex_to_buf(&mut buffer).as_bytes())
+        write_bytes(out, self.hex_to_buf(&mut buffer).as_bytes())
     }
 
     /// Whether the id is its kind's null id.

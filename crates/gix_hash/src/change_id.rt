@@ -1,6 +1,6 @@
 //! Change ids, which are spelled in reverse hexadecimal.
 
-ghost use Rattle.std.specs.Prelude.{◌≡◌, ◌≢◌, ◌↔◌, ◌≤◌, ℕ, List, [], ◌∷◌, length, take, Some, IsTrue, MatchResult, OnOk};
+ghost use Rattle.std.specs.Prelude.{◌≡◌, ◌≢◌, ◌↔◌, ◌≤◌, ℕ, List, [], ◌∷◌, length, take, Some, IsTrue, MatchResult, OnOk, OnErr};
 ghost use Rattle.std.specs.Io.KnownBytes.{Appends};
 ghost use Rattle.std.proofs.Common.{refl};
 ghost use Rattle.bstr.specs.BStr.{bstr_bytes};
@@ -11,6 +11,7 @@ ghost use Rattle.gix_hash.specs.Order.{id_eq, id_cmp};
 ghost use Rattle.gix_hash.specs.OrderLaws.{eq_laws, equivalence, total, id_tied, order_laws, same_feed};
 ghost use Rattle.gix_hash.specs.Spelling.{hex_text, reverse_hex_text, reverse_digit_value};
 ghost use Rattle.gix_hash.specs.Displays.{shown_hex, shown_reverse_hex};
+ghost use Rattle.gix_hash.specs.Writes.{AppendsFewer};
 ghost use Rattle.gix_hash.specs.Views.{viewed_id, IsBytesOf, IsReverseHexOfId, IsFaultOf};
 
 use crate::display::{HexDisplay, ReverseHexDisplay};
@@ -130,9 +131,11 @@ impl ChangeId {
         self.0.hex_to_buf(buf)
     }
 
-    /// Writes the id in lower-case hexadecimal. An error is the writer's.
+    /// Writes the id in lower-case hexadecimal. An error is the writer's, which has then taken fewer than all of
+    /// its characters: the first of them. A write that a signal interrupted is tried again.
     pub fn write_hex_to<W: io::Write>(&self, out: &mut W) -> io::Result<()>
-        ensures { OnOk result (Appends (W.contents out.old) (W.contents out.new) (hex_text self.now.digits)) }
+        ensures written { OnOk result (Appends (W.contents out.old) (W.contents out.new) (hex_text self.now.digits)) }
+        ensures stopped { OnErr result (AppendsFewer (W.contents out.old) (W.contents out.new) (hex_text self.now.digits)) }
     {
         self.0.write_hex_to(out)
     }

@@ -11,13 +11,14 @@ ghost use Rattle.gix_hash.specs.LetterCase.{IsLowerCase};
 ghost use Rattle.gix_hash.specs.Order.{digits_cmp, IsBeginningOf, BeginsAllOf, BeginNoneTogether};
 ghost use Rattle.gix_hash.specs.Pieces.{piece_lengths, bytes_in_pieces, IsPieceCount};
 ghost use Rattle.gix_hash.specs.Prefix.{first_digits, IsPrefixLength};
+ghost use Rattle.gix_hash.specs.Run.{IsAscending, HasEnoughDigits, FallsAt};
 ghost use Rattle.gix_hash.specs.Spelling.{hex_text, reverse_hex_text, IsHexOf, IsReverseHexOf};
 ghost use Rattle.gix_hash.specs.Views.{viewed_id, IsBytesOf, IsHexOfId, IsReverseHexOfId};
 
 use crate::hasher::hasher;
 use crate::object_id::decode;
 use crate::prefix::from_hex;
-use crate::{ChangeId, Kind, ObjectId, Prefix, oid};
+use crate::{ChangeId, Kind, ObjectId, Prefix, oid, prefix_run};
 use std::cmp::Ordering;
 
 // Each byte is below 256.
@@ -102,6 +103,15 @@ pub fn equal_is_beginning(prefix: &Prefix, id: &ObjectId)
     ensures { digits_cmp prefix.now.digits (take (length prefix.now.digits) (id_of id.now).digits) ≡ Equal
         ↔ IsBeginningOf prefix.now.digits (id_of id.now).digits }
 {}
+
+/// Over a list of ids that ascend and have enough digits `Prefix::cmp_oid` is first greater, then equal, then less.
+pub fn comparisons_fall(ids: &[ObjectId], prefix: &Prefix)
+    requires ascending { IsAscending ids.now }
+    requires enough { HasEnoughDigits ids.now prefix.now }
+    ensures { (first past : ℕ) × (first ≤ past) × (past ≤ length ids.now) × FallsAt ids.now prefix.now first past }
+{
+    let _run = prefix_run(ids, prefix);
+}
 
 /// Of two prefixes the one begins all that the other begins, or they begin nothing in common: so the
 /// ids of one kind that two prefixes of that kind begin are nested or disjoint.

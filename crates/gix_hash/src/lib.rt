@@ -6,13 +6,14 @@ mod change_id;
 mod display;
 pub mod hasher;
 pub mod io;
-mod kind;
+pub mod kind;
 pub mod laws;
 mod object_id;
 pub mod prefix;
 mod run;
 mod spelling;
 pub mod verify;
+mod write;
 
 pub use crate::borrowed::{Error, oid};
 pub use crate::change_id::ChangeId;

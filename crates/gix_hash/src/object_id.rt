@@ -1,6 +1,6 @@
 //! Owned object ids.
 
-ghost use Rattle.std.specs.Prelude.{◌≡◌, ◌↔◌, ◌≤◌, ◌≢◌, ℕ, List, [], ◌∷◌, ◌++◌, ◌⊎◌, length, take, codes, Some, IfOk, IfErr, IsOk, OnOk, MatchResult, IsTrue};
+ghost use Rattle.std.specs.Prelude.{◌≡◌, ◌↔◌, ◌≤◌, ◌≢◌, ℕ, List, [], ◌∷◌, ◌++◌, ◌⊎◌, length, take, codes, Some, IfOk, IfErr, IsOk, OnOk, OnErr, MatchResult, IsTrue};
 ghost use Rattle.std.specs.Io.KnownBytes.{Appends};
 ghost use Rattle.std.specs.Borrow.{sem};
 ghost use Rattle.hex.specs.Hex.{hex_digit_value};
@@ -14,6 +14,7 @@ ghost use Rattle.gix_hash.specs.Spelling.{hex_text};
 ghost use Rattle.gix_hash.specs.Kind.{hex_len};
 ghost use Rattle.bstr.specs.BStr.{bstr_bytes};
 ghost use Rattle.gix_hash.specs.Displays.{shown_hex};
+ghost use Rattle.gix_hash.specs.Writes.{AppendsFewer};
 ghost use Rattle.gix_hash.specs.Lending.{LendsBytes};
 ghost use Rattle.gix_hash.specs.Views.{IsBytesOf, IsHexOfId, IsFaultOf, IsWrongLength, viewed_id, debug_text};
 
@@ -189,9 +190,11 @@ impl ObjectId {
         self.as_oid().hex_to_buf(buf)
     }
 
-    /// Writes the id in lower-case hexadecimal. An error is the writer's.
+    /// Writes the id in lower-case hexadecimal. An error is the writer's, which has then taken fewer than all of
+    /// its characters: the first of them. A write that a signal interrupted is tried again.
     pub fn write_hex_to<W: io::Write>(&self, out: &mut W) -> io::Result<()>
-        ensures { OnOk result (Appends (W.contents out.old) (W.contents out.new) (hex_text (id_of self.now).digits)) }
+        ensures written { OnOk result (Appends (W.contents out.old) (W.contents out.new) (hex_text (id_of self.now).digits)) }
+        ensures stopped { OnErr result (AppendsFewer (W.contents out.old) (W.contents out.new) (hex_text (id_of self.now).digits)) }
     {
         self.as_oid().write_hex_to(out)
     }

@@ -1,6 +1,6 @@
 //! Prefixes: the first digits of object ids.
 
-ghost use Rattle.std.specs.Prelude.{◌≡◌, ◌≤◌, ◌*◌, ◌+◌, ◌-◌, ◌<◌, ◌++◌, ℕ, List, [], ◌∷◌, length, take, drop, replicate, map, Some, None, IfOk, MatchResult, MatchOption, OnOk, Any, Option, IsTrue, ◌↔◌};
+ghost use Rattle.std.specs.Prelude.{◌≡◌, ◌≤◌, ◌*◌, ◌+◌, ◌-◌, ◌<◌, ◌++◌, ℕ, List, [], ◌∷◌, length, take, drop, replicate, map, Some, None, IfOk, MatchResult, MatchOption, OnOk, OnErr, Any, Option, IsTrue, ◌↔◌};
 ghost use Rattle.bstr.specs.BStr.{bstr_bytes};
 ghost use Rattle.std.specs.Io.KnownBytes.{Appends};
 ghost use Rattle.hex.specs.Hex.{hex_digit_value};
@@ -9,6 +9,7 @@ ghost use Rattle.gix_hash.specs.declared.prefix.from_hex.Error.TheVariants.{Inva
 ghost use Rattle.gix_hash.specs.Id.{Id, id_of, digits_of};
 ghost use Rattle.gix_hash.specs.Views.{viewed_id};
 ghost use Rattle.gix_hash.specs.Displays.{shown_reverse_hex};
+ghost use Rattle.gix_hash.specs.Writes.{AppendsFewer};
 ghost use Rattle.gix_hash.specs.Spelling.{hex_text, reverse_hex_text, reverse_digit_value};
 ghost use Rattle.gix_hash.specs.Order.{digits_cmp, id_eq, id_cmp};
 ghost use Rattle.gix_hash.specs.OrderLaws.{eq_laws, equivalence, total, id_tied, order_laws, prefix_input, same_input};
@@ -17,6 +18,7 @@ ghost use Rattle.gix_hash.specs.Prefix.{first_digits, IsPrefixLength, IsLengthFa
 
 use crate::display::ReverseHexDisplay;
 use crate::spelling::{hex_digits, hex_from_reverse, written};
+use crate::write::write_bytes;
 use crate::{ChangeId, Kind, ObjectId, oid};
 use bstr::BStr;
 use std::cmp::Ordering;
@@ -212,12 +214,14 @@ impl Prefix {
         written(&digits[..self.hex_len], buf)
     }
 
-    /// Writes the prefix in lower-case hexadecimal. An error is the writer's.
+    /// Writes the prefix in lower-case hexadecimal. An error is the writer's, which has then taken fewer than all of
+    /// its characters: the first of them. A write that a signal interrupted is tried again.
     pub fn write_hex_to<W: io::Write>(&self, out: &mut W) -> io::Result<()>
-        ensures { OnOk result (Appends (W.contents out.old) (W.contents out.new) (hex_text self.now.digits)) }
+        ensures written { OnOk result (Appends (W.contents out.old) (W.contents out.new) (hex_text self.now.digits)) }
+        ensures stopped { OnErr result (AppendsFewer (W.contents out.old) (W.contents out.new) (hex_text self.now.digits)) }
     {
         let digits = hex_digits(self.bytes.as_slice());
-        out.write_all(&digits[..self.hex_len])
+        write_bytes(out, &digits[..self.hex_len])
     }
 
     /// Whether the text is the prefix in lower-case hexadecimal.

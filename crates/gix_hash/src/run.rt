@@ -5,7 +5,7 @@ ghost use Rattle.std.specs.Ordering.{is_gt};
 ghost use Rattle.std.specs.List.{slice_index_or};
 ghost use Rattle.gix_hash.specs.Id.{id_of};
 ghost use Rattle.gix_hash.specs.Order.{digits_cmp, IsBeginningOf};
-ghost use Rattle.gix_hash.specs.Run.{IsAscending, HasEnoughDigits, IsMatchingRun, IsWithinTwiceDigits, against, comes_before};
+ghost use Rattle.gix_hash.specs.Run.{IsAscending, HasEnoughDigits, IsMatchingRun, FallsAt, IsWithinTwiceDigits, against, comes_before};
 ghost use Rattle.gix_hash.specs.declared.object_id.ObjectId.{ObjectId};
 
 use crate::laws::order_of_views;
@@ -31,13 +31,15 @@ enum Edge {
 }
 
 /// The run of the ids that the prefix begins, in a list of ids that ascend by their digits and have
-/// at least as many as the prefix. It takes no memory, and calls `cmp_oid` at most twice as often as
+/// at least as many as the prefix: those with which `cmp_oid` compares it as equal. Before them stand those with which it
+/// compares it as greater, and behind them those as less. It takes no memory, and calls `cmp_oid` at most twice as often as
 /// the list's length has binary digits.
 pub fn prefix_run(ids: &[ObjectId], prefix: &Prefix) -> Run
     requires ascending { IsAscending ids.now }
     requires enough { HasEnoughDigits ids.now prefix.now }
     ensures matches { IsMatchingRun ids.now prefix.now result.first result.past }
     ensures within { (result.first ≤ result.past) × (result.past ≤ length ids.now) }
+    ensures order { FallsAt ids.now prefix.now result.first result.past }
     ensures calls { IsWithinTwiceDigits result.calls (length ids.now) }
 {
     let mut calls = 0;

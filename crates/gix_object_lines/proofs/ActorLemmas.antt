@@ -1,11 +1,11 @@
 -- A line is cut at its marks in one way, and what is written for an actor spells it.
-use Rattle.std.proofs.Common.{◌≡◌, ◌∙◌, ap, refl, sym, subst, ℕ, ℤ, pos, negsuc, suc, ◌+◌, ◌/◌, ◌%◌, ◌<◌, ◌≤◌, List, [], ◌∷◌, ◌++◌, append_assoc, Result, Ok, Err, arith}
+use Rattle.std.proofs.Common.{◌≡◌, ◌∙◌, ap, refl, sym, subst, ℕ, ℤ, ◌+◌, ◌/◌, ◌%◌, ◌<◌, List, [], ◌∷◌, ◌++◌, append_assoc, Result, Ok, Err, arith}
 use Rattle.std.specs.Prelude.{codes, FitsSigned}
 use Rattle.std.specs.Fmt.{signed_decimal}
-use Rattle.std.specs.Int.{w64, IsInRange}
+use Rattle.std.specs.Int.{w64}
 use Rattle.gix_object_lines.specs.Bytes.{Lacks}
 use Rattle.gix_object_lines.specs.Time.{SpellsTime, SpellsOffset, Ahead, Behind, two_digits, offset_text, time_text}
-use Rattle.gix_object_lines.specs.Actor.{IsCut, TellsTime, SpellsActor, IsSpellable, IsReadBack, actor_text}
+use Rattle.gix_object_lines.specs.Actor.{IsCut, TellsTime, IsSpellable, IsReadBack, actor_text}
 use Rattle.gix_object_lines.specs.declared.lines.time.Time.{Time}
 use Rattle.gix_object_lines.proofs.Cuts.{cut_once, lacks_tail}
 use Rattle.gix_object_lines.proofs.CutLemmas.{cut_last_once, lacks_both, lacks_cons, lacks_front}

@@ -10,3 +10,4 @@ pub mod SecondsLemmas
 pub mod TimeTests
 pub mod ActorLemmas
 pub mod NameLemmas
+pub mod NameTests

@@ -1,7 +1,6 @@
 -- A text spells one time, and what is written for a time spells it.
-use Rattle.std.proofs.Common.{◌≡◌, ◌≢◌, ◌∙◌, ap, refl, sym, subst, ℕ, ℤ, pos, negsuc, neg_ℤ, zero, suc, ◌+◌, ◌*◌, ◌/◌, ◌%◌, ◌<◌, ◌≤◌, ◌^◌, List, [], ◌∷◌, ◌++◌, length, get_or, append-nil, ◌-ℤ◌, arith}
-use Rattle.std.specs.Prelude.{FitsSigned, decimal, unsigned_abs}
-use Rattle.std.specs.Char.{digit_value}
+use Rattle.std.proofs.Common.{◌≡◌, ◌∙◌, ap, refl, sym, subst, ℕ, ℤ, pos, negsuc, neg_ℤ, zero, suc, ◌+◌, ◌*◌, ◌/◌, ◌%◌, ◌<◌, ◌^◌, List, [], ◌∷◌, ◌++◌, length, get_or, append-nil, ◌-ℤ◌, arith}
+use Rattle.std.specs.Prelude.{FitsSigned, decimal}
 use Rattle.std.specs.Fmt.{signed_decimal}
 use Rattle.std.specs.Int.{w64, w32, IsInRange}
 use Rattle.std.specs.Str.Parse.{IsNumeral, AllDigits, digits_value}
@@ -10,11 +9,11 @@ use Rattle.std.proofs.lemmas.Int.{ints, to_z-of_z}
 use Rattle.std.proofs.lemmas.Str.Parse.{digit_from_value}
 use mir.Val.{to_z, of_z}
 use Rattle.gix_object_lines.specs.Bytes.{Lacks}
-use Rattle.gix_object_lines.specs.Time.{SpellsSeconds, Since, Before, SpellsOffset, Ahead, Behind, SpellsTime, two_digits, clock_text, offset_text, time_text, IsSpellableOffset}
+use Rattle.gix_object_lines.specs.Time.{SpellsSeconds, Since, Before, SpellsOffset, Ahead, Behind, SpellsTime, two_digits, offset_text, time_text, IsSpellableOffset}
 use Rattle.gix_object_lines.specs.Clock.{SpellsClock}
 use Rattle.gix_object_lines.specs.declared.lines.time.Time.{Time}
 use Rattle.gix_object_lines.proofs.Cuts.{cut_once}
-use Rattle.gix_object_lines.proofs.CutLemmas.{lacks_cons, lacks_both}
+use Rattle.gix_object_lines.proofs.CutLemmas.{lacks_cons}
 
 -- ---- digits
 

@@ -10,3 +10,5 @@ pub mod TimeTest
 pub mod Actor
 pub mod LineWrites
 pub mod PartialName
+pub mod NameTest
+pub mod FullName

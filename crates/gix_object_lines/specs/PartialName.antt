@@ -1,5 +1,5 @@
 -- Names of references, whole or not: the rules of git-check-ref-format but for its second, as under `--allow-onelevel`.
-use Rattle.std.specs.Prelude.{ℕ, ◌≡◌, ◌≢◌, ◌<◌, ◌⊎◌, List, [], ◌∷◌, ◌++◌, codes, Any, Contains}
+use Rattle.std.specs.Prelude.{ℕ, ◌≡◌, ◌≢◌, ◌<◌, ◌⊎◌, List, [], ◌++◌, codes, Any, Contains}
 
 abbrev pub BeginsWith : List ℕ → List ℕ → Type 0
 BeginsWith front name = (rest : List ℕ) × (name ≡ front ++ rest)

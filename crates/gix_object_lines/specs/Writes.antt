@@ -1,5 +1,5 @@
 -- What writing a value leaves.
-use Rattle.std.specs.Prelude.{ℕ, ◌≡◌, List, ◌++◌, Option, None, Some, Result, Ok, Err}
+use Rattle.std.specs.Prelude.{ℕ, ◌≡◌, ◌<◌, List, ◌++◌, length, Option, None, Some, Result, Ok, Err}
 use Rattle.std.specs.Option.{option_map}
 use Rattle.std.specs.Io.KnownBytes.{Appends}
 use Rattle.gix_object_lines.specs.declared.write.Error.{Error}
@@ -7,7 +7,7 @@ use Rattle.gix_object_lines.specs.declared.write.Error.TheVariants.{Writer, Head
 
 -- a beginning of the bytes was written
 abbrev pub AppendsFront : Option (List ℕ) → Option (List ℕ) → List ℕ → Type 0
-AppendsFront old new bytes = (front back : List ℕ) × (bytes ≡ front ++ back) × Appends old new front
+AppendsFront old new bytes = (front back : List ℕ) × (bytes ≡ front ++ back) × (length front < length bytes) × Appends old new front
 
 -- a part of a value that the format never writes: the parts before it, and why it is refused
 pub record Refusal : Type 0 where

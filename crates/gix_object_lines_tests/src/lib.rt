@@ -1,22 +1,8 @@
-//! Tests of `gix_object_lines`, through the public face where it has the item: what Git made, every short string, and each
-//! public call once.
+//! Tests of `gix_object_lines` where no line of text can reach, through the public face where it has the item: what values print
+//! for those who debug, and writers that fail. All else is tested by the program `gix_object_lines_cases`.
 #![tactic(auto)]
 
 #[cfg(test)]
-mod actors;
-#[cfg(test)]
-mod git_lines;
-#[cfg(test)]
-mod headers;
-#[cfg(test)]
-mod names;
-#[cfg(test)]
-mod offsets;
-#[cfg(test)]
-mod rows;
-#[cfg(test)]
-mod seconds;
-#[cfg(test)]
-mod table;
+mod errors;
 #[cfg(test)]
 mod writing;

@@ -1,4 +1,4 @@
-//! A type of one's own that is written.
+//! Writers that fail, and that are interrupted.
 
 ghost use Rattle.std.specs.Prelude.{length};
 ghost use Rattle.gix_object_lines.specs.declared.kind.Kind.TheVariants as kinds;
@@ -7,7 +7,6 @@ use gix_object::write::Error;
 use gix_object::{Kind, WriteTo};
 use gix_object_lines::write::write_bytes;
 use std::io;
-use std::test::Fail;
 
 // The content of a blob.
 #[derive(Drop)]
@@ -48,19 +47,6 @@ impl io::Write for Short {
     fn flush(&mut self) -> io::Result<()> {
         Ok(())
     }
-}
-
-#[test]
-fn writes_content(rt: HostRuntime) -> Result<(), Fail> {
-    let content = Content(b"hello");
-    let mut out = Vec::new(rt.alloc());
-    assert!(rt; (&content).write_to(&mut out).is_ok());
-    assert_eq!(rt; out.as_slice(), b"hello".as_slice());
-    assert_eq!(rt; content.size(), Some(5));
-    assert_eq!(rt; content.kind(), Kind::Blob);
-    let header = content.loose_header(rt.alloc()).ok_or("no header")?;
-    assert_eq!(rt; header.as_slice(), b"blob 5\0".as_slice());
-    Ok(())
 }
 
 #[test]

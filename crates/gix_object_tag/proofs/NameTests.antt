@@ -9,7 +9,8 @@ use Rattle.std.proofs.lemmas.List.Folds.{Any-from_list_any, list_any-from_Any}
 use Rattle.std.proofs.lemmas.Map.Made.{is_member-Decides}
 use Rattle.std.proofs.lemmas.Slice.Eq.{bytes_eq-Decides, starts_is, ends_is}
 use Rattle.gix_object_lines.specs.PartialName.{BeginsWith, EndsWith, Holds, IsBarred, IsPartialName}
-use Rattle.gix_object_tag.specs.NameTest.{begins, ends, holds, is_barred, is_partial}
+use Rattle.gix_object_lines.specs.NameTest.{ends, holds, is_barred}
+use Rattle.gix_object_tag.specs.NameTest.{begins, is_partial}
 
 pub begins-Decides : (front name : List ℕ) → Decides (begins front name) (BeginsWith front name)
 begins-Decides front name =

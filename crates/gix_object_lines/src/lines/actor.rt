@@ -50,7 +50,7 @@ impl<'a> ActorRef<'a> {
         ensures email { IfOk result (λ actor. actor.email ≡ bstr_bytes self.entry.email) }
         ensures time { IfOk result (λ actor. SpellsTime (bstr_bytes self.entry.time) actor.time) }
         ensures refused { IsErrOf result InvalidTime ↔ ¬ TellsTime (bstr_bytes self.entry.time) }
-        ensures faults { IfErr result (λ fault. (fault ≡ InvalidTime) ⊎ (fault ≡ Memory)) }
+        ensures faults { IfErr result (λ fault. ((fault ≡ InvalidTime) × ¬ TellsTime (bstr_bytes self.entry.time)) ⊎ ((fault ≡ Memory) × TellsTime (bstr_bytes self.entry.time))) }
     {
         let Ok(time) = read_time(self.time.as_bytes()) else {
             return Err(decode::Error::InvalidTime);

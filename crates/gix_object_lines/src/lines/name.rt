@@ -1,7 +1,8 @@
 //! Names of references.
 
-ghost use Rattle.std.specs.Prelude.{◌↔◌, ◌⊎◌, IsTrue, Any, Contains, codes};
+ghost use Rattle.std.specs.Prelude.{◌≡◌, ◌↔◌, ◌⊎◌, IsTrue, Any, Contains, codes};
 ghost use Rattle.gix_object_lines.specs.PartialName.{BeginsWith, EndsWith, Holds, IsBarred, IsPartialName};
+ghost use Rattle.gix_object_lines.specs.NameTest as test;
 
 use memchr::memmem;
 
@@ -10,6 +11,13 @@ use memchr::memmem;
 /// Its components are parted by single slashes; none begins with `.` or ends with `.lock`. It isn't empty nor `@`, doesn't
 /// end with `.`, and holds no `..`, no `@{`, no byte below 32, no byte 127, no space and none of `~ ^ : ? * [ \`.
 pub fn is_partial_name(name: &[u8]) -> bool
+    ensures ruled { IsTrue result ↔ IsPartialName name.now }
+    ensures tested { result ≡ test.is_partial_name name.now }
+{
+    obeys_rules(name)
+}
+
+fn obeys_rules(name: &[u8]) -> bool
     ensures { IsTrue result ↔ IsPartialName name.now }
 {
     if name.is_empty() {

@@ -1,7 +1,7 @@
 use Rattle.std.proofs.Common.{◌<◌, ◌^◌, length, rules}
 use Rattle.std.proofs.Common.{[]}
 use Rattle.gix_hash.specs.declared.object_id.ObjectId.TheVariants.{Sha1}
-use Rattle.gix_hash.proofs.Edges.{between_edges, edges_in_order}
+use Rattle.gix_hash.proofs.Edges.{between_edges, edges_in_order, falls_at}
 use Rattle.gix_hash.proofs.run.prefix_run.Goals as goal
 
 pub edge_of-past-requires-clause-room : goal.edge_of-past-requires-clause-room
@@ -20,3 +20,8 @@ returns-clause-within c = (
       c.edge_of-first.ensures.before c.edge_of-past.ensures.after,
   c.edge_of-past.ensures.within,
 )
+
+pub returns-clause-order : goal.returns-clause-order
+returns-clause-order c =
+    falls_at c.args.ids.now c.args.prefix.now c.edge_of-first.result c.edge_of-past.result c.edge_of-past.ensures.within
+    c.edge_of-first.ensures.before c.edge_of-first.ensures.after c.edge_of-past.ensures.before c.edge_of-past.ensures.after

@@ -1,4 +1,4 @@
-use Rattle.std.proofs.Common.{◌≡◌, ◌∙◌, ap, Bor, List, ℕ, suc, [], ◌∷◌, ◌++◌, ◌<◌, length, get_or, take, drop, append_assoc, arith}
+use Rattle.std.proofs.Common.{◌≡◌, ◌∙◌, ap, Bor, List, ℕ, suc, [], ◌∷◌, ◌++◌, ◌<◌, length, length-append, get_or, take, drop, append_assoc, arith}
 use Rattle.std.specs.Prelude.{flat_map}
 use Rattle.std.proofs.KnownBytes.{Appends-trans}
 use Rattle.std.proofs.Math.Seq.{split_at}
@@ -27,9 +27,19 @@ returns-in_err-write_bytes-clause-err g c =
     let at = c.loop-part.part-index in
     let none : Bor (List ℕ) = record { ref_ptr = (0, 0); now = [] } in
     let below : at < length parts = omega arith in
+    let whole = whole_is parts (take at parts) (drop (suc at) parts) (get_or parts at none) front.0 front.1 (split_at parts at none below) front.2 in
+    let behind = all_bytes (drop (suc at) parts) in
+    let done = all_bytes (take at parts) ++ front.0 in
+    let less = front.3 in
+    let half = ap (λ (xs : List ℕ). length xs) front.2 in
+    let half_sum = length-append front.0 front.1 in
+    let all = ap (λ (xs : List ℕ). length xs) whole in
+    let all_sum = length-append done (front.1 ++ behind) in
+    let back_sum = length-append front.1 behind in
     on_err c.from_residual.result (
-      all_bytes (take at parts) ++ front.0,
-      front.1 ++ all_bytes (drop (suc at) parts),
-      whole_is parts (take at parts) (drop (suc at) parts) (get_or parts at none) front.0 front.1 (split_at parts at none below) front.2,
-      Appends-trans _ _ _ _ _ c.loop-part.invariant front.3,
+      done,
+      front.1 ++ behind,
+      whole,
+      omega arith,
+      Appends-trans _ _ _ _ _ c.loop-part.invariant front.4,
     )

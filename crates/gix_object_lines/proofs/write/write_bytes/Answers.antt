@@ -1,4 +1,4 @@
-use Rattle.std.proofs.Common.{◌≡◌, ◌+◌, ◌-◌, ◌++◌, ◌∙◌, List, ℕ, length, length-drop, take, drop, ap, sym, subst, arith}
+use Rattle.std.proofs.Common.{◌≡◌, ◌<◌, length-take, ◌+◌, ◌-◌, ◌++◌, ◌∙◌, List, ℕ, length, length-drop, take, drop, ap, sym, subst, arith}
 use Rattle.std.proofs.KnownBytes.{Appends-trans, Appends-kept}
 use Rattle.std.proofs.Math.Seq.{take-add}
 use Rattle.std.proofs.lemmas.List.{take_rest, take-append-drop}
@@ -14,10 +14,13 @@ pub returns-in_err-written-clause-err : goal.returns-in_err-written-clause-err
 returns-in_err-written-clause-err g c =
     let bytes = c.args.bytes.now in
     let count = c.writes.count in
+    let room = c.writes-test.true in
+    let len = length-take count bytes in
     on_err c.from_residual.result (
       take count bytes,
       drop count bytes,
       sym (take-append-drop count bytes),
+      omega arith,
       Appends-kept _ _ _ _ c.writes.invariant.1 c.in_err-written.ensures.bytes,
     )
 
@@ -25,10 +28,14 @@ pub returns-in-0-clause-err : goal.returns-in-0-clause-err
 returns-in-0-clause-err g c =
     let bytes = c.args.bytes.now in
     let count = c.writes.count in
-    let written = c.in_ok-written.written in (
+    let written = c.in_ok-written.written in
+    let room = c.writes-test.true in
+    let zero = c.in-0.is in
+    let len = length-take (count + written) bytes in (
       take (count + written) bytes,
       drop (count + written) bytes,
       sym (take-append-drop (count + written) bytes),
+      omega arith,
       subst (Appends _ _) (more bytes count written) (Appends-trans _ _ _ _ _ c.writes.invariant.1 c.in_ok-written.ensures.bytes),
     )
 

@@ -1,4 +1,4 @@
-use Rattle.std.proofs.Common.{◌≡◌, ◌∙◌, sym, subst, ◌∷◌, [], ◌++◌}
+use Rattle.std.proofs.Common.{◌∙◌, sym, subst, ◌∷◌, [], ◌++◌}
 use Rattle.std.proofs.lemmas.Bool.{false≢true}
 use Rattle.gix_object_lines.specs.Bytes.{Lacks}
 use Rattle.gix_object_lines.proofs.CutLemmas.{lacks_it}

@@ -1,4 +1,4 @@
-use Rattle.std.proofs.Common.{◌≡◌, ◌∙◌, sym, subst, ℕ, List, inr, refl}
+use Rattle.std.proofs.Common.{sym, subst, inr, refl}
 use Rattle.bstr.specs.BStr.{bstr_bytes}
 use Rattle.gix_object_lines.specs.Actor.{TellsTime}
 use Rattle.gix_object_lines.proofs.ActorLemmas.{one_cut, untold}

@@ -1,8 +1,8 @@
-use Rattle.std.proofs.Common.{◌≡◌, ◌+◌, ◌*◌, arith, rules, length}
+use Rattle.std.proofs.Common.{◌+◌, ◌*◌, arith, rules}
 use Rattle.std.specs.Prelude.{FitsSigned}
 use Rattle.std.specs.Int.{w32}
 use Rattle.std.proofs.lemmas.Int.{to_z-of_z}
-use Rattle.gix_object_lines.proofs.TimeLemmas.{offset_length, no_offset, no_sign, offset_ahead, offset_behind, neg_read}
+use Rattle.gix_object_lines.proofs.TimeLemmas.{offset_length, no_offset, offset_ahead, offset_behind, neg_read}
 use Rattle.gix_object_lines.proofs.lines.digits.read_offset.Goals as goal
 
 pub returns-in_default : goal.returns-in_default

@@ -1,4 +1,4 @@
-use Rattle.std.proofs.Common.{◌≡◌, ◌∙◌, ap, sym, subst, arith, rules, ℕ, ◌+◌, ◌-◌, ◌*◌, ◌<◌, ◌≤◌, ◌/◌, ◌%◌, List, [], ◌∷◌}
+use Rattle.std.proofs.Common.{◌≡◌, ◌∙◌, ap, arith, ℕ, ◌+◌, ◌-◌, ◌*◌, ◌≤◌, ◌/◌, ◌%◌, [], ◌∷◌}
 use Rattle.std.specs.Char.{IsNotAsciiDigit}
 use Rattle.gix_object_lines.specs.Time.{two_digits}
 use Rattle.gix_object_lines.proofs.lines.digits.read_two_digits.Goals as goal

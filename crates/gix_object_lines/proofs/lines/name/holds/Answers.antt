@@ -1,4 +1,4 @@
-use Rattle.std.proofs.Common.{◌≡◌, ◌∙◌, sym}
+use Rattle.std.proofs.Common.{◌∙◌, sym}
 use Rattle.gix_object_lines.proofs.NameLemmas.{found}
 use Rattle.gix_object_lines.proofs.lines.name.holds.Goals as goal
 

@@ -1,10 +1,9 @@
-use Rattle.std.proofs.Common.{◌≡◌, subst, rules}
+use Rattle.std.proofs.Common.{subst, rules}
 use Rattle.std.specs.Prelude.{FitsSigned}
 use Rattle.std.specs.Int.{w64, w32}
 use Rattle.std.proofs.lemmas.Int.{to_z-of_z}
 use Rattle.gix_object_lines.specs.Time.{SpellsSeconds, SpellsOffset}
 use Rattle.gix_object_lines.proofs.TimeLemmas.{front_is, time_from_parts}
-use Rattle.gix_object_lines.proofs.Cuts.{lacks_not}
 use Rattle.gix_object_lines.proofs.lines.time.parse.Goals as goal
 
 pub returns-in_err-seconds : goal.returns-in_err-seconds

@@ -1,4 +1,4 @@
-use Rattle.std.proofs.Common.{◌≡◌, ◌∙◌, ap, Ok, Some, None, Option, List, ℕ}
+use Rattle.std.proofs.Common.{◌≡◌, ap, Some, None, Option, List, ℕ}
 use Rattle.std.specs.Prelude.{MatchOption}
 use Rattle.gix_object_lines.specs.Time.{SpellsTime}
 use Rattle.gix_object_lines.specs.declared.lines.time.Time.{Time}

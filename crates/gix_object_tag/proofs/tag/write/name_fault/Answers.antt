@@ -13,15 +13,15 @@ told name partial dashed a b = sym (λ i. if a i then (if b i then Some StartsWi
 
 pub returns-then-not-is_partial_name : goal.returns-then-not-is_partial_name
 returns-then-not-is_partial_name c =
-    let same = same_from_decides _ _ (is_partial-Decides c.args.name.now) c.is_partial_name.ensures in
+    let same = same_from_decides _ _ (is_partial-Decides c.args.name.now) c.is_partial_name.ensures.ruled in
     told c.args.name.now false (begins (codes "-") c.args.name.now) (same ∙ c.if-not-is_partial_name.true) refl
 
 pub returns-then-begins_with_dash : goal.returns-then-begins_with_dash
 returns-then-begins_with_dash c =
-    let same = same_from_decides _ _ (is_partial-Decides c.args.name.now) c.is_partial_name.ensures in
+    let same = same_from_decides _ _ (is_partial-Decides c.args.name.now) c.is_partial_name.ensures.ruled in
     told c.args.name.now true true (same ∙ c.if-not-is_partial_name.false) (sym c.begins_with_dash.ensures ∙ c.if-begins_with_dash.true)
 
 pub returns : goal.returns
 returns c =
-    let same = same_from_decides _ _ (is_partial-Decides c.args.name.now) c.is_partial_name.ensures in
+    let same = same_from_decides _ _ (is_partial-Decides c.args.name.now) c.is_partial_name.ensures.ruled in
     told c.args.name.now true false (same ∙ c.if-not-is_partial_name.false) (sym c.begins_with_dash.ensures ∙ c.if-begins_with_dash.false)

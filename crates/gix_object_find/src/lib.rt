@@ -1,0 +1,7 @@
+//! Looking objects up by their ids, after the crate `gix-object` 0.64.
+#![tactic(auto)]
+
+pub mod find;
+mod traits;
+
+pub use crate::traits::{Exists, Find, FindHeader, Lookup};
