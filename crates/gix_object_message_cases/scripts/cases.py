@@ -33,7 +33,7 @@ def quoted(text):
 
 
 def truths(*values):
-    return " ".join("true" if value else "false" for value in values)
+    return f"[{', '.join('true' if value else 'false' for value in values)}]"
 
 
 # ---- what git tells
@@ -152,7 +152,7 @@ def tells(token):
 def selected(text):
     trailers = trailers_in(trailer_part(text))
     wanted = [{0}, {1}, {2}, {0, 1}, set(range(6))]
-    case("selected", text, " ".join(written([t for t in trailers if any(tells(t[0])[word] for word in words)]) for words in wanted))
+    case("selected", text, "".join(f"[{written([t for t in trailers if any(tells(t[0])[word] for word in words)])}]" for words in wanted))
 
 
 def texts_of_rows(rows):

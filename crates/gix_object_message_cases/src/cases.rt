@@ -15,7 +15,10 @@ fn bytes(alloc: Global, field: &str) -> Option<Vec<u8>> {
 pub fn answer(alloc: Global, line: &str) -> Option<String> {
     let (operation, field) = line.split_once(' ')?;
     let bytes = bytes(alloc, field)?;
-    let bytes = bytes.as_slice();
+    answer_of(alloc, operation, &bytes)
+}
+
+fn answer_of(alloc: Global, operation: &str, bytes: &[u8]) -> Option<String> {
     match operation {
         "parts" => messages::parts(alloc, bytes),
         "summary" => messages::summary(alloc, bytes),

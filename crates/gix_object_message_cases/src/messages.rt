@@ -43,9 +43,13 @@ fn trailers(alloc: Global, message: MessageRef<'_>) -> Option<Vec<u8>> {
 pub fn message(alloc: Global, bytes: &[u8]) -> Option<String> {
     let message = MessageRef::from_bytes(bytes);
     let summary = message.summary(alloc).ok()?.into_owned(alloc).ok()?;
+    told(alloc, message, &summary)
+}
+
+fn told(alloc: Global, message: MessageRef<'_>, summary: &[u8]) -> Option<String> {
     let body = message.body.unwrap_or(BStr::new(b""));
     let trailers = trailers(alloc, message)?;
-    let summary = BStr::new(&summary);
+    let summary = BStr::new(summary);
     let trailers = BStr::new(&trailers);
     format!(in alloc; "{summary:?} {body:?} {trailers:?}").ok()
 }

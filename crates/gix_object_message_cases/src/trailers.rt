@@ -3,6 +3,7 @@
 use bstr::BStr;
 use gix_object_message::{BodyRef, SelectedTrailers, TrailerRef, Trailers};
 use std::alloc::{AllocError, Global};
+use std::fmt::Write;
 
 fn append(out: &mut Vec<u8>, trailer: TrailerRef<'_>) -> Result<(), AllocError> {
     out.extend_from_slice(trailer.token.as_bytes())?;
@@ -21,24 +22,25 @@ pub fn lines_of(alloc: Global, trailers: Trailers<'_>) -> Result<Vec<u8>, AllocE
     Ok(out)
 }
 
-// The lines of a filter's trailers.
-fn shown(alloc: Global, trailers: SelectedTrailers<'_>) -> Option<String> {
-    let mut out = Vec::new(alloc);
+// The lines of a filter's trailers, behind what was shown before.
+fn show(alloc: Global, out: &mut String, trailers: SelectedTrailers<'_>) -> Option<()> {
+    let mut lines = Vec::new(alloc);
     for trailer in trailers {
-        append(&mut out, trailer).ok()?;
+        append(&mut lines, trailer).ok()?;
     }
-    format!(in alloc; "{:?}", BStr::new(&out)).ok()
+    write!(out, "[{:?}]", BStr::new(&lines)).ok()
 }
 
 /// The trailers of a body that each of the filters gives.
 pub fn selected(alloc: Global, bytes: &[u8]) -> Option<String> {
     let trailers = BodyRef::from_bytes(bytes).trailers();
-    let signed = shown(alloc, trailers.signed_off_by())?;
-    let written = shown(alloc, trailers.co_authored_by())?;
-    let assisted = shown(alloc, trailers.assisted_by())?;
-    let authors = shown(alloc, trailers.authors())?;
-    let attributions = shown(alloc, trailers.attributions())?;
-    format!(in alloc; "{signed} {written} {assisted} {authors} {attributions}").ok()
+    let mut out = String::new(alloc);
+    show(alloc, &mut out, trailers.signed_off_by())?;
+    show(alloc, &mut out, trailers.co_authored_by())?;
+    show(alloc, &mut out, trailers.assisted_by())?;
+    show(alloc, &mut out, trailers.authors())?;
+    show(alloc, &mut out, trailers.attributions())?;
+    Some(out)
 }
 
 /// What a trailer's token tells.
@@ -47,12 +49,17 @@ pub fn token(alloc: Global, bytes: &[u8]) -> Option<String> {
         token: BStr::new(bytes),
         value: BStr::new(b"A"),
     };
-    let signed = trailer.is_signed_off_by();
-    let written = trailer.is_co_authored_by();
-    let assisted = trailer.is_assisted_by();
-    let acked = trailer.is_acked_by();
-    let reviewed = trailer.is_reviewed_by();
-    let tested = trailer.is_tested_by();
-    let any = trailer.is_attribution();
-    format!(in alloc; "{signed} {written} {assisted} {acked} {reviewed} {tested} {any}").ok()
+    format!(in alloc; "{:?}", answers(trailer)).ok()
+}
+
+fn answers(trailer: TrailerRef<'_>) -> [bool; 7] {
+    [
+        trailer.is_signed_off_by(),
+        trailer.is_co_authored_by(),
+        trailer.is_assisted_by(),
+        trailer.is_acked_by(),
+        trailer.is_reviewed_by(),
+        trailer.is_tested_by(),
+        trailer.is_attribution(),
+    ]
 }

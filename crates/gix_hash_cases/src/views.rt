@@ -1,0 +1,67 @@
+//! Views of ids.
+
+use crate::fields;
+use bstr::BStr;
+use gix_hash::{Kind, ObjectId, oid};
+use std::alloc::Global;
+use std::convert::TryFrom;
+
+/// What the view of the bytes tells.
+pub fn view(alloc: Global, fields: &[Vec<u8>]) -> Option<String> {
+    let [bytes] = fields else {
+        return None;
+    };
+    match oid::try_from_bytes(bytes) {
+        Ok(id) => told(alloc, id),
+        Err(error) => format!(in alloc; "{error}").ok(),
+    }
+}
+
+fn told(alloc: Global, id: oid<'_>) -> Option<String> {
+    let kind = id.kind();
+    let first = id.first_byte();
+    let is_null = id.is_null();
+    let is_blob = id.is_empty_blob();
+    let is_tree = id.is_empty_tree();
+    format!(in alloc; "{id:?} {kind} {first} {is_null} {is_blob} {is_tree}").ok()
+}
+
+/// The view's first digits, as many as are asked for, all, its digits in a buffer, and the id that it shows.
+pub fn texts(alloc: Global, fields: &[Vec<u8>]) -> Option<String> {
+    let [bytes, length] = fields else {
+        return None;
+    };
+    let id = oid::try_from(bytes.as_slice()).ok()?;
+    let length = fields::number(length)?;
+    let short = id.to_hex_with_len(length);
+    let whole = id.to_hex();
+    let owned = id.to_owned();
+    let mut buffer = Kind::hex_buf();
+    let text = id.hex_to_buf(&mut buffer);
+    format!(in alloc; "{short} {whole} {text} {owned}").ok()
+}
+
+/// The view's digits as they are written.
+pub fn write(alloc: Global, fields: &[Vec<u8>]) -> Option<String> {
+    let [bytes] = fields else {
+        return None;
+    };
+    let id = oid::try_from_bytes(bytes).ok()?;
+    let mut out = Vec::new(alloc);
+    id.write_hex_to(&mut out).ok()?;
+    format!(in alloc; "{}", BStr::new(&out)).ok()
+}
+
+/// The id and the view of 20 or 32 bytes, by the calls that ask for so many, and the id of the view.
+pub fn made(alloc: Global, fields: &[Vec<u8>]) -> Option<String> {
+    let [bytes] = fields else {
+        return None;
+    };
+    if bytes.len() != 20 && bytes.len() != 32 {
+        return None;
+    }
+    let id = ObjectId::from_bytes_or_panic(bytes);
+    let view = oid::from_bytes_unchecked(bytes);
+    let shown = ObjectId::from(view);
+    format!(in alloc; "{id} {view} {shown}").ok()
+}
