@@ -1,0 +1,126 @@
+//! Signatures verified.
+
+use crate::case::Case;
+use crate::program::Program;
+use crate::show;
+use bstr::BStr;
+use gix_object_signature::SignedData;
+use gix_object_signature::run::Word;
+use gix_object_signature::verify::{Options, Outcome, TrustLevel};
+use std::alloc::{AllocError, Global};
+use std::fmt::Write;
+
+// The words of a line from its least trust on.
+#[derive(Clone, Copy)]
+struct Signed<'a> {
+    minimum_trust: TrustLevel,
+    data: SignedData<'a>,
+    signature: &'a [u8],
+    answers: &'a [Vec<u8>],
+}
+
+fn read_signed(case: &Case, place: usize) -> Option<Signed<'_>> {
+    let [trust, before, behind, signature, answers @ ..] = case.behind(place) else {
+        return None;
+    };
+    Some(Signed {
+        minimum_trust: TrustLevel::from_bytes(trust.as_slice())?,
+        data: SignedData {
+            before: BStr::new(before.as_slice()),
+            behind: BStr::new(behind.as_slice()),
+        },
+        signature: signature.as_slice(),
+        answers,
+    })
+}
+
+fn show_outcome(outcome: &Outcome, out: &mut String) -> Result<(), AllocError> {
+    let valid = if outcome.is_valid() {
+        "valid"
+    } else {
+        "invalid"
+    };
+    let signer = if outcome.has_signer {
+        "signer"
+    } else {
+        "no signer"
+    };
+    write!(
+        out,
+        "{valid} {:?} {:?} of {:?} {signer}",
+        outcome.status, outcome.trust, outcome.minimum_trust
+    )?;
+    let end = if outcome.answer.succeeded {
+        "ended"
+    } else {
+        "failed"
+    };
+    write!(out, " {end}")?;
+    show::text(" output ", outcome.answer.output.as_bytes(), "", out)?;
+    show::text(" errors ", outcome.answer.errors.as_bytes(), "", out)
+}
+
+fn verify(
+    alloc: Global,
+    signed: &Signed<'_>,
+    options: &Options<'_>,
+    out: &mut String,
+) -> Result<(), AllocError> {
+    let mut program = Program::new(alloc, signed.answers);
+    match signed.data.verify(
+        alloc,
+        signed.signature,
+        options,
+        &mut |words: &[Word<'_>], input: &[u8]| { program.answer(words, input) },
+    ) {
+        Ok(outcome) => show_outcome(&outcome, out)?,
+        Err(error) => write!(out, "refused {error:?}")?,
+    }
+    out.push_str(program.asked())
+}
+
+/// What a program tells of a signature of OpenPGP: the program, the least trust, the bytes before and behind the signature, the
+/// signature, and the program's answers.
+pub fn openpgp(alloc: Global, case: &Case, out: &mut String) -> Result<(), AllocError> {
+    let Some(signed) = read_signed(case, 1) else {
+        return out.push_str("no case");
+    };
+    let options = Options::OpenPgp {
+        program: BStr::new(case.text(0)),
+        minimum_trust: signed.minimum_trust,
+    };
+    verify(alloc, &signed, &options, out)
+}
+
+/// The same of X.509.
+pub fn x509(alloc: Global, case: &Case, out: &mut String) -> Result<(), AllocError> {
+    let Some(signed) = read_signed(case, 1) else {
+        return out.push_str("no case");
+    };
+    let options = Options::X509 {
+        program: BStr::new(case.text(0)),
+        minimum_trust: signed.minimum_trust,
+    };
+    verify(alloc, &signed, &options, out)
+}
+
+/// The same of the secure shell, with the paths of the allowed signers and of the revoked keys, of which there are none where the
+/// path is empty, behind the program.
+pub fn ssh(alloc: Global, case: &Case, out: &mut String) -> Result<(), AllocError> {
+    let Some(signed) = read_signed(case, 3) else {
+        return out.push_str("no case");
+    };
+    let revoked = case.text(2);
+    let revoked_keys = if revoked.is_empty() {
+        None
+    } else {
+        Some(BStr::new(revoked))
+    };
+    let options = Options::Ssh {
+        program: BStr::new(case.text(0)),
+        allowed_signers: BStr::new(case.text(1)),
+        revoked_keys,
+        minimum_trust: signed.minimum_trust,
+    };
+    verify(alloc, &signed, &options, out)
+}
