@@ -3,8 +3,8 @@
 
 mod case;
 mod operations;
+mod page;
 mod program;
-mod show;
 mod signing;
 mod verifying;
 mod words;

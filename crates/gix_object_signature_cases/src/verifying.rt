@@ -1,14 +1,13 @@
 //! Signatures verified.
 
 use crate::case::Case;
+use crate::page::Page;
 use crate::program::Program;
-use crate::show;
 use bstr::BStr;
 use gix_object_signature::SignedData;
 use gix_object_signature::run::Word;
 use gix_object_signature::verify::{Options, Outcome, TrustLevel};
-use std::alloc::{AllocError, Global};
-use std::fmt::Write;
+use std::alloc::Global;
 
 // The words of a line from its least trust on.
 #[derive(Clone, Copy)]
@@ -34,38 +33,34 @@ fn read_signed(case: &Case, place: usize) -> Option<Signed<'_>> {
     })
 }
 
-fn show_outcome(outcome: &Outcome, out: &mut String) -> Result<(), AllocError> {
-    let valid = if outcome.is_valid() {
-        "valid"
+fn show_outcome(outcome: &Outcome, page: &mut Page) {
+    page.word(if outcome.is_valid() {
+        "valid "
     } else {
-        "invalid"
-    };
-    let signer = if outcome.has_signer {
-        "signer"
+        "invalid "
+    });
+    page.name(outcome.status);
+    page.word(" ");
+    page.name(outcome.trust);
+    page.word(" of ");
+    page.name(outcome.minimum_trust);
+    page.word(if outcome.has_signer {
+        " signer"
     } else {
-        "no signer"
-    };
-    write!(
-        out,
-        "{valid} {:?} {:?} of {:?} {signer}",
-        outcome.status, outcome.trust, outcome.minimum_trust
-    )?;
-    let end = if outcome.answer.succeeded {
-        "ended"
+        " no signer"
+    });
+    page.word(if outcome.answer.succeeded {
+        " ended"
     } else {
-        "failed"
-    };
-    write!(out, " {end}")?;
-    show::text(" output ", outcome.answer.output.as_bytes(), "", out)?;
-    show::text(" errors ", outcome.answer.errors.as_bytes(), "", out)
+        " failed"
+    });
+    page.word(" output ");
+    page.bytes(outcome.answer.output.as_bytes());
+    page.word(" errors ");
+    page.bytes(outcome.answer.errors.as_bytes());
 }
 
-fn verify(
-    alloc: Global,
-    signed: &Signed<'_>,
-    options: &Options<'_>,
-    out: &mut String,
-) -> Result<(), AllocError> {
+fn verify(alloc: Global, signed: &Signed<'_>, options: &Options<'_>, page: &mut Page) {
     let mut program = Program::new(alloc, signed.answers);
     match signed.data.verify(
         alloc,
@@ -73,42 +68,45 @@ fn verify(
         options,
         &mut |words: &[Word<'_>], input: &[u8]| { program.answer(words, input) },
     ) {
-        Ok(outcome) => show_outcome(&outcome, out)?,
-        Err(error) => write!(out, "refused {error:?}")?,
+        Ok(outcome) => show_outcome(&outcome, page),
+        Err(error) => {
+            page.word("refused ");
+            page.name(error);
+        }
     }
-    out.push_str(program.asked())
+    program.tell(page);
 }
 
 /// What a program tells of a signature of OpenPGP: the program, the least trust, the bytes before and behind the signature, the
 /// signature, and the program's answers.
-pub fn openpgp(alloc: Global, case: &Case, out: &mut String) -> Result<(), AllocError> {
+pub fn openpgp(alloc: Global, case: &Case, page: &mut Page) {
     let Some(signed) = read_signed(case, 1) else {
-        return out.push_str("no case");
+        return page.word("no case");
     };
     let options = Options::OpenPgp {
         program: BStr::new(case.text(0)),
         minimum_trust: signed.minimum_trust,
     };
-    verify(alloc, &signed, &options, out)
+    verify(alloc, &signed, &options, page);
 }
 
 /// The same of X.509.
-pub fn x509(alloc: Global, case: &Case, out: &mut String) -> Result<(), AllocError> {
+pub fn x509(alloc: Global, case: &Case, page: &mut Page) {
     let Some(signed) = read_signed(case, 1) else {
-        return out.push_str("no case");
+        return page.word("no case");
     };
     let options = Options::X509 {
         program: BStr::new(case.text(0)),
         minimum_trust: signed.minimum_trust,
     };
-    verify(alloc, &signed, &options, out)
+    verify(alloc, &signed, &options, page);
 }
 
 /// The same of the secure shell, with the paths of the allowed signers and of the revoked keys, of which there are none where the
 /// path is empty, behind the program.
-pub fn ssh(alloc: Global, case: &Case, out: &mut String) -> Result<(), AllocError> {
+pub fn ssh(alloc: Global, case: &Case, page: &mut Page) {
     let Some(signed) = read_signed(case, 3) else {
-        return out.push_str("no case");
+        return page.word("no case");
     };
     let revoked = case.text(2);
     let revoked_keys = if revoked.is_empty() {
@@ -122,5 +120,5 @@ pub fn ssh(alloc: Global, case: &Case, out: &mut String) -> Result<(), AllocErro
         revoked_keys,
         minimum_trust: signed.minimum_trust,
     };
-    verify(alloc, &signed, &options, out)
+    verify(alloc, &signed, &options, page);
 }

@@ -4,7 +4,9 @@
 mod case;
 mod edits;
 mod operations;
-mod show;
+mod page;
+mod parts;
+mod program;
 mod signing;
 mod tokens;
 mod whole;

@@ -1,49 +1,51 @@
 //! One line to one answer.
 
 use crate::case::{Case, read_case};
+use crate::page::Page;
 use crate::{edits, signing, tokens, whole};
+use gix_object_tag::TagRef;
 use std::alloc::{AllocError, Global};
 
-// What the operation writes; `None` where there is no such operation.
-fn write_answer(
-    alloc: Global,
-    operation: &str,
-    case: &Case,
-    out: &mut String,
-) -> Option<Result<(), AllocError>> {
-    let wrote = match operation {
-        "read" => whole::read(case, out),
-        "lent" => whole::lent(case, out),
-        "write" => whole::write(alloc, case, out),
-        "own" => whole::own(alloc, case, out),
-        "tokens" => tokens::in_order(case, out),
-        "ids" => tokens::ids(case, out),
-        "ahead" => tokens::ahead(case, out),
-        "signature" => signing::signature(alloc, case, out),
-        "sign" => signing::sign(alloc, case, out),
-        "sign-with-target" => signing::sign_with_target(alloc, case, out),
-        "with-target" => edits::target(alloc, case, out),
-        "with-name" => edits::name(alloc, case, out),
-        "with-tagger" => edits::tagger(alloc, case, out),
-        "with-message" => edits::message(alloc, case, out),
-        "with-signature" => edits::signature(alloc, case, out),
-        _ => return None,
-    };
-    Some(wrote)
+// What is asked of a tag that is read whole.
+fn write_of_tag(alloc: Global, operation: &str, tag: TagRef<'_>, case: &Case, page: &mut Page) {
+    match operation {
+        "read" => whole::read(tag, page),
+        "write" => page.object(alloc, case.kind, &tag),
+        "own" => whole::own(alloc, case.kind, tag, page),
+        "sign" => signing::sign(alloc, tag, case, page),
+        "sign-with-target" => signing::sign_with_target(alloc, tag, case, page),
+        "with-target" => edits::target(alloc, tag, case, page),
+        "with-name" => edits::name(alloc, tag, case, page),
+        "with-tagger" => edits::tagger(alloc, tag, case, page),
+        "with-message" => edits::message(alloc, tag, case, page),
+        "with-signature" => edits::signature(alloc, tag, case, page),
+        _ => page.word("no operation"),
+    }
+}
+
+fn write_answer(alloc: Global, operation: &str, case: &Case, page: &mut Page) {
+    match operation {
+        "lent" => whole::lent(case, page),
+        "tokens" => tokens::in_order(case, page),
+        "ids" => tokens::ids(case, page),
+        "ahead" => tokens::ahead(case, page),
+        "signature" => signing::signature(alloc, case, page),
+        _ => match TagRef::from_bytes(case.text(0), case.kind) {
+            Ok(tag) => write_of_tag(alloc, operation, tag, case, page),
+            Err(error) => page.refused(error),
+        },
+    }
 }
 
 /// What the operation of the line gives.
 pub fn answer(alloc: Global, line: &str) -> Result<String, AllocError> {
-    let Some((operation, words)) = line.split_once(' ') else {
-        return format!(in alloc; "no case: {line}");
-    };
-    let Some(case) = read_case(alloc, words) else {
-        return format!(in alloc; "no bytes: {line}");
-    };
-    let mut out = String::new(alloc);
-    match write_answer(alloc, operation, &case, &mut out) {
-        Some(Ok(())) => Ok(out),
-        Some(Err(error)) => Err(error),
-        None => format!(in alloc; "no operation: {line}"),
+    let mut page = Page::new(alloc);
+    match line.split_once(' ') {
+        Some((operation, words)) => match read_case(alloc, words) {
+            Some(case) => write_answer(alloc, operation, &case, &mut page),
+            None => page.word("no bytes"),
+        },
+        None => page.word("no case"),
     }
+    page.finish()
 }

@@ -1,72 +1,63 @@
-//! Tags read whole, owned and written again.
+//! Tags read whole and owned.
 
 use crate::case::Case;
-use crate::show;
+use crate::page::Page;
 use gix_object_lines::WriteTo;
 use gix_object_tag::{Tag, TagRef};
-use std::alloc::{AllocError, Global};
-use std::fmt::Write;
+use std::alloc::Global;
 
 /// The parts of a tag as its fields hold them.
-pub fn read(case: &Case, out: &mut String) -> Result<(), AllocError> {
-    let tag = match TagRef::from_bytes(case.text(0), case.kind) {
-        Ok(tag) => tag,
-        Err(error) => return write!(out, "refused {error:?}"),
-    };
-    show::text("object ", tag.target.as_bytes(), "; ", out)?;
-    write!(out, "type {}; ", tag.target_kind)?;
-    show::text("tag ", tag.name.as_bytes(), "; ", out)?;
-    show::maker("tagger ", tag.tagger, "; ", out)?;
-    show::text("message ", tag.message.as_bytes(), "; ", out)?;
-    show::told("signature ", tag.pgp_signature, "", out)
+pub fn read(tag: TagRef<'_>, page: &mut Page) {
+    page.text("object ", tag.target.as_bytes(), "; type ");
+    page.put(tag.target_kind);
+    page.text("; tag ", tag.name.as_bytes(), "; ");
+    page.tagger(tag.tagger);
+    page.text("; message ", tag.message.as_bytes(), "; ");
+    page.told("signature ", tag.pgp_signature, "");
 }
 
 /// What a tag's calls lend of it.
-pub fn lent(case: &Case, out: &mut String) -> Result<(), AllocError> {
-    let tag = match TagRef::from_bytes(case.text(0), case.kind) {
-        Ok(tag) => tag,
-        Err(error) => return write!(out, "refused {error:?}"),
-    };
-    write!(out, "{} {}; ", tag.kind(), tag.target())?;
-    show::maker("tagger ", tag.tagger(), "; ", out)?;
-    show::signature(tag.signature(), out)
-}
-
-/// The length and the id of what is written of a tag that was read.
-pub fn write(alloc: Global, case: &Case, out: &mut String) -> Result<(), AllocError> {
+pub fn lent(case: &Case, page: &mut Page) {
     match TagRef::from_bytes(case.text(0), case.kind) {
-        Ok(tag) => show::object(alloc, case.kind, &tag, out),
-        Err(error) => write!(out, "refused {error:?}"),
+        Ok(tag) => {
+            page.value("", tag.kind(), " ");
+            page.value("", tag.target(), "; ");
+            page.tagger(tag.tagger());
+            page.word("; ");
+            page.signature(tag.signature());
+        }
+        Err(error) => page.refused(error),
     }
 }
 
-fn show_own(tag: &Tag, out: &mut String) -> Result<(), AllocError> {
-    write!(out, "object {}; type {}; ", tag.target, tag.target_kind)?;
-    show::text("tag ", tag.name.as_bytes(), "; ", out)?;
+fn show_own(tag: &Tag, page: &mut Page) {
+    page.value("object ", tag.target, "; type ");
+    page.put(tag.target_kind);
+    page.text("; tag ", tag.name.as_bytes(), "; tagger ");
     match &tag.tagger {
         Some(tagger) => {
-            show::text("tagger ", tagger.name.as_bytes(), "|", out)?;
-            show::text("", tagger.email.as_bytes(), "|", out)?;
-            write!(out, "{} {}; ", tagger.time.seconds, tagger.time.offset)?;
+            page.text("", tagger.name.as_bytes(), "|");
+            page.text("", tagger.email.as_bytes(), "|");
+            page.value("", tagger.time.seconds, " ");
+            page.put(tagger.time.offset);
         }
-        None => out.push_str("tagger none; ")?,
+        None => page.word("none"),
     }
-    show::text("message ", tag.message.as_bytes(), "; ", out)?;
-    show::signature(tag.signature(), out)
+    page.text("; message ", tag.message.as_bytes(), "; ");
+    page.signature(tag.signature());
 }
 
 /// The parts of a tag that owns them, and the length and the id of what is written of it.
-pub fn own(alloc: Global, case: &Case, out: &mut String) -> Result<(), AllocError> {
-    let tag = match TagRef::from_bytes(case.text(0), case.kind) {
-        Ok(tag) => tag,
-        Err(error) => return write!(out, "refused {error:?}"),
-    };
+pub fn own(alloc: Global, kind: gix_hash::Kind, tag: TagRef<'_>, page: &mut Page) {
     match tag.into_owned(alloc) {
         Ok(own) => {
-            show_own(&own, out)?;
-            out.push_str("; ")?;
-            show::object(alloc, case.kind, &own, out)
+            show_own(&own, page);
+            page.word("; ");
+            page.object(alloc, kind, &own);
         }
-        Err(error) => write!(out, "not owned {error:?}"),
+        Err(error) => {
+            page.word("not owned ");
+            page.name(error);
+        }
     }
 }
