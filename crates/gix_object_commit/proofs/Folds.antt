@@ -6,7 +6,7 @@ use Rattle.std.proofs.lemmas.Bool.Decides.{Decides-eqb}
 use Rattle.std.proofs.lemmas.Grind.{flat_map-append}
 use Rattle.gix_object_lines.specs.Bytes.{Lacks}
 use Rattle.gix_object_lines.proofs.Cuts.{lacks_head, lacks_tail}
-use Rattle.gix_object_commit.specs.Commit.{folded, IsFolded}
+use Rattle.gix_object_commit.specs.Commit.{folded, unfolded, unfolded_behind, IsFolded}
 use Rattle.gix_object_commit.specs.Reading.{IsUnspaced}
 
 -- a byte is a line feed or not
@@ -82,43 +82,31 @@ folded_once text rest text' rest' f f' u u' e =
     let same : f'.0 ≡ f.0 = on.whole ∙ ap (λ m. f.0 ++ m) ends.0 ∙ append-nil f.0 in
     (f.1 ∙ ap folded (sym same) ∙ sym f'.1, ends.1)
 
--- ---- a value behind its lines
+-- ---- a value without the spaces behind its line feeds
 
--- the value goes on behind the first line feed
-pub record FoldedOn (more line after : List ℕ) : Type 0 where
-  pub later : List ℕ
-  pub whole : more ≡ line ++ 10 ∷ later
-  pub spaced_behind : after ≡ 32 ∷ folded later
+pub unfolded_line : (line after : List ℕ) → Lacks 10 line → unfolded (line ++ 10 ∷ after) ≡ line ++ 10 ∷ unfolded_behind true after
+unfolded_line [] after l = refl
+unfolded_line (byte ∷ line) after l =
+    ap (λ t. byte ∷ unfolded_behind t (line ++ 10 ∷ after)) (ne_eqb byte 10 (lacks_head 10 byte line l))
+    ∙ ap (λ t. byte ∷ t) (unfolded_line line after (lacks_tail 10 byte line l))
 
-pub folded_on : (more line after : List ℕ) → folded more ≡ line ++ 10 ∷ after → Lacks 10 line → FoldedOn more line after
-folded_on [] [] after e l = absurd cc
-folded_on [] (x ∷ line) after e l = absurd cc
-folded_on (byte ∷ more) [] after e l =
-    by_feed byte
-    (λ is. let cut : 10 ∷ (32 ∷ folded more) ≡ 10 ∷ after = sym (feed_folded byte more is) ∙ e in
-    record { later = more; whole = ap (λ b. b ∷ more) is; spaced_behind = sym (behind_feed (32 ∷ folded more) after cut) })
-    (λ differs. let cut : byte ∷ folded more ≡ 10 ∷ after = sym (plain_folded byte more differs) ∙ e in let same : byte ≡ 10 = cc in absurd (differs same))
-  where
-    behind_feed : (a b : List ℕ) → 10 ∷ a ≡ 10 ∷ b → a ≡ b
-    behind_feed a b e = cc
-folded_on (byte ∷ more) (x ∷ line) after e l =
-    by_feed byte
-    (λ is. let cut : 10 ∷ (32 ∷ folded more) ≡ x ∷ (line ++ 10 ∷ after) = sym (feed_folded byte more is) ∙ e in let same : x ≡ 10 = cc in absurd (lacks_head 10 x line l same))
-    (λ differs. let cut : byte ∷ folded more ≡ x ∷ (line ++ 10 ∷ after) = sym (plain_folded byte more differs) ∙ e in
-    let heads : byte ≡ x = cc in
-    let tails : folded more ≡ line ++ 10 ∷ after = cc in
-    let on = folded_on more line after tails (lacks_tail 10 x line l) in
-    record { later = on.later; whole = ap (λ b. b ∷ more) heads ∙ ap (λ t. x ∷ t) on.whole; spaced_behind = on.spaced_behind })
+pub unfolded_last : (rest : List ℕ) → Lacks 10 rest → unfolded rest ≡ rest
+unfolded_last [] l = refl
+unfolded_last (byte ∷ rest) l =
+    ap (λ t. byte ∷ unfolded_behind t rest) (ne_eqb byte 10 (lacks_head 10 byte rest l))
+    ∙ ap (λ t. byte ∷ t) (unfolded_last rest (lacks_tail 10 byte rest l))
 
-pub folded_last : (more rest : List ℕ) → rest ≡ folded more → Lacks 10 rest → rest ≡ more
-folded_last [] rest e l = e
-folded_last (byte ∷ more) [] e l = absurd (by_feed byte
-    (λ is. let clash : [] ≡ 10 ∷ (32 ∷ folded more) = e ∙ feed_folded byte more is in cc)
-    (λ differs. let clash : [] ≡ byte ∷ folded more = e ∙ plain_folded byte more differs in cc))
-folded_last (byte ∷ more) (x ∷ rest) e l =
+-- no space stands behind the line feed
+pub unfolded_unspaced : (after : List ℕ) → ((rest : List ℕ) → after ≡ 32 ∷ rest → ⊥) → unfolded_behind true after ≡ unfolded after
+unfolded_unspaced [] none = refl
+unfolded_unspaced (byte ∷ after) none =
+    ap (λ (t : Bool). if t then unfolded_behind false after else byte ∷ unfolded_behind (byte == 10) after)
+    (ne_eqb byte 32 (λ is. none after (ap (λ b. b ∷ after) is)))
+
+pub unfolded_folded : (value : List ℕ) → unfolded (folded value) ≡ value
+unfolded_folded [] = refl
+unfolded_folded (byte ∷ value) =
     by_feed byte
-    (λ is. let cut : x ∷ rest ≡ 10 ∷ (32 ∷ folded more) = e ∙ feed_folded byte more is in let same : x ≡ 10 = cc in absurd (lacks_head 10 x rest l same))
-    (λ differs. let cut : x ∷ rest ≡ byte ∷ folded more = e ∙ plain_folded byte more differs in
-    let heads : x ≡ byte = cc in
-    let tails : rest ≡ folded more = cc in
-    ap (λ b. b ∷ rest) heads ∙ ap (λ t. byte ∷ t) (folded_last more rest tails (lacks_tail 10 x rest l)))
+    (λ is. ap unfolded (feed_folded byte value is) ∙ ap (λ t. 10 ∷ t) (unfolded_folded value) ∙ ap (λ b. b ∷ value) (sym is))
+    (λ differs. ap unfolded (plain_folded byte value differs) ∙ ap (λ t. byte ∷ unfolded_behind t (folded value)) (ne_eqb byte 10 differs)
+    ∙ ap (λ t. byte ∷ t) (unfolded_folded value))

@@ -18,6 +18,7 @@ pub mod Written
 pub mod HexDigits
 pub mod Left
 pub mod WholeReadings
+pub mod ToldParts
 pub mod Positions
 pub mod NamedValues
 pub mod Owning

@@ -1,17 +1,23 @@
 -- Lists of owned parts, which grow in step with the lists of borrowed ones, and ids' digits that spell none.
-use Rattle.std.proofs.Common.{◌≡◌, ◌∙◌, ap, sym, subst, ℕ, ◌<◌, ◌+◌, suc, List, [], ◌∷◌, ◌++◌, length, map, take, get_or, arith}
-use Rattle.std.specs.Prelude.{Any}
+use Rattle.std.proofs.Common.{◌≡◌, ◌∙◌, ap, sym, subst, ℕ, ◌<◌, ◌+◌, zero, suc, inl, inr, List, [], ◌∷◌, ◌++◌, length, map, take, get_or, arith}
+use Rattle.std.specs.Prelude.{◌⊎◌, Any}
 use Rattle.std.specs.List.{AllZip}
 use Rattle.std.proofs.lemmas.List.{map-append, length-map, get_or-map}
 use Rattle.std.proofs.Math.Seq.{take-suc}
 use Rattle.hex.specs.Hex.{hex_digit_value}
 use Rattle.gix_hash.specs.Views.{IsFaultOf}
-use Rattle.gix_hash.specs.declared.object_id.decode.Error.{Error}
+use Rattle.gix_hash.specs.Id.{id_of}
+use Rattle.gix_hash.specs.declared.object_id.ObjectId.{ObjectId}
+use Rattle.gix_hash.specs.declared.object_id.decode.Error as hex
 use Rattle.gix_hash.proofs.PrefixLemmas.{refused_whole}
 use Rattle.gix_hash.proofs.ReadBack.{all_values}
-use Rattle.gix_object_commit.specs.Owned.{SpellsNoId}
+use Rattle.gix_object_lines.specs.Actor.{TellsTime}
+use Rattle.gix_object_lines.specs.declared.decode.Error.{Error}
+use Rattle.gix_object_lines.specs.declared.decode.Error.TheVariants.{HexDigits, InvalidTime, Memory}
+use Rattle.gix_object_commit.specs.Commit.{Parts}
+use Rattle.gix_object_commit.specs.Owned.{IsOwnId, SpellsNoId, OwningFault}
 
-pub spells_no_id : (digits text : List ℕ) (fault : Error) → text ≡ digits → IsFaultOf hex_digit_value text fault → SpellsNoId digits
+pub spells_no_id : (digits text : List ℕ) (fault : hex.Error) → text ≡ digits → IsFaultOf hex_digit_value text fault → SpellsNoId digits
 spells_no_id digits text fault same refused = λ id is.
     let here = subst (λ t. IsFaultOf hex_digit_value t fault) same refused in
     all_values hex_digit_value digits id.digits is.spelled (refused_whole hex_digit_value digits id.kind fault is.whole here)
@@ -36,3 +42,34 @@ module _ {X Y Z : Type 0} (R : Y → Z → Type 0) (f : X → Y) where
       ap (λ n. map f (take n xs)) next ∙ ap (map f) (take-suc xs i d below) ∙ map-append f (take i xs) (get_or xs i d ∷ []) in
       subst (λ ys. AllZip R ys zs') (sym grown)
       (subst (AllZip R (map f (take i xs) ++ f (get_or xs i d) ∷ [])) (sym is) (zip_push (map f (take i xs)) zs (f (get_or xs i d)) z h r))
+
+-- ---- why parts aren't owned
+
+told_id : (digits : List ℕ) (id : ObjectId) → IsOwnId digits id → ¬ SpellsNoId digits
+told_id digits id is = λ none. none (id_of id) is
+
+at_place : (text : List ℕ) (id : ObjectId) (texts : List (List ℕ)) → IsOwnId text id → ¬ Any SpellsNoId texts
+    → (k : ℕ) (x : List ℕ) → k < suc (length texts) → get_or (text ∷ texts) k x ≡ x → SpellsNoId x → ⊥
+at_place text id texts is later zero x below same none = told_id text id is (subst SpellsNoId (sym same) none)
+at_place text id texts is later (suc k) x below same none = later (k, x, omega arith, same, none)
+
+told_ids : (texts : List (List ℕ)) (ids : List ObjectId) → AllZip IsOwnId texts ids → ¬ Any SpellsNoId texts
+told_ids [] ids all = λ none. absurd (let below = none.2 in omega arith)
+told_ids (text ∷ texts) [] all = absurd all
+told_ids (text ∷ texts) (id ∷ ids) all = λ none. at_place text id texts all.0 (told_ids texts ids all.1) none.0 none.1 none.2 none.3 none.4
+
+module _ (parts : Parts) (tree : ObjectId) (is : IsOwnId parts.tree tree) (error : Error) where
+  pub owning_memory : error ≡ Memory → OwningFault parts error
+  owning_memory memory = subst (OwningFault parts) (sym memory) (told_id parts.tree tree is)
+
+  pub owning_parents : (error ≡ Memory) ⊎ ((error ≡ HexDigits) × Any SpellsNoId parts.parents) → OwningFault parts error
+  owning_parents (inl memory) = owning_memory memory
+  owning_parents (inr none) = subst (OwningFault parts) (sym none.0) (inr none.1)
+
+  pub owning_author : (ids : List ObjectId) → AllZip IsOwnId parts.parents ids → (error ≡ Memory) ⊎ ((error ≡ InvalidTime) × ¬ TellsTime parts.author.time) → OwningFault parts error
+  owning_author ids all (inl memory) = owning_memory memory
+  owning_author ids all (inr none) = subst (OwningFault parts) (sym none.0) ((told_id parts.tree tree is, told_ids parts.parents ids all), inl none.1)
+
+  pub owning_committer : (ids : List ObjectId) → AllZip IsOwnId parts.parents ids → (error ≡ Memory) ⊎ ((error ≡ InvalidTime) × ¬ TellsTime parts.committer.time) → OwningFault parts error
+  owning_committer ids all (inl memory) = owning_memory memory
+  owning_committer ids all (inr none) = subst (OwningFault parts) (sym none.0) ((told_id parts.tree tree is, told_ids parts.parents ids all), inr none.1)

@@ -2,7 +2,7 @@
 -- the tree and the parents, for who made the change and who committed it, perhaps one for the message's encoding, further
 -- headers, an empty line and the message. A header's value of several lines has a space before each line but the first
 -- (gitformat-signature, "commit signatures").
-use Rattle.std.specs.Prelude.{ℕ, ◌≡◌, ◌≢◌, ◌==◌, List, [], ◌∷◌, ◌++◌, codes, flat_map, if◌then◌else◌, Option, None, Some, All, IfSome}
+use Rattle.std.specs.Prelude.{ℕ, Bool, false, ◌≡◌, ◌≢◌, ◌==◌, ◌&&◌, List, [], ◌∷◌, ◌++◌, codes, flat_map, if◌then◌else◌, Option, None, Some, All, IfSome}
 use Rattle.gix_object_lines.specs.Bytes.{Lacks}
 use Rattle.gix_object_lines.specs.HexLine.{hex_line, IsHex}
 use Rattle.gix_object_lines.specs.Actor.{SpellsActor}
@@ -62,6 +62,15 @@ folded value = flat_map (λ byte. if byte == 10 then 10 ∷ 32 ∷ [] else byte 
 
 abbrev pub IsFolded : List ℕ → Type 0
 IsFolded text = (value : List ℕ) × (text ≡ folded value)
+
+-- the text without each space behind a line feed; `fed` where one stands before the text
+abbrev pub unfolded_behind : Bool → List ℕ → List ℕ
+unfolded_behind fed [] = []
+unfolded_behind fed (byte ∷ rest) = if fed && byte == 32 then unfolded_behind false rest else byte ∷ unfolded_behind (byte == 10) rest
+
+-- what stands in a header, without them; of a value as it stands in one, the value
+abbrev pub unfolded : List ℕ → List ℕ
+unfolded text = unfolded_behind false text
 
 abbrev pub IsPerson : Person → Type 0
 IsPerson person = SpellsActor (actor_line person) person.name person.email person.time

@@ -1,5 +1,5 @@
 -- Why bytes are no commit: the first of its parts that they lack.
-use Rattle.std.specs.Prelude.{ℕ, ◌≡◌, ◌≢◌, List, [], ◌∷◌, ◌++◌, codes, flat_map, Option, None, All, IfSome}
+use Rattle.std.specs.Prelude.{ℕ, ◌≡◌, ◌≢◌, ◌<◌, ◌⊎◌, List, length, [], ◌∷◌, ◌++◌, codes, flat_map, Option, None, All, IfSome}
 use Rattle.gix_object_lines.specs.Actor.{IsUncut, IsUntimed}
 use Rattle.gix_object_lines.specs.Bytes.{BeginsWith, Lacks}
 use Rattle.gix_object_lines.specs.HexLine.{hex_line, IsHex, HexLineFault}
@@ -82,11 +82,29 @@ pub record IsBehindEncoding (hex_len : ℕ) (input rest : List ℕ) : Type 0 whe
   pub spelled : after_committer ≡ encoding_text encoding ++ rest
   pub untold : encoding ≡ None → ¬ BeginsWith (codes "encoding ") after_committer
 
--- some headers, and perhaps more
+-- some headers, and perhaps more; no line goes on with the last of them
 pub record AreHeaders (input rest : List ℕ) : Type 0 where
   pub fields : List Field
   pub fit : All IsField fields
   pub spelled : input ≡ flat_map field_text fields ++ rest
+  pub ended : (fields ≡ []) ⊎ IsUnspaced rest
+
+-- ---- what takes memory: each parent but the first, and each header
+
+pub record HasTwoParents (hex_len : ℕ) (input : List ℕ) : Type 0 where
+  pub rest : List ℕ
+  pub some : AreParents hex_len input rest
+  pub two : 1 < length some.parents
+
+pub record HasHeader (input : List ℕ) : Type 0 where
+  pub rest : List ℕ
+  pub some : AreHeaders input rest
+  pub one : some.fields ≢ []
+
+-- all before it stands
+pub data TakesMemory (hex_len : ℕ) (input : List ℕ) : Type 0 where
+  ForParents : (rest : List ℕ) → IsBehindTree hex_len input rest → HasTwoParents hex_len rest → TakesMemory hex_len input
+  ForHeaders : (rest : List ℕ) → IsBehindEncoding hex_len input rest → HasHeader rest → TakesMemory hex_len input
 
 -- ---- the first part that fails, behind those that stand
 
@@ -112,4 +130,4 @@ pub data CommitFault (hex_len : ℕ) (input : List ℕ) (error : Error) : Type 0
   InEncoding : (rest : List ℕ) → IsBehindCommitter hex_len input rest → EncodingFault rest error → CommitFault hex_len input error
   InHeaders : (rest : List ℕ) → IsBehindEncoding hex_len input rest → HeadersFault rest error → CommitFault hex_len input error
   -- a growth of the lists of parents or headers was refused
-  NoMemory : error ≡ Memory → CommitFault hex_len input error
+  NoMemory : error ≡ Memory → TakesMemory hex_len input → CommitFault hex_len input error

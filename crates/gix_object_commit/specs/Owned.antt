@@ -1,5 +1,5 @@
 -- Commits that own their parts.
-use Rattle.std.specs.Prelude.{ℕ, ◌≡◌, ◌⊎◌, ⊤, List, Any}
+use Rattle.std.specs.Prelude.{ℕ, ◌≡◌, ◌⊎◌, List, Any}
 use Rattle.std.specs.List.{AllZip}
 use Rattle.gix_hash.specs.Id.{Id, id_of}
 use Rattle.gix_hash.specs.Views.{IsHexOfId}
@@ -9,7 +9,7 @@ use Rattle.gix_object_lines.specs.Time.{SpellsTime}
 use Rattle.gix_object_lines.specs.declared.decode.Error.{Error}
 use Rattle.gix_object_lines.specs.declared.decode.Error.TheVariants.{FieldName, HexDigits, LineEnd, InvalidActor, InvalidTime, Memory}
 use Rattle.gix_object_lines.specs.declared.lines.actor.Actor.{Actor}
-use Rattle.gix_object_commit.specs.Commit.{Person, Field, Parts, folded}
+use Rattle.gix_object_commit.specs.Commit.{Person, Field, Parts, folded, unfolded}
 use Rattle.gix_object_commit.specs.declared.commit.owned.Commit.{Commit}
 use Rattle.gix_object_commit.specs.declared.commit.owned.ExtraHeader.{ExtraHeader}
 
@@ -27,6 +27,8 @@ pub record IsActorOf (person : Person) (actor : Actor) : Type 0 where
 pub record IsHeaderOf (field : Field) (header : ExtraHeader) : Type 0 where
   pub name : header.name ≡ field.name
   pub value : (told : List ℕ) → field.value ≡ folded told → header.value ≡ told
+  -- no byte is lost of a value that doesn't stand so, as one in a commit that wasn't read
+  pub whole : header.value ≡ unfolded field.value
 
 pub record IsCommitOf (parts : Parts) (commit : Commit) : Type 0 where
   pub tree : IsOwnId parts.tree commit.tree
@@ -42,11 +44,16 @@ pub record IsCommitOf (parts : Parts) (commit : Commit) : Type 0 where
 abbrev pub SpellsNoId : List ℕ → Type 0
 SpellsNoId digits = (id : Id) → ¬ IsHexOfId digits id
 
--- an id's text spells none, or an actor's tells no time, or no memory is left
+-- each id's text spells one
+abbrev pub SpellsIds : Parts → Type 0
+SpellsIds parts = (¬ SpellsNoId parts.tree) × (¬ Any SpellsNoId parts.parents)
+
+-- the first that fails: an id's text spells none, or behind those that do an actor's tells no time; or no memory is left, behind
+-- a tree whose id is told
 abbrev pub OwningFault : Parts → Error → Type 0
 OwningFault parts FieldName = ⊥
 OwningFault parts HexDigits = SpellsNoId parts.tree ⊎ Any SpellsNoId parts.parents
 OwningFault parts LineEnd = ⊥
 OwningFault parts InvalidActor = ⊥
-OwningFault parts InvalidTime = (¬ TellsTime parts.author.time) ⊎ (¬ TellsTime parts.committer.time)
-OwningFault parts Memory = ⊤
+OwningFault parts InvalidTime = SpellsIds parts × ((¬ TellsTime parts.author.time) ⊎ (¬ TellsTime parts.committer.time))
+OwningFault parts Memory = ¬ SpellsNoId parts.tree

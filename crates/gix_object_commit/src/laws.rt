@@ -1,12 +1,13 @@
 //! What follows from the grammar, and what ties the two readers.
 
-ghost use Rattle.std.specs.Prelude.{◌≡◌, ◌↔◌, None, IsTrue, length};
+ghost use Rattle.std.specs.Prelude.{◌≡◌, ◌↔◌, List, [], None, IsTrue, length};
 ghost use Rattle.std.specs.List.{list_all};
 ghost use Rattle.gix_hash.specs.Kind.{hex_len};
 ghost use Rattle.gix_object_lines.specs.HexLine.{is_id};
 ghost use Rattle.gix_object_commit.specs.Commit.{Parts, SpellsCommit, commit_text};
-ghost use Rattle.gix_object_commit.specs.Tokens.{part_of, start};
-ghost use Rattle.gix_object_commit.specs.Whole.{IsCommit, ReadsToMessage, is_message as is_the_message};
+ghost use Rattle.gix_object_commit.specs.ReadingOn.{Reads};
+ghost use Rattle.gix_object_commit.specs.Tokens.{Part, Place, part_of, start};
+ghost use Rattle.gix_object_commit.specs.Whole.{IsCommit, ReadsToMessage, TellsParts, is_message as is_the_message};
 ghost use Rattle.gix_object_commit.specs.Writable.{IsWritable};
 ghost use Rattle.gix_object_commit.specs.Writing.{commit_refusal};
 
@@ -64,6 +65,15 @@ pub fn tokens_tell_a_commit(input: &[u8], hash_kind: Kind) -> bool
     }
     whole
 }
+
+/// The tokens of a commit are its parts, each once and in their order: the reader gives them up to the input's end, and no others.
+/// Nothing is done: the contract is the law.
+pub fn tokens_are_the_parts(_input: &[u8], _hash_kind: Kind)
+    ensures given { (parts : Parts) → SpellsCommit (hex_len _hash_kind) _input.now parts
+        → (tokens : List Part) × (there : Place) × Reads (start _hash_kind _input.now) tokens there × (there.input ≡ []) × TellsParts parts tokens }
+    ensures only { (parts : Parts) (tokens : List Part) (there : Place) → SpellsCommit (hex_len _hash_kind) _input.now parts
+        → Reads (start _hash_kind _input.now) tokens there → there.input ≡ [] → TellsParts parts tokens }
+{}
 
 fn is_message(token: Token<'_>) -> bool
     ensures { result ≡ is_the_message (part_of token.entry) }

@@ -8,7 +8,7 @@ ghost use Rattle.gix_object_lines.specs.Bytes.{BeginsWith, Lacks};
 ghost use Rattle.gix_object_lines.specs.HexLine.{hex_line, IsHex};
 ghost use Rattle.gix_object_lines.specs.declared.decode.Error.TheVariants.{Memory};
 ghost use Rattle.gix_object_commit.specs.Commit.{Person, Field, Parts, line, actor_line, encoding_text, field_text, IsPerson, IsField, SpellsCommit};
-ghost use Rattle.gix_object_commit.specs.Faults.{PersonFault, EncodingFault, ParentFault, HeadersFault, CommitFault};
+ghost use Rattle.gix_object_commit.specs.Faults.{PersonFault, EncodingFault, ParentFault, HeadersFault, HasTwoParents, HasHeader, CommitFault};
 ghost use Rattle.gix_object_commit.specs.Views.{person_of, field_of, parts_of};
 
 use crate::commit::header::read_header;
@@ -31,7 +31,7 @@ impl<'a> CommitRef<'a> {
     /// author's or the committer's, or neither a header's name nor an empty line follows; `HexDigits` where behind `tree ` or
     /// `parent ` stand fewer digits than an id has; `InvalidActor` where the line of author or committer isn't a name, an email
     /// and a time, and `InvalidTime` where it tells no time; and `LineEnd` where a line lacks its line feed. It is `Memory`
-    /// where no memory is left.
+    /// where no memory is left for a second parent or a later one, or for a further header.
     pub fn from_bytes(
         alloc: Global,
         input: &'a [u8],
@@ -72,7 +72,7 @@ fn read_parents<'a>(
     ensures every { (parents : List (List ℕ)) (rest : List ℕ) → All (IsHex digits) parents → ¬ BeginsWith (codes "parent ") rest
         → input.now ≡ flat_map (hex_line (codes "parent")) parents ++ rest
         → MatchResult result (λ read. (map bstr_bytes read.0.items ≡ parents) × (read.1.now ≡ rest)) (λ fault. fault ≡ Memory) }
-    ensures refused { IfErr result (λ error. ParentFault digits input.now error ⊎ (error ≡ Memory)) }
+    ensures refused { IfErr result (λ error. ParentFault digits input.now error ⊎ ((error ≡ Memory) × HasTwoParents digits input.now)) }
 {
     let mut parents = SmallVec::new(alloc);
     let mut rest = input;
@@ -132,7 +132,7 @@ fn read_headers<'a>(alloc: Global, input: &'a [u8]) -> Result<(Vec<HeaderRef<'a>
         × All IsField (map field_of read.0.items)) }
     ensures every { (fields : List Field) (message : List ℕ) → All IsField fields → input.now ≡ flat_map field_text fields ++ 10 ∷ message
         → MatchResult result (λ read. (map field_of read.0.items ≡ fields) × (read.1.now ≡ message)) (λ fault. fault ≡ Memory) }
-    ensures refused { IfErr result (λ error. HeadersFault input.now error ⊎ (error ≡ Memory)) }
+    ensures refused { IfErr result (λ error. HeadersFault input.now error ⊎ ((error ≡ Memory) × HasHeader input.now)) }
 {
     let mut headers = Vec::new(alloc);
     let mut rest = input;

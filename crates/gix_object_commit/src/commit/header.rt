@@ -3,6 +3,7 @@
 ghost use Rattle.std.specs.Prelude.{ℕ, List, [], ◌∷◌, ◌++◌, ◌≡◌, ◌≢◌, IfOk, IfErr, IsOkAnd, MatchOption};
 ghost use Rattle.bstr.specs.BStr.{bstr_bytes};
 ghost use Rattle.gix_object_lines.specs.Bytes.{Lacks};
+ghost use Rattle.gix_object_commit.specs.Commit as spec;
 ghost use Rattle.gix_object_commit.specs.Commit.{Field, field_text, folded, IsFolded, IsField};
 ghost use Rattle.gix_object_commit.specs.Faults.{HeaderFault};
 ghost use Rattle.gix_object_commit.specs.Reading.{IsUnspaced};
@@ -16,16 +17,18 @@ use gix_object_lines::decode::Error;
 use std::alloc::{AllocError, Global};
 
 impl<'a> HeaderRef<'a> {
-    /// The value that stands in the commit, without the space behind each of its line feeds.
+    /// The value that stands in the commit, without the space behind each of its line feeds; where none stands behind one,
+    /// nothing is left out. It is an error where no memory is left.
     pub fn unfolded(&self, alloc: Global) -> Result<ByteString, AllocError>
-        ensures { IfOk result (λ value. (told : List ℕ) → bstr_bytes self.now.value ≡ folded told → value ≡ told) }
+        ensures whole { IfOk result (λ value. value ≡ spec.unfolded (bstr_bytes self.now.value)) }
+        ensures told { IfOk result (λ value. (told : List ℕ) → bstr_bytes self.now.value ≡ folded told → value ≡ told) }
     {
         unfold(alloc, self.value.as_bytes())
     }
 }
 
 fn unfold(alloc: Global, text: &[u8]) -> Result<ByteString, AllocError>
-    ensures { IfOk result (λ value. (told : List ℕ) → text.now ≡ folded told → value ≡ told) }
+    ensures { IfOk result (λ value. value ≡ spec.unfolded text.now) }
 {
     let mut value = Vec::new(alloc);
     let mut rest = text;

@@ -65,9 +65,9 @@ impl<'a> CommitRef<'a> {
         self.to_owned(alloc)
     }
 
-    /// A commit with copies of the parts. It is `HexDigits` where the tree or a parent is no id's digits, and
+    /// A commit with copies of the parts. It is `HexDigits` where the tree or a parent is no id's digits, and else
     /// `InvalidTime` where an actor tells no time, neither of which a commit that was read is; and `Memory` where no memory
-    /// is left.
+    /// is left, which a tree that is no id's digits never comes to.
     pub fn to_owned(&self, alloc: Global) -> Result<Commit, Error>
         ensures own { IfOk result (IsCommitOf (parts_of self.now)) }
         ensures refused { IfErr result (OwningFault (parts_of self.now)) }

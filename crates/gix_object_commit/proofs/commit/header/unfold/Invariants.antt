@@ -1,9 +1,9 @@
-use Rattle.std.proofs.Common.{ℕ, List, ◌≡◌, ◌++◌, length}
-use Rattle.gix_object_commit.specs.Commit.{folded}
+use Rattle.std.proofs.Common.{◌≡◌, ◌++◌, length}
+use Rattle.gix_object_commit.specs.Commit.{unfolded}
 use Rattle.gix_object_commit.proofs.commit.header.unfold.Given as goal
 
 abbrev pub invariant-lines : goal.invariant-lines
-invariant-lines l = (told : List ℕ) → l.text ≡ folded told → (more : List ℕ) × (told ≡ l.value.items ++ more) × (l.rest ≡ folded more)
+invariant-lines l = unfolded l.text ≡ l.value.items ++ unfolded l.rest
 
 abbrev pub decreases-lines : goal.decreases-lines
 decreases-lines l = length l.rest
