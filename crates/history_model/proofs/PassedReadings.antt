@@ -276,7 +276,7 @@ module _ (old : Repository) (command : Command) (tree : Tree) (sound : IsSound o
   places_now : (path text : Bytes) → file_at now path ≡ Some text → is_name_place x path ≡ true
   places_now path text at =
       let left = stood_so (λ t. cond (is_log_place path) (whole_lines t) t) (file_at tree path) (is_lock_file path || (is_log_place path && is_absent (reading old.kind tree (log_name path)))) text
-          (sym (recovery_keeps old.kind tree path) ∙ at) in
+      (sym (recovery_keeps old.kind tree path) ∙ at) in
       (λ i. bytes_eq path head_place || bytes_eq path packed_place || stands_now path i || (is_log_place path && stands_now (log_name path) i))
       ∙ place_so (bytes_eq path head_place) (bytes_eq path packed_place) (is_lock_file path) (is_log_place path) (is_absent (reading old.kind tree path)) (is_absent (reading old.kind tree (log_name path)))
       left.0 (way.places path left.1.0 left.1.1)

@@ -23,7 +23,7 @@ use Rattle.history_model.specs.Stops.{NameBetween, IsNotLost, deletes, is_changi
 use Rattle.gix_ref_file.specs.History.{History, Adds, trees, moment}
 use Rattle.history_model.specs.Replies.{Reply}
 use Rattle.history_model.specs.Steps.{some_failed}
-use Rattle.history_model.specs.Moments.{LeavesStopped, Moment, ActsOn, last_moment}
+use Rattle.history_model.specs.Moments.{LeavesStopped, Moment, ActsOn, Traces, last_moment}
 use Rattle.history_model.specs.Offered.{IsOffered}
 use Rattle.history_model.specs.Stage.{is_offered}
 use Rattle.history_model.specs.Wholeness.{IsSound}
@@ -129,6 +129,12 @@ ActsThen MayFail = (objects names : History) (old : Repository) (begin : Moment)
     (more : List Command) (others : List Reply) (behind : List Moment) (new : Repository) → IsFalse (some_failed commands replies)
     → ActsOn objects names MayFail old begin commands replies moments mid → ActsOn objects names MayFail mid (last_moment begin moments) more others behind new
     → ActsOn objects names MayFail old begin (commands ++ more) (replies ++ others) (moments ++ behind) new
+
+-- What commands did they did also where it isn't told whether a reading may fail: a run's trace is then that of a round.
+abbrev pub TracesWeaken : Type 0 → Type 0
+TracesWeaken MayFail = (objects names : History) (old : Repository) (begin : Moment) (commands : List Command) (replies : List Reply) (finish : Moment) (new : Repository)
+    → (traces : Traces objects names MayFail old begin commands replies finish new)
+    → (weaker : Traces objects names (Unit {0}) old begin commands replies finish new) × (weaker.moments ≡ traces.moments)
 
 -- ---- in any order
 

@@ -1,6 +1,8 @@
-// Laws on what the two parts pass through while a command is acted on, over the definitions alone.
+//! Laws on what the two parts pass through while a command is acted on, over the definitions alone.
 
-ghost use Rattle.history_model.specs.Passing.{PutsPass, CommitsStoreWhole, StoringStops, MovesPass, MovingStops, ActsLater, ActsThen, SomeStops, FirstAreSome, NamesPass, NamesBegin};
+ghost use Rattle.history_model.specs.Passing.{PutsPass, CommitsStoreWhole, StoringStops, MovesPass, MovingStops, ActsLater, ActsThen, SomeStops, FirstAreSome, NamesPass, NamesBegin, TracesWeaken};
+
+use gix_ref_file::Files;
 
 /// While a value is put that takes no id, the values that stood are there once recovered, and the value whole or not at all.
 pub fn puts_pass()
@@ -35,6 +37,11 @@ pub fn acts_later()
 /// Commands after others, of which none failed, are commands in a row.
 pub fn acts_then()
     ensures { ActsThen (Unit {0}) }
+{}
+
+/// A run's trace over any files is one of which it isn't told whether a reading may fail, as the rounds take it.
+pub fn traces_weaken<F: Files>()
+    ensures { TracesWeaken F.reading_may_fail }
 {}
 
 /// Stopped while its values are stored in any order that leaves whole stores, a command leaves a repository before its names move.
