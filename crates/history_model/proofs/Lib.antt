@@ -56,4 +56,5 @@ pub mod PassedStops
 pub mod PassedMoves
 pub mod PassedNames
 pub mod PassedReadings
+pub mod PassedClosed
 pub mod PassedMoments

@@ -1,11 +1,11 @@
 -- What the two parts pass through while a command is acted on: each tree, once recovered.
-use Rattle.std.specs.Prelude.{◌≡◌, ◌≢◌, ◌⊎◌, ◌≤◌, ℕ, not, ◌||◌, bytes_eq, List, [], ◌∷◌, ◌++◌, take, Option, Some, None, unwrap_or, MatchOption, Contains, IsTrue, IsFalse}
+use Rattle.std.specs.Prelude.{◌≡◌, ◌≢◌, ◌⊎◌, ◌≤◌, ℕ, not, ◌||◌, bytes_eq, List, [], ◌∷◌, ◌++◌, take, Option, Some, None, unwrap_or, MatchOption, Contains, IsSome, IsTrue, IsFalse}
 use Rattle.std.specs.FinMap.{get}
 use Rattle.gix_ref_file.specs.Tree.{Tree, folder, bytes_at}
 use Rattle.history_model.specs.Bytes.{Bytes, line}
 use Rattle.history_model.specs.FileMap.{is_below}
 use Rattle.history_model.specs.Objects.{Value, StoredCommit, hex, value_text, id_of}
-use Rattle.history_model.specs.Repository.{Repository, LogEntry, IsWholeStore, id_at, moves_at, stands}
+use Rattle.history_model.specs.Repository.{Repository, LogEntry, IsWhole, IsWholeStore, id_at, moves_at, peeled, stands}
 use Rattle.gix_hash.specs.Id.{Id}
 use Rattle.history_model.specs.Readings.{Reading, Holds, Absent, is_absent, reading}
 use Rattle.history_model.specs.PackedNames.{packed_file, PackedAgrees}
@@ -15,7 +15,7 @@ use Rattle.history_model.specs.Meaning.{References, after, branch_or_name, is_ta
 use Rattle.history_model.specs.Causes.{first_cause}
 use Rattle.history_model.specs.Logs.{log_line, log_text, whole_lines}
 use Rattle.history_model.specs.Places.{Pair, file_at, head_place, is_log_place, object_place, unfinished_place, is_object_folder, packed_place, log_place, is_name_folder, is_lock_file}
-use Rattle.history_model.specs.StandsFor.{StandsFor, head_text}
+use Rattle.history_model.specs.StandsFor.{StandsFor, head_text, object_files}
 use Rattle.history_model.specs.TreeHalves.{Values, HoldsValues, HoldsNames, HaveOwnIds}
 use Rattle.history_model.specs.TreeSteps.{move_entry}
 use Rattle.history_model.specs.Recovery.{recovered_objects, recovered_names}
@@ -193,6 +193,20 @@ NamesPass = (old : Repository) (command : Command) (tree : Tree) → IsSound old
 -- What stands for the repository is at the beginning of that way.
 abbrev pub NamesBegin : Type 0
 NamesBegin = (old : Repository) (command : Command) (pair : Pair) → StandsFor old.kind pair old → NamesOnTheWay old command pair.names
+
+-- ---- closed
+
+-- Each object file but the unfinished one holds the text of what a whole repository stores there, and each name that holds an id
+-- holds that of a commit or a tag in it.
+pub record IsClosed (kind : Kind) (pair : Pair) : Type 0 where
+  pub repository : Repository
+  pub whole : IsWhole repository
+  pub objects : (path : Bytes) → path ≢ unfinished_place → file_at pair.objects path ≡ get (object_files repository) path
+  pub names : (name : Bytes) (id : Id) → reading kind pair.names name ≡ Holds id → IsSome (peeled repository id)
+
+-- What a stop in a command leaves is so, before any recovery.
+abbrev pub StopsAreClosed : Type 0
+StopsAreClosed = (old : Repository) (command : Command) (pair : Pair) → LeavesStopped old command pair → IsClosed old.kind pair
 
 -- ---- recovery
 

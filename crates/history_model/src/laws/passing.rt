@@ -1,6 +1,6 @@
 //! Laws on what the two parts pass through while a command is acted on, over the definitions alone.
 
-ghost use Rattle.history_model.specs.Passing.{PutsPass, CommitsStoreWhole, StoringStops, MovesPass, MovingStops, ActsLater, ActsThen, SomeStops, FirstAreSome, NamesPass, NamesBegin, TracesWeaken};
+ghost use Rattle.history_model.specs.Passing.{PutsPass, CommitsStoreWhole, StoringStops, MovesPass, MovingStops, ActsLater, ActsThen, SomeStops, FirstAreSome, NamesPass, NamesBegin, TracesWeaken, StopsAreClosed};
 
 use gix_ref_file::Files;
 
@@ -62,4 +62,10 @@ pub fn names_pass()
 /// Files that stand for a repository are at the beginning of the way of each command.
 pub fn names_begin()
     ensures { NamesBegin }
+{}
+
+/// A stop at any moment leaves object files of whole texts alone, all that they name, and names that hold stored ids, before any
+/// recovery.
+pub fn stops_are_closed()
+    ensures { StopsAreClosed }
 {}
