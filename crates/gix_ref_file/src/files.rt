@@ -1,4 +1,4 @@
-// The trait of all files: readings of the tree that stands, changes of it, and what a stop may leave.
+//! The trait of all files: readings of the tree that stands, changes of it, and what a stop may leave.
 ghost use Rattle.std.specs.Prelude.{◌≡◌, ◌≤◌, ◌+◌, ◌++◌, ℕ, length, map, take, option_map, unwrap_or, is_none, IfOk, IfSome, OnOk, OnErr, IsErrOf};
 ghost use Rattle.gix_ref_file.specs.declared.files.FileError.TheVariants.{Failed, Memory};
 ghost use Rattle.gix_ref_file.specs.Tree.{node_at, place_of, bytes_of, bytes_at, part, overwritten, names_at, IsRooted};

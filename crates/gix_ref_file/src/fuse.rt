@@ -1,4 +1,4 @@
-// Files of which one call fails, or all from one on: for tests of what is left then.
+//! Files of which one call fails, or all from one on: for tests of what is left then.
 ghost use Rattle.std.specs.Prelude.{◌≡◌, ◌+◌, ◌-◌, ◌^◌, min};
 ghost use Rattle.gix_ref_file.specs.declared.files.FileError.TheVariants.{Failed};
 ghost use Rattle.gix_ref_file.specs.Fuse.{inner, own_failures};

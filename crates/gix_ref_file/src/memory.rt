@@ -1,4 +1,4 @@
-// Files in memory.
+//! Files in memory.
 mod record;
 
 ghost use Rattle.std.specs.Prelude.{◌≡◌, ◌&&◌, option_map};

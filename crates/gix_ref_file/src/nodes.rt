@@ -1,4 +1,4 @@
-// A map from paths to what stands there.
+//! A map from paths to what stands there.
 ghost use Rattle.std.specs.Prelude.{◌≡◌, ◌++◌, [], length, map as list_map, filter_map, option_map, unwrap_or, Some, IsSome, IsFalse, IfOk, OnOk, OnErr, IfNone};
 ghost use Rattle.std.specs.List.{list_any};
 ghost use Rattle.std.specs.FinMap as map;

@@ -1,4 +1,4 @@
-// The parts of a path.
+//! The parts of a path.
 ghost use Rattle.std.specs.Prelude.{◌≡◌, ◌-◌, ◌≤◌, not, length};
 ghost use Rattle.std.specs.List.{suffix_len, after_last};
 ghost use Rattle.gix_ref_file.specs.Tree.{is_slash, is_component, is_path, parent};

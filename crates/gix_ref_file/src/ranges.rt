@@ -1,4 +1,4 @@
-// Where the paths of a folder lie in the order of paths, which goes by bytes.
+//! Where the paths of a folder lie in the order of paths, which goes by bytes.
 ghost use Rattle.std.specs.Prelude.{◌≡◌, ◌++◌, ◌∷◌, ◌≤◌, ◌<◌, [], length, slice_index, IfOk, IfSome};
 ghost use Rattle.gix_ref_file.specs.Below.{IsStart, IsEnd, IsBehind};
 

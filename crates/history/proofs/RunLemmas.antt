@@ -1,5 +1,5 @@
 -- Runs one after another.
-use Rattle.std.proofs.Common.{◌≡◌, ℕ, ◌⊎◌, Bool, true, false, not, ◌&&◌, ◌||◌, ◌==◌, ◌≢◌, ◌<◌, ◌≤◌, length, List, [], ◌∷◌, ◌++◌, Option, Some, None, Result, Ok, Err, IfOk, MatchResult, MatchBool, is_ok, refl, sym, ap, subst, ◌∙◌, inl, inr, append_assoc, IsTrue, arith}
+use Rattle.std.proofs.Common.{◌≡◌, ℕ, ◌⊎◌, Bool, true, false, not, ◌&&◌, ◌||◌, ◌==◌, ◌≢◌, ◌<◌, ◌≤◌, length, List, [], ◌∷◌, ◌++◌, Option, Some, None, Result, Ok, Err, IfOk, MatchResult, MatchBool, is_ok, refl, sym, ap, subst, ◌∙◌, inl, inr, append_assoc, IsTrue, IsFalse, arith}
 use Rattle.std.proofs.lemmas.List.{append-nil, length-append}
 use Rattle.std.proofs.lemmas.List.Folds.{list_all-append}
 use Rattle.std.proofs.lemmas.Bool.Decides.{nat_tests}
@@ -28,7 +28,8 @@ use Rattle.history.specs.declared.running.RunError.{RunError}
 use Rattle.history.specs.declared.running.RunError.TheVariants.{Read, Write}
 use Rattle.history.specs.declared.reply.Reply.{Reply as Answer}
 use Rattle.history.specs.declared.repository.Repository.{Repository as Store}
-use Rattle.gix_ref_file.specs.History.{HasRisen}
+use Rattle.gix_ref_file.specs.History.{HasRisen, History}
+use Rattle.history_model.specs.Moments.{Moment, Traces, HasFailedCall as Failed}
 use Rattle.history.specs.Acts.{IsAnswer, CountsRise, HasFailedCall}
 use Rattle.history.specs.Replies.{text_of}
 use Rattle.history.specs.Runs.{EndsRun, EndsHere, GoesOn, Turns}
@@ -80,10 +81,8 @@ faults_then c d (reply ∷ replies) others h k = (λ e. c (h.0 e), faults_then c
 
 -- ---- commands in a row
 
-pub ran_none : (C : Type 0) (old : Repository) (rest last : Bytes) → Ran C old rest last rest last false old
+pub ran_none : (C : Type 0) (old : Repository) (rest last : Bytes) → Ran C old [] [] rest last rest last false old
 ran_none C old rest last = record {
-  commands = [];
-  replies = [];
   splits = record { known = refl; split = refl };
   steps = refl;
   fails = refl;
@@ -93,10 +92,8 @@ ran_none C old rest last = record {
 
 pub ran_one : (C : Type 0) (old new : Repository) (read written : Bytes) (command : Command) (reply : Reply) (rest : Bytes) (failed : Bool)
     → read ≡ spelling command ++ rest → written ≡ reply_text reply → IsTrue (is_command command) → Step old command reply new
-    → failed ≡ some_failed (command ∷ []) (reply ∷ []) → (reply ≡ Faulted File → C) → Ran C old read written rest [] failed new
+    → failed ≡ some_failed (command ∷ []) (reply ∷ []) → (reply ≡ Faulted File → C) → Ran C old (command ∷ []) (reply ∷ []) read written rest [] failed new
 ran_one C old new read written command reply rest failed e f known step fails file = record {
-  commands = command ∷ [];
-  replies = reply ∷ [];
   splits = record { known = ap (λ b. b && true) known; split = e ∙ ap (λ zs. zs ++ rest) (sym (append-nil (spelling command))) };
   steps = (new, step, inr refl, refl);
   fails = fails;
@@ -104,19 +101,18 @@ ran_one C old new read written command reply rest failed e f known step fails fi
   file_faults = (file, tt);
 }
 
-pub ran_then : (C D E : Type 0) (old mid new : Repository) (read more written others rest last : Bytes) (failed : Bool) → (C → E) → (D → E)
-    → Ran C old read written [] [] false mid → Ran D mid more others rest last failed new → Ran E old (read ++ more) (written ++ others) rest last failed new
-ran_then C D E old mid new read more written others rest last failed c d h k = record {
-  commands = h.commands ++ k.commands;
-  replies = h.replies ++ k.replies;
+pub ran_then : (C D E : Type 0) (old mid new : Repository) (commands more : List Command) (replies others : List Reply) (read following written texts rest last : Bytes) (failed : Bool) → (C → E) → (D → E)
+    → Ran C old commands replies read written [] [] false mid → Ran D mid more others following texts rest last failed new
+    → Ran E old (commands ++ more) (replies ++ others) (read ++ following) (written ++ texts) rest last failed new
+ran_then C D E old mid new commands more replies others read following written texts rest last failed c d h k = record {
   splits = record {
-    known = known_then h.commands k.commands (h.splits).known (k.splits).known;
-    split = texts_then spelling h.commands k.commands read more rest (h.splits).split (k.splits).split;
+    known = known_then commands more (h.splits).known (k.splits).known;
+    split = texts_then spelling commands more read following rest (h.splits).split (k.splits).split;
   };
-  steps = steps_then old mid new h.commands k.commands h.replies k.replies h.steps (sym h.fails) k.steps;
-  fails = k.fails ∙ sym (fails_then old mid h.commands k.commands h.replies k.replies h.steps (sym h.fails));
-  written = texts_then reply_text h.replies k.replies written others last h.written k.written;
-  file_faults = faults_then c d h.replies k.replies h.file_faults k.file_faults;
+  steps = steps_then old mid new commands more replies others h.steps (sym h.fails) k.steps;
+  fails = k.fails ∙ sym (fails_then old mid commands more replies others h.steps (sym h.fails));
+  written = texts_then reply_text replies others written texts last h.written k.written;
+  file_faults = faults_then c d replies others h.file_faults k.file_faults;
 }
 
 -- ---- ends
@@ -126,31 +122,46 @@ cut_then L M Empty Short m (inl e) = inl e
 cut_then L M Empty Short m (inr (inl s)) = inr (inl s)
 cut_then L M Empty Short m (inr (inr l)) = inr (inr (m l))
 
-short_then : (AtEnd D E : Type 0) (old : Repository) (rest part : Bytes) (failed : Bool) (new : Repository) → (D → E) → CutsShort AtEnd D old rest part failed new → CutsShort AtEnd E old rest part failed new
-short_then AtEnd D E old rest part failed new d (inl h) = inl (h.0, h.1, h.2, h.3, h.4, h.5, h.6, λ e. d (h.7 e), h.8)
-short_then AtEnd D E old rest part failed new d (inr h) = inr h
+short_then : (AtEnd D E : Type 0) (old : Repository) (commands : List Command) (replies : List Reply) (rest part : Bytes) (failed : Bool) (new : Repository) → (D → E)
+    → CutsShort AtEnd D old commands replies rest part failed new → CutsShort AtEnd E old commands replies rest part failed new
+short_then AtEnd D E old (command ∷ []) (reply ∷ []) rest part failed new d h = (h.0, h.1, h.2, h.3, h.4, λ e. d (h.5 e), h.6)
+short_then AtEnd D E old [] [] rest part failed new d h = h
+short_then AtEnd D E old [] (reply ∷ replies) rest part failed new d h = absurd h
+short_then AtEnd D E old (command ∷ []) [] rest part failed new d h = absurd h
+short_then AtEnd D E old (command ∷ []) (reply ∷ other ∷ replies) rest part failed new d h = absurd h
+short_then AtEnd D E old (command ∷ next ∷ commands) [] rest part failed new d h = absurd h
+short_then AtEnd D E old (command ∷ next ∷ commands) (reply ∷ replies) rest part failed new d h = absurd h
 
 -- what ends after commands in a row ends after all of them
-pub ends_then : (AtEnd L M C D E : Type 0) (old mid new : Repository) (read more written others : Bytes) (result : Result End RunError) (failed : Bool) → (L → M) → (C → E) → (D → E)
-    → Ran C old read written [] [] false mid → EndsRun AtEnd L D mid more others result failed new → EndsRun AtEnd M E old (read ++ more) (written ++ others) result failed new
-ends_then AtEnd L M C D E old mid new read more written others (Ok end) failed m c d h k = record {
+pub ends_then : (AtEnd L M C D E : Type 0) (old mid new : Repository) (commands more : List Command) (replies others : List Reply) (read following written texts : Bytes) (result : Result End RunError) (failed : Bool)
+    → (L → M) → (C → E) → (D → E) → Ran C old commands replies read written [] [] false mid → EndsRun AtEnd L D mid more others following texts result failed new
+    → EndsRun AtEnd M E old (commands ++ more) (replies ++ others) (read ++ following) (written ++ texts) result failed new
+ends_then AtEnd L M C D E old mid new commands more replies others read following written texts (Ok end) failed m c d h k = record {
   rest = k.rest;
   last = k.last;
-  ran = ran_then C D E old mid new read more written others k.rest k.last failed c d h k.ran;
+  ran = ran_then C D E old mid new commands more replies others read following written texts k.rest k.last failed c d h k.ran;
   ends = k.ends;
 }
-ends_then AtEnd L M C D E old mid new read more written others (Err Read) failed m c d h k = record {
+ends_then AtEnd L M C D E old mid new commands more replies others read following written texts (Err Read) failed m c d h k = record {
   rest = k.rest;
-  ran = ran_then C D E old mid new read more written others k.rest [] failed c d h k.ran;
+  ran = ran_then C D E old mid new commands more replies others read following written texts k.rest [] failed c d h k.ran;
   unfailed = k.unfailed;
   cut = cut_then L M _ _ m k.cut;
 }
-ends_then AtEnd L M C D E old mid new read more written others (Err Write) failed m c d h k = record {
+ends_then AtEnd L M C D E old mid new commands more replies others read following written texts (Err Write) failed m c d h k = record {
+  answered = commands ++ k.answered;
+  written = replies ++ k.written;
+  last = k.last;
+  cut_off = k.cut_off;
+  all = (
+    ap (λ cs. commands ++ cs) k.all.0 ∙ sym (append_assoc commands k.answered k.last),
+    ap (λ rs. replies ++ rs) k.all.1 ∙ sym (append_assoc replies k.written k.cut_off),
+  );
   rest = k.rest;
   part = k.part;
   mid = k.mid;
-  ran = ran_then C D E old mid k.mid read more written others k.rest k.part false c d h k.ran;
-  cut = short_then AtEnd D E k.mid k.rest k.part failed new d k.cut;
+  ran = ran_then C D E old mid k.mid commands k.answered replies k.written read following written texts k.rest k.part false c d h k.ran;
+  cut = short_then AtEnd D E k.mid k.last k.cut_off k.rest k.part failed new d k.cut;
 }
 
 -- ---- one turn
@@ -176,73 +187,105 @@ only_fails : (on : Bool) → not on ≡ (not on || false)
 only_fails true = refl
 only_fails false = refl
 
-answer_ran : (C : Type 0) (StandsNow : Repository → Type 0) (r : Repository) (order : Command) (answer : Answer) (failed : Bool) (taken rest : Bytes)
-    → Spells taken order → (a : IsAnswer C StandsNow failed r order answer) → Ran C r (taken ++ rest) (text_of answer) rest [] failed a.left
-answer_ran C StandsNow r order answer failed taken rest k a =
-    ran_one C r a.left (taken ++ rest) (text_of answer) order a.reply rest failed (ap (λ xs. xs ++ rest) k.1) a.text k.0 a.step (a.fails ∙ only_fails (goes_on order a.reply)) a.call_failed
+no_goes : (failed on : Bool) → failed ≡ not on → failed ≡ true → IsFalse on
+no_goes failed true e f = absurd (cc (sym f ∙ e))
+no_goes failed false e f = refl
 
--- a command was answered, and the run goes on
-pub turn_goes_on : (Takes Writes : Bytes → Type 0) (StandsNow : Repository → Type 0) (C : Type 0) (r : Repository) (order : Command) (answer : Answer) (failed : Bool) (taken : Bytes)
-    → Spells taken order → IsAnswer C StandsNow failed r order answer → failed ≡ false → Takes taken → Writes (text_of answer) → GoesOn Takes Writes StandsNow C r
-turn_goes_on Takes Writes StandsNow C r order answer failed taken k a unfailed takes writes = record {
-  taken = taken;
-  written = text_of answer;
-  new = a.left;
-  takes = takes;
-  writes = writes;
-  ran = subst (λ b. Ran C r taken (text_of answer) [] [] b a.left) unfailed
-      (subst (λ xs. Ran C r xs (text_of answer) [] [] failed a.left) (append-nil taken) (answer_ran C StandsNow r order answer failed taken [] k a));
-  stands = a.stands (goes failed (goes_on order a.reply) a.fails unfailed);
-}
+-- ---- of a command that was answered
+module _ (objects names : History) (MayFail : Type 0) (StandsNow RecoversNow : Repository → Type 0) (start finish : Moment) (r : Repository) (order : Command) (answer : Answer) (failed : Bool)
+    (a : IsAnswer objects names MayFail StandsNow RecoversNow start finish failed r order answer) where
+  abbrev CallFailed : Type 0
+  CallFailed = Failed MayFail start finish
 
--- a changing command had a fault
-pub turn_fails : (Comes Writes : Bytes → Type 0) (StandsNow : Repository → Type 0) (AtEnd L C : Type 0) (r : Repository) (order : Command) (answer : Answer) (failed : Bool) (taken rest : Bytes)
-    → Spells taken order → IsAnswer C StandsNow failed r order answer → failed ≡ true → Comes (taken ++ rest) → Writes (text_of answer)
-    → EndsHere Comes Writes StandsNow AtEnd L C r (Ok ByFault) failed
-turn_fails Comes Writes StandsNow AtEnd L C r order answer failed taken rest k a e comes writes = record {
-  read = taken ++ rest;
-  written = text_of answer;
-  new = a.left;
-  reads = comes;
-  writes = writes;
-  ends = record {
-    rest = rest;
-    last = [];
-    ran = answer_ran C StandsNow r order answer failed taken rest k a;
-    ends = subst (λ b. Ends AtEnd rest [] ByFault b) (sym e) refl;
-  };
-  stands = λ unfailed. a.stands (goes failed (goes_on order a.reply) a.fails unfailed);
-}
+  abbrev Traced : List Command → List Reply → Repository → Type 0
+  Traced commands replies left = Traces objects names MayFail r start commands replies finish left
 
--- the writer failed within the reply
-pub turn_cut : (Comes Writes : Bytes → Type 0) (StandsNow : Repository → Type 0) (AtEnd L C : Type 0) (r : Repository) (order : Command) (answer : Answer) (failed : Bool)
-    (taken rest front back : Bytes) → Spells taken order → IsAnswer C StandsNow failed r order answer → Comes (taken ++ rest) → text_of answer ≡ front ++ back → Writes front
-    → EndsHere Comes Writes StandsNow AtEnd L C r (Err Write) failed
-turn_cut Comes Writes StandsNow AtEnd L C r order answer failed taken rest front back k a comes e writes = record {
-  read = taken ++ rest;
-  written = front;
-  new = a.left;
-  reads = comes;
-  writes = writes;
-  ends = record {
-    rest = taken ++ rest;
-    part = front;
-    mid = r;
-    ran = ran_none C r (taken ++ rest) front;
-    cut = inl (
-      order,
-      a.reply,
-      rest,
-      k.0,
-      ap (λ xs. xs ++ rest) k.1,
-      a.step,
-      a.fails ∙ only_fails (goes_on order a.reply),
-      a.call_failed,
-      subst (λ xs. IsTrue (begins front xs)) (sym e ∙ a.text) (begins_front front back),
-    );
-  };
-  stands = λ unfailed. a.stands (goes failed (goes_on order a.reply) a.fails unfailed);
-}
+  answer_ran : (taken rest : Bytes) → Spells taken order → Ran CallFailed r (order ∷ []) (a.reply ∷ []) (taken ++ rest) (text_of answer) rest [] failed a.left
+  answer_ran taken rest k =
+      ran_one CallFailed r a.left (taken ++ rest) (text_of answer) order a.reply rest failed (ap (λ xs. xs ++ rest) k.1) a.text k.0 (a.acted).step (a.fails ∙ only_fails (goes_on order a.reply)) (a.acted).failure
+
+  traced : Traced (order ∷ []) (a.reply ∷ []) a.left
+  traced = record { moments = finish ∷ []; acts = (a.left, a.acted, inr refl, refl); ends = refl }
+
+  stands_then : failed ≡ false → StandsNow a.left
+  stands_then unfailed = a.stands (goes failed (goes_on order a.reply) a.fails unfailed)
+
+  recovers_then : failed ≡ true → RecoversNow a.left
+  recovers_then fails = a.recovers (no_goes failed (goes_on order a.reply) a.fails fails)
+
+  -- the run goes on
+  pub turn_goes_on : (Takes Writes : Bytes → Type 0) (taken : Bytes) → Spells taken order → failed ≡ false → Takes taken → Writes (text_of answer) → GoesOn Takes Writes StandsNow Traced CallFailed r
+  turn_goes_on Takes Writes taken k unfailed takes writes = record {
+    commands = order ∷ [];
+    replies = a.reply ∷ [];
+    taken = taken;
+    written = text_of answer;
+    new = a.left;
+    takes = takes;
+    writes = writes;
+    ran = subst (λ b. Ran CallFailed r (order ∷ []) (a.reply ∷ []) taken (text_of answer) [] [] b a.left) unfailed
+        (subst (λ xs. Ran CallFailed r (order ∷ []) (a.reply ∷ []) xs (text_of answer) [] [] failed a.left) (append-nil taken) (answer_ran taken [] k));
+    traced = traced;
+    stands = stands_then unfailed;
+  }
+
+  -- a changing command had a fault
+  pub turn_fails : (Comes Writes : Bytes → Type 0) (AtEnd L : Type 0) (taken rest : Bytes) → Spells taken order → failed ≡ true → Comes (taken ++ rest) → Writes (text_of answer)
+      → EndsHere Comes Writes StandsNow RecoversNow Traced AtEnd L CallFailed r (Ok ByFault) failed
+  turn_fails Comes Writes AtEnd L taken rest k e comes writes = record {
+    commands = order ∷ [];
+    replies = a.reply ∷ [];
+    read = taken ++ rest;
+    written = text_of answer;
+    new = a.left;
+    reads = comes;
+    writes = writes;
+    ends = record {
+      rest = rest;
+      last = [];
+      ran = answer_ran taken rest k;
+      ends = subst (λ b. Ends AtEnd rest [] ByFault b) (sym e) refl;
+    };
+    traced = traced;
+    stands = stands_then;
+    recovers = recovers_then;
+  }
+
+  -- the writer failed within the reply
+  pub turn_cut : (Comes Writes : Bytes → Type 0) (AtEnd L : Type 0) (taken rest front back : Bytes) → Spells taken order → Comes (taken ++ rest) → text_of answer ≡ front ++ back → Writes front
+      → EndsHere Comes Writes StandsNow RecoversNow Traced AtEnd L CallFailed r (Err Write) failed
+  turn_cut Comes Writes AtEnd L taken rest front back k comes e writes = record {
+    commands = order ∷ [];
+    replies = a.reply ∷ [];
+    read = taken ++ rest;
+    written = front;
+    new = a.left;
+    reads = comes;
+    writes = writes;
+    ends = record {
+      answered = [];
+      written = [];
+      last = order ∷ [];
+      cut_off = a.reply ∷ [];
+      all = (refl, refl);
+      rest = taken ++ rest;
+      part = front;
+      mid = r;
+      ran = ran_none CallFailed r (taken ++ rest) front;
+      cut = (
+        rest,
+        k.0,
+        ap (λ xs. xs ++ rest) k.1,
+        (a.acted).step,
+        a.fails ∙ only_fails (goes_on order a.reply),
+        (a.acted).failure,
+        subst (λ xs. IsTrue (begins front xs)) (sym e ∙ a.text) (begins_front front back),
+      );
+    };
+    traced = traced;
+    stands = stands_then;
+    recovers = recovers_then;
+  }
 
 some_cause : (bytes : Bytes) (cause : Cause) → bytes ≢ [] → IsCauseOf bytes cause → HasRestCause bytes cause
 some_cause [] cause some h = absurd (some refl)
@@ -251,47 +294,8 @@ some_cause (b ∷ bytes) cause some h = h
 no_command : (AtEnd : Type 0) (bytes : Bytes) (cause : Cause) → bytes ≢ [] → IsCauseOf bytes cause → (cause ≡ Truncated → AtEnd) → IsNoCommand AtEnd bytes cause
 no_command AtEnd bytes cause some h end = record { because = some_cause bytes cause some h; at_end = end }
 
--- a rest that is no command was refused
-pub turn_refused : (Comes Writes : Bytes → Type 0) (StandsNow : Repository → Type 0) (AtEnd L C : Type 0) (r : Repository) (failed : Bool) (bytes : Bytes) (cause : Cause)
-    → failed ≡ false → StandsNow r → bytes ≢ [] → IsCauseOf bytes cause → (cause ≡ Truncated → AtEnd) → Comes bytes → Writes (reply_text (RefusedFor cause))
-    → EndsHere Comes Writes StandsNow AtEnd L C r (Ok ByRefusal) failed
-turn_refused Comes Writes StandsNow AtEnd L C r failed bytes cause unfailed stands some h end comes writes = record {
-  read = bytes;
-  written = reply_text (RefusedFor cause);
-  new = r;
-  reads = comes;
-  writes = writes;
-  ends = record {
-    rest = bytes;
-    last = reply_text (RefusedFor cause);
-    ran = subst (λ b. Ran C r bytes (reply_text (RefusedFor cause)) bytes (reply_text (RefusedFor cause)) b r) (sym unfailed) (ran_none C r bytes (reply_text (RefusedFor cause)));
-    ends = (cause, no_command AtEnd bytes cause some h end, refl, unfailed);
-  };
-  stands = λ _. stands;
-}
-
 or_first : (a b : Bool) → a ≡ true → (a || b) ≡ true
 or_first a b e = ap (λ t. t || b) e
-
--- the writer failed within the answer to it
-pub turn_refusal_cut : (Comes Writes : Bytes → Type 0) (StandsNow : Repository → Type 0) (AtEnd L C : Type 0) (r : Repository) (failed : Bool) (bytes : Bytes) (cause : Cause) (front back : Bytes)
-    → failed ≡ false → StandsNow r → bytes ≢ [] → IsCauseOf bytes cause → (cause ≡ Truncated → AtEnd) → Comes bytes → reply_text (RefusedFor cause) ≡ front ++ back → Writes front
-    → EndsHere Comes Writes StandsNow AtEnd L C r (Err Write) failed
-turn_refusal_cut Comes Writes StandsNow AtEnd L C r failed bytes cause front back unfailed stands some h end comes e writes = record {
-  read = bytes;
-  written = front;
-  new = r;
-  reads = comes;
-  writes = writes;
-  ends = record {
-    rest = bytes;
-    part = front;
-    mid = r;
-    ran = ran_none C r bytes front;
-    cut = inr (cause, no_command AtEnd bytes cause some h end, refl, unfailed, or_first _ _ (subst (λ xs. IsTrue (begins front xs)) (sym e) (begins_front front back)));
-  };
-  stands = λ _. stands;
-}
 
 -- the reader failed, or the last reading was made
 short_rest : (Failed L : Type 0) (bytes : Bytes) → (Failed × IsCauseOf bytes Truncated) ⊎ L → (bytes ≡ []) ⊎ HasRestCause bytes Truncated ⊎ L
@@ -304,93 +308,191 @@ pub nothing_short : (Failed L : Type 0) (bytes : Bytes) → (Failed × (bytes �
 nothing_short Failed L bytes (inl h) = inl (h.0, subst (λ xs. IsCauseOf xs Truncated) (sym h.1) refl)
 nothing_short Failed L bytes (inr l) = inr l
 
-pub turn_broken : (Comes Writes : Bytes → Type 0) (StandsNow : Repository → Type 0) (AtEnd Failed L C : Type 0) (r : Repository) (failed : Bool) (bytes : Bytes)
-    → failed ≡ false → StandsNow r → (Failed × IsCauseOf bytes Truncated) ⊎ L → Comes bytes → Writes [] → EndsHere Comes Writes StandsNow AtEnd L C r (Err Read) failed
-turn_broken Comes Writes StandsNow AtEnd Failed L C r failed bytes unfailed stands why comes writes = record {
-  read = bytes;
-  written = [];
-  new = r;
-  reads = comes;
-  writes = writes;
-  ends = record {
-    rest = bytes;
-    ran = subst (λ b. Ran C r bytes [] bytes [] b r) (sym unfailed) (ran_none C r bytes []);
-    unfailed = unfailed;
-    cut = short_rest Failed L bytes why;
-  };
-  stands = λ _. stands;
-}
+never : {X : Type 0} (b : Bool) → b ≡ false → b ≡ true → X
+never b e f = absurd (cc (sym f ∙ e))
 
--- the input ended
-pub turn_ends : (Comes Writes : Bytes → Type 0) (StandsNow : Repository → Type 0) (AtEnd L C : Type 0) (r : Repository) (failed : Bool)
-    → failed ≡ false → StandsNow r → AtEnd → Comes [] → Writes [] → EndsHere Comes Writes StandsNow AtEnd L C r (Ok Input) failed
-turn_ends Comes Writes StandsNow AtEnd L C r failed unfailed stands end comes writes = record {
-  read = [];
-  written = [];
-  new = r;
-  reads = comes;
-  writes = writes;
-  ends = record {
-    rest = [];
-    last = [];
-    ran = subst (λ b. Ran C r [] [] [] [] b r) (sym unfailed) (ran_none C r [] []);
-    ends = (refl, end, refl, unfailed);
-  };
-  stands = λ _. stands;
-}
+-- ---- of a turn that acts on no command
+module _ (Comes Writes : Bytes → Type 0) (StandsNow RecoversNow : Repository → Type 0) (Traced : List Command → List Reply → Repository → Type 0) (AtEnd L C : Type 0) (r : Repository) (failed : Bool)
+    (unfailed : failed ≡ false) (stands : StandsNow r) (traced : Traced [] [] r) where
+  abbrev Here : Result End RunError → Type 0
+  Here result = EndsHere Comes Writes StandsNow RecoversNow Traced AtEnd L C r result failed
+
+  unfailed_ran : (rest last : Bytes) → Ran C r [] [] rest last rest last failed r
+  unfailed_ran rest last = subst (λ b. Ran C r [] [] rest last rest last b r) (sym unfailed) (ran_none C r rest last)
+
+  -- a rest that is no command was refused
+  pub turn_refused : (bytes : Bytes) (cause : Cause) → bytes ≢ [] → IsCauseOf bytes cause → (cause ≡ Truncated → AtEnd) → Comes bytes → Writes (reply_text (RefusedFor cause)) → Here (Ok ByRefusal)
+  turn_refused bytes cause some h end comes writes = record {
+    commands = [];
+    replies = [];
+    read = bytes;
+    written = reply_text (RefusedFor cause);
+    new = r;
+    reads = comes;
+    writes = writes;
+    ends = record {
+      rest = bytes;
+      last = reply_text (RefusedFor cause);
+      ran = unfailed_ran bytes (reply_text (RefusedFor cause));
+      ends = (cause, no_command AtEnd bytes cause some h end, refl, unfailed);
+    };
+    traced = traced;
+    stands = λ _. stands;
+    recovers = λ e. never failed unfailed e;
+  }
+
+  -- the writer failed within the answer to it
+  pub turn_refusal_cut : (bytes : Bytes) (cause : Cause) (front back : Bytes) → bytes ≢ [] → IsCauseOf bytes cause → (cause ≡ Truncated → AtEnd) → Comes bytes
+      → reply_text (RefusedFor cause) ≡ front ++ back → Writes front → Here (Err Write)
+  turn_refusal_cut bytes cause front back some h end comes e writes = record {
+    commands = [];
+    replies = [];
+    read = bytes;
+    written = front;
+    new = r;
+    reads = comes;
+    writes = writes;
+    ends = record {
+      answered = [];
+      written = [];
+      last = [];
+      cut_off = [];
+      all = (refl, refl);
+      rest = bytes;
+      part = front;
+      mid = r;
+      ran = ran_none C r bytes front;
+      cut = (cause, no_command AtEnd bytes cause some h end, refl, unfailed, or_first _ _ (subst (λ xs. IsTrue (begins front xs)) (sym e) (begins_front front back)));
+    };
+    traced = traced;
+    stands = λ _. stands;
+    recovers = λ e. never failed unfailed e;
+  }
+
+  pub turn_broken : (Failed : Type 0) (bytes : Bytes) → (Failed × IsCauseOf bytes Truncated) ⊎ L → Comes bytes → Writes [] → Here (Err Read)
+  turn_broken Failed bytes why comes writes = record {
+    commands = [];
+    replies = [];
+    read = bytes;
+    written = [];
+    new = r;
+    reads = comes;
+    writes = writes;
+    ends = record {
+      rest = bytes;
+      ran = unfailed_ran bytes [];
+      unfailed = unfailed;
+      cut = short_rest Failed L bytes why;
+    };
+    traced = traced;
+    stands = λ _. stands;
+    recovers = λ e. never failed unfailed e;
+  }
+
+  -- the input ended
+  pub turn_ends : AtEnd → Comes [] → Writes [] → Here (Ok Input)
+  turn_ends end comes writes = record {
+    commands = [];
+    replies = [];
+    read = [];
+    written = [];
+    new = r;
+    reads = comes;
+    writes = writes;
+    ends = record {
+      rest = [];
+      last = [];
+      ran = unfailed_ran [] [];
+      ends = (refl, end, refl, unfailed);
+    };
+    traced = traced;
+    stands = λ _. stands;
+    recovers = λ e. never failed unfailed e;
+  }
 
 -- what a turn tells where a command was answered
-pub turn_told : (Takes Comes Writes : Bytes → Type 0) (StandsNow : Repository → Type 0) (AtEnd L C : Type 0) (r : Repository) (end : Option End) (failed : Bool)
-    → ((end ≡ None) × GoesOn Takes Writes StandsNow C r) ⊎ ((end ≡ Some ByFault) × EndsHere Comes Writes StandsNow AtEnd L C r (Ok ByFault) failed)
-    → Turns Takes Comes Writes StandsNow AtEnd L C r (Ok end) failed
-turn_told Takes Comes Writes StandsNow AtEnd L C r end failed (inl h) = subst (λ e. Turns Takes Comes Writes StandsNow AtEnd L C r (Ok e) failed) (sym h.0) h.1
-turn_told Takes Comes Writes StandsNow AtEnd L C r end failed (inr h) = subst (λ e. Turns Takes Comes Writes StandsNow AtEnd L C r (Ok e) failed) (sym h.0) h.1
+pub turn_told : (Takes Comes Writes : Bytes → Type 0) (StandsNow RecoversNow : Repository → Type 0) (Traced : List Command → List Reply → Repository → Type 0) (AtEnd L C : Type 0) (r : Repository) (end : Option End) (failed : Bool)
+    → ((end ≡ None) × GoesOn Takes Writes StandsNow Traced C r) ⊎ ((end ≡ Some ByFault) × EndsHere Comes Writes StandsNow RecoversNow Traced AtEnd L C r (Ok ByFault) failed)
+    → Turns Takes Comes Writes StandsNow RecoversNow Traced AtEnd L C r (Ok end) failed
+turn_told Takes Comes Writes StandsNow RecoversNow Traced AtEnd L C r end failed (inl h) = subst (λ e. Turns Takes Comes Writes StandsNow RecoversNow Traced AtEnd L C r (Ok e) failed) (sym h.0) h.1
+turn_told Takes Comes Writes StandsNow RecoversNow Traced AtEnd L C r end failed (inr h) = subst (λ e. Turns Takes Comes Writes StandsNow RecoversNow Traced AtEnd L C r (Ok e) failed) (sym h.0) h.1
 
 -- ---- turns in a row
 
-pub goes_none : (Takes Writes : Bytes → Type 0) (StandsNow : Repository → Type 0) (C : Type 0) (r : Repository) → Takes [] → Writes [] → StandsNow r → GoesOn Takes Writes StandsNow C r
-goes_none Takes Writes StandsNow C r takes writes stands = record {
+pub goes_none : (Takes Writes : Bytes → Type 0) (StandsNow : Repository → Type 0) (Traced : List Command → List Reply → Repository → Type 0) (C : Type 0) (r : Repository)
+    → Takes [] → Writes [] → StandsNow r → Traced [] [] r → GoesOn Takes Writes StandsNow Traced C r
+goes_none Takes Writes StandsNow Traced C r takes writes stands traced = record {
+  commands = [];
+  replies = [];
   taken = [];
   written = [];
   new = r;
   takes = takes;
   writes = writes;
   ran = ran_none C r [] [];
+  traced = traced;
   stands = stands;
 }
 
-pub goes_then : (Took Takes Taking Wrote Writes Writing : Bytes → Type 0) (Stood StandsNow : Repository → Type 0) (C D E : Type 0) (r : Repository)
+-- what was traced from where a turn left the repository is traced on
+abbrev pub TracesOn : (List Command → List Reply → Repository → Type 0) → (Repository → List Command → List Reply → Repository → Type 0) → (List Command → List Reply → Repository → Type 0) → Type 0
+TracesOn First Second Both = (commands more : List Command) (replies others : List Reply) (mid new : Repository) → some_failed commands replies ≡ false
+    → First commands replies mid → Second mid more others new → Both (commands ++ more) (replies ++ others) new
+
+pub goes_then : (Took Takes Taking Wrote Writes Writing : Bytes → Type 0) (Stood StandsNow : Repository → Type 0) (First : List Command → List Reply → Repository → Type 0)
+    (Second : Repository → List Command → List Reply → Repository → Type 0) (Both : List Command → List Reply → Repository → Type 0) (C D E : Type 0) (r : Repository)
     → ((xs ys : Bytes) → Took xs → Takes ys → Taking (xs ++ ys)) → ((xs ys : Bytes) → Wrote xs → Writes ys → Writing (xs ++ ys)) → (C → E) → (D → E)
-    → (h : GoesOn Took Wrote Stood C r) → GoesOn Takes Writes StandsNow D h.new → GoesOn Taking Writing StandsNow E r
-goes_then Took Takes Taking Wrote Writes Writing Stood StandsNow C D E r t w c d h k = record {
+    → (h : GoesOn Took Wrote Stood First C r) → TracesOn First Second Both → GoesOn Takes Writes StandsNow (Second h.new) D h.new → GoesOn Taking Writing StandsNow Both E r
+goes_then Took Takes Taking Wrote Writes Writing Stood StandsNow First Second Both C D E r t w c d h on k = record {
+  commands = h.commands ++ k.commands;
+  replies = h.replies ++ k.replies;
   taken = h.taken ++ k.taken;
   written = h.written ++ k.written;
   new = k.new;
   takes = t h.taken k.taken h.takes k.takes;
   writes = w h.written k.written h.writes k.writes;
-  ran = ran_then C D E r h.new k.new h.taken k.taken h.written k.written [] [] false c d h.ran k.ran;
+  ran = ran_then C D E r h.new k.new h.commands k.commands h.replies k.replies h.taken k.taken h.written k.written [] [] false c d h.ran k.ran;
+  traced = on h.commands k.commands h.replies k.replies h.new k.new (sym (h.ran).fails) h.traced k.traced;
   stands = k.stands;
 }
 
-pub run_then : (Took Comes Reads Wrote Writes Writing : Bytes → Type 0) (Stood StandsNow : Repository → Type 0) (AtEnd L M C D E : Type 0) (r : Repository) (result : Result End RunError) (failed : Bool)
+pub run_then : (Took Comes Reads Wrote Writes Writing : Bytes → Type 0) (Stood StandsNow RecoversNow : Repository → Type 0) (First : List Command → List Reply → Repository → Type 0)
+    (Second : Repository → List Command → List Reply → Repository → Type 0) (Both : List Command → List Reply → Repository → Type 0) (AtEnd L M C D E : Type 0) (r : Repository) (result : Result End RunError) (failed : Bool)
     → ((xs ys : Bytes) → Took xs → Comes ys → Reads (xs ++ ys)) → ((xs ys : Bytes) → Wrote xs → Writes ys → Writing (xs ++ ys)) → (L → M) → (C → E) → (D → E)
-    → (h : GoesOn Took Wrote Stood C r) → EndsHere Comes Writes StandsNow AtEnd L D h.new result failed → EndsHere Reads Writing StandsNow AtEnd M E r result failed
-run_then Took Comes Reads Wrote Writes Writing Stood StandsNow AtEnd L M C D E r result failed t w m c d h k = record {
+    → (h : GoesOn Took Wrote Stood First C r) → TracesOn First Second Both → EndsHere Comes Writes StandsNow RecoversNow (Second h.new) AtEnd L D h.new result failed
+    → EndsHere Reads Writing StandsNow RecoversNow Both AtEnd M E r result failed
+run_then Took Comes Reads Wrote Writes Writing Stood StandsNow RecoversNow First Second Both AtEnd L M C D E r result failed t w m c d h on k = record {
+  commands = h.commands ++ k.commands;
+  replies = h.replies ++ k.replies;
   read = h.taken ++ k.read;
   written = h.written ++ k.written;
   new = k.new;
   reads = t h.taken k.read h.takes k.reads;
   writes = w h.written k.written h.writes k.writes;
-  ends = ends_then AtEnd L M C D E r h.new k.new h.taken k.read h.written k.written result failed m c d h.ran k.ends;
+  ends = ends_then AtEnd L M C D E r h.new k.new h.commands k.commands h.replies k.replies h.taken k.read h.written k.written result failed m c d h.ran k.ends;
+  traced = on h.commands k.commands h.replies k.replies h.new k.new (sym (h.ran).fails) h.traced k.traced;
   stands = k.stands;
+  recovers = k.recovers;
 }
 
--- what was read, written and left, where this is told
-pub run_told : (Reads Writes : Bytes → Type 0) (StandsNow : Repository → Type 0) (AtEnd L C : Type 0) (r : Repository) (told result : Result End RunError) (failed : Bool)
-    → told ≡ result → EndsHere Reads Writes StandsNow AtEnd L C r result failed
-    → (read written : Bytes) × (new : Repository) × Reads read × Writes written × EndsRun AtEnd L C r read written told failed new × (failed ≡ false → StandsNow new)
-run_told Reads Writes StandsNow AtEnd L C r told result failed e h =
-    (h.read, h.written, h.new, h.reads, h.writes, subst (λ x. EndsRun AtEnd L C r h.read h.written x failed h.new) (sym e) h.ends, h.stands)
+-- what was acted on, read, written and left, where this is told
+pub run_told : (Reads Writes : Bytes → Type 0) (StandsNow RecoversNow : Repository → Type 0) (Traced : List Command → List Reply → Repository → Type 0) (AtEnd L C : Type 0) (r : Repository) (told result : Result End RunError) (failed : Bool)
+    → told ≡ result → EndsHere Reads Writes StandsNow RecoversNow Traced AtEnd L C r result failed
+    → (commands : List Command) × (replies : List Reply) × (read written : Bytes) × (new : Repository) × Reads read × Writes written × EndsRun AtEnd L C r commands replies read written told failed new
+    × Traced commands replies new × (failed ≡ false → StandsNow new) × (failed ≡ true → RecoversNow new)
+run_told Reads Writes StandsNow RecoversNow Traced AtEnd L C r told result failed e h = (
+  h.commands,
+  h.replies,
+  h.read,
+  h.written,
+  h.new,
+  h.reads,
+  h.writes,
+  subst (λ x. EndsRun AtEnd L C r h.commands h.replies h.read h.written x failed h.new) (sym e) h.ends,
+  h.traced,
+  h.stands,
+  h.recovers,
+)
 
 -- ---- failed calls
 

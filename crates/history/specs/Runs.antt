@@ -1,13 +1,15 @@
 -- How turns and runs end.
-use Rattle.std.specs.Prelude.{◌≡◌, ◌≤◌, ◌+◌, ◌-◌, ◌^◌, ℕ, min, Bool, true, false, [], Option, Some, None, Result, Ok, Err}
+use Rattle.std.specs.Prelude.{◌≡◌, ◌≤◌, ◌+◌, ◌-◌, ◌^◌, ℕ, min, Bool, true, false, List, [], Option, Some, None, Result, Ok, Err}
 use Rattle.history_model.specs.Bytes.{Bytes}
 use Rattle.history_model.specs.Repository as plain
+use Rattle.history_model.specs.Commands.{Command}
+use Rattle.history_model.specs.Replies.{Reply}
 use Rattle.history_model.specs.Runs.{Ran, Runs, EndsReading, EndsWriting}
 use Rattle.history_model.specs.declared.End.{End}
 use Rattle.history_model.specs.declared.End.TheVariants.{Input, Refused, Fault}
 use Rattle.history_word.specs.Buffer.{readings_made}
 use Rattle.history_word.specs.declared.buffer.Buffer.{Buffer}
-use Rattle.history_word.specs.declared.command.Command.{Command}
+use Rattle.history_word.specs.declared.command.Command as read_commands
 use Rattle.history_word.specs.declared.command.Command.TheVariants as command
 use Rattle.history_word.specs.declared.reader.Reading.{Reading}
 use Rattle.history_word.specs.declared.reader.Reading.TheVariants as reading
@@ -24,7 +26,7 @@ abbrev pub is_last_fault : Option End → Bool
 is_last_fault (Some end) = is_fault_end end
 is_last_fault None = false
 
-abbrev pub changes_files : Command → Bool
+abbrev pub changes_files : read_commands.Command → Bool
 changes_files (command.Commit commit) = true
 changes_files (command.Files word) = false
 changes_files (command.Show show) = false
@@ -48,38 +50,50 @@ pub record MadeLastReading (before now : ℕ) : Type 0 where
 
 -- ---- what was read, written and left
 
--- A run from old over what was read and written ends so, by what it tells, and leaves new.
-abbrev pub EndsRun : Type 0 → Type 0 → Type 0 → plain.Repository → Bytes → Bytes → Result End RunError → Bool → plain.Repository → Type 0
-EndsRun AtEnd LastReading CallFailed old read written (Ok end) failed new = Runs AtEnd CallFailed old read written end failed new
-EndsRun AtEnd LastReading CallFailed old read written (Err Read) failed new = EndsReading LastReading CallFailed old read written failed new
-EndsRun AtEnd LastReading CallFailed old read written (Err Write) failed new = EndsWriting AtEnd CallFailed old read written failed new
+-- A run from old that acted on these commands with these replies, over what was read and written, ends so, by what it tells,
+-- and leaves new.
+abbrev pub EndsRun : Type 0 → Type 0 → Type 0 → plain.Repository → List Command → List Reply → Bytes → Bytes → Result End RunError → Bool → plain.Repository → Type 0
+EndsRun AtEnd LastReading CallFailed old commands replies read written (Ok end) failed new = Runs AtEnd CallFailed old commands replies read written end failed new
+EndsRun AtEnd LastReading CallFailed old commands replies read written (Err Read) failed new = EndsReading LastReading CallFailed old commands replies read written failed new
+EndsRun AtEnd LastReading CallFailed old commands replies read written (Err Write) failed new = EndsWriting AtEnd CallFailed old commands replies read written failed new
 
 -- ---- turns
 
--- The last turn of a run from old: it read and wrote these bytes and ended so, and what it leaves stands unless it failed.
-pub record EndsHere (Reads Writes : Bytes → Type 0) (StandsNow : plain.Repository → Type 0) (AtEnd LastReading CallFailed : Type 0)
-    (old : plain.Repository) (result : Result End RunError) (failed : Bool) : Type 0 where
+-- The last turn of a run from old: it acted on these commands with these replies, read and wrote these bytes, and ended so. What
+-- it leaves stands; or, after a fault in a changing command, what recovery makes of it.
+pub record EndsHere (Reads Writes : Bytes → Type 0) (StandsNow RecoversNow : plain.Repository → Type 0) (IsTraced : List Command → List Reply → plain.Repository → Type 0)
+    (AtEnd LastReading CallFailed : Type 0) (old : plain.Repository) (result : Result End RunError) (failed : Bool) : Type 0 where
+  pub commands : List Command
+  pub replies : List Reply
   pub read : Bytes
   pub written : Bytes
   pub new : plain.Repository
   pub reads : Reads read
   pub writes : Writes written
-  pub ends : EndsRun AtEnd LastReading CallFailed old read written result failed new
+  pub ends : EndsRun AtEnd LastReading CallFailed old commands replies read written result failed new
+  pub traced : IsTraced commands replies new
   pub stands : failed ≡ false → StandsNow new
+  pub recovers : failed ≡ true → RecoversNow new
 
 -- A turn after which the run goes on: the bytes of commands were taken, their replies written, and what they leave stands.
-pub record GoesOn (Takes Writes : Bytes → Type 0) (StandsNow : plain.Repository → Type 0) (CallFailed : Type 0) (old : plain.Repository) : Type 0 where
+pub record GoesOn (Takes Writes : Bytes → Type 0) (StandsNow : plain.Repository → Type 0) (IsTraced : List Command → List Reply → plain.Repository → Type 0) (CallFailed : Type 0)
+    (old : plain.Repository) : Type 0 where
+  pub commands : List Command
+  pub replies : List Reply
   pub taken : Bytes
   pub written : Bytes
   pub new : plain.Repository
   pub takes : Takes taken
   pub writes : Writes written
-  pub ran : Ran CallFailed old taken written [] [] false new
+  pub ran : Ran CallFailed old commands replies taken written [] [] false new
+  pub traced : IsTraced commands replies new
   pub stands : StandsNow new
 
 -- a turn goes on, or is the run's last
-abbrev pub Turns : (Bytes → Type 0) → (Bytes → Type 0) → (Bytes → Type 0) → (plain.Repository → Type 0) → Type 0 → Type 0 → Type 0
-    → plain.Repository → Result (Option End) RunError → Bool → Type 0
-Turns Takes Comes Writes StandsNow AtEnd LastReading CallFailed old (Ok None) failed = GoesOn Takes Writes StandsNow CallFailed old
-Turns Takes Comes Writes StandsNow AtEnd LastReading CallFailed old (Ok (Some end)) failed = EndsHere Comes Writes StandsNow AtEnd LastReading CallFailed old (Ok end) failed
-Turns Takes Comes Writes StandsNow AtEnd LastReading CallFailed old (Err error) failed = EndsHere Comes Writes StandsNow AtEnd LastReading CallFailed old (Err error) failed
+abbrev pub Turns : (Bytes → Type 0) → (Bytes → Type 0) → (Bytes → Type 0) → (plain.Repository → Type 0) → (plain.Repository → Type 0) → (List Command → List Reply → plain.Repository → Type 0)
+    → Type 0 → Type 0 → Type 0 → plain.Repository → Result (Option End) RunError → Bool → Type 0
+Turns Takes Comes Writes StandsNow RecoversNow IsTraced AtEnd LastReading CallFailed old (Ok None) failed = GoesOn Takes Writes StandsNow IsTraced CallFailed old
+Turns Takes Comes Writes StandsNow RecoversNow IsTraced AtEnd LastReading CallFailed old (Ok (Some end)) failed =
+    EndsHere Comes Writes StandsNow RecoversNow IsTraced AtEnd LastReading CallFailed old (Ok end) failed
+Turns Takes Comes Writes StandsNow RecoversNow IsTraced AtEnd LastReading CallFailed old (Err error) failed =
+    EndsHere Comes Writes StandsNow RecoversNow IsTraced AtEnd LastReading CallFailed old (Err error) failed

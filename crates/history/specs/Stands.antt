@@ -4,6 +4,7 @@ use Rattle.gix_ref_file.specs.History.{History}
 use Rattle.history_model.specs.Repository as plain
 use Rattle.history_model.specs.Places.{Pair, file_at, packed_place}
 use Rattle.history_model.specs.StandsFor.{StandsWhole}
+use Rattle.history_model.specs.Recovery.{recovered}
 use Rattle.history_model.specs.Offered.{IsOffered}
 use Rattle.history.specs.declared.repository.Repository.{Repository}
 use Rattle.std.specs.FinMap.{contains_key}
@@ -29,3 +30,7 @@ pub record Stands {F : Type 0} (IsHonest : F → Type 0) (history : F → Histor
   -- what the commands of this stage leave: they pack no names
   pub offered : IsOffered r
   pub unpacked : file_at (pair_of history repository).names packed_place ≡ None
+
+-- What recovery makes of the two trees that stand is the pair of this plain repository, which is whole and in its written form.
+abbrev pub Recovers : {F : Type 0} → (F → History) → Repository F → plain.Repository → Type 0
+Recovers history repository r = StandsWhole r.kind (recovered r.kind (pair_of history repository)) r

@@ -33,7 +33,7 @@ mod WholeCommands
 mod WholeForms
 mod WholeGrowth
 mod WholeItems
-mod WholeLists
+pub mod WholeLists
 mod WholeNames
 mod WholePaths
 mod WholeReads
@@ -51,3 +51,10 @@ pub mod OfferedFiles
 pub mod OfferedSteps
 pub mod OfferedCauses
 pub mod OfferedReads
+pub mod PassedObjects
+pub mod PassedStops
+pub mod PassedMoves
+pub mod PassedNames
+pub mod PassedReadings
+pub mod PassedClosed
+pub mod PassedMoments

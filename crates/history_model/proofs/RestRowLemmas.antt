@@ -135,8 +135,6 @@ refused stream cause h = record {
   rest = stream;
   last = reply_text (RefusedFor cause);
   ran = record {
-    commands = [];
-    replies = [];
     splits = record { known = refl; split = refl };
     steps = refl;
     fails = refl;
@@ -160,13 +158,13 @@ too_long_refused = refused (xs 4097) LineTooLong too_long_line
 
 pub nothing_given : Gives [] []
 nothing_given = (
+  [],
+  [],
   fresh Sha1,
   record {
     rest = [];
     last = [];
     ran = record {
-      commands = [];
-      replies = [];
       splits = record { known = refl; split = refl };
       steps = refl;
       fails = refl;

@@ -146,15 +146,15 @@ run_explained : (kind : Kind) (pair : Pair) (round : Round) (old : Repository) �
     → Explained old round.input kind round.stopped
 run_explained kind pair round old whole begins run = go run.stop
   where
-    go : IsPairAt round.objects round.names round.begin round.stopped ⊎ IsCommandPair round.objects round.names round.begin run.moments round.stopped → Explained old round.input kind round.stopped
+    go : IsPairAt round.objects round.names round.begin round.stopped ⊎ IsCommandPair round.objects round.names round.begin (run.traces).moments round.stopped → Explained old round.input kind round.stopped
     go (inl here) = record {
       left = old;
       replies = [];
       stopped = between [] round.input (record { known = refl; split = refl }) refl;
       stands = subst (λ p. StandsWhole kind (recovered kind p) old) (at_begin round.objects round.names round.begin pair round.stopped begins here) (recovered_whole kind pair old whole);
     }
-    go (inr stop) = explained round.objects round.names old round.input run.rest kind round.stopped [] [] old run.new round.begin run.commands run.replies run.moments
-        run.splits refl refl ((whole.stands).of_kind) run.acts stop
+    go (inr stop) = explained round.objects round.names old round.input run.rest kind round.stopped [] [] old run.new round.begin run.commands run.replies (run.traces).moments
+        run.splits refl refl ((whole.stands).of_kind) (run.traces).acts stop
 
 recovers_so : (kind : Kind) (stopped : Pair) (recoveries : List Pair) (left : Pair) → Recovers kind stopped recoveries left → left ≡ recovered kind stopped
 recovers_so kind stopped [] left h = h

@@ -107,13 +107,13 @@ none_written = refl
 pub first_gives : Gives first_stream first_output
 unfolding none_replies none_state state digits
 first_gives = (
+  Commit (command_with []) ∷ Files (codes "main") ∷ Show (codes "main") None ∷ [],
+  none_replies (files_shown none_state empty) (folder_id Sha1 empty),
   none_state,
   record {
     rest = [];
     last = [];
     ran = record {
-      commands = Commit (command_with []) ∷ Files (codes "main") ∷ Show (codes "main") None ∷ [];
-      replies = none_replies (files_shown none_state empty) (folder_id Sha1 empty);
       splits = record { known = refl; split = refl };
       steps = (
         none_state,
@@ -207,13 +207,13 @@ empty_written = refl
 pub empty_file_gives : Gives empty_file_stream empty_file_output
 unfolding empty_replies empty_state state digits
 empty_file_gives = (
+  Commit (command_with (put_edits [])) ∷ Files (codes "main") ∷ [],
+  empty_replies (files_shown empty_state (one_file [])),
   empty_state,
   record {
     rest = [];
     last = [];
     ran = record {
-      commands = Commit (command_with (put_edits [])) ∷ Files (codes "main") ∷ [];
-      replies = empty_replies (files_shown empty_state (one_file []));
       splits = record { known = refl; split = refl };
       steps = (
         empty_state,
@@ -301,13 +301,13 @@ hello_written = refl
 pub hello_gives : Gives hello_stream hello_output
 unfolding hello_replies hello_state state digits
 hello_gives = (
+  Commit (command_with (put_edits (codes "hello"))) ∷ Files (codes "main") ∷ Show (codes "main") (Some (codes "a")) ∷ [],
+  hello_replies (files_shown hello_state (one_file (codes "hello"))) (blob_id Sha1 (codes "hello")),
   hello_state,
   record {
     rest = [];
     last = [];
     ran = record {
-      commands = Commit (command_with (put_edits (codes "hello"))) ∷ Files (codes "main") ∷ Show (codes "main") (Some (codes "a")) ∷ [];
-      replies = hello_replies (files_shown hello_state (one_file (codes "hello"))) (blob_id Sha1 (codes "hello"));
       splits = record { known = refl; split = refl };
       steps = (
         hello_state,

@@ -202,7 +202,7 @@ module _ (r : Repository) (whole : IsWhole r) (command : Command) (none : first_
           in_left b (keys r.names) (targets r command) (in_map (λ (e : Bytes × Reference). e.0) (b, ref.0) (entries r.names) (get_in r.names b ref.0 ref.1))
       member (inr j) = in_right b (keys r.names) (targets r command) j
 
-  apart_after : (a b : Bytes) → (stands r a ≡ true) ⊎ In a (targets r command) → (stands r b ≡ true) ⊎ In b (targets r command) → is_below a b ≡ false
+  pub apart_after : (a b : Bytes) → (stands r a ≡ true) ⊎ In a (targets r command) → (stands r b ≡ true) ⊎ In b (targets r command) → is_below a b ≡ false
   apart_after a b at_a at_b = go (either (stands r a)) (either (stands r b)) at_a at_b
     where
       go : (stands r a ≡ true) ⊎ (stands r a ≡ false) → (stands r b ≡ true) ⊎ (stands r b ≡ false) → (stands r a ≡ true) ⊎ In a (targets r command) → (stands r b ≡ true) ⊎ In b (targets r command) → is_below a b ≡ false

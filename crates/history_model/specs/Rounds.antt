@@ -11,7 +11,7 @@ use Rattle.history_model.specs.Replies.{Reply}
 use Rattle.history_model.specs.Stops.{LeftByStop}
 use Rattle.history_model.specs.Steps.{Steps, some_failed}
 use Rattle.history_model.specs.Runs.{BeginsWith}
-use Rattle.history_model.specs.Moments.{Moment, IsPairAt, IsRunPair, ActsOn}
+use Rattle.history_model.specs.Moments.{Moment, IsPairAt, IsRunPair, Traces}
 use Rattle.gix_hash.specs.declared.kind.Kind.{Kind}
 
 -- What a stop of a run over the input leaves, once recovered, where these replies were made before it: what their steps
@@ -32,16 +32,17 @@ pub record Round : Type 0 where
   pub recoveries : List Pair
   pub left : Pair
 
--- the run acts on the first commands of its input, and is stopped at one of its pairs
+-- The run acts on the first commands of its input as its trace says, and is stopped at one of its pairs. That a reading may fail
+-- is told of no round.
 pub record IsStoppedRun (old : Repository) (round : Round) : Type 0 where
   pub commands : List Command
   pub replies : List Reply
-  pub moments : List Moment
   pub rest : Bytes
+  pub finish : Moment
   pub new : Repository
   pub splits : BeginsWith round.input commands rest
-  pub acts : ActsOn round.objects round.names (Unit {0}) old round.begin commands replies moments new
-  pub stop : IsRunPair round.objects round.names round.begin moments round.stopped
+  pub traces : Traces round.objects round.names (Unit {0}) old round.begin commands replies finish new
+  pub stop : IsRunPair round.objects round.names round.begin traces.moments round.stopped
 
 -- Each recovery begins where the one before it was stopped, and each pair on its way recovers to the same one.
 abbrev pub Recovers : Kind → Pair → List Pair → Pair → Type 0

@@ -6,7 +6,8 @@ use Rattle.history_model.specs.Bytes.{Bytes, line}
 use Rattle.history_model.specs.FileMap.{Content}
 use Rattle.history_model.specs.Objects.{Actor, CommitValue}
 use Rattle.history_model.specs.Repository.{Repository, fresh}
-use Rattle.history_model.specs.Commands.{ActorLine, CommitCommand, New}
+use Rattle.history_model.specs.Commands.{ActorLine, Command, CommitCommand, New}
+use Rattle.history_model.specs.Replies.{Reply}
 use Rattle.history_model.specs.Runs.{Runs}
 use Rattle.gix_hash.specs.declared.kind.Kind.TheVariants.{Sha1}
 use Rattle.history_model.specs.declared.FileKind.TheVariants.{File, Exec}
@@ -17,11 +18,12 @@ use Rattle.history_model.specs.declared.End.TheVariants.{Input, Refused as ByRef
 -- A run over the whole stream, from a fresh repository, writes the output and ends at the end of the input. No call of the
 -- files failed.
 abbrev pub Gives : Bytes → Bytes → Type 0
-Gives stream output = (new : Repository) × Runs (Unit {0}) ⊥ (fresh Sha1) stream output Input false new
+Gives stream output = (commands : List Command) × (replies : List Reply) × (new : Repository)
+    × Runs (Unit {0}) ⊥ (fresh Sha1) commands replies stream output Input false new
 
--- It is refused, and the repository is as it was.
+-- It is refused before any command, and the repository is as it was.
 abbrev pub Refuses : Bytes → Bytes → Type 0
-Refuses stream output = Runs (Unit {0}) ⊥ (fresh Sha1) stream output ByRefusal false (fresh Sha1)
+Refuses stream output = Runs (Unit {0}) ⊥ (fresh Sha1) [] [] stream output ByRefusal false (fresh Sha1)
 
 abbrev pub lines : List Bytes → Bytes
 lines texts = flat_map line texts

@@ -25,11 +25,10 @@ pub record IsNoCommand (AtEnd : Type 0) (rest : Bytes) (cause : Cause) : Type 0 
   pub because : HasRestCause rest cause
   pub at_end : cause ≡ Truncated → AtEnd
 
--- Commands were acted on in a row, and the reply to each is written; this rest of the input follows them, and this is written
--- last. It has failed where a changing command had a fault.
-pub record Ran (CallFailed : Type 0) (old : Repository) (input output rest last : Bytes) (failed : Bool) (new : Repository) : Type 0 where
-  pub commands : List Command
-  pub replies : List Reply
+-- These commands were acted on in a row, and these replies to them are written; this rest of the input follows them, and this is
+-- written last. It has failed where a changing command had a fault.
+pub record Ran (CallFailed : Type 0) (old : Repository) (commands : List Command) (replies : List Reply) (input output rest last : Bytes) (failed : Bool)
+    (new : Repository) : Type 0 where
   pub splits : BeginsWith input commands rest
   pub steps : Steps old commands replies new
   pub fails : failed ≡ some_failed commands replies
@@ -46,35 +45,45 @@ Ends AtEnd rest last ByFault true = last ≡ []
 -- memory ran out while a rest that is no command was read: nothing changes
 Ends AtEnd rest last ByFault false = (cause : Cause) × IsNoCommand AtEnd rest cause × (last ≡ reply_text (Faulted Memory))
 
--- A run over the input writes the output, ends so, and leaves new.
-pub record Runs (AtEnd CallFailed : Type 0) (old : Repository) (input output : Bytes) (end : End) (failed : Bool) (new : Repository) : Type 0 where
+-- A run over the input acts on these commands with these replies, writes the output, ends so, and leaves new.
+pub record Runs (AtEnd CallFailed : Type 0) (old : Repository) (commands : List Command) (replies : List Reply) (input output : Bytes) (end : End) (failed : Bool)
+    (new : Repository) : Type 0 where
   pub rest : Bytes
   pub last : Bytes
-  pub ran : Ran CallFailed old input output rest last failed new
+  pub ran : Ran CallFailed old commands replies input output rest last failed new
   pub ends : Ends AtEnd rest last end failed
 
 -- ---- runs that a reader or a writer cuts off
 
 -- The reader failed where nothing or the beginning of a command follows the last one; or the last reading was made.
-pub record EndsReading (LastReading CallFailed : Type 0) (old : Repository) (input output : Bytes) (failed : Bool) (new : Repository) : Type 0 where
+pub record EndsReading (LastReading CallFailed : Type 0) (old : Repository) (commands : List Command) (replies : List Reply) (input output : Bytes) (failed : Bool)
+    (new : Repository) : Type 0 where
   pub rest : Bytes
-  pub ran : Ran CallFailed old input output rest [] failed new
+  pub ran : Ran CallFailed old commands replies input output rest [] failed new
   pub unfailed : failed ≡ false
   pub cut : (rest ≡ []) ⊎ HasRestCause rest Truncated ⊎ LastReading
 
 -- The writer failed within the reply to one more command, which was acted on, or within the answer to a rest that is none.
-abbrev pub CutsShort : Type 0 → Type 0 → Repository → Bytes → Bytes → Bool → Repository → Type 0
-CutsShort AtEnd CallFailed old rest part failed new =
-    ((command : Command) × (reply : Reply) × (more : Bytes) × IsTrue (is_command command) × (rest ≡ spelling command ++ more)
+abbrev pub CutsShort : Type 0 → Type 0 → Repository → List Command → List Reply → Bytes → Bytes → Bool → Repository → Type 0
+CutsShort AtEnd CallFailed old (command ∷ []) (reply ∷ []) rest part failed new =
+    (more : Bytes) × IsTrue (is_command command) × (rest ≡ spelling command ++ more)
     × Step old command reply new × (failed ≡ some_failed (command ∷ []) (reply ∷ [])) × (reply ≡ Faulted File → CallFailed)
-    × IsTrue (begins part (reply_text reply)))
-    ⊎ ((cause : Cause) × IsNoCommand AtEnd rest cause × (new ≡ old) × (failed ≡ false)
-    × IsTrue (begins part (reply_text (RefusedFor cause)) || begins part (reply_text (Faulted Memory))))
+    × IsTrue (begins part (reply_text reply))
+CutsShort AtEnd CallFailed old [] [] rest part failed new =
+    (cause : Cause) × IsNoCommand AtEnd rest cause × (new ≡ old) × (failed ≡ false)
+    × IsTrue (begins part (reply_text (RefusedFor cause)) || begins part (reply_text (Faulted Memory)))
+CutsShort _ _ _ _ _ _ _ _ _ = ⊥
 
--- The writer failed: all replies but the last are written whole.
-pub record EndsWriting (AtEnd CallFailed : Type 0) (old : Repository) (input output : Bytes) (failed : Bool) (new : Repository) : Type 0 where
+-- The writer failed: the replies to these commands are written whole, and the rest of what was acted on is at most one more.
+pub record EndsWriting (AtEnd CallFailed : Type 0) (old : Repository) (commands : List Command) (replies : List Reply) (input output : Bytes) (failed : Bool)
+    (new : Repository) : Type 0 where
+  pub answered : List Command
+  pub written : List Reply
+  pub last : List Command
+  pub cut_off : List Reply
+  pub all : (commands ≡ answered ++ last) × (replies ≡ written ++ cut_off)
   pub rest : Bytes
   pub part : Bytes
   pub mid : Repository
-  pub ran : Ran CallFailed old input output rest part false mid
-  pub cut : CutsShort AtEnd CallFailed mid rest part failed new
+  pub ran : Ran CallFailed old answered written input output rest part false mid
+  pub cut : CutsShort AtEnd CallFailed mid last cut_off rest part failed new

@@ -1,4 +1,4 @@
-// The words of the engine that its contracts and its definitions share.
+//! The words of the engine that its contracts and its definitions share.
 #![tactic(auto)]
 
 /// What a file is.

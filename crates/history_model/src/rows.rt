@@ -1,4 +1,4 @@
-// Worked examples, computed on the definitions: each is the contract of a function that does nothing.
+//! Worked examples, computed on the definitions: each is the contract of a function that does nothing.
 
 ghost use Rattle.std.specs.Prelude.{◌≡◌, ◌++◌, ◌∷◌, [], length, codes};
 ghost use Rattle.history_model.specs.Bytes.{line};

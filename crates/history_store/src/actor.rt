@@ -1,4 +1,4 @@
-// Who made a change, and when: `Name <email> seconds offset`.
+//! Who made a change, and when: `Name <email> seconds offset`.
 ghost use Rattle.std.specs.Prelude.{◌≡◌, ◌≤◌, ℕ, [], ◌∷◌, decimal, IsTrue, IsFalse, MatchOption, ◌≢◌, ◌↔◌};
 ghost use Rattle.std.specs.List.{list_any};
 ghost use Rattle.history_model.specs.Bytes.{has_byte};

@@ -1,4 +1,4 @@
-// A commit. Its text is read and written by `gix_object`.
+//! A commit. Its text is read and written by `gix_object`.
 ghost use Rattle.std.specs.Prelude.{◌≡◌, ◌≢◌, ◌↔◌, List, map, IfOk, IfSome, IfNone, MatchOption, IsTrue, IsFalse};
 ghost use Rattle.std.specs.List.{list_all};
 ghost use Rattle.bstr.specs.BStr.{bstr_bytes};

@@ -1,4 +1,4 @@
-// The folders that a file stands in.
+//! The folders that a file stands in.
 ghost use Rattle.std.specs.Prelude.{◌≡◌, ◌⊎◌, ◌≤◌, OnOk, IsErrOf, IsTrue};
 ghost use Rattle.gix_ref_file.specs.History.{Adds, HasRisen};
 ghost use Rattle.gix_ref_file.specs.Tree.{is_path, parent, node_at, is_folder};

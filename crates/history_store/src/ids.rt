@@ -1,4 +1,4 @@
-// The ids of what is stored, in their order.
+//! The ids of what is stored, in their order.
 ghost use Rattle.std.specs.Prelude.{◌≡◌, map, OnOk, OnErr};
 ghost use Rattle.std.specs.FinMap.{contains_key, empty, keys};
 ghost use Rattle.gix_hash.specs.Id.{id_of};

@@ -1,4 +1,4 @@
-// A line of a name's log: `<old> <new> <actor>`, a tab, the message and a line feed.
+//! A line of a name's log: `<old> <new> <actor>`, a tab, the message and a line feed.
 ghost use Rattle.std.specs.Prelude.{◌≡◌, IfOk};
 ghost use Rattle.history_model.specs.Logs.{log_line};
 ghost use Rattle.history_store.specs.Formats.{entry_of};

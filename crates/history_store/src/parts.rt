@@ -1,4 +1,4 @@
-// What stands in a part of the folder.
+//! What stands in a part of the folder.
 ghost use Rattle.std.specs.Prelude.{◌≡◌, ◌&&◌, nat_lt, nat_le, length, IfOk, OnOk, IsErrOf, MatchOption, codes};
 ghost use Rattle.std.specs.List.{list_all};
 ghost use Rattle.gix_ref_file.specs.declared.files.FileError.TheVariants.{Failed};

@@ -1,4 +1,4 @@
-// A tree's content: its entries, each a mode, a space, a name, a zero byte and an id.
+//! A tree's content: its entries, each a mode, a space, a name, a zero byte and an id.
 ghost use Rattle.std.specs.Prelude.{◌≡◌, ◌≢◌, ◌==◌, ◌<◌, ◌++◌, length, IfOk, IfSome, OnOk, OnErr, MatchOption};
 ghost use Rattle.std.specs.FinMap as map;
 ghost use Rattle.history_model.specs.Objects.{mode_of, entry_text};

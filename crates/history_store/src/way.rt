@@ -1,4 +1,4 @@
-// The way of a file: the folders that it stands in, and no folder in its place.
+//! The way of a file: the folders that it stands in, and no folder in its place.
 ghost use Rattle.std.specs.Prelude.{◌≡◌, ◌≢◌, ◌≤◌, ◌⊎◌, OnOk, IsErrOf, IsTrue, Some};
 ghost use Rattle.std.specs.FinMap.{get};
 ghost use Rattle.gix_ref_file.specs.Tree.{folder, is_path};

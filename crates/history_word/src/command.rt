@@ -1,3 +1,5 @@
+//! The commands of the program, as they are read.
+
 use history_model::FileKind;
 use std::alloc::{AllocError, Global};
 

@@ -1,3 +1,5 @@
+//! A command that is being read: the parts that it has so far.
+
 ghost use Rattle.std.specs.Prelude.{◌≡◌, List, [], ◌∷◌, ◌++◌, None, Some, IfSome, IsTrue};
 ghost use Rattle.history_model.specs.Bytes.{Bytes};
 ghost use Rattle.history_model.specs.Commands as model;

@@ -1,3 +1,5 @@
+//! A reader over bytes in memory and a writer into memory.
+
 ghost use Rattle.std.specs.Prelude.{◌≡◌, Some, false, [], ◌≤◌, length, take, drop, min, IsOk, is_err};
 
 use crate::streams::{Broken, Sink, Source};

@@ -1,3 +1,5 @@
+//! Which line may stand next.
+
 ghost use Rattle.std.specs.Prelude.{◌≡◌, option_map};
 ghost use Rattle.history_model.specs.LineTable as table;
 ghost use Rattle.history_word.specs.Drafts.{place_of, IsHeading};

@@ -1,3 +1,5 @@
+//! Reads one command: its lines and its fields.
+
 ghost use Rattle.std.specs.Prelude.{◌≡◌, ◌≢◌, ◌<◌, ℕ, List, [], ◌++◌, length, IfSome};
 ghost use Rattle.history_model.specs.Bytes.{Bytes, line};
 ghost use Rattle.history_model.specs.Commands as model;

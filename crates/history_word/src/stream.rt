@@ -1,3 +1,5 @@
+//! A reader and a writer of the standard library as source and sink.
+
 ghost use Rattle.std.specs.Prelude.{◌≡◌, false};
 
 use crate::streams::{Broken, Sink, Source};

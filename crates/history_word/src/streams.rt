@@ -1,3 +1,5 @@
+//! Where the bytes come from, and where they go to.
+
 ghost use Rattle.std.specs.Prelude.{◌≡◌, ℕ, List, Option, Bool, true, ◌<◌, length, IfOk, OnOk, OnErr, is_err};
 ghost use Rattle.std.specs.Io.{ReadsAtMost, WritesAtMost};
 ghost use Rattle.std.specs.Io.KnownBytes.{ReadConsumes, WriteAppends, Appends};

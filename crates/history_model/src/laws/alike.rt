@@ -1,4 +1,4 @@
-// Laws on commands that come to the same, over the definitions alone.
+//! Laws on commands that come to the same, over the definitions alone.
 
 ghost use Rattle.history_model.specs.Alike.{EditsCutAnyWay, OrdersPrintOneSet};
 

@@ -1,4 +1,4 @@
-// Laws of the table of lines, over the definitions alone.
+//! Laws of the table of lines, over the definitions alone.
 
 ghost use Rattle.history_model.specs.LineTable.{WordsAreHeadings};
 ghost use Rattle.history_model.specs.TableRuns.{TableTellsCommands, TableTellsWhatGoesOn, TableTellsFields, TableTellsLines, TableTellsWhatFits, TableTellsStops, TableTakesLines, TableTakesFields, RestBeginsOrHasCause};

@@ -1,4 +1,4 @@
-// Laws of the repositories of this stage, over the definitions alone.
+//! Laws of the repositories of this stage, over the definitions alone.
 
 ghost use Rattle.history_model.specs.Offered.{FlatRoots, FlatFolders, FlatPuts, FilesAreStored, FreshIsOffered, OfferedStays, FirstOfferedCause};
 ghost use Rattle.history_model.specs.OfferedWords.{CommitsStoreFlat, WordsMeanMain, CommitsNameMain, WordsStandForMain, CommitsFollowMain, MainHoldsACommit};

@@ -1,4 +1,4 @@
-// The law on the past of a name, over the definitions alone.
+//! The law on the past of a name, over the definitions alone.
 
 ghost use Rattle.history_model.specs.Pasts.{PastsTellMoves};
 

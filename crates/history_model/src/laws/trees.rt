@@ -1,4 +1,4 @@
-// Laws of the trees that stand for a repository, over the definitions alone.
+//! Laws of the trees that stand for a repository, over the definitions alone.
 
 ghost use Rattle.history_model.specs.TreeHalves.{HalvesStand, NamesSpeakOfNoValues, PlacesTellIds, PlacesTellValues, ValuesHaveIds};
 ghost use Rattle.history_model.specs.TreeSteps.{PutsStore, StandingIsStored, StoredStands, TreesTellTaken, OwnIdsStay, MovesMove, NoneUnfinished, RenamesPut};

@@ -1,4 +1,4 @@
-// Laws on whole repositories in written form, over the definitions alone.
+//! Laws on whole repositories in written form, over the definitions alone.
 
 ghost use Rattle.history_model.specs.Wholeness.{StepsKeepSound, SequencesKeepSound, StopsKeepSound, AcceptedStoreExactly, PairsAreOfOne};
 

@@ -1,0 +1,215 @@
+-- What the two parts pass through while a command is acted on: each tree, once recovered.
+use Rattle.std.specs.Prelude.{◌≡◌, ◌≢◌, ◌⊎◌, ◌≤◌, ℕ, not, ◌||◌, bytes_eq, List, [], ◌∷◌, ◌++◌, take, Option, Some, None, unwrap_or, MatchOption, Contains, IsSome, IsTrue, IsFalse}
+use Rattle.std.specs.FinMap.{get}
+use Rattle.gix_ref_file.specs.Tree.{Tree, folder, bytes_at}
+use Rattle.history_model.specs.Bytes.{Bytes, line}
+use Rattle.history_model.specs.FileMap.{is_below}
+use Rattle.history_model.specs.Objects.{Value, StoredCommit, hex, value_text, id_of}
+use Rattle.history_model.specs.Repository.{Repository, LogEntry, IsWhole, IsWholeStore, id_at, moves_at, peeled, stands}
+use Rattle.gix_hash.specs.Id.{Id}
+use Rattle.history_model.specs.Readings.{Reading, Holds, Absent, is_absent, reading}
+use Rattle.history_model.specs.PackedNames.{packed_file, PackedAgrees}
+use Rattle.history_model.specs.Forms.{is_name, title}
+use Rattle.history_model.specs.Commands.{Command, CommitCommand, Commit, Rename}
+use Rattle.history_model.specs.Meaning.{References, after, branch_or_name, is_taken, new_commit, read_actor, some_taken, store_all, stored_by, takes_id}
+use Rattle.history_model.specs.Causes.{first_cause}
+use Rattle.history_model.specs.Logs.{log_line, log_text, whole_lines}
+use Rattle.history_model.specs.Places.{Pair, file_at, head_place, is_log_place, object_place, unfinished_place, is_object_folder, packed_place, log_place, is_name_folder, is_lock_file}
+use Rattle.history_model.specs.StandsFor.{StandsFor, head_text, object_files}
+use Rattle.history_model.specs.TreeHalves.{Values, HoldsValues, HoldsNames, HaveOwnIds}
+use Rattle.history_model.specs.TreeSteps.{move_entry}
+use Rattle.history_model.specs.Recovery.{recovered_objects, recovered_names}
+use Rattle.history_model.specs.Stops.{NameBetween, IsNotLost, deletes, is_changing}
+use Rattle.gix_ref_file.specs.History.{History, Adds, trees, moment}
+use Rattle.history_model.specs.Replies.{Reply}
+use Rattle.history_model.specs.Steps.{some_failed}
+use Rattle.history_model.specs.Moments.{LeavesStopped, Moment, ActsOn, Traces, last_moment}
+use Rattle.history_model.specs.Offered.{IsOffered}
+use Rattle.history_model.specs.Stage.{is_offered}
+use Rattle.history_model.specs.Wholeness.{IsSound}
+use Rattle.gix_hash.specs.declared.kind.Kind.{Kind}
+
+-- ---- values
+
+-- The tree, once recovered, holds the values that stood and the first of those to be stored, none of which has a taken id.
+pub record HoldsFirst (kind : Kind) (values : Values) (more : List Value) (tree : Tree) : Type 0 where
+  pub first : List Value
+  pub rest : List Value
+  pub split : more ≡ first ++ rest
+  pub free : IsFalse (some_taken kind values first)
+  pub holds : HoldsValues kind (recovered_objects tree) (store_all kind values first)
+
+-- What stands while a value is put: its text is still to come or stands at its place, and each file but these two is as before.
+pub record MayPut (kind : Kind) (value : Value) (old tree : Tree) : Type 0 where
+  pub here : (file_at tree (object_place (id_of kind value)) ≡ file_at old (object_place (id_of kind value)))
+      ⊎ (file_at tree (object_place (id_of kind value)) ≡ Some (value_text kind value))
+  pub others : (path : Bytes) → path ≢ unfinished_place → path ≢ object_place (id_of kind value) → file_at tree path ≡ file_at old path
+  pub folders : (path : Bytes) → get tree path ≡ Some folder → IsTrue (is_object_folder path)
+
+-- So a value whose id isn't taken is stored, or not yet.
+abbrev pub PutsPass : Type 0
+PutsPass = (kind : Kind) (old tree : Tree) (values : Values) (value : Value) → HaveOwnIds kind values → HoldsValues kind old values
+    → IsFalse (is_taken kind values value) → MayPut kind value old tree → HoldsFirst kind values (value ∷ []) tree
+
+-- Each beginning of the values that takes no id leaves a whole store: what a value names stands before it.
+abbrev pub StoresWhole : Repository → List Value → Type 0
+StoresWhole r more = (first rest : List Value) → more ≡ first ++ rest → IsFalse (some_taken r.kind r.objects first)
+    → IsWholeStore (record r { objects = store_all r.kind r.objects first })
+
+-- A commit of this stage puts its values in such an order.
+abbrev pub CommitsStoreWhole : Type 0
+CommitsStoreWhole = (r : Repository) (c : CommitCommand) → IsSound r → IsOffered r → IsTrue (is_offered (Commit c)) → first_cause r (Commit c) ≡ None
+    → StoresWhole r (stored_by r (Commit c))
+
+-- A stop while a command's values are stored, before its first name moves.
+abbrev pub StoringStops : Type 0
+StoringStops = (old : Repository) (command : Command) (pair : Pair) → IsSound old → IsTrue (is_changing command) → first_cause old command ≡ None
+    → StoresWhole old (stored_by old command) → HoldsFirst old.kind old.objects (stored_by old command) pair.objects
+    → HoldsNames (recovered_names old.kind pair.names) old → LeavesStopped old command pair
+
+-- ---- names
+
+-- what the command stores, with these names and this branch
+abbrev pub passing : Repository → Command → References → Bytes → Repository
+passing old command names branch = record (after old command) { names = names; branch = branch }
+
+-- The tree, once recovered, holds names and a branch that are each as before the command or as after it.
+pub record HoldsBetween (old : Repository) (command : Command) (tree : Tree) : Type 0 where
+  pub names : References
+  pub branch : Bytes
+  pub holds : HoldsNames (recovered_names old.kind tree) (passing old command names branch)
+  pub each : (name : Bytes) → NameBetween old (after old command) (passing old command names branch) (deletes command name) name
+  pub apart : (a b : Bytes) → IsTrue (stands (passing old command names branch) a) → IsTrue (stands (passing old command names branch) b) → IsFalse (is_below a b)
+  pub branch_is : (branch ≡ old.branch) ⊎ (branch ≡ (after old command).branch)
+  pub not_lost : IsNotLost old command (passing old command names branch)
+
+-- What stands while a name moves: its file is as before; or, once its log has the entry's line (where the entry's two ids aren't
+-- one), it holds the id after, whole. Behind what the log held a beginning of the line may stand. Of the other files at most
+-- lock files differ, and no folders stand but those of names and logs.
+pub record MayMove (name : Bytes) (entry : LogEntry) (old tree : Tree) : Type 0 where
+  pub here : (file_at tree name ≡ file_at old name)
+      ⊎ ((file_at tree name ≡ Some (line (hex entry.after))) × (entry.before ≢ entry.after → file_at tree (log_place name) ≡ Some (bytes_at old (log_place name) ++ log_line entry)))
+  pub log : (file_at tree (log_place name) ≡ file_at old (log_place name))
+      ⊎ ((entry.before ≢ entry.after) × ((n : ℕ) × (file_at tree (log_place name) ≡ Some (bytes_at old (log_place name) ++ take n (log_line entry)))))
+  pub others : (path : Bytes) → path ≢ name → path ≢ log_place name → IsFalse (is_lock_file path) → file_at tree path ≡ file_at old path
+  pub folders : (path : Bytes) → get tree path ≡ Some folder → IsTrue (is_name_folder path)
+
+-- So a commit's name is as before or moved, and its log tells of each move that was made.
+abbrev pub MovesPass : Type 0
+MovesPass = (pair : Pair) (tree : Tree) (r : Repository) (c : CommitCommand) → IsSound r → StandsFor r.kind pair r → IsTrue (is_name (branch_or_name r c.name))
+    → first_cause r (Commit c) ≡ None → IsFalse (takes_id r (Commit c)) → file_at pair.names packed_place ≡ None
+    → MayMove (branch_or_name r c.name) (move_entry r (branch_or_name r c.name) (id_of r.kind (StoredCommit (new_commit r c))) (read_actor c.committer) (title c.message)) pair.names tree
+    → HoldsBetween r (Commit c) tree
+
+-- A stop while names move, once all values are stored.
+abbrev pub MovingStops : Type 0
+MovingStops = (old : Repository) (command : Command) (pair : Pair) → IsSound old → IsTrue (is_changing command) → first_cause old command ≡ None
+    → IsFalse (takes_id old command) → HoldsValues old.kind (recovered_objects pair.objects) (after old command).objects
+    → HoldsBetween old command pair.names → LeavesStopped old command pair
+
+-- ---- moments
+
+-- the new history goes on from the old one
+abbrev pub GoesOnFrom : History → History → Type 0
+GoesOnFrom old new = (during : List Tree) × (trees new ≡ trees old ++ during)
+
+-- The moment is one of these histories.
+abbrev pub IsWithin : History → History → Moment → Type 0
+IsWithin objects names at = (at.objects ≤ moment objects) × (at.names ≤ moment names)
+
+-- What commands did to the files they did also where the files went on since.
+abbrev pub ActsLater : Type 0 → Type 0
+ActsLater MayFail = (objects names later_objects later_names : History) (old : Repository) (begin : Moment) (commands : List Command) (replies : List Reply) (moments : List Moment) (new : Repository)
+    → GoesOnFrom objects later_objects → GoesOnFrom names later_names → IsWithin objects names (last_moment begin moments)
+    → ActsOn objects names MayFail old begin commands replies moments new → ActsOn later_objects later_names MayFail old begin commands replies moments new
+
+-- Commands after others, of which none failed, are commands in a row.
+abbrev pub ActsThen : Type 0 → Type 0
+ActsThen MayFail = (objects names : History) (old : Repository) (begin : Moment) (commands : List Command) (replies : List Reply) (moments : List Moment) (mid : Repository)
+    (more : List Command) (others : List Reply) (behind : List Moment) (new : Repository) → IsFalse (some_failed commands replies)
+    → ActsOn objects names MayFail old begin commands replies moments mid → ActsOn objects names MayFail mid (last_moment begin moments) more others behind new
+    → ActsOn objects names MayFail old begin (commands ++ more) (replies ++ others) (moments ++ behind) new
+
+-- What commands did they did also where it isn't told whether a reading may fail: a run's trace is then that of a round.
+abbrev pub TracesWeaken : Type 0 → Type 0
+TracesWeaken MayFail = (objects names : History) (old : Repository) (begin : Moment) (commands : List Command) (replies : List Reply) (finish : Moment) (new : Repository)
+    → (traces : Traces objects names MayFail old begin commands replies finish new)
+    → (weaker : Traces objects names (Unit {0}) old begin commands replies finish new) × (weaker.moments ≡ traces.moments)
+
+-- ---- in any order
+
+-- The tree, once recovered, holds the values that stood and some of those to be stored, whatever their order, and what is stored then is whole.
+pub record HoldsSome (r : Repository) (more : List Value) (tree : Tree) : Type 0 where
+  pub some : List Value
+  pub among : (value : Value) → Contains some value → Contains more value
+  pub whole : IsWholeStore (record r { objects = store_all r.kind r.objects some })
+  pub holds : HoldsValues r.kind (recovered_objects tree) (store_all r.kind r.objects some)
+
+-- A stop then.
+abbrev pub SomeStops : Type 0
+SomeStops = (old : Repository) (command : Command) (pair : Pair) → IsSound old → IsTrue (is_changing command) → first_cause old command ≡ None
+    → HoldsSome old (stored_by old command) pair.objects → HoldsNames (recovered_names old.kind pair.names) old → LeavesStopped old command pair
+
+-- The first of values that leave whole stores are some of them.
+abbrev pub FirstAreSome : Type 0
+FirstAreSome = (r : Repository) (more : List Value) (tree : Tree) → StoresWhole r more → HoldsFirst r.kind r.objects more tree → HoldsSome r more tree
+
+-- ---- several names
+
+-- what a name that holds this id reads as, or one that doesn't stand
+abbrev pub reads_as : Option Id → Reading
+reads_as (Some id) = Holds id
+reads_as None = Absent
+
+-- the whole lines of a name's log
+abbrev pub log_in : Tree → Bytes → Bytes
+log_in tree name = whole_lines (unwrap_or (file_at tree (log_place name)) [])
+
+-- the old name of a rename or the new one reads as the id
+abbrev pub ReadsKept : Repository → Command → Tree → Type 0
+ReadsKept old (Rename from to) tree = (reading old.kind tree from ≡ reads_as (id_at old from)) ⊎ (reading old.kind tree to ≡ reads_as (id_at old from))
+ReadsKept old _ tree = Unit {0}
+
+-- What the files of the names say on the way of a command, by readings: each name is as before or as after, and of one that
+-- stands the log too; besides stand logs and lock files alone. Of a name that reads as absent the log may be anything.
+pub record NamesOnTheWay (old : Repository) (command : Command) (tree : Tree) : Type 0 where
+  pub head : (file_at tree head_place ≡ Some (head_text old.branch)) ⊎ (file_at tree head_place ≡ Some (head_text (after old command).branch))
+  pub reads : (name : Bytes) → (reading old.kind tree name ≡ reads_as (id_at old name)) ⊎ (reading old.kind tree name ≡ reads_as (id_at (after old command) name))
+  pub logs : (name : Bytes) → IsFalse (is_absent (reading old.kind tree name))
+      → (log_in tree name ≡ log_text (moves_at old name)) ⊎ (log_in tree name ≡ log_text (moves_at (after old command) name)) ⊎ (IsTrue (deletes command name) × (log_in tree name ≡ []))
+  -- where a name that stands has moved, its log says so
+  pub log_first : (name : Bytes) → IsFalse (is_absent (reading old.kind tree name))
+      → (reading old.kind tree name ≡ reads_as (id_at old name)) ⊎ (log_in tree name ≡ log_text (moves_at (after old command) name))
+  pub packed : (text : Bytes) → file_at tree packed_place ≡ Some text → MatchOption (packed_file old.kind text) ⊥ (PackedAgrees (after old command))
+  pub places : (path text : Bytes) → file_at tree path ≡ Some text
+      → IsTrue (bytes_eq path head_place || bytes_eq path packed_place || is_lock_file path || is_log_place path || not (is_absent (reading old.kind tree path)))
+  pub folders : (path : Bytes) → get tree path ≡ Some folder → IsTrue (is_name_folder path)
+  pub not_lost : ReadsKept old command tree
+
+-- Such files, once recovered, hold names and a branch that are each as before the command or as after it.
+abbrev pub NamesPass : Type 0
+NamesPass = (old : Repository) (command : Command) (tree : Tree) → IsSound old → first_cause old command ≡ None → NamesOnTheWay old command tree → HoldsBetween old command tree
+
+-- What stands for the repository is at the beginning of that way.
+abbrev pub NamesBegin : Type 0
+NamesBegin = (old : Repository) (command : Command) (pair : Pair) → StandsFor old.kind pair old → NamesOnTheWay old command pair.names
+
+-- ---- closed
+
+-- Each object file but the unfinished one holds the text of what a whole repository stores there, and each name that holds an id
+-- holds that of a commit or a tag in it.
+pub record IsClosed (kind : Kind) (pair : Pair) : Type 0 where
+  pub repository : Repository
+  pub whole : IsWhole repository
+  pub objects : (path : Bytes) → path ≢ unfinished_place → file_at pair.objects path ≡ get (object_files repository) path
+  pub names : (name : Bytes) (id : Id) → reading kind pair.names name ≡ Holds id → IsSome (peeled repository id)
+
+-- What a stop in a command leaves is so, before any recovery.
+abbrev pub StopsAreClosed : Type 0
+StopsAreClosed = (old : Repository) (command : Command) (pair : Pair) → LeavesStopped old command pair → IsClosed old.kind pair
+
+-- ---- recovery
+
+-- each tree on the way of a recovery recovers to what the first does
+abbrev pub RecoversOn : Kind → History → History → Type 0
+RecoversOn kind old new = Adds (λ tree. recovered_names kind tree ≡ recovered_names kind old.tree) old new
