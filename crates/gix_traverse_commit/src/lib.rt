@@ -1,0 +1,14 @@
+//! Walks over commits, after the module `commit` of the crate `gix-traverse` 0.61.
+#![tactic(auto)]
+
+mod info;
+pub mod laws;
+mod parents;
+mod rows;
+mod sample;
+mod walk;
+
+pub use crate::info::ParentIds;
+pub use crate::parents::Parents;
+pub use crate::rows::{GENERATION_LIMIT, Graph, Row, RowsError};
+pub use crate::walk::{WalkError, breadth_first};
