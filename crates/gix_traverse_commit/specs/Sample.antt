@@ -81,3 +81,7 @@ since_request tips seconds = record { tips = tips; hidden = []; parents = All; s
 -- p 0 has time 9, q 1 has 2, r 2 has 10
 abbrev pub line : List (Commit ℕ)
 line = commit [] 9 ∷ commit (0 ∷ []) 2 ∷ commit (1 ∷ []) 10 ∷ []
+
+-- a walk whose predicate refuses one commit
+abbrev pub refusing_request : List ℕ → ℕ → WalkRequest ℕ
+refusing_request tips refused = record { tips = tips; hidden = []; parents = All; since = None; accepts = λ x. not (nat_eq x refused) }

@@ -1,9 +1,9 @@
 -- Where a walk over rows in breadth order stands.
-use Rattle.std.specs.Prelude.{◌≡◌, ℕ, suc, ◌<◌, ◌↔◌, ◌⊎◌, Bool, true, ◌||◌, List, Contains, None, ⊤}
+use Rattle.std.specs.Prelude.{◌≡◌, ℕ, suc, ◌<◌, ◌↔◌, ◌⊎◌, Bool, true, ◌||◌, List, ◌++◌, length, Contains, None, ⊤}
 use Rattle.std.specs.List.{list_any}
 use Rattle.gix_hash.specs.declared.object_id.ObjectId.{ObjectId}
 use Rattle.gix_traverse_commit.specs.Order.{At, Named}
-use Rattle.gix_traverse_commit.specs.Commits.{WalkRequest, Reached, Listed, Hides}
+use Rattle.gix_traverse_commit.specs.Commits.{WalkRequest, asked_parents, Reached, Listed, Hides}
 use Rattle.gix_traverse_commit.specs.Numbered.{same_id}
 use Rattle.gix_traverse_commit.specs.Reading.{Read}
 use Rattle.gix_traverse_commit.specs.RowCommits.{commits_of}
@@ -35,6 +35,18 @@ pub record WalkedAll (along : ObjectId → List ObjectId) (tips hs : List Object
 -- hs are what the hidden reach
 pub record Paints (rows : List Row) (hidden hs : List ObjectId) : Type 0 where
   pub same : (x : ObjectId) → Contains hs x ↔ Reached (λ y. (commits_of rows y).parents) (λ _. ⊤) hidden x
+
+-- the parents that a walk over rows goes along
+abbrev pub ways : List Row → Parents → ObjectId → List ObjectId
+ways rows parents = asked_parents parents (commits_of rows)
+
+-- a walk that has seen these has listed all before what is queued
+abbrev pub StandsAt : List Row → Parents → (ObjectId → Bool) → List ObjectId → List ObjectId → List ObjectId → List ObjectId → Type 0
+StandsAt rows parents has queue tips hides listed = WalkedAll (ways rows parents) tips hides has (listed ++ queue) (length listed)
+
+-- reached from the tips along these parents, past nothing of hides
+abbrev pub GoesTo : List Row → Parents → List ObjectId → List ObjectId → ObjectId → Type 0
+GoesTo rows parents tips hides x = Reached (ways rows parents) (NotIn hides) tips x
 
 -- the commit whose parents stand at place p
 abbrev pub Reads : List ObjectId → ℕ → ObjectId → Type 0

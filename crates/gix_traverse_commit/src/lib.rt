@@ -5,7 +5,7 @@ mod info;
 pub mod laws;
 mod parents;
 mod rows;
-mod sample;
+pub mod sample;
 mod walk;
 
 pub use crate::info::ParentIds;

@@ -97,7 +97,8 @@ impl Table {
     /// The row of a commit, where it has one.
     fn row(&self, id: &ObjectId) -> Option<&Row>
         requires { Numbers self.now.rows.items self.now.numbers }
-        ensures found { IfSome result (λ row. Contains self.now.rows.items row.now × (row.now.id ≡ id.now)) }
+        ensures found { IfSome result (λ row. Contains self.now.rows.items row.now
+            × (row.now.id ≡ id.now)) }
         ensures none { IfNone result (¬ Holds self.now.rows.items id.now) }
     {
         self.rows.get(*self.numbers.get(id)?)
@@ -135,7 +136,8 @@ impl Table {
     /// Whether each row's parents have rows. If not, it is `MissingParent`.
     fn check_parents(&self) -> Result<(), RowsError>
         requires { Numbers self.now.rows.items self.now.numbers }
-        ensures checked { IfOk result (λ _. (r : Row) → Contains self.now.rows.items r → HasParents self.now.rows.items r) }
+        ensures checked { IfOk result (λ _. (r : Row) → Contains self.now.rows.items r
+            → HasParents self.now.rows.items r) }
         ensures refused { IfErr result (IsRowsFault self.now.rows.items) }
     {
         'rows: for row in &self.rows {
@@ -149,8 +151,10 @@ impl Table {
     /// Whether each row's generation is by the rule. If not, it is `BadGeneration`.
     fn check_generations(&self) -> Result<(), RowsError>
         requires numbers { Numbers self.now.rows.items self.now.numbers }
-        requires parents { (r : Row) → Contains self.now.rows.items r → HasParents self.now.rows.items r }
-        ensures checked { IfOk result (λ _. (r : Row) → Contains self.now.rows.items r → HasGeneration self.now.rows.items r) }
+        requires parents { (r : Row) → Contains self.now.rows.items r
+            → HasParents self.now.rows.items r }
+        ensures checked { IfOk result (λ _. (r : Row) → Contains self.now.rows.items r
+            → HasGeneration self.now.rows.items r) }
         ensures refused { IfErr result (IsRowsFault self.now.rows.items) }
     {
         'rows: for row in &self.rows {
@@ -180,7 +184,8 @@ impl Model for Graph {
 
     ghost view = { λ graph. graph.table.value.rows.items };
 
-    ghost invariant = { λ graph. AreRows graph.table.value.rows.items × Numbers graph.table.value.rows.items graph.table.value.numbers };
+    ghost invariant = { λ graph. AreRows graph.table.value.rows.items
+        × Numbers graph.table.value.rows.items graph.table.value.numbers };
 }
 
 impl Graph {

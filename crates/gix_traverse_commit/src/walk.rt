@@ -1,14 +1,13 @@
 //! A walk over rows in breadth order.
 
-ghost use Rattle.std.specs.Prelude.{◌≡◌, ℕ, List, [], ◌∷◌, ◌++◌, ◌⊎◌, length, Contains, IfOk, IfErr, OnOk, OnErr, IfSome, IfNone, IsNone, IsSome, if◌then◌else◌, true};
+ghost use Rattle.std.specs.Prelude.{◌≡◌, List, [], ◌∷◌, ◌++◌, length, IfOk, IfErr, OnOk, OnErr, IfSome, IfNone, IsNone, IsSome, if◌then◌else◌, true};
 ghost use Rattle.std.specs.HashSet.{contains};
 ghost use Rattle.gix_hash.specs.declared.object_id.ObjectId.{ObjectId};
-ghost use Rattle.gix_traverse_commit.specs.Commits.{asked_parents, Reached};
 ghost use Rattle.gix_traverse_commit.specs.Numbered.{same_id};
 ghost use Rattle.gix_traverse_commit.specs.Order.{IsBreadthFirst};
 ghost use Rattle.gix_traverse_commit.specs.RowCommits.{commits_of};
 ghost use Rattle.gix_traverse_commit.specs.Rows.{Holds};
-ghost use Rattle.gix_traverse_commit.specs.Standing.{Walked, WalkedAll, Reads, NotIn, OfMissing, IsMissing, plain_request};
+ghost use Rattle.gix_traverse_commit.specs.Standing.{Walked, Reads, StandsAt, GoesTo, OfMissing, IsMissing, plain_request, ways};
 ghost use Rattle.gix_traverse_commit.specs.Walks.{InBreadth};
 ghost use Rattle.gix_traverse_commit.specs.declared.walk.WalkError.TheVariants.{Memory};
 
@@ -41,7 +40,7 @@ impl From<AllocError> for WalkError {
 fn parents_along<'g>(rows: &'g Graph, id: &ObjectId, parents: Parents) -> Option<&'g [ObjectId]>
     ensures stored { IsSome result → Holds rows.now id.now }
     ensures missing { IfNone result (¬ Holds rows.now id.now) }
-    ensures names { IfSome result (λ names. names.now ≡ asked_parents parents (commits_of rows.now) id.now) }
+    ensures names { IfSome result (λ names. names.now ≡ ways rows.now parents id.now) }
 {
     let all = rows.parents_of(id)?;
     match parents {
@@ -58,7 +57,8 @@ fn parents_along<'g>(rows: &'g Graph, id: &ObjectId, parents: Parents) -> Option
 
 /// Keeps a commit as seen.
 fn see(seen: &mut HashSet<ObjectId>, id: ObjectId) -> Result<(), AllocError>
-    ensures { OnOk result ((q : ObjectId) → contains same_id seen.new q ≡ (if same_id id q then true else contains same_id seen.old q)) }
+    ensures { OnOk result ((q : ObjectId) → contains same_id seen.new q
+        ≡ (if same_id id q then true else contains same_id seen.old q)) }
 {
     seen.insert(id)?;
     Ok(())
@@ -70,8 +70,10 @@ fn meet(
     queue: &mut VecDeque<ObjectId>,
     id: ObjectId,
 ) -> Result<(), AllocError>
-    ensures queued { OnOk result (queue.new.items ≡ (if contains same_id seen.old id then queue.old.items else queue.old.items ++ id ∷ [])) }
-    ensures seen { OnOk result ((q : ObjectId) → contains same_id seen.new q ≡ (if same_id id q then true else contains same_id seen.old q)) }
+    ensures queued { OnOk result (queue.new.items
+        ≡ (if contains same_id seen.old id then queue.old.items else queue.old.items ++ id ∷ [])) }
+    ensures seen { OnOk result ((q : ObjectId) → contains same_id seen.new q
+        ≡ (if same_id id q then true else contains same_id seen.old q)) }
 {
     if seen.insert(id)? {
         queue.push_back(id)?;
@@ -90,9 +92,10 @@ fn enter(
     ensures stored { OnOk result (Holds rows.now id) }
     ensures missing { IfErr result (OfMissing (λ x. (x ≡ id) × (¬ Holds rows.now id))) }
     ensures entered { OnOk result ((tips hides listed : List ObjectId)
-        → Walked (asked_parents parents (commits_of rows.now)) tips hides (λ q. contains same_id seen.old q) (listed ++ queue.old.items) (length listed) 0
+        → Walked (ways rows.now parents) tips hides (λ q. contains same_id seen.old q)
+        (listed ++ queue.old.items) (length listed) 0
         → Reads (listed ++ queue.old.items) (length listed) id
-        → WalkedAll (asked_parents parents (commits_of rows.now)) tips hides (λ q. contains same_id seen.new q) (listed ++ queue.new.items) (length listed)) }
+        → StandsAt rows.now parents (λ q. contains same_id seen.new q) queue.new.items tips hides listed) }
 {
     let Some(names) = parents_along(rows, &id, parents) else {
         return Err(WalkError::Missing(id));
@@ -123,7 +126,8 @@ impl<'g> Walk<'g> {
     ) -> Result<Self, WalkError>
         ensures rows { IfOk result (λ walk. walk.rows.now ≡ rows.now) }
         ensures parents { IfOk result (λ walk. walk.parents ≡ parents) }
-        ensures walked { IfOk result (λ walk. WalkedAll (asked_parents parents (commits_of rows.now)) tips.now hides.now (λ q. contains same_id walk.seen q) walk.queue.items 0) }
+        ensures walked { IfOk result (λ walk. StandsAt rows.now parents (λ q. contains same_id walk.seen q)
+            walk.queue.items tips.now hides.now []) }
         ensures failed { IfErr result (λ error. error ≡ Memory) }
     {
         let mut seen: HashSet<ObjectId> = HashSet::new(alloc);
@@ -148,11 +152,15 @@ impl<'g> Walk<'g> {
         ensures parents { self.new.parents ≡ self.old.parents }
         ensures stored { IfSome result (λ r. IfOk r (λ id. Holds self.old.rows.now id)) }
         ensures more { IfSome result (λ r. IfOk r (λ id. (tips hides listed : List ObjectId)
-            → WalkedAll (asked_parents self.old.parents (commits_of self.old.rows.now)) tips hides (λ q. contains same_id self.old.seen q) (listed ++ self.old.queue.items) (length listed)
-            → WalkedAll (asked_parents self.old.parents (commits_of self.old.rows.now)) tips hides (λ q. contains same_id self.new.seen q) ((listed ++ id ∷ []) ++ self.new.queue.items) (length (listed ++ id ∷ [])))) }
-        ensures missing { IfSome result (λ r. IfErr r (OfMissing (λ id. (¬ Holds self.old.rows.now id) × ((tips hides listed : List ObjectId)
-            → WalkedAll (asked_parents self.old.parents (commits_of self.old.rows.now)) tips hides (λ q. contains same_id self.old.seen q) (listed ++ self.old.queue.items) (length listed)
-            → Reached (asked_parents self.old.parents (commits_of self.old.rows.now)) (NotIn hides) tips id)))) }
+            → StandsAt self.old.rows.now self.old.parents (λ q. contains same_id self.old.seen q)
+            self.old.queue.items tips hides listed
+            → StandsAt self.old.rows.now self.old.parents (λ q. contains same_id self.new.seen q)
+            self.new.queue.items tips hides (listed ++ id ∷ []))) }
+        ensures missing { IfSome result (λ r. IfErr r (OfMissing (λ id. (¬ Holds self.old.rows.now id)
+            × ((tips hides listed : List ObjectId)
+            → StandsAt self.old.rows.now self.old.parents (λ q. contains same_id self.old.seen q)
+            self.old.queue.items tips hides listed
+            → GoesTo self.old.rows.now self.old.parents tips hides id)))) }
         ensures end { IfNone result (self.old.queue.items ≡ []) }
         ensures failed { IfSome result (λ r. OnErr r (self.new.queue.items ≡ [])) }
         ensures ended { self.old.queue.items ≡ [] → IsNone result }
@@ -183,8 +191,10 @@ fn list_all(
     hides: &[ObjectId],
     parents: Parents,
 ) -> Result<Vec<ObjectId>, WalkError>
-    ensures listed { IfOk result (λ out. IsBreadthFirst (asked_parents parents (commits_of rows.now)) tips.now (λ x. Reached (asked_parents parents (commits_of rows.now)) (NotIn hides.now) tips.now x) out.items) }
-    ensures missing { IfErr result (OfMissing (λ id. (¬ Holds rows.now id) × Reached (asked_parents parents (commits_of rows.now)) (NotIn hides.now) tips.now id)) }
+    ensures listed { IfOk result (λ out. IsBreadthFirst (ways rows.now parents) tips.now
+        (GoesTo rows.now parents tips.now hides.now) out.items) }
+    ensures missing { IfErr result (OfMissing (λ id. (¬ Holds rows.now id)
+        × GoesTo rows.now parents tips.now hides.now id)) }
 {
     let mut walk = Walk::without(alloc, rows, tips, hides, parents)?;
     let mut listed: Vec<ObjectId> = Vec::new(alloc);
@@ -207,8 +217,10 @@ pub fn breadth_first(
     hidden: &[ObjectId],
     parents: Parents,
 ) -> Result<Vec<ObjectId>, WalkError>
-    ensures listed { IfOk result (λ out. InBreadth (commits_of rows.now) (plain_request tips.now hidden.now parents) out.items) }
-    ensures missing { IfErr result (OfMissing (IsMissing rows.now (plain_request tips.now hidden.now parents))) }
+    ensures listed { IfOk result (λ out. InBreadth (commits_of rows.now)
+        (plain_request tips.now hidden.now parents) out.items) }
+    ensures missing { IfErr result (OfMissing
+        (IsMissing rows.now (plain_request tips.now hidden.now parents))) }
 {
     let hides = list_all(alloc, rows, hidden, &[], Parents::All)?;
     let listed = list_all(alloc, rows, tips, hides.as_slice(), parents)?;

@@ -30,7 +30,7 @@ ends_parts back text h = sym (parts (length text - length back) text) ∙ ap (λ
     parts (suc n) (b ∷ t) = ap (λ bs. b ∷ bs) (parts n t)
 
 -- a text with more in front of it ends so too
-ends_after : (front back : Bytes) → ends back (front ++ back) ≡ true
+pub ends_after : (front back : Bytes) → ends back (front ++ back) ≡ true
 ends_after front back = (bytes_eq-Decides back (drop (length (front ++ back) - length back) (front ++ back))).1 (sym (whole front))
   where
     gone : (f : Bytes) → drop (length f) (f ++ back) ≡ back

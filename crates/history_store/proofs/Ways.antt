@@ -69,7 +69,7 @@ all_parts (part ∷ parts) are free =
     let clean = both_true (not (list_any (λ b. b == 0) part)) (list_all (λ part. not (list_any (λ b. b == 0) part)) parts) free in
     λ i. one_part part here.0 clean.0 i && all_parts parts here.1 clean.1 i
 
-name_parts : (name : Bytes) → is_name name ≡ true → list_all is_component (slice_split is_slash name) ≡ true
+pub name_parts : (name : Bytes) → is_name name ≡ true → list_all is_component (slice_split is_slash name) ≡ true
 name_parts name h =
     let partial = partial_of name h in
     let clean = not_false (list_any is_barred name) (both_true (list_all is_name_component (components name)) (not (list_any is_barred name)) (and_first _ _ (and_first _ _ (and_first _ _ (and_first _ _ partial))))).1 in

@@ -19,6 +19,7 @@ const INPUT: &[u8] =
     commit refs/heads/main any\nauthor 1 3 1 +0000\nA\na@b\ncommitter 1 3 1 +0000\nA\na@b\nmessage 3\ntwo\nend\n";
 
 /// What the input leaves in one kind of digest, by Git's ids.
+#[derive(Clone, Copy)]
 struct Expected {
     /// Where each object stands, and its text, what it names before it.
     objects: [(&'static [u8], &'static [u8]); 4],
@@ -81,10 +82,10 @@ const SHA256: Expected = Expected {
     replies: b"ok commit 81c6fcd6b041c1d6f5e62076e03094f5af903b3e3a10c1860742675b69f1184b\nok commit 94bb588fc0eec7ae824803368c38ee393c2f68ab1b32b7f2de41d6033dbd5912\n",
 };
 
-fn expected(kind: Kind) -> &'static Expected {
+fn texts_of(kind: Kind) -> Expected {
     match kind {
-        Kind::Sha1 => &SHA1,
-        Kind::Sha256 => &SHA256,
+        Kind::Sha1 => SHA1,
+        Kind::Sha256 => SHA256,
     }
 }
 
@@ -95,6 +96,7 @@ const KEPT: [Option<usize>; 6] = [None, Some(0), Some(3), Some(20), Some(50), So
 const CALLS: u64 = 80;
 
 /// A file: where it stands, and its bytes.
+#[derive(Drop)]
 struct Found {
     path: Vec<u8>,
     bytes: Vec<u8>,
@@ -137,7 +139,7 @@ fn all_files(alloc: Global, files: &MemoryFiles) -> Result<Vec<Found>, FileError
 /// The bytes of a file.
 fn text_at<'a>(found: &'a [Found], path: &[u8]) -> Option<&'a [u8]> {
     for file in found {
-        if file.path == path {
+        if file.path.as_slice() == path {
             return Some(&file.bytes);
         }
     }
@@ -159,7 +161,7 @@ fn whole_lines(log: &[u8]) -> &[u8] {
 fn holds_objects(found: &[Found], objects: &[(&[u8], &[u8])], count: usize) -> bool {
     let mut others = 0;
     for file in found {
-        if file.path != b"objects/unfinished" {
+        if file.path.as_slice() != b"objects/unfinished".as_slice() {
             others += 1;
         }
     }
@@ -181,7 +183,7 @@ fn holds_names(found: &[Found], main: Option<&[u8]>, log: Option<&[u8]>) -> bool
         None => None,
     };
     for file in found {
-        let known = file.path == b"HEAD" || file.path == MAIN || file.path == MAIN_LOG;
+        let known = [b"HEAD".as_slice(), MAIN, MAIN_LOG].contains(&file.path.as_slice());
         if !known && !file.path.ends_with(b".lock") {
             return false;
         }
@@ -215,12 +217,7 @@ struct At {
 }
 
 /// Runs the input in a new repository that is stopped there; the files that are left, and whether the run came to its end.
-fn stopped(
-    rt: &impl Abort,
-    alloc: Global,
-    kind: Kind,
-    at: At,
-) -> (MemoryFiles, MemoryFiles, bool) {
+fn stopped(rt: &impl Abort, alloc: Global, kind: Kind, at: At) -> (MemoryFiles, MemoryFiles, bool) {
     let mut objects = MemoryFiles::new(alloc);
     let mut names = MemoryFiles::new(alloc);
     assert!(rt; create(alloc, &mut objects, &mut names, kind) == Ok(()));
@@ -229,7 +226,7 @@ fn stopped(
     match Repository::open(alloc, objects, names, kind) {
         Ok(mut repository) => {
             let (writer, ended) = answered(alloc, &mut repository, INPUT);
-            let is_whole = ended == Ok(End::Input) && writer.as_slice() == expected(kind).replies;
+            let is_whole = ended == Ok(End::Input) && writer.as_slice() == texts_of(kind).replies;
             let (objects, names) = repository.into_parts();
             (objects.into_inner(), names.into_inner(), is_whole)
         }
@@ -248,8 +245,10 @@ fn try_stop(rt: &impl Abort, alloc: Global, kind: Kind, at: At) -> bool {
         panic!(rt; "files in memory are read");
     };
     assert!(rt;
-        is_left(&objects, &names, expected(kind)),
-        "at {} {}", at.in_objects, at.in_names
+        is_left(&objects, &names, &texts_of(kind)),
+        "at {} {}",
+        at.in_objects,
+        at.in_names
     );
     is_whole
 }
@@ -261,7 +260,11 @@ fn objects_stopped(rt: HostRuntime) {
         for kept in KEPT {
             let mut is_whole = false;
             for in_objects in 1..CALLS {
-                let at = At { in_objects, in_names: 0, kept };
+                let at = At {
+                    in_objects,
+                    in_names: 0,
+                    kept,
+                };
                 is_whole = try_stop(&rt, rt.alloc(), kind, at);
             }
             // The last of these calls isn't made any more.
@@ -277,7 +280,11 @@ fn names_stopped(rt: HostRuntime) {
         for kept in KEPT {
             let mut is_whole = false;
             for in_names in 1..CALLS {
-                let at = At { in_objects: 0, in_names, kept };
+                let at = At {
+                    in_objects: 0,
+                    in_names,
+                    kept,
+                };
                 is_whole = try_stop(&rt, rt.alloc(), kind, at);
             }
             assert!(rt; is_whole);
@@ -301,7 +308,9 @@ fn try_create(rt: &impl Abort, alloc: Global, at: At) {
     assert!(rt; is_made || is_bare);
     match create(alloc, &mut objects, &mut names, Kind::Sha1) {
         Ok(()) => assert!(rt; is_bare),
-        Err(CreateError::NotEmpty(path)) => assert!(rt; is_made && path == b"HEAD"),
+        Err(CreateError::NotEmpty(path)) => assert!(rt;
+            is_made && path.as_slice() == b"HEAD".as_slice()
+        ),
         Err(_) => panic!(rt; "files in memory don't fail"),
     }
 }
@@ -311,8 +320,24 @@ fn try_create(rt: &impl Abort, alloc: Global, at: At) {
 fn creation_stopped(rt: HostRuntime) {
     for kept in KEPT {
         for call in 1..20 {
-            try_create(&rt, rt.alloc(), At { in_objects: call, in_names: 0, kept });
-            try_create(&rt, rt.alloc(), At { in_objects: 0, in_names: call, kept });
+            try_create(
+                &rt,
+                rt.alloc(),
+                At {
+                    in_objects: call,
+                    in_names: 0,
+                    kept,
+                },
+            );
+            try_create(
+                &rt,
+                rt.alloc(),
+                At {
+                    in_objects: 0,
+                    in_names: call,
+                    kept,
+                },
+            );
         }
     }
 }

@@ -1,0 +1,4 @@
+pub mod Spelled
+pub mod OneEntry
+pub mod Octals
+pub mod Keys

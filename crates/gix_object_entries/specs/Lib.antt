@@ -1,0 +1,6 @@
+pub mod Mode
+pub mod ModeText
+pub mod Entry
+pub mod Reading
+pub mod Order
+pub mod OrderLaws

@@ -1,0 +1,135 @@
+//! Rows that the lines give, the graph that they make, and what is asked of it.
+
+use gix_hash::ObjectId;
+use gix_traverse_commit::{Graph, ParentIds, Parents, Row, RowsError, WalkError, breadth_first};
+use std::alloc::Global;
+use std::mem;
+
+/// The rows so far, and the graph made last.
+#[derive(Drop)]
+pub struct History {
+    rows: Vec<Row>,
+    graph: Option<Graph>,
+}
+
+impl History {
+    /// No rows and no graph.
+    pub fn new(alloc: Global) -> History {
+        History {
+            rows: Vec::new(alloc),
+            graph: None,
+        }
+    }
+
+    /// The answer to a line. `None` where it is no case, or where no memory is left.
+    pub fn answer(&mut self, alloc: Global, line: &str) -> Option<String> {
+        let words = words(alloc, line)?;
+        let word = words.as_slice();
+        match word.len() {
+            1 => self.made(alloc),
+            2 => self.found(alloc, *word.get(1)?),
+            4 => self.walked(alloc, *word.get(1)?, *word.get(2)?, *word.get(3)?),
+            5 => self.added(alloc, word),
+            _ => None,
+        }
+    }
+
+    // A further row: a number, a time, a generation and the parents' numbers.
+    fn added(&mut self, alloc: Global, word: &[&str]) -> Option<String> {
+        let id = id(word.get(1)?.parse::<u8>().ok()?);
+        let row = Row {
+            id,
+            tree: id,
+            parents: ParentIds::from_slice(alloc, ids(alloc, *word.get(4)?)?.as_slice()).ok()?,
+            time: word.get(2)?.parse::<i64>().ok()?,
+            generation: word.get(3)?.parse::<u32>().ok()?,
+        };
+        self.rows.push(row).ok()?;
+        format!(in alloc; "row").ok()
+    }
+
+    // The graph of the rows so far.
+    fn made(&mut self, alloc: Global) -> Option<String> {
+        let rows = mem::replace(&mut self.rows, Vec::new(alloc));
+        match Graph::from_rows(rows) {
+            Ok(graph) => {
+                self.graph = Some(graph.try_clone().ok()?);
+                format!(in alloc; "graph").ok()
+            }
+            Err(RowsError::Twice(id)) => format!(in alloc; "twice {}", number(&id)).ok(),
+            Err(RowsError::MissingParent(id, parent)) => {
+                format!(in alloc; "missing {} {}", number(&id), number(&parent)).ok()
+            }
+            Err(RowsError::BadGeneration(id)) => {
+                format!(in alloc; "generation {}", number(&id)).ok()
+            }
+            Err(RowsError::Memory) => None,
+        }
+    }
+
+    // The row of a commit.
+    fn found(&self, alloc: Global, text: &str) -> Option<String> {
+        let id = id(text.parse::<u8>().ok()?);
+        match self.graph.as_ref()?.commit_by_id(&id) {
+            Some(row) => format!(in alloc; "{} {}", row.time, row.generation).ok(),
+            None => format!(in alloc; "none").ok(),
+        }
+    }
+
+    // A walk in breadth order: along which parents, the tips and the hidden commits.
+    fn walked(&self, alloc: Global, parents: &str, tips: &str, hidden: &str) -> Option<String> {
+        let parents = if parents == "first" {
+            Parents::First
+        } else {
+            Parents::All
+        };
+        let tips = ids(alloc, tips)?;
+        let hidden = ids(alloc, hidden)?;
+        let graph = self.graph.as_ref()?;
+        match breadth_first(alloc, graph, tips.as_slice(), hidden.as_slice(), parents) {
+            Ok(listed) => shown(alloc, listed.as_slice()),
+            Err(WalkError::Missing(id)) => format!(in alloc; "missing {}", number(&id)).ok(),
+            Err(WalkError::Memory) => None,
+        }
+    }
+}
+
+// The words between spaces.
+fn words(alloc: Global, line: &str) -> Option<Vec<&str>> {
+    let mut words = Vec::new(alloc);
+    for word in line.split(' ') {
+        words.push(word).ok()?;
+    }
+    Some(words)
+}
+
+// The id of a number, which is its last byte.
+fn id(number: u8) -> ObjectId {
+    let mut bytes = [0u8; 20];
+    bytes[19] = number;
+    ObjectId::Sha1(bytes)
+}
+
+fn number(id: &ObjectId) -> u8 {
+    id.as_bytes().last().copied().unwrap_or(0)
+}
+
+// The ids of numbers between commas; `-` is none.
+fn ids(alloc: Global, text: &str) -> Option<Vec<ObjectId>> {
+    let mut ids = Vec::new(alloc);
+    if text != "-" {
+        for part in text.split(',') {
+            ids.push(id(part.parse::<u8>().ok()?)).ok()?;
+        }
+    }
+    Some(ids)
+}
+
+fn shown(alloc: Global, listed: &[ObjectId]) -> Option<String> {
+    let mut text = String::new(alloc);
+    for id in listed {
+        text.push_str(format!(in alloc; "{} ", number(id)).ok()?.as_str())
+            .ok()?;
+    }
+    Some(text)
+}
