@@ -7,6 +7,7 @@ pub mod ReadBack
 pub mod ActorLines
 pub mod WholeLemmas
 pub mod WholeReadings
+pub mod ToldParts
 pub mod SigningLemmas
 pub mod SignedLemmas
 pub mod WrittenBack

@@ -5,10 +5,12 @@ use Rattle.std.proofs.Math.Seq.{take-append_seam}
 use Rattle.std.proofs.lemmas.List.{append_cancel_left}
 use Rattle.bstr.specs.BStr.{bstr_bytes}
 use Rattle.gix_hash.specs.declared.kind.Kind as hash
+use Rattle.gix_hash.specs.declared.object_id.ObjectId.{ObjectId}
 use Rattle.gix_object_tag.specs.Tag.{Tagger, SpellsTarget, SpellsTagger, Nothing}
 use Rattle.gix_object_tag.specs.Tokens.{Stands, HasPart}
 use Rattle.gix_object_tag.specs.Whole.{IsTag, IsBody, IsFromTagger, IsFromName, IsFromKind, IsFromTarget, IsFrom, is_named, tells_name}
 use Rattle.gix_object_tag.specs.declared.tag.ref_iter.Token.{Token}
+use Rattle.gix_object_tag.specs.declared.tag.ref_iter.Token.TheVariants.{Target}
 use Rattle.gix_object_tag.specs.declared.tag.ref_iter.Stage.{Stage}
 use Rattle.gix_object_tag.specs.declared.tag.ref_iter.Stage.TheVariants.{BeforeTarget, BeforeKind, BeforeName, BeforeTagger, BeforeBody}
 use Rattle.gix_object_tag.specs.Views.{tagger_of, text_of}
@@ -93,3 +95,20 @@ named_on kind BeforeKind input token next after is = rw (is.0, is.1.1) refl
 named_on kind BeforeName input token next after is = rw (is.0, is.1.1) refl
 named_on kind BeforeTagger input token next after is = rw is.0 refl
 named_on kind BeforeBody input token next after is = rw is.0 refl
+
+-- a token stands where a part does
+pub stands_part : (kind : hash.Kind) (stage : Stage) (input : List ℕ) (token : Token) (next : Stage) (after : List ℕ) → Stands kind stage input token next after → HasPart kind stage input
+stands_part kind BeforeTarget input token next after is = (is.1.1, after, is.1.3)
+stands_part kind BeforeKind input token next after is = (is.1.0, after, is.1.2)
+stands_part kind BeforeName input token next after is = (bstr_bytes is.1.0, after, is.1.2)
+stands_part kind BeforeTagger input token next after is = (tagger_of is.1.0, after, is.1.2)
+stands_part kind BeforeBody input token next after is = (bstr_bytes is.2.0, text_of is.2.1, is.2.3)
+
+-- a token that isn't the target's stands elsewhere
+pub other_part : (kind : hash.Kind) (stage : Stage) (input : List ℕ) (token : Token) (next : Stage) (after : List ℕ) → Stands kind stage input token next after
+    → ((id : ObjectId) → token ≡ Target id → ⊥) → stage ≡ BeforeTarget → ⊥
+other_part kind BeforeTarget input token next after is other at = other is.1.0 is.1.2
+other_part kind BeforeKind input token next after is other at = cc
+other_part kind BeforeName input token next after is other at = cc
+other_part kind BeforeTagger input token next after is other at = cc
+other_part kind BeforeBody input token next after is other at = cc

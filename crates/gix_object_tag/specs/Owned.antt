@@ -1,10 +1,10 @@
 -- Tags that own their parts.
-use Rattle.std.specs.Prelude.{ℕ, ◌≡◌, ◌⊎◌, ⊤, List, Option, None, Some}
+use Rattle.std.specs.Prelude.{ℕ, ◌≡◌, ⊤, List, Option, None, Some}
 use Rattle.gix_hash.specs.Id.{Id, id_of}
 use Rattle.gix_hash.specs.Views.{IsHexOfId}
 use Rattle.gix_object_lines.specs.Time.{SpellsTime}
 use Rattle.gix_object_lines.specs.declared.decode.Error.{Error}
-use Rattle.gix_object_lines.specs.declared.decode.Error.TheVariants.{HexDigits, InvalidTime, Memory}
+use Rattle.gix_object_lines.specs.declared.decode.Error.TheVariants.{FieldName, HexDigits, LineEnd, InvalidActor, InvalidTime, Memory}
 use Rattle.gix_object_lines.specs.declared.lines.actor.Actor.{Actor}
 use Rattle.gix_object_tag.specs.Format.{TellsWhen}
 use Rattle.gix_object_tag.specs.Tag.{Tagger, Parts}
@@ -31,7 +31,14 @@ pub record IsTagOf (parts : Parts) (tag : Tag) : Type 0 where
   pub message : tag.message ≡ parts.message
   pub signature : tag.pgp_signature ≡ parts.signature
 
--- the digits are no id's, the text tells no time, or no memory is left
+abbrev pub SpellsId : List ℕ → Type 0
+SpellsId digits = (id : Id) × IsHexOfId digits id
+
+-- the first that fails: the digits are no id's, or behind an id's the text tells no time; or no memory is left, where neither does
 abbrev pub OwningFault : List ℕ → Option Tagger → Error → Type 0
-OwningFault target tagger error =
-    ((error ≡ HexDigits) × ((id : Id) → ¬ IsHexOfId target id)) ⊎ (((error ≡ InvalidTime) × ¬ TellsWhen tagger) ⊎ (error ≡ Memory))
+OwningFault target tagger HexDigits = ¬ SpellsId target
+OwningFault target tagger InvalidTime = SpellsId target × ¬ TellsWhen tagger
+OwningFault target tagger Memory = SpellsId target × TellsWhen tagger
+OwningFault target tagger FieldName = ⊥
+OwningFault target tagger LineEnd = ⊥
+OwningFault target tagger InvalidActor = ⊥

@@ -63,7 +63,7 @@ IsFault kind BeforeBody input error = RestFault input error
 abbrev pub Steps : Place → Option (Result Token Error) → Place → Type 0
 Steps before None after = (before.input ≡ []) × (after ≡ before)
 Steps before (Some (Ok token)) after = (before.input ≢ []) × (after.kind ≡ before.kind) × Stands before.kind before.stage before.input token after.stage after.input
-Steps before (Some (Err error)) after = (before.input ≢ []) × IsFault before.kind before.stage before.input error × (¬ HasPart before.kind before.stage before.input) × (after.kind ≡ before.kind) × (after.stage ≡ before.stage) × (after.input ≡ [])
+Steps before (Some (Err error)) after = (before.input ≢ []) × IsFault before.kind before.stage before.input error × (¬ HasPart before.kind before.stage before.input) × (after.kind ≡ before.kind) × (after.stage ≡ BeforeBody) × (after.input ≡ [])
 
 -- how many tokens come at most
 abbrev pub stages_left : Stage → ℕ
@@ -87,12 +87,14 @@ token_id (Name name) = None
 token_id (Tagger tagger) = None
 token_id (Body message signature) = None
 
--- the target comes next, and has this id; or it doesn't, or something else comes next
+-- the target comes next, and has this id; or it doesn't; or another part comes next
 abbrev pub TargetIs : Place → ObjectId → Type 0
 TargetIs place id = (place.stage ≡ BeforeTarget) × ((digits after : List ℕ) × SpellsTarget place.kind place.input digits after × IsHexOfId digits (id_of id))
 
 abbrev pub TargetIsNot : Place → Error → Type 0
-TargetIsNot place error = IsFault place.kind place.stage place.input error ⊎ ((error ≡ FieldName) × (place.stage ≢ BeforeTarget))
+TargetIsNot place error =
+    IsFault place.kind place.stage place.input error
+    ⊎ ((error ≡ FieldName) × (place.stage ≢ BeforeTarget) × HasPart place.kind place.stage place.input)
 
 -- ---- the tagger, from the lines that come before it
 

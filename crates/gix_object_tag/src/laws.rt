@@ -12,8 +12,9 @@ ghost use Rattle.gix_object_tag.specs.OwnedText.{parts_of_tag};
 ghost use Rattle.gix_object_tag.specs.Signing.{IsTextToSign, TellsSigned, with_signature, write_fault};
 ghost use Rattle.gix_object_tag.specs.Tag.{Parts, SpellsTag};
 ghost use Rattle.gix_object_tag.specs.TagText.{tag_text, tag_refusal, is_bad_tagger, is_marked_tagger};
-ghost use Rattle.gix_object_tag.specs.Tokens.{start};
-ghost use Rattle.gix_object_tag.specs.Whole.{IsTag, ReadsWithName, tells_name};
+ghost use Rattle.gix_object_tag.specs.Tokens.{Place, start};
+ghost use Rattle.gix_object_tag.specs.Whole.{IsTag, Reads, ReadsWithName, TellsParts, tells_name};
+ghost use Rattle.gix_object_tag.specs.declared.tag.ref_iter.Token as token;
 ghost use Rattle.gix_object_tag.specs.Views.{parts_of, tagger_of};
 ghost use Rattle.gix_object_tag.specs.declared.tag.owned.Tag.{Tag};
 
@@ -94,6 +95,15 @@ pub fn tokens_tell_a_tag(input: &[u8], hash_kind: gix_hash::Kind) -> bool
         }
     }
     named
+}
+
+/// The tokens that the reader gives of a tag, to the end of its bytes, tell the tag's parts, each once and in their order. That of
+/// the body isn't given where the bytes end behind the lines, nor that of the tagger where they end behind the name.
+pub fn tokens_are_the_parts(input: &[u8], hash_kind: gix_hash::Kind)
+    ensures { (parts : Parts) (tokens : List token.Token) (there : Place) → SpellsTag hash_kind input.now parts
+        → Reads (start hash_kind input.now) tokens there → there.input ≡ [] → TellsParts parts tokens }
+{
+    bytes_spell_one_tag(input, hash_kind);
 }
 
 fn is_name(token: Token<'_>) -> bool

@@ -1,6 +1,6 @@
 //! Tags that own their parts.
 
-ghost use Rattle.std.specs.Prelude.{◌≡◌, ◌⊎◌, IfOk, IfErr, MatchOption};
+ghost use Rattle.std.specs.Prelude.{◌≡◌, ◌⊎◌, OnOk, IfOk, IfErr, MatchOption};
 ghost use Rattle.bstr.specs.BStr.{bstr_bytes};
 ghost use Rattle.gix_object_lines.specs.declared.decode.Error.TheVariants.{InvalidTime, Memory};
 ghost use Rattle.gix_object_tag.specs.Format.{TellsWhen};
@@ -46,8 +46,8 @@ impl Tag {
 }
 
 impl<'a> TagRef<'a> {
-    /// The tag with copies of its parts. It is `HexDigits` where the target is no id's digits, and `InvalidTime` where the
-    /// tagger tells no time, neither of which a tag that was read is; and `Memory` where no memory is left.
+    /// The tag with copies of its parts. It is `HexDigits` where the target is no id's digits, and else `InvalidTime` where the
+    /// tagger tells no time, neither of which a tag that was read is; and else `Memory` where no memory is left.
     pub fn into_owned(self, alloc: Global) -> Result<Tag, Error>
         ensures own { IfOk result (IsTagOf (parts_of self.entry)) }
         ensures refused { IfErr result (λ error. OwningFault (bstr_bytes self.entry.target) (tagger_of self.entry.tagger) error) }
@@ -72,7 +72,8 @@ impl<'a> TagRef<'a> {
 
 fn own_tagger(alloc: Global, tagger: Option<ActorRef<'_>>) -> Result<Option<Actor>, Error>
     ensures own { IfOk result (λ actor. IsOwnTagger (tagger_of tagger.entry) actor) }
-    ensures refused { IfErr result (λ error. (error ≡ Memory) ⊎ ((error ≡ InvalidTime) × ¬ TellsWhen (tagger_of tagger.entry))) }
+    ensures told { OnOk result (TellsWhen (tagger_of tagger.entry)) }
+    ensures refused { IfErr result (λ error. ((error ≡ Memory) × TellsWhen (tagger_of tagger.entry)) ⊎ ((error ≡ InvalidTime) × ¬ TellsWhen (tagger_of tagger.entry))) }
 {
     match tagger {
         Some(actor) => Ok(Some(actor.to_owned(alloc)?)),

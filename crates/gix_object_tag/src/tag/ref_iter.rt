@@ -120,8 +120,9 @@ impl<'a> TagRefIter<'a> {
         ensures read { IfOk result (λ id. TargetIs (place_of self.entry) id) }
         ensures refused { IfErr result (λ error. TargetIsNot (place_of self.entry) error) }
     {
-        match read_token(self.rest, self.hash_kind, self.stage)? {
-            (Token::Target { id }, _, _) => Ok(id),
+        let (token, _next, _rest) = read_token(self.rest, self.hash_kind, self.stage)?;
+        match token {
+            Token::Target { id } => Ok(id),
             _ => Err(Error::FieldName),
         }
     }
@@ -156,6 +157,7 @@ impl<'a> Iterator for TagRefIter<'a> {
                 Some(Ok(token))
             }
             Err(error) => {
+                self.stage = Stage::BeforeBody;
                 self.rest = b"";
                 Some(Err(error))
             }
