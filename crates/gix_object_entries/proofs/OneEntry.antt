@@ -1,5 +1,5 @@
 -- An entry put together from the parts that a reader cut, and the parts that it lacked.
-use Rattle.std.proofs.Common.{◌≡◌, ◌∙◌, ap, refl, sym, subst, ℕ, ◌<◌, ◌+◌, ◌≤◌, List, [], ◌∷◌, ◌++◌, length, take, drop, length-append, arith}
+use Rattle.std.proofs.Common.{◌≡◌, ◌∙◌, ap, sym, subst, ℕ, ◌<◌, ◌≤◌, List, ◌∷◌, ◌++◌, length, take, drop, length-append, arith}
 use Rattle.std.proofs.lemmas.List.{take-append-drop}
 use Rattle.gix_hash.specs.Id.{Id}
 use Rattle.gix_hash.specs.Kind.{byte_len}
@@ -9,7 +9,7 @@ use Rattle.gix_object_lines.specs.Bytes.{Lacks}
 use Rattle.gix_object_lines.proofs.Cuts.{cut_once}
 use Rattle.gix_object_lines.proofs.CutLemmas.{lacks_it}
 use Rattle.gix_object_entries.specs.ModeText.{Mode, SpellsMode, SpellsNoMode}
-use Rattle.gix_object_entries.specs.Entry.{Item, SpellsEntry, LacksMode, LacksNameEnd, LacksId}
+use Rattle.gix_object_entries.specs.Entry.{SpellsEntry, LacksMode}
 
 pub whole_entry : (ids : Kind) (input text rest name after bytes left : List ℕ) (n : ℕ) (mode : Mode) (id : Id) → input ≡ text ++ 32 ∷ rest → SpellsMode text mode → rest ≡ name ++ 0 ∷ after → Lacks 0 name
     → bytes ≡ take n after → left ≡ drop n after → length bytes ≡ byte_len ids → IsBytesOf bytes id → SpellsEntry ids input (record { mode = mode; name = name; id = id }) left

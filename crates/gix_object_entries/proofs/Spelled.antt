@@ -1,7 +1,7 @@
 -- Bytes spell one entry at most, and one list of entries.
-use Rattle.std.proofs.Common.{◌≡◌, ◌∙◌, ap, refl, sym, subst, ℕ, ◌<◌, ◌+◌, ◌≤◌, Bool, ◌&&◌, List, [], ◌∷◌, ◌++◌, length, append_assoc, length-append, arith}
+use Rattle.std.proofs.Common.{◌≡◌, ◌∙◌, ap, refl, sym, subst, ℕ, ◌<◌, Bool, ◌&&◌, List, [], ◌∷◌, ◌++◌, length, length-append, arith}
 use Rattle.std.specs.Prelude.{◌==◌, slice_index}
-use Rattle.std.specs.Str.Parse.{AllDigits, digits_value}
+use Rattle.std.specs.Str.Parse.{AllDigits}
 use Rattle.std.specs.Char.{digit_value}
 use Rattle.gix_hash.specs.Id.{Id}
 use Rattle.gix_hash.specs.Kind.{byte_len}
@@ -11,7 +11,7 @@ use Rattle.gix_hash.specs.declared.kind.Kind.TheVariants.{Sha1, Sha256}
 use Rattle.gix_object_lines.specs.Bytes.{Lacks}
 use Rattle.gix_object_lines.proofs.Cuts.{cut_once, lacks_not}
 use Rattle.gix_object_lines.proofs.CutLemmas.{lacks_cons}
-use Rattle.gix_object_entries.specs.ModeText.{Mode, SpellsMode, SpellsNoMode}
+use Rattle.gix_object_entries.specs.ModeText.{Mode, SpellsMode}
 use Rattle.gix_object_entries.specs.Entry.{Item, SpellsEntry, SpellsEntries, SpellsTree, SpellsNoEntry, LacksMode, LacksNameEnd, LacksId}
 
 -- octal digits are no spaces

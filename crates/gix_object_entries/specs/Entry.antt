@@ -1,15 +1,15 @@
 -- A tree's content: entries one after another, each a mode, a space, a name, a zero byte and an id's raw bytes (Pro Git,
 -- "Tree Objects"; git-mktree).
-use Rattle.std.specs.Prelude.{ℕ, ◌≡◌, ◌<◌, ◌⊎◌, List, [], ◌∷◌, ◌++◌, map, length, Result, Option, None, Some, Ok, Err}
+use Rattle.std.specs.Prelude.{ℕ, ◌≡◌, ◌<◌, ◌⊎◌, List, [], ◌∷◌, ◌++◌, length}
 use Rattle.bstr.specs.BStr.{bstr_bytes}
-use Rattle.gix_hash.specs.Id.{Id, id_of, raw_bytes}
+use Rattle.gix_hash.specs.Id.{Id, id_of}
 use Rattle.gix_hash.specs.Kind.{byte_len}
 use Rattle.gix_hash.specs.Views.{IsBytesOf, viewed_id}
 use Rattle.gix_hash.specs.declared.kind.Kind.{Kind}
 use Rattle.gix_object_lines.specs.Bytes.{Lacks}
 use Rattle.gix_object_lines.specs.declared.decode.Error.{Error}
 use Rattle.gix_object_lines.specs.declared.decode.Error.TheVariants.{FieldName, HexDigits, LineEnd, InvalidActor, InvalidTime, Memory}
-use Rattle.gix_object_entries.specs.ModeText.{Mode, mode_of, mode_text, SpellsMode, SpellsNoMode}
+use Rattle.gix_object_entries.specs.ModeText.{Mode, mode_of, SpellsMode, SpellsNoMode}
 use Rattle.gix_object_entries.specs.declared.tree.entry.Entry.{Entry}
 use Rattle.gix_object_entries.specs.declared.tree.entry.EntryRef.{EntryRef}
 

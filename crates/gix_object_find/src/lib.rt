@@ -1,7 +1,9 @@
 //! Looking objects up by their ids, after the crate `gix-object` 0.64.
 #![tactic(auto)]
 
+mod ext;
 pub mod find;
 mod traits;
 
+pub use crate::ext::{FindExt, FindObjectOrHeader, HeaderExt};
 pub use crate::traits::{Exists, Find, FindHeader, Lookup};

@@ -2,8 +2,9 @@
 
 ghost use Rattle.std.specs.Prelude.{◌≡◌};
 ghost use Rattle.gix_object_find.specs.declared.find.existing_object.Error.TheVariants.{Find};
+ghost use Rattle.gix_object_find.specs.Cases.{of_iter};
 
-use crate::find;
+use crate::find::{self, existing_iter};
 use gix_hash::ObjectId;
 use gix_object_lines::{Kind, decode};
 
@@ -44,5 +45,25 @@ impl From<find::Error> for Error {
 
     fn from(error: find::Error) -> Error {
         Error::Find(error)
+    }
+}
+
+impl From<existing_iter::Error> for Error {
+    ghost from_gives = { λ error given. given ≡ of_iter error };
+
+    fn from(error: existing_iter::Error) -> Error {
+        match error {
+            existing_iter::Error::Find(error) => Error::Find(error),
+            existing_iter::Error::NotFound { oid } => Error::NotFound { oid },
+            existing_iter::Error::ObjectKind {
+                oid,
+                actual,
+                expected,
+            } => Error::ObjectKind {
+                oid,
+                actual,
+                expected,
+            },
+        }
     }
 }

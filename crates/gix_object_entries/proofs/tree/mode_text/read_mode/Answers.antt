@@ -1,5 +1,4 @@
-use Rattle.std.proofs.Common.{◌<◌, ◌≤◌, ◌^◌, subst, sym, arith}
-use Rattle.std.specs.Str.Parse.{digits_value}
+use Rattle.std.proofs.Common.{arith}
 use Rattle.gix_object_entries.proofs.tree.mode_text.read_mode.Goals as goal
 
 pub returns-in_err-value : goal.returns-in_err-value

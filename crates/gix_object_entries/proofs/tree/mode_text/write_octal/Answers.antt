@@ -1,5 +1,4 @@
-use Rattle.std.proofs.Common.{◌≡◌, ◌∙◌, ap, sym, subst, ◌<◌, ◌≤◌, ◌+◌, ◌-◌, ◌*◌, ◌/◌, ◌%◌, ◌^◌, ℕ, suc, false, length, drop, arith}
-use Rattle.std.specs.Prelude.{slice_set}
+use Rattle.std.proofs.Common.{◌≡◌, ap, subst, ◌<◌, ◌+◌, ◌-◌, ◌/◌, ◌^◌, suc, false, length, drop, arith}
 use Rattle.std.specs.Fmt.{digits, digits_onto}
 use Rattle.gix_object_entries.proofs.Octals.{drop_all, write_digit, write_last, eighth}
 use Rattle.gix_object_entries.proofs.tree.mode_text.write_octal.Goals as goal

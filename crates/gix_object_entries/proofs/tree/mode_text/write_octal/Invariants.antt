@@ -1,4 +1,4 @@
-use Rattle.std.proofs.Common.{◌≡◌, ◌<◌, ◌≤◌, ◌^◌, false, drop, length, ◌+◌, ◌-◌}
+use Rattle.std.proofs.Common.{◌≡◌, ◌<◌, ◌≤◌, ◌^◌, false, drop, ◌+◌, ◌-◌}
 use Rattle.std.specs.Fmt.{digits, digits_onto}
 use Rattle.gix_object_entries.proofs.tree.mode_text.write_octal.Given as goal
 

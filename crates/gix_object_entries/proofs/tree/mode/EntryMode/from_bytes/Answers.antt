@@ -1,4 +1,4 @@
-use Rattle.std.proofs.Common.{◌≡◌, ◌∙◌, ap}
+use Rattle.std.proofs.Common.{◌∙◌, ap}
 use Rattle.gix_object_entries.specs.ModeText.{text_before}
 use Rattle.gix_object_entries.proofs.Octals.{before_cut, before_none}
 use Rattle.gix_object_entries.proofs.tree.mode.EntryMode.from_bytes.Goals as goal

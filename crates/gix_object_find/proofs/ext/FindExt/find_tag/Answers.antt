@@ -1,0 +1,8 @@
+use Rattle.std.proofs.Common.{subst}
+use Rattle.gix_object_tag.specs.Faults.{TagFault}
+use Rattle.gix_object_find.proofs.ext.FindExt.find_tag.Goals as goal
+
+pub returns-in-Err-clause-refused : goal.returns-in-Err-clause-refused
+returns-in-Err-clause-refused g c =
+    let fault = subst (λ kind. TagFault kind c.in_ok-content.content.now c.in-Err.source) c.kind.ensures c.in-Err.ensures.refused in
+    (c.from.ensures, (c.in_ok-content.content.now, c.in_ok-content.ensures.found, fault))

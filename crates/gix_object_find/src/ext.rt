@@ -1,0 +1,167 @@
+//! Objects that must stand, of any kind and of one.
+
+ghost use Rattle.std.specs.Prelude.{◌≡◌, Some, IfOk, IfErr};
+ghost use Rattle.gix_hash.specs.Views.{viewed_id};
+ghost use Rattle.gix_object_lines.specs.declared.kind.Kind.TheVariants as kinds;
+ghost use Rattle.gix_object_commit.specs.Views.{parts_of};
+ghost use Rattle.gix_object_tag.specs.Views.{parts_of as tag_parts_of};
+ghost use Rattle.gix_object_tree.specs.Object.{Commit, Tag};
+ghost use Rattle.gix_object_tree.specs.Readers.{ReadsCommit, ReadsTag};
+ghost use Rattle.gix_object_find.specs.Table.{object_of, header_at};
+ghost use Rattle.gix_object_find.specs.Existing.{Stands, StandsAs, ReadsStanding, ExistingFault, KindFault, ObjectFault};
+
+use crate::find::{existing, existing_iter, existing_object};
+use crate::{Find, FindHeader};
+use gix_hash::{ObjectId, oid};
+use gix_object_commit::{BlobRef, CommitRef, CommitRefIter};
+use gix_object_lines::{Header, Kind};
+use gix_object_tag::{TagRef, TagRefIter};
+use gix_object_tree::Data;
+use std::alloc::Global;
+
+/// Gives objects, and their kinds and sizes.
+pub trait FindObjectOrHeader: Find + FindHeader {}
+
+impl<T: Find + FindHeader> FindObjectOrHeader for T {}
+
+/// Gives the kinds and sizes of objects that must stand.
+pub trait HeaderExt: FindHeader {
+    /// The kind of the object of this id and the length of its content. It is `NotFound` where no object stands, and `Find` where
+    /// the lookup gave up.
+    fn header(&self, id: oid<'_>) -> Result<Header, existing::Error>
+        ensures found { Self.is_honest self.now → IfOk result (λ header. header_at (Self.table self.now) (viewed_id id.entry) ≡ Some header) }
+        ensures refused { IfErr result (λ error. ExistingFault (Self.is_honest self.now) (Self.may_fail self.now) (Self.table self.now) (viewed_id id.entry) error) }
+    {
+        match self.try_header(id)? {
+            Some(header) => Ok(header),
+            None => Err(existing::Error::NotFound {
+                oid: ObjectId::from(id),
+            }),
+        }
+    }
+}
+
+impl<T: FindHeader> HeaderExt for T {}
+
+/// Gives objects that must stand. Each call is `NotFound` where no object stands, `Find` where the lookup gave up, and, where it
+/// asks for a kind, `ObjectKind` where the object is of another; it is `Decode` where the content isn't read.
+pub trait FindExt: Find {
+    /// The object of this id, whose content stands in the buffer.
+    fn find<'a>(&self, id: oid<'_>, buffer: &'a mut Vec<u8>) -> Result<Data<'a>, existing::Error>
+        ensures found { Self.is_honest self.now → IfOk result (λ found. Self.table self.now (viewed_id id.entry) ≡ Some (object_of found)) }
+        ensures hash { IfOk result (λ found. found.object_hash ≡ (viewed_id id.entry).kind) }
+        ensures refused { IfErr result (λ error. ExistingFault (Self.is_honest self.now) (Self.may_fail self.now) (Self.table self.now) (viewed_id id.entry) error) }
+    {
+        match self.try_find(id, buffer)? {
+            Some(found) => Ok(found),
+            None => Err(existing::Error::NotFound {
+                oid: ObjectId::from(id),
+            }),
+        }
+    }
+
+    /// The blob of this id, whose content stands in the buffer.
+    fn find_blob<'a>(
+        &self,
+        id: oid<'_>,
+        buffer: &'a mut Vec<u8>,
+    ) -> Result<BlobRef<'a>, existing_object::Error>
+        ensures found { Self.is_honest self.now → IfOk result (λ blob. Stands (Self.table self.now) (viewed_id id.entry) kinds.Blob blob.content.now) }
+        ensures refused { IfErr result (λ error. ObjectFault (Self.is_honest self.now) (Self.may_fail self.now) (Self.table self.now) (viewed_id id.entry) kinds.Blob error) }
+    {
+        let content = content_of(self, id, Kind::Blob, buffer)?;
+        Ok(BlobRef::from_bytes(content))
+    }
+
+    /// The commit of this id, whose parts stand in the buffer.
+    fn find_commit<'a>(
+        &self,
+        alloc: Global,
+        id: oid<'_>,
+        buffer: &'a mut Vec<u8>,
+    ) -> Result<CommitRef<'a>, existing_object::Error>
+        ensures found { Self.is_honest self.now → IfOk result (λ commit. StandsAs (Self.table self.now) (viewed_id id.entry) kinds.Commit (Commit (parts_of commit))) }
+        ensures refused { IfErr result (λ error. ObjectFault (Self.is_honest self.now) (Self.may_fail self.now) (Self.table self.now) (viewed_id id.entry) kinds.Commit error) }
+    {
+        let content = content_of(self, id, Kind::Commit, buffer)?;
+        match CommitRef::from_bytes(alloc, content, id.kind()) {
+            Ok(commit) => Ok(commit),
+            Err(source) => Err(existing_object::Error::Decode {
+                oid: ObjectId::from(id),
+                source,
+            }),
+        }
+    }
+
+    /// The tag of this id, whose parts stand in the buffer.
+    fn find_tag<'a>(
+        &self,
+        id: oid<'_>,
+        buffer: &'a mut Vec<u8>,
+    ) -> Result<TagRef<'a>, existing_object::Error>
+        ensures found { Self.is_honest self.now → IfOk result (λ tag. StandsAs (Self.table self.now) (viewed_id id.entry) kinds.Tag (Tag (tag_parts_of tag))) }
+        ensures refused { IfErr result (λ error. ObjectFault (Self.is_honest self.now) (Self.may_fail self.now) (Self.table self.now) (viewed_id id.entry) kinds.Tag error) }
+    {
+        let content = content_of(self, id, Kind::Tag, buffer)?;
+        match TagRef::from_bytes(content, id.kind()) {
+            Ok(tag) => Ok(tag),
+            Err(source) => Err(existing_object::Error::Decode {
+                oid: ObjectId::from(id),
+                source,
+            }),
+        }
+    }
+
+    /// A reader of the parts of the commit of this id, which stand in the buffer.
+    fn find_commit_iter<'a>(
+        &self,
+        id: oid<'_>,
+        buffer: &'a mut Vec<u8>,
+    ) -> Result<CommitRefIter<'a>, existing_iter::Error>
+        ensures found { Self.is_honest self.now → IfOk result (λ reader. ReadsStanding ReadsCommit (Self.table self.now) (viewed_id id.entry) kinds.Commit reader) }
+        ensures refused { IfErr result (λ error. KindFault (Self.is_honest self.now) (Self.may_fail self.now) (Self.table self.now) (viewed_id id.entry) kinds.Commit error) }
+    {
+        let content = content_of(self, id, Kind::Commit, buffer)?;
+        Ok(CommitRefIter::from_bytes(content, id.kind()))
+    }
+
+    /// A reader of the parts of the tag of this id, which stand in the buffer.
+    fn find_tag_iter<'a>(
+        &self,
+        id: oid<'_>,
+        buffer: &'a mut Vec<u8>,
+    ) -> Result<TagRefIter<'a>, existing_iter::Error>
+        ensures found { Self.is_honest self.now → IfOk result (λ reader. ReadsStanding ReadsTag (Self.table self.now) (viewed_id id.entry) kinds.Tag reader) }
+        ensures refused { IfErr result (λ error. KindFault (Self.is_honest self.now) (Self.may_fail self.now) (Self.table self.now) (viewed_id id.entry) kinds.Tag error) }
+    {
+        let content = content_of(self, id, Kind::Tag, buffer)?;
+        Ok(TagRefIter::from_bytes(content, id.kind()))
+    }
+}
+
+impl<T: Find> FindExt for T {}
+
+// The content of the object of this id and kind.
+fn content_of<'a, T: Find>(
+    objects: &T,
+    id: oid<'_>,
+    kind: Kind,
+    buffer: &'a mut Vec<u8>,
+) -> Result<&'a [u8], existing_iter::Error>
+    ensures found { T.is_honest objects.now → IfOk result (λ content. Stands (T.table objects.now) (viewed_id id.entry) kind content.now) }
+    ensures refused { IfErr result (λ error. KindFault (T.is_honest objects.now) (T.may_fail objects.now) (T.table objects.now) (viewed_id id.entry) kind error) }
+{
+    let Some(found) = objects.try_find(id, buffer)? else {
+        return Err(existing_iter::Error::NotFound {
+            oid: ObjectId::from(id),
+        });
+    };
+    if found.kind != kind {
+        return Err(existing_iter::Error::ObjectKind {
+            oid: ObjectId::from(id),
+            actual: found.kind,
+            expected: kind,
+        });
+    }
+    Ok(found.content)
+}
