@@ -14,8 +14,6 @@ mod refusals;
 #[cfg(test)]
 mod rows;
 #[cfg(test)]
-mod stops;
-#[cfg(test)]
 mod stored;
 #[cfg(test)]
 mod streams;
