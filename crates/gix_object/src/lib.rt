@@ -53,6 +53,26 @@ pub mod kind {
     pub use gix_object_lines::kind::Error;
 }
 
+/// Looking objects up by their ids.
+pub mod find {
+    /// Why an object that must stand isn't found.
+    pub mod existing {
+        pub use gix_object_find::find::existing::Error;
+    }
+
+    /// Why an object that must stand can't be read part by part.
+    pub mod existing_iter {
+        pub use gix_object_find::find::existing_iter::Error;
+    }
+
+    /// Why an object that must stand can't be read.
+    pub mod existing_object {
+        pub use gix_object_find::find::existing_object::Error;
+    }
+
+    pub use gix_object_find::find::{Error, Never};
+}
+
 /// Actors, times and the names of references.
 pub mod lines {
     pub use gix_object_lines::lines::{
@@ -105,6 +125,8 @@ pub mod tree {
     pub mod write {
         pub use gix_object_lines::write::FilenameError as Error;
     }
+
+    pub use gix_object_entries::tree::{Entry, EntryKind, EntryMode, EntryRef, name_order};
 }
 
 /// Writing objects.
@@ -114,6 +136,10 @@ pub mod write {
 
 pub use gix_object_commit::{
     Blob, BlobRef, Commit, CommitRef, CommitRefIter, compute_hash, compute_stream_hash,
+};
+pub use gix_object_entries::{Tree, TreeRef, TreeRefIter};
+pub use gix_object_find::{
+    Exists, Find, FindExt, FindHeader, FindObjectOrHeader, HeaderExt, Lookup,
 };
 pub use gix_object_lines::{ByteString, Header, Kind, WriteTo};
 pub use gix_object_tag::{Tag, TagRef, TagRefIter};
