@@ -1,0 +1,103 @@
+//! Which category a full name has.
+
+ghost use Rattle.std.specs.Prelude.{◌≡◌, ◌⊎◌, ℕ, List, codes, IsTrue, MatchOption};
+ghost use Rattle.bstr.specs.BStr.{bstr_bytes};
+ghost use Rattle.gix_ref_name.specs.Categories.{Tells, HasNoCategory};
+ghost use Rattle.gix_ref_name.specs.Kinds.{SharedNone, PrivateNone, MainNone, LinkedNone, NoWord, HasWord};
+
+use crate::category::Category;
+use bstr::BStr;
+use gix_object_lines::cut::{begins_with, behind, split_once};
+use gix_object_lines::lines::is_capitals;
+
+/// The category of a name and its short name; `None` where it has none.
+pub(crate) fn category_of(name: &[u8]) -> Option<(Category<'_>, BStr<'_>)>
+    ensures { MatchOption result (HasNoCategory name.now) (λ found. Tells name.now found.0 (bstr_bytes found.1)) }
+{
+    if let Some(found) = shared(name) {
+        return Some(found);
+    }
+    if let Some(found) = kept_apart(name) {
+        return Some(found);
+    }
+    if is_capitals(name) {
+        return Some((Category::PseudoRef, BStr::new(name)));
+    }
+    if let Some(found) = of_main(name) {
+        return Some(found);
+    }
+    of_linked(name)
+}
+
+// Tags and branches.
+fn shared(name: &[u8]) -> Option<(Category<'_>, BStr<'_>)>
+    ensures { MatchOption result (SharedNone name.now) (λ found. Tells name.now found.0 (bstr_bytes found.1)) }
+{
+    if let Some(short) = behind(name, b"refs/tags/") {
+        return Some((Category::Tag, BStr::new(short)));
+    }
+    if let Some(short) = behind(name, b"refs/heads/") {
+        return Some((Category::LocalBranch, BStr::new(short)));
+    }
+    let short = behind(name, b"refs/remotes/")?;
+    Some((Category::RemoteBranch, BStr::new(short)))
+}
+
+// Notes, and what each worktree has of its own.
+fn kept_apart(name: &[u8]) -> Option<(Category<'_>, BStr<'_>)>
+    ensures { MatchOption result (PrivateNone name.now) (λ found. Tells name.now found.0 (bstr_bytes found.1)) }
+{
+    let short = behind(name, b"refs/")?;
+    let category = below_refs(short)?;
+    Some((category, BStr::new(short)))
+}
+
+// The category of a name that begins so behind `refs/`.
+fn below_refs(short: &[u8]) -> Option<Category<'_>>
+    ensures { MatchOption result (NoWord short.now) (λ category. HasWord category short.now) }
+{
+    if begins_with(short, b"notes/") {
+        return Some(Category::Note);
+    }
+    if begins_with(short, b"bisect/") {
+        return Some(Category::Bisect);
+    }
+    if begins_with(short, b"rewritten/") {
+        return Some(Category::Rewritten);
+    }
+    if begins_with(short, b"worktree/") {
+        return Some(Category::WorktreePrivate);
+    }
+    None
+}
+
+fn of_main(name: &[u8]) -> Option<(Category<'_>, BStr<'_>)>
+    ensures { MatchOption result (MainNone name.now) (λ found. Tells name.now found.0 (bstr_bytes found.1)) }
+{
+    let short = behind(name, b"main-worktree/")?;
+    if begins_with(short, b"refs/") {
+        return Some((Category::MainRef, BStr::new(short)));
+    }
+    if is_capitals(short) {
+        return Some((Category::MainPseudoRef, BStr::new(short)));
+    }
+    None
+}
+
+fn of_linked(name: &[u8]) -> Option<(Category<'_>, BStr<'_>)>
+    ensures { MatchOption result (LinkedNone name.now) (λ found. Tells name.now found.0 (bstr_bytes found.1)) }
+{
+    let rest = behind(name, b"worktrees/")?;
+    let (worktree, short) = split_once(rest, b'/')?;
+    let worktree = BStr::new(worktree);
+    if begins_with(short, b"refs/") {
+        return Some((Category::LinkedRef { name: worktree }, BStr::new(short)));
+    }
+    if is_capitals(short) {
+        return Some((
+            Category::LinkedPseudoRef { name: worktree },
+            BStr::new(short),
+        ));
+    }
+    None
+}

@@ -1,0 +1,8 @@
+//! Full names of references.
+
+mod owned;
+mod view;
+mod views;
+
+pub use crate::fullname::owned::FullName;
+pub use crate::fullname::view::FullNameRef;

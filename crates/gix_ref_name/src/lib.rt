@@ -1,0 +1,17 @@
+//! Names of references: full and partial ones, their categories, namespaces and the targets that references have, after the
+//! crate `gix-ref` 0.67.
+#![tactic(auto)]
+
+mod category;
+pub mod compose;
+mod front;
+mod fullname;
+pub mod name;
+pub mod namespace;
+mod target;
+
+pub use crate::category::Category;
+pub use crate::fullname::{FullName, FullNameRef};
+pub use crate::name::{PartialName, PartialNameRef};
+pub use crate::namespace::Namespace;
+pub use crate::target::{Kind, Target, TargetRef};
