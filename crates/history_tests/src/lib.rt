@@ -14,6 +14,8 @@ mod refusals;
 #[cfg(test)]
 mod rows;
 #[cfg(test)]
+mod stops;
+#[cfg(test)]
 mod stored;
 #[cfg(test)]
 mod streams;
