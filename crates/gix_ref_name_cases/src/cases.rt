@@ -1,0 +1,100 @@
+//! One case to one line.
+
+use gix_ref_name::compose::precompose_unicode;
+use gix_ref_name::namespace::expand;
+use gix_ref_name::{Category, FullNameRef, PartialNameRef};
+use std::alloc::{AllocError, Global};
+
+const REFUSED: &str = "refused";
+
+// Whether it is a partial name, and whether a full one.
+fn name(alloc: Global, bytes: &[u8]) -> Result<String, AllocError> {
+    let partial = PartialNameRef::new(bytes).is_ok();
+    let full = FullNameRef::new(bytes).is_ok();
+    format!(in alloc; "{partial} {full}")
+}
+
+// The category and the short name.
+fn category(alloc: Global, bytes: &[u8]) -> Result<String, AllocError> {
+    let Ok(name) = FullNameRef::new(bytes) else {
+        return format!(in alloc; "{REFUSED}");
+    };
+    match name.category_and_short_name() {
+        Some((category, short)) => format!(in alloc; "{} {short}", word(category)),
+        None => format!(in alloc; "none"),
+    }
+}
+
+fn word(category: Category<'_>) -> &'static str {
+    match category {
+        Category::Tag => "tag",
+        Category::LocalBranch => "local",
+        Category::RemoteBranch => "remote",
+        Category::Note => "note",
+        Category::PseudoRef => "pseudo",
+        Category::MainPseudoRef => "main-pseudo",
+        Category::MainRef => "main",
+        Category::LinkedPseudoRef { .. } => "linked-pseudo",
+        Category::LinkedRef { .. } => "linked",
+        Category::Bisect => "bisect",
+        Category::Rewritten => "rewritten",
+        Category::WorktreePrivate => "worktree",
+    }
+}
+
+// The name again, from its category and its short name.
+fn again(alloc: Global, bytes: &[u8]) -> Result<String, AllocError> {
+    let Ok(name) = FullNameRef::new(bytes) else {
+        return format!(in alloc; "{REFUSED}");
+    };
+    let Some((category, short)) = name.category_and_short_name() else {
+        return format!(in alloc; "none");
+    };
+    match category.to_full_name(alloc, short) {
+        Ok(name) => format!(in alloc; "{name}"),
+        Err(error) => format!(in alloc; "{error}"),
+    }
+}
+
+// The namespace of the name, and `refs/heads/main` in it.
+fn namespace(alloc: Global, bytes: &[u8]) -> Result<String, AllocError> {
+    let Ok(name) = PartialNameRef::new(bytes) else {
+        return format!(in alloc; "{REFUSED}");
+    };
+    let namespace = expand(alloc, name)?;
+    let Ok(main) = FullNameRef::new(b"refs/heads/main") else {
+        return format!(in alloc; "{REFUSED}");
+    };
+    match main.to_owned(alloc)?.prefix_namespace(alloc, &namespace) {
+        Ok(name) => format!(in alloc; "{} {name}", namespace.as_bstr()),
+        Err(error) => format!(in alloc; "{error}"),
+    }
+}
+
+fn composed(alloc: Global, bytes: &[u8]) -> Result<String, AllocError> {
+    let bytes = precompose_unicode(alloc, bytes)?;
+    hex::encode(alloc, bytes.as_bytes())
+}
+
+/// What the operation of the line gives.
+pub fn answer(alloc: Global, line: &str) -> Result<String, AllocError> {
+    let Some((operation, digits)) = line.split_once(' ') else {
+        return format!(in alloc; "no case: {line}");
+    };
+    let Ok(bytes) = hex::decode(alloc, digits) else {
+        return format!(in alloc; "no bytes: {line}");
+    };
+    let bytes = bytes.as_slice();
+    match operation {
+        "name" => name(alloc, bytes),
+        "category" => category(alloc, bytes),
+        "again" => again(alloc, bytes),
+        "last" => match FullNameRef::new(bytes) {
+            Ok(name) => format!(in alloc; "{}", name.file_name()),
+            Err(error) => format!(in alloc; "{error}"),
+        },
+        "namespace" => namespace(alloc, bytes),
+        "composed" => composed(alloc, bytes),
+        _ => format!(in alloc; "no operation: {line}"),
+    }
+}
