@@ -11,17 +11,15 @@ use gix_hash::ObjectId;
 use gix_hash::hasher::hasher;
 use gix_hash::io::{Error, Interrupt, Progress, bytes_with_hasher};
 use gix_object_lines::{Kind, encode};
-use std::alloc::Global;
 use std::io;
 
 /// The id of an object of this kind whose content is exactly the stream's next `stream_len` bytes: the digest of its header
-/// and its content, which are together at most 2^61 - 1 bytes, as FIPS 180-4 allows. It takes no memory.
+/// and its content, which are together at most 2^61 - 1 bytes, as FIPS 180-4 allows.
 ///
 /// It reads, tells the progress and asks the interruption as `gix_hash::bytes_with_hasher` does: after each piece of 65,535
 /// bytes, the last of which may be shorter. On a yes it answers `Interrupted`; an error of the stream, or its early end,
 /// is `Io`.
 pub fn compute_stream_hash<R: io::Read, P: Progress, I: Interrupt>(
-    alloc: Global,
     hash_kind: gix_hash::Kind,
     object_kind: Kind,
     stream: &mut R,
@@ -40,7 +38,7 @@ pub fn compute_stream_hash<R: io::Read, P: Progress, I: Interrupt>(
         × StopsAfterPieces R.remaining P.told I.answered stream.old stream.new progress.old progress.new
         should_interrupt.old should_interrupt.new stream_len k content) }
 {
-    let header = encode::loose_header(alloc, object_kind, stream_len);
+    let header = encode::loose_header(object_kind, stream_len);
     let mut digest = hasher(hash_kind);
     digest.update(header.as_slice());
     bytes_with_hasher(stream, stream_len, digest, progress, should_interrupt)

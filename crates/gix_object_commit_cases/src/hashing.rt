@@ -22,13 +22,9 @@ pub fn blob(alloc: Global, case: &Case, out: &mut String) -> Result<(), AllocErr
 }
 
 /// The id of an object: the word of its kind, and its content.
-pub fn hash(alloc: Global, case: &Case, out: &mut String) -> Result<(), AllocError> {
+pub fn hash(case: &Case, out: &mut String) -> Result<(), AllocError> {
     match Kind::from_bytes(case.text(0)) {
-        Ok(kind) => write!(
-            out,
-            "{}",
-            compute_hash(alloc, case.kind, kind, case.text(1))
-        ),
+        Ok(kind) => write!(out, "{}", compute_hash(case.kind, kind, case.text(1))),
         Err(error) => write!(out, "refused {error:?}"),
     }
 }
@@ -57,12 +53,7 @@ impl Interrupt for Stop {
 
 /// The id of an object whose content is the front of a stream: the word of its kind, the content's length and the stream; how
 /// much progress was told; and how many bytes are left. The reading is to stop where that is wanted.
-pub fn stream(
-    alloc: Global,
-    case: &Case,
-    wanted: bool,
-    out: &mut String,
-) -> Result<(), AllocError> {
+pub fn stream(case: &Case, wanted: bool, out: &mut String) -> Result<(), AllocError> {
     let (Ok(kind), Some(length)) = (Kind::from_bytes(case.text(0)), read_unsigned(case.text(1)))
     else {
         return out.push_str("no object");
@@ -70,7 +61,6 @@ pub fn stream(
     let mut bytes = case.text(2);
     let mut progress = Amount { sum: 0 };
     match compute_stream_hash(
-        alloc,
         case.kind,
         kind,
         &mut bytes,

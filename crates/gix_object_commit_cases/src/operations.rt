@@ -47,9 +47,9 @@ fn of_others(
         "with-time" => edits::time(alloc, case, out),
         "field" => headers::field_name(case, out),
         "blob" => hashing::blob(alloc, case, out),
-        "hash" => hashing::hash(alloc, case, out),
-        "stream" => hashing::stream(alloc, case, false, out),
-        "stopped" => hashing::stream(alloc, case, true, out),
+        "hash" => hashing::hash(case, out),
+        "stream" => hashing::stream(case, false, out),
+        "stopped" => hashing::stream(case, true, out),
         _ => return None,
     };
     Some(wrote)

@@ -66,7 +66,7 @@ pub fn header(
 /// The id of an object: of its header and of what is written of it. `None` where that is refused.
 pub fn written_id<T: WriteTo>(alloc: Global, kind: gix_hash::Kind, object: &T) -> Option<ObjectId> {
     let mut digest = gix_hash::hasher::hasher(kind);
-    digest.update(object.loose_header(alloc)?.as_slice());
+    digest.update(object.loose_header()?.as_slice());
     let mut content = Vec::new(alloc);
     object.write_to(&mut content).ok()?;
     digest.update(content.as_slice());

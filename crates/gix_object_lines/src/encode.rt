@@ -1,12 +1,10 @@
 //! Spelling, and why a value is refused.
 
-ghost use Rattle.std.specs.Prelude.{◌≡◌, ◌++◌, length};
-ghost use Rattle.smallvec.specs.SmallVec.{HasRoomFor};
+ghost use Rattle.std.specs.Prelude.{◌≡◌, ◌≤◌, ◌+◌, ◌++◌, length};
 ghost use Rattle.gix_object_lines.specs.Header.{header_text};
 
 use crate::Kind;
-use smallvec::SmallVec;
-use std::alloc::Global;
+use arrayvec::ArrayVec;
 use thiserror::Error;
 
 /// Why a value can't be spelled in an object.
@@ -24,13 +22,12 @@ pub enum Error {
 }
 
 /// The header of an object of this kind whose content has this length in bytes: at most 28 bytes, which stand in the
-/// result itself. The allocator is only kept there, and no memory is taken.
-pub fn loose_header(alloc: Global, kind: Kind, size: u64) -> SmallVec<u8, 28>
-    ensures items { result.items ≡ header_text kind size }
-    ensures inline { result.capacity ≡ 28 }
+/// result itself.
+pub fn loose_header(kind: Kind, size: u64) -> ArrayVec<u8, 28>
+    ensures { result.items ≡ header_text kind size }
 {
     let mut digits = itoa::Buffer::new();
-    let mut header = SmallVec::new(alloc);
+    let mut header = ArrayVec::new();
     append(&mut header, kind.as_bytes());
     append(&mut header, b" ");
     append(&mut header, digits.format(size).as_bytes());
@@ -39,11 +36,9 @@ pub fn loose_header(alloc: Global, kind: Kind, size: u64) -> SmallVec<u8, 28>
 }
 
 // Appends bytes for which there is room.
-fn append(header: &mut SmallVec<u8, 28>, bytes: &[u8])
-    requires inline { header.old.capacity ≡ 28 }
-    requires room { HasRoomFor header.old (length bytes.now) }
-    ensures inline { header.new.capacity ≡ 28 }
-    ensures items { header.new.items ≡ header.old.items ++ bytes.now }
+fn append(header: &mut ArrayVec<u8, 28>, bytes: &[u8])
+    requires { length header.old.items + length bytes.now ≤ 28 }
+    ensures { header.new.items ≡ header.old.items ++ bytes.now }
 {
-    header.extend_from_slice(bytes).unwrap();
+    header.try_extend_from_slice(bytes).unwrap();
 }

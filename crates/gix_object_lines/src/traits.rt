@@ -7,8 +7,7 @@ ghost use Rattle.gix_object_lines.specs.declared.kind.Kind.{Kind};
 
 use crate::write::Error;
 use crate::{Kind, encode};
-use smallvec::SmallVec;
-use std::alloc::Global;
+use arrayvec::ArrayVec;
 use std::io;
 
 /// A value that is written as the content of an object.
@@ -36,13 +35,13 @@ pub trait WriteTo {
     fn size(&self) -> Option<u64>
         ensures { MatchOption result (2 ^ 64 ≤ length (text self.now)) (λ size. size ≡ length (text self.now)) };
 
-    /// The header of the object, and `None` where its size is. It takes no memory.
-    fn loose_header(&self, alloc: Global) -> Option<SmallVec<u8, 28>>
+    /// The header of the object, and `None` where its size is.
+    fn loose_header(&self) -> Option<ArrayVec<u8, 28>>
         ensures { MatchOption result (2 ^ 64 ≤ length (text self.now))
-            (λ header. (header.items ≡ header_text (object_kind self.now) (length (text self.now))) × (header.capacity ≡ 28)) }
+            (λ header. header.items ≡ header_text (object_kind self.now) (length (text self.now))) }
     {
         let size = self.size()?;
-        Some(encode::loose_header(alloc, self.kind(), size))
+        Some(encode::loose_header(self.kind(), size))
     }
 }
 

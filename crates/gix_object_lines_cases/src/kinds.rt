@@ -59,7 +59,7 @@ pub fn write_header(alloc: Global, fields: &[Vec<u8>]) -> Option<String> {
     };
     let kind = Kind::from_bytes(word).ok()?;
     let size = text(size)?.parse().ok()?;
-    let header = encode::loose_header(alloc, kind, size);
+    let header = encode::loose_header(kind, size);
     quoted(alloc, header.as_slice())
 }
 
@@ -92,7 +92,7 @@ pub fn blob(alloc: Global, fields: &[Vec<u8>]) -> Option<String> {
     };
     let content = Content(text);
     let size = content.size()?;
-    let header = content.loose_header(alloc)?;
+    let header = content.loose_header()?;
     let header = BStr::new(header.as_slice());
     let written = written(alloc, &content)?;
     format!(in alloc; "{size} {header:?} {written}").ok()

@@ -80,17 +80,13 @@ impl<'a> Data<'a> {
     }
 
     /// The object's id: the digest of its header and content. It is `Verify`, with both ids, where that isn't the expected
-    /// one. It takes no memory.
-    pub fn verify_checksum(
-        &self,
-        alloc: Global,
-        expected: oid<'_>,
-    ) -> Result<ObjectId, verify::Error>
+    /// one.
+    pub fn verify_checksum(&self, expected: oid<'_>) -> Result<ObjectId, verify::Error>
         ensures { let id = id_of_message self.now.object_hash (loose_text self.now.kind self.now.content.now) in
             MatchResult result (λ found. (id_of found ≡ id) × (viewed_id expected.entry ≡ id))
             (λ fault. (viewed_id expected.entry ≢ id) × TellsBoth fault id (viewed_id expected.entry)) }
     {
-        let actual = compute_hash(alloc, self.object_hash, self.kind, self.content);
+        let actual = compute_hash(self.object_hash, self.kind, self.content);
         actual.as_oid().verify(expected)?;
         Ok(actual)
     }

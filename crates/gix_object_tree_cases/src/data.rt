@@ -41,11 +41,11 @@ pub fn tokens(case: &Case, page: &mut Page) {
 }
 
 /// The id of an object of a kind and its content, where it is this one.
-pub fn verify(alloc: Global, case: &Case, page: &mut Page) {
+pub fn verify(case: &Case, page: &mut Page) {
     let (Some(data), Ok(expected)) = (data(case), ObjectId::from_hex(case.text(2))) else {
         return page.word("no kind or id");
     };
-    match data.verify_checksum(alloc, expected.as_oid()) {
+    match data.verify_checksum(expected.as_oid()) {
         Ok(id) => page.put(id),
         Err(Error::Verify(fault)) => {
             page.value("refused actual ", fault.actual, " expected ");

@@ -16,7 +16,7 @@ fn write_answer(alloc: Global, operation: &str, case: &Case, page: &mut Page) {
         "convert-own" => owned::convert(alloc, case, page),
         "decode" => data::decode(alloc, case, page),
         "tokens" => data::tokens(case, page),
-        "verify" => data::verify(alloc, case, page),
+        "verify" => data::verify(case, page),
         _ => page.word("no operation"),
     }
 }

@@ -76,11 +76,11 @@ fn parents(alloc: Global, parent: Option<ObjectId>) -> Result<Vec<ObjectId>, All
 }
 
 impl<F: Files> Repository<F> {
-    /// The id of this content. It takes no memory.
-    fn id_of(&self, alloc: Global, object: ObjectKind, content: &[u8]) -> ObjectId
+    /// The id of this content.
+    fn id_of(&self, object: ObjectKind, content: &[u8]) -> ObjectId
         ensures { id_of result ≡ digest (kind_of_objects self.now.objects) (object_text object content.now) }
     {
-        object_id(alloc, self.objects.kind(), object, content)
+        object_id(self.objects.kind(), object, content)
     }
 
     /// The files of a commit's parent, none without one.
@@ -103,7 +103,7 @@ impl<F: Files> Repository<F> {
             → IfOk result (λ blob. HasEdited r (kind_of_objects self.now.objects) files (line ∷ []) (blob ∷ []) tree.new) }
     {
         let content = into_kept(put.content);
-        let id = self.id_of(alloc, ObjectKind::Blob, &content);
+        let id = self.id_of(ObjectKind::Blob, &content);
         tree.insert(into_kept(put.path), TreeEntry { kind: put.kind, id })?;
         Ok(content)
     }
@@ -144,7 +144,7 @@ impl<F: Files> Repository<F> {
         let title = Vec::from_slice(alloc, title(&message))?;
         let log_actor = committer.try_clone()?;
         let commit = Commit {
-            tree: self.id_of(alloc, ObjectKind::Tree, &tree),
+            tree: self.id_of(ObjectKind::Tree, &tree),
             parents: parents(alloc, parent)?,
             author,
             committer,
@@ -153,7 +153,7 @@ impl<F: Files> Repository<F> {
         let commit = within_limit(commit.to_bytes(alloc)?)?;
         let entry = LogEntry {
             before: parent.unwrap_or(ObjectId::null(self.objects.kind())),
-            after: self.id_of(alloc, ObjectKind::Commit, &commit),
+            after: self.id_of(ObjectKind::Commit, &commit),
             actor: log_actor,
             message: title,
         };

@@ -7,15 +7,13 @@ ghost use Rattle.gix_hash.specs.Id.{id_of};
 use gix_hash::hasher::hasher;
 use gix_hash::{Kind, ObjectId};
 use gix_object::{Kind as ObjectKind, decode, encode};
-use std::alloc::Global;
 
 /// The id of an object: the digest of its text, which is `<kind> <length>`, a zero byte and the content (Git's object format).
-/// It takes no memory.
-pub fn object_id(alloc: Global, kind: Kind, object: ObjectKind, content: &[u8]) -> ObjectId
+pub fn object_id(kind: Kind, object: ObjectKind, content: &[u8]) -> ObjectId
     ensures { id_of result ≡ digest kind (object_text object content.now) }
 {
     // The header is fed first and then the content, so that the text stands nowhere whole.
-    let header = encode::loose_header(alloc, object, content.len() as u64);
+    let header = encode::loose_header(object, content.len() as u64);
     let mut hasher = hasher(kind);
     hasher.update(&header);
     hasher.update(content);

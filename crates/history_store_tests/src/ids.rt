@@ -3,7 +3,6 @@
 use crate::common::{SHA1_HELLO_DIGITS, SHA256_HELLO_DIGITS, id, is_id};
 use gix_hash::{Kind, ObjectId};
 use history_store::{ObjectKind, hex_digits, object_id};
-use std::alloc::Global;
 use std::process::Abort;
 
 type Row = (ObjectKind, &'static [u8], &'static str);
@@ -55,21 +54,21 @@ const SHA256_ROWS: [Row; 4] = [
     ),
 ];
 
-fn has_id(alloc: Global, kind: Kind, row: Row) -> bool {
+fn has_id(kind: Kind, row: Row) -> bool {
     let (object, content, digits) = row;
-    is_id(&object_id(alloc, kind, object, content), digits)
+    is_id(&object_id(kind, object, content), digits)
 }
 
-fn have_ids<R: Abort>(rt: &R, alloc: Global, kind: Kind, rows: &[Row]) {
+fn have_ids<R: Abort>(rt: &R, kind: Kind, rows: &[Row]) {
     for row in rows {
-        assert!(rt; has_id(alloc, kind, *row), "at {}", row.2);
+        assert!(rt; has_id(kind, *row), "at {}", row.2);
     }
 }
 
 #[test]
 fn ids_are_those_of_git(rt: HostRuntime) {
-    have_ids(&rt, rt.alloc(), Kind::Sha1, &SHA1_ROWS);
-    have_ids(&rt, rt.alloc(), Kind::Sha256, &SHA256_ROWS);
+    have_ids(&rt, Kind::Sha1, &SHA1_ROWS);
+    have_ids(&rt, Kind::Sha256, &SHA256_ROWS);
 }
 
 fn prints(id: &ObjectId, digits: &str) -> bool {

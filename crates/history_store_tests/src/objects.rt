@@ -94,7 +94,7 @@ fn check_taken_id<R: Abort>(
     assert!(rt; refused == Err(PutError::IdTaken(id(rt, hello.digits))));
     assert!(rt; stands(alloc, &objects, hello, b"blob 5\0jello"));
     let stored = put(alloc, &mut objects, ObjectKind::Blob, b"jello");
-    assert!(rt; stored == Ok(object_id(alloc, kind, ObjectKind::Blob, b"jello")));
+    assert!(rt; stored == Ok(object_id(kind, ObjectKind::Blob, b"jello")));
     Ok(())
 }
 

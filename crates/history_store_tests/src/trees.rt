@@ -82,8 +82,8 @@ fn read<R: Abort>(rt: &R, alloc: Global, kind: Kind, content: &[u8]) -> Result<T
     }
 }
 
-fn is_of_git(alloc: Global, kind: Kind, content: &[u8], digits: &str) -> bool {
-    is_id(&object_id(alloc, kind, ObjectKind::Tree, content), digits)
+fn is_of_git(kind: Kind, content: &[u8], digits: &str) -> bool {
+    is_id(&object_id(kind, ObjectKind::Tree, content), digits)
 }
 
 fn comparisons(tree: &Tree, again: &Tree, hello: TreeEntry) -> [bool; 6] {
@@ -107,7 +107,7 @@ fn check_tree<R: Abort>(
 ) -> Result<(), AllocError> {
     let tree = tree_of(rt, alloc, rows)?;
     let content = printed(alloc, &tree)?;
-    assert!(rt; is_of_git(alloc, kind, content.as_slice(), digits));
+    assert!(rt; is_of_git(kind, content.as_slice(), digits));
     let again = read(rt, alloc, kind, content.as_slice())?;
     let hello = TreeEntry {
         kind: FileKind::File,
