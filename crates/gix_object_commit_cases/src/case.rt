@@ -20,6 +20,11 @@ impl Case {
             None => b"",
         }
     }
+
+    /// The words from this place on.
+    pub fn behind(&self, place: usize) -> &[Vec<u8>] {
+        self.texts.get(place..).unwrap_or(&[])
+    }
 }
 
 fn read_kind(word: &str) -> Option<Kind> {

@@ -1,31 +1,33 @@
 //! Blobs, and the ids of objects.
 
 use crate::case::Case;
-use crate::show;
+use crate::page::Page;
 use gix_hash::io::{self, Interrupt, Progress};
 use gix_object_commit::{BlobRef, compute_hash, compute_stream_hash};
 use gix_object_lines::Kind;
 use gix_object_lines::decimal::read_unsigned;
-use std::alloc::{AllocError, Global};
-use std::fmt::Write;
+use std::alloc::Global;
 
 /// A blob, borrowed, owned, and borrowed from the owned one.
-pub fn blob(alloc: Global, case: &Case, out: &mut String) -> Result<(), AllocError> {
+pub fn blob(alloc: Global, case: &Case, page: &mut Page) {
     let blob = BlobRef::from_bytes(case.text(0));
-    show::object(alloc, case.kind, &blob, out)?;
-    let own = blob.into_owned(alloc)?;
-    out.push_str("; own ")?;
-    show::object(alloc, case.kind, &own, out)?;
-    out.push_str("; lent ")?;
-    show::object(alloc, case.kind, &own.to_ref(), out)?;
-    show::text("; ", own.to_ref().content, "", out)
+    page.object(alloc, case.kind, &blob);
+    let own = match blob.into_owned(alloc) {
+        Ok(own) => own,
+        Err(error) => return page.name(error),
+    };
+    page.word("; own ");
+    page.object(alloc, case.kind, &own);
+    page.word("; lent ");
+    page.object(alloc, case.kind, &own.to_ref());
+    page.text("; ", own.to_ref().content, "");
 }
 
 /// The id of an object: the word of its kind, and its content.
-pub fn hash(case: &Case, out: &mut String) -> Result<(), AllocError> {
+pub fn hash(case: &Case, page: &mut Page) {
     match Kind::from_bytes(case.text(0)) {
-        Ok(kind) => write!(out, "{}", compute_hash(case.kind, kind, case.text(1))),
-        Err(error) => write!(out, "refused {error:?}"),
+        Ok(kind) => page.put(compute_hash(case.kind, kind, case.text(1))),
+        Err(error) => page.refused(error),
     }
 }
 
@@ -53,10 +55,10 @@ impl Interrupt for Stop {
 
 /// The id of an object whose content is the front of a stream: the word of its kind, the content's length and the stream; how
 /// much progress was told; and how many bytes are left. The reading is to stop where that is wanted.
-pub fn stream(case: &Case, wanted: bool, out: &mut String) -> Result<(), AllocError> {
+pub fn stream(case: &Case, wanted: bool, page: &mut Page) {
     let (Ok(kind), Some(length)) = (Kind::from_bytes(case.text(0)), read_unsigned(case.text(1)))
     else {
-        return out.push_str("no object");
+        return page.word("no object");
     };
     let mut bytes = case.text(2);
     let mut progress = Amount { sum: 0 };
@@ -68,8 +70,12 @@ pub fn stream(case: &Case, wanted: bool, out: &mut String) -> Result<(), AllocEr
         &mut progress,
         &mut Stop { wanted },
     ) {
-        Ok(id) => write!(out, "{id}; told {}; left {}", progress.sum, bytes.len()),
-        Err(io::Error::Io(_)) => out.push_str("refused Io"),
-        Err(io::Error::Interrupted) => out.push_str("refused Interrupted"),
+        Ok(id) => {
+            page.value("", id, "; told ");
+            page.value("", progress.sum, "; left ");
+            page.put(bytes.len());
+        }
+        Err(io::Error::Io(_)) => page.word("refused Io"),
+        Err(io::Error::Interrupted) => page.word("refused Interrupted"),
     }
 }

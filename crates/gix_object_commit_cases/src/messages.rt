@@ -1,55 +1,42 @@
 //! A commit's message, parted, and its trailers.
 
-use crate::case::Case;
-use crate::show;
+use crate::page::Page;
 use gix_object_commit::CommitRef;
 use gix_object_message::{SelectedTrailers, TrailerRef};
-use std::alloc::{AllocError, Global};
-use std::fmt::Write;
+use std::alloc::Global;
 
 /// The title, the body and the summary.
-pub fn parts(alloc: Global, case: &Case, out: &mut String) -> Result<(), AllocError> {
-    let commit = match CommitRef::from_bytes(alloc, case.text(0), case.kind) {
-        Ok(commit) => commit,
-        Err(error) => return write!(out, "refused {error:?}"),
-    };
+pub fn parts(alloc: Global, commit: &CommitRef<'_>, page: &mut Page) {
     let message = commit.message();
-    show::text("title ", message.title.as_bytes(), "; ", out)?;
-    show::told("body ", message.body, "; ", out)?;
-    let summary = commit.message_summary(alloc)?;
-    show::text("summary ", summary.as_slice(), "", out)
-}
-
-fn show_trailer(trailer: TrailerRef<'_>, out: &mut String) -> Result<(), AllocError> {
-    show::text(" ", trailer.token.as_bytes(), ": ", out)?;
-    show::text("", trailer.value.as_bytes(), ";", out)
-}
-
-fn show_selected(
-    word: &str,
-    trailers: SelectedTrailers<'_>,
-    out: &mut String,
-) -> Result<(), AllocError> {
-    out.push_str(word)?;
-    for trailer in trailers {
-        show_trailer(trailer, out)?;
+    page.text("title ", message.title.as_bytes(), "; ");
+    page.told("body ", message.body, "; ");
+    match commit.message_summary(alloc) {
+        Ok(summary) => page.text("summary ", summary.as_slice(), ""),
+        Err(error) => page.name(error),
     }
-    Ok(())
+}
+
+fn show_trailer(trailer: TrailerRef<'_>, page: &mut Page) {
+    page.text(" ", trailer.token.as_bytes(), ": ");
+    page.text("", trailer.value.as_bytes(), ";");
+}
+
+fn show_selected(word: &str, trailers: SelectedTrailers<'_>, page: &mut Page) {
+    page.word(word);
+    for trailer in trailers {
+        show_trailer(trailer, page);
+    }
 }
 
 /// The trailers, all and those of each filter.
-pub fn trailers(alloc: Global, case: &Case, out: &mut String) -> Result<(), AllocError> {
-    let commit = match CommitRef::from_bytes(alloc, case.text(0), case.kind) {
-        Ok(commit) => commit,
-        Err(error) => return write!(out, "refused {error:?}"),
-    };
-    out.push_str("all")?;
+pub fn trailers(commit: &CommitRef<'_>, page: &mut Page) {
+    page.word("all");
     for trailer in commit.message_trailers() {
-        show_trailer(trailer, out)?;
+        show_trailer(trailer, page);
     }
-    show_selected(" signed", commit.signed_off_by_trailers(), out)?;
-    show_selected(" co-authored", commit.co_authored_by_trailers(), out)?;
-    show_selected(" assisted", commit.assisted_by_trailers(), out)?;
-    show_selected(" authors", commit.author_trailers(), out)?;
-    show_selected(" attribution", commit.attribution_trailers(), out)
+    show_selected(" signed", commit.signed_off_by_trailers(), page);
+    show_selected(" co-authored", commit.co_authored_by_trailers(), page);
+    show_selected(" assisted", commit.assisted_by_trailers(), page);
+    show_selected(" authors", commit.author_trailers(), page);
+    show_selected(" attribution", commit.attribution_trailers(), page);
 }

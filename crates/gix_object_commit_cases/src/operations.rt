@@ -1,76 +1,80 @@
 //! One line to one answer.
 
 use crate::case::{Case, read_case};
+use crate::page::Page;
 use crate::{edits, hashing, headers, messages, signing, tokens, whole};
+use gix_object_commit::CommitRef;
 use std::alloc::{AllocError, Global};
 
-// What a commit's operation writes; `None` where there is no such operation.
-fn of_commit(
+// What is asked of a commit that is read whole.
+fn write_of_commit<'a>(
     alloc: Global,
     operation: &str,
-    case: &Case,
-    out: &mut String,
-) -> Option<Result<(), AllocError>> {
-    let wrote = match operation {
-        "read" => whole::read(alloc, case, out),
-        "lent" => whole::lent(alloc, case, out),
-        "write" => whole::write(alloc, case, out),
-        "own" => whole::own(alloc, case, out),
-        "tokens" => tokens::in_order(case, out),
-        "ids" => tokens::ids(case, out),
-        "ahead" => tokens::ahead(case, out),
-        "message" => messages::parts(alloc, case, out),
-        "trailers" => messages::trailers(alloc, case, out),
-        "find" => headers::find(alloc, case, out),
-        "headers" => headers::all(alloc, case, out),
-        "signature" => signing::signature(alloc, case, out),
-        "sign" => signing::sign(alloc, case, out),
-        "sign-with-tree" => signing::sign_with_tree(alloc, case, out),
-        _ => return None,
-    };
-    Some(wrote)
+    commit: CommitRef<'a>,
+    case: &'a Case,
+    page: &mut Page,
+) {
+    match operation {
+        "read" => whole::read(&commit, page),
+        "lent" => whole::lent(&commit, case, page),
+        "write" => page.object(alloc, case.kind, &commit),
+        "own" => whole::own(alloc, case.kind, commit, page),
+        "message" => messages::parts(alloc, &commit, page),
+        "trailers" => messages::trailers(&commit, page),
+        "find" => headers::find(alloc, &commit, case.text(1), page),
+        "headers" => headers::all(alloc, &commit, page),
+        "sign" => signing::sign(alloc, commit, case, page),
+        "sign-with-tree" => signing::sign_with_tree(alloc, commit, case, page),
+        _ => write_of_edited(alloc, operation, commit, case, page),
+    }
 }
 
-// What another operation writes; `None` where there is no such operation.
-fn of_others(
+// What is asked of a commit with one part changed.
+fn write_of_edited<'a>(
     alloc: Global,
     operation: &str,
-    case: &Case,
-    out: &mut String,
-) -> Option<Result<(), AllocError>> {
-    let wrote = match operation {
-        "with-tree" => edits::tree(alloc, case, out),
-        "with-parent" => edits::parent(alloc, case, out),
-        "with-author" => edits::author(alloc, case, out),
-        "with-encoding" => edits::encoding(alloc, case, out),
-        "with-header" => edits::header(alloc, case, out),
-        "with-time" => edits::time(alloc, case, out),
-        "field" => headers::field_name(case, out),
-        "blob" => hashing::blob(alloc, case, out),
-        "hash" => hashing::hash(case, out),
-        "stream" => hashing::stream(case, false, out),
-        "stopped" => hashing::stream(case, true, out),
-        _ => return None,
-    };
-    Some(wrote)
+    commit: CommitRef<'a>,
+    case: &'a Case,
+    page: &mut Page,
+) {
+    match operation {
+        "with-tree" => edits::tree(alloc, commit, case, page),
+        "with-parent" => edits::parent(alloc, commit, case, page),
+        "with-author" => edits::author(alloc, commit, case, page),
+        "with-encoding" => edits::encoding(alloc, commit, case, page),
+        "with-header" => edits::header(alloc, commit, case, page),
+        "with-time" => edits::time(alloc, commit, case, page),
+        _ => page.word("no operation"),
+    }
+}
+
+fn write_answer(alloc: Global, operation: &str, case: &Case, page: &mut Page) {
+    match operation {
+        "tokens" => tokens::in_order(case, page),
+        "ids" => tokens::ids(case, page),
+        "ahead" => tokens::ahead(case, page),
+        "signature" => signing::signature(alloc, case, page),
+        "field" => headers::field_name(case, page),
+        "blob" => hashing::blob(alloc, case, page),
+        "hash" => hashing::hash(case, page),
+        "stream" => hashing::stream(case, false, page),
+        "stopped" => hashing::stream(case, true, page),
+        _ => match CommitRef::from_bytes(alloc, case.text(0), case.kind) {
+            Ok(commit) => write_of_commit(alloc, operation, commit, case, page),
+            Err(error) => page.refused(error),
+        },
+    }
 }
 
 /// What the operation of the line gives.
 pub fn answer(alloc: Global, line: &str) -> Result<String, AllocError> {
-    let Some((operation, words)) = line.split_once(' ') else {
-        return format!(in alloc; "no case: {line}");
-    };
-    let Some(case) = read_case(alloc, words) else {
-        return format!(in alloc; "no bytes: {line}");
-    };
-    let mut out = String::new(alloc);
-    let wrote = match of_commit(alloc, operation, &case, &mut out) {
-        Some(wrote) => Some(wrote),
-        None => of_others(alloc, operation, &case, &mut out),
-    };
-    match wrote {
-        Some(Ok(())) => Ok(out),
-        Some(Err(error)) => Err(error),
-        None => format!(in alloc; "no operation: {line}"),
+    let mut page = Page::new(alloc);
+    match line.split_once(' ') {
+        Some((operation, words)) => match read_case(alloc, words) {
+            Some(case) => write_answer(alloc, operation, &case, &mut page),
+            None => page.word("no bytes"),
+        },
+        None => page.word("no case"),
     }
+    page.finish()
 }

@@ -1,105 +1,112 @@
 //! Commits read token by token, and what the tokens to come tell.
 
 use crate::case::Case;
-use crate::show;
+use crate::page::Page;
 use gix_object_commit::CommitRefIter;
 use gix_object_commit::commit::ref_iter::Token;
 use gix_object_commit::laws::tokens_tell_a_commit;
-use std::alloc::AllocError;
-use std::fmt::Write;
+use gix_object_lines::decode::Error;
 
-fn show_token(token: Token<'_>, out: &mut String) -> Result<(), AllocError> {
+fn show_token(token: Token<'_>, page: &mut Page) {
     match token {
-        Token::Tree(id) => write!(out, "tree {id}; "),
-        Token::Parent(id) => write!(out, "parent {id}; "),
-        Token::Author(author) => show::actor("author ", author, "; ", out),
-        Token::Committer(committer) => show::actor("committer ", committer, "; ", out),
-        Token::Encoding(name) => show::text("encoding ", name.as_bytes(), "; ", out),
-        Token::ExtraHeader(header) => show::header("header ", header, "; ", out),
-        Token::Message(message) => show::text("message ", message.as_bytes(), "; ", out),
+        Token::Tree(id) => page.value("tree ", id, "; "),
+        Token::Parent(id) => page.value("parent ", id, "; "),
+        Token::Author(author) => page.actor("author ", author, "; "),
+        Token::Committer(committer) => page.actor("committer ", committer, "; "),
+        Token::Encoding(name) => page.text("encoding ", name.as_bytes(), "; "),
+        Token::ExtraHeader(header) => page.header("header ", header, "; "),
+        Token::Message(message) => page.text("message ", message.as_bytes(), "; "),
     }
 }
 
+fn show_refused(error: Error, page: &mut Page) {
+    page.refused(error);
+    page.word("; ");
+}
+
 /// The tokens in order, whether they tell a whole commit, and what comes behind the last, which is nothing.
-pub fn in_order(case: &Case, out: &mut String) -> Result<(), AllocError> {
+pub fn in_order(case: &Case, page: &mut Page) {
     let content = case.text(0);
     let mut tokens = CommitRefIter::from_bytes(content, case.kind);
     while let Some(token) = tokens.next() {
         match token {
-            Ok(token) => show_token(token, out)?,
-            Err(error) => write!(out, "refused {error:?}; ")?,
+            Ok(token) => show_token(token, page),
+            Err(error) => show_refused(error, page),
         }
     }
     let whole = tokens_tell_a_commit(content, case.kind);
-    out.push_str(if whole { "whole" } else { "no commit" })?;
-    match tokens.next() {
-        Some(_) => out.push_str(" and more"),
-        None => Ok(()),
+    page.word(if whole { "whole" } else { "no commit" });
+    if tokens.next().is_some() {
+        page.word(" and more");
     }
 }
 
-fn show_ids(token: Token<'_>, out: &mut String) -> Result<(), AllocError> {
+fn show_ids(token: Token<'_>, page: &mut Page) {
     match token.id() {
-        Some(id) => write!(out, "{id}")?,
-        None => out.push_str("none")?,
+        Some(id) => page.put(id),
+        None => page.word("none"),
     }
     match token.try_into_id() {
-        Some(id) => write!(out, " {id}; "),
-        None => out.push_str(" none; "),
+        Some(id) => page.value(" ", id, "; "),
+        None => page.word(" none; "),
     }
 }
 
 /// The id of each token, lent and given.
-pub fn ids(case: &Case, out: &mut String) -> Result<(), AllocError> {
+pub fn ids(case: &Case, page: &mut Page) {
     for token in CommitRefIter::from_bytes(case.text(0), case.kind) {
         match token {
-            Ok(token) => show_ids(token, out)?,
-            Err(error) => write!(out, "refused {error:?}; ")?,
+            Ok(token) => show_ids(token, page),
+            Err(error) => show_refused(error, page),
         }
     }
-    Ok(())
 }
 
-fn show_people(tokens: CommitRefIter<'_>, out: &mut String) -> Result<(), AllocError> {
+// Adds a word and an error's name.
+fn show_error(before: &str, error: Error, behind: &str, page: &mut Page) {
+    page.word(before);
+    page.name(error);
+    page.word(behind);
+}
+
+fn show_people(tokens: CommitRefIter<'_>, page: &mut Page) {
     match tokens.author() {
-        Ok(author) => show::actor("author ", author, "; ", out)?,
-        Err(error) => write!(out, "author {error:?}; ")?,
+        Ok(author) => page.actor("author ", author, "; "),
+        Err(error) => show_error("author ", error, "; ", page),
     }
     match tokens.committer() {
-        Ok(committer) => show::actor("committer ", committer, "; ", out)?,
-        Err(error) => write!(out, "committer {error:?}; ")?,
+        Ok(committer) => page.actor("committer ", committer, "; "),
+        Err(error) => show_error("committer ", error, "; ", page),
     }
     for actor in tokens.signatures() {
-        show::actor("by ", actor, "; ", out)?;
+        page.actor("by ", actor, "; ");
     }
-    Ok(())
 }
 
 // What the tokens to come tell. The tree's id is told last, since that takes a token.
-fn show_ahead(mut tokens: CommitRefIter<'_>, out: &mut String) -> Result<(), AllocError> {
+fn show_ahead(mut tokens: CommitRefIter<'_>, page: &mut Page) {
     for id in tokens.parent_ids() {
-        write!(out, "parent {id}; ")?;
+        page.value("parent ", id, "; ");
     }
-    show_people(tokens, out)?;
+    show_people(tokens, page);
     match tokens.message() {
-        Ok(message) => show::text("message ", message.as_bytes(), "; ", out)?,
-        Err(error) => write!(out, "message {error:?}; ")?,
+        Ok(message) => page.text("message ", message.as_bytes(), "; "),
+        Err(error) => show_error("message ", error, "; ", page),
     }
     match tokens.tree_id() {
-        Ok(id) => write!(out, "tree {id}"),
-        Err(error) => write!(out, "tree {error:?}"),
+        Ok(id) => page.value("tree ", id, ""),
+        Err(error) => show_error("tree ", error, "", page),
     }
 }
 
 /// What the tokens to come tell: from the start, and behind each token.
-pub fn ahead(case: &Case, out: &mut String) -> Result<(), AllocError> {
+pub fn ahead(case: &Case, page: &mut Page) {
     let mut tokens = CommitRefIter::from_bytes(case.text(0), case.kind);
-    show_ahead(tokens, out)?;
+    show_ahead(tokens, page);
     while let Some(token) = tokens.next() {
         if token.is_ok() {
-            out.push_str(" / ")?;
-            show_ahead(tokens, out)?;
+            page.word(" / ");
+            show_ahead(tokens, page);
         }
     }
-    Ok(())
 }

@@ -1,80 +1,65 @@
 //! Commits read whole, owned and written again.
 
 use crate::case::Case;
-use crate::show;
+use crate::page::Page;
 use gix_object_commit::CommitRef;
 use gix_object_commit::laws::ids_read_are_ids;
 use gix_object_lines::WriteTo;
-use std::alloc::{AllocError, Global};
-use std::fmt::Write;
-
-fn show_commit(commit: &CommitRef<'_>, out: &mut String) -> Result<(), AllocError> {
-    show::text("tree ", commit.tree.as_bytes(), "; ", out)?;
-    for parent in commit.parents.as_slice() {
-        show::text("parent ", parent.as_bytes(), "; ", out)?;
-    }
-    show::actor("author ", commit.author, "; ", out)?;
-    show::actor("committer ", commit.committer, "; ", out)?;
-    if let Some(encoding) = commit.encoding {
-        show::text("encoding ", encoding.as_bytes(), "; ", out)?;
-    }
-    for header in commit.extra_headers.as_slice() {
-        show::header("header ", *header, "; ", out)?;
-    }
-    show::text("message ", commit.message.as_bytes(), "", out)
-}
+use std::alloc::Global;
 
 /// The parts of a commit as its fields hold them.
-pub fn read(alloc: Global, case: &Case, out: &mut String) -> Result<(), AllocError> {
-    match CommitRef::from_bytes(alloc, case.text(0), case.kind) {
-        Ok(commit) => show_commit(&commit, out),
-        Err(error) => write!(out, "refused {error:?}"),
+pub fn read(commit: &CommitRef<'_>, page: &mut Page) {
+    page.text("tree ", commit.tree.as_bytes(), "; ");
+    for parent in commit.parents.as_slice() {
+        page.text("parent ", parent.as_bytes(), "; ");
     }
+    page.actor("author ", commit.author, "; ");
+    page.actor("committer ", commit.committer, "; ");
+    if let Some(encoding) = commit.encoding {
+        page.text("encoding ", encoding.as_bytes(), "; ");
+    }
+    for header in commit.extra_headers.as_slice() {
+        page.header("header ", *header, "; ");
+    }
+    page.text("message ", commit.message.as_bytes(), "");
 }
 
-fn show_time(commit: &CommitRef<'_>, out: &mut String) -> Result<(), AllocError> {
+fn show_time(commit: &CommitRef<'_>, page: &mut Page) {
     match commit.time() {
-        Ok(time) => write!(out, "; time {} {}", time.seconds, time.offset),
-        Err(error) => write!(out, "; refused {error:?}"),
+        Ok(time) => {
+            page.value("; time ", time.seconds, " ");
+            page.put(time.offset);
+        }
+        Err(error) => {
+            page.word("; ");
+            page.refused(error);
+        }
     }
 }
 
 /// What a commit's calls lend of it.
-pub fn lent(alloc: Global, case: &Case, out: &mut String) -> Result<(), AllocError> {
-    let content = case.text(0);
-    let commit = match CommitRef::from_bytes(alloc, content, case.kind) {
-        Ok(commit) => commit,
-        Err(error) => return write!(out, "refused {error:?}"),
-    };
-    ids_read_are_ids(content, case.kind);
-    write!(out, "{} {}", commit.kind(), commit.tree())?;
+pub fn lent(commit: &CommitRef<'_>, case: &Case, page: &mut Page) {
+    ids_read_are_ids(case.text(0), case.kind);
+    page.value("", commit.kind(), " ");
+    page.put(commit.tree());
     for parent in commit.parents() {
-        write!(out, " {parent}")?;
+        page.value(" ", parent, "");
     }
-    show::actor("; author ", commit.author(), "; ", out)?;
-    show::actor("committer ", commit.committer(), "", out)?;
-    show_time(&commit, out)
-}
-
-/// The length and the id of what is written of a commit that was read.
-pub fn write(alloc: Global, case: &Case, out: &mut String) -> Result<(), AllocError> {
-    match CommitRef::from_bytes(alloc, case.text(0), case.kind) {
-        Ok(commit) => show::object(alloc, case.kind, &commit, out),
-        Err(error) => write!(out, "refused {error:?}"),
-    }
+    page.actor("; author ", commit.author(), "; ");
+    page.actor("committer ", commit.committer(), "");
+    show_time(commit, page);
 }
 
 /// The length and the id of what is written of a commit that owns its parts, and whether one that was given is the same as one
 /// that was lent.
-pub fn own(alloc: Global, case: &Case, out: &mut String) -> Result<(), AllocError> {
-    let commit = match CommitRef::from_bytes(alloc, case.text(0), case.kind) {
-        Ok(commit) => commit,
-        Err(error) => return write!(out, "refused {error:?}"),
-    };
+pub fn own(alloc: Global, kind: gix_hash::Kind, commit: CommitRef<'_>, page: &mut Page) {
     let (Ok(lent), Ok(given)) = (commit.to_owned(alloc), commit.into_owned(alloc)) else {
-        return write!(out, "not owned");
+        return page.word("not owned");
     };
-    show::object(alloc, case.kind, &given, out)?;
-    let alike = if lent == given { "alike" } else { "different" };
-    write!(out, " {alike}")
+    page.object(alloc, kind, &given);
+    page.word(if lent == given {
+        " alike"
+    } else {
+        " different"
+    });
 }
