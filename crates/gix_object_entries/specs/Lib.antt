@@ -4,3 +4,4 @@ pub mod Entry
 pub mod Reading
 pub mod Order
 pub mod OrderLaws
+pub mod Writing

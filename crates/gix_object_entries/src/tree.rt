@@ -8,6 +8,7 @@ mod order;
 mod owned;
 mod ref_iter;
 mod whole;
+mod write;
 
 pub use entry::{Entry, EntryRef};
 pub use mode::{EntryKind, EntryMode};

@@ -1,5 +1,8 @@
 //! Entries of trees.
 
+ghost use Rattle.std.specs.Prelude.{◌≡◌};
+ghost use Rattle.gix_object_entries.specs.Entry.{Item, item_of, own_item};
+
 use crate::tree::EntryMode;
 use bstr::BStr;
 use gix_hash::{ObjectId, oid};
@@ -25,4 +28,30 @@ pub struct Entry {
     pub filename: ByteString,
     /// The id of the object that is named.
     pub oid: ObjectId,
+}
+
+/// What holds an entry.
+pub(crate) trait AsEntry {
+    /// The entry.
+    ghost item: { Self → Item };
+
+    /// The entry, borrowed.
+    fn as_entry(&self) -> EntryRef<'_>
+        ensures { item_of result ≡ item self.now };
+}
+
+impl AsEntry for EntryRef<'_> {
+    ghost item = { item_of };
+
+    fn as_entry(&self) -> EntryRef<'_> {
+        *self
+    }
+}
+
+impl AsEntry for Entry {
+    ghost item = { own_item };
+
+    fn as_entry(&self) -> EntryRef<'_> {
+        EntryRef::from(self)
+    }
 }

@@ -1,6 +1,6 @@
 //! Octal texts of modes.
 
-ghost use Rattle.std.specs.Prelude.{◌≡◌, ◌<◌, ◌≤◌, ◌^◌, false, drop, MatchOption, MatchResult};
+ghost use Rattle.std.specs.Prelude.{◌≡◌, ◌<◌, ◌≤◌, ◌^◌, false, drop, length, MatchOption, MatchResult};
 ghost use Rattle.std.specs.Fmt.{digits};
 ghost use Rattle.std.specs.Str.Parse.{IsNumeral, digits_value};
 ghost use Rattle.bstr.specs.BStr.{bstr_bytes};
@@ -27,7 +27,8 @@ impl EntryMode {
 
     /// The mode's octal digits without a zero before them, but for a tree's mode that was read with one.
     pub fn as_bytes<'b>(&self, backing: &'b mut [u8; 6]) -> BStr<'b>
-        ensures { bstr_bytes result ≡ mode_text (mode_of self.now) }
+        ensures text { bstr_bytes result ≡ mode_text (mode_of self.now) }
+        ensures short { length (bstr_bytes result) ≤ 6 }
     {
         if self.padded {
             return BStr::new(b"040000");
