@@ -1,0 +1,4 @@
+pub mod IdLemmas
+pub mod LineLemmas
+pub mod SpaceLemmas
+pub mod PackedLemmas

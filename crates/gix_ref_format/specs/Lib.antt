@@ -1,0 +1,5 @@
+pub mod Ids
+pub mod Lines
+pub mod Loose
+pub mod Packed
+pub mod PackedIter

@@ -1,0 +1,60 @@
+//! The file `packed-refs`: its header, its records, and what finds them.
+
+ghost use Rattle.std.specs.Prelude.{◌≡◌, unwrap_or};
+ghost use Rattle.std.specs.Option.{option_map};
+ghost use Rattle.gix_hash.specs.Id.{id_of};
+
+mod decode;
+pub mod iter;
+
+use gix_hash::ObjectId;
+use gix_ref_name::FullNameRef;
+
+pub use crate::packed::iter::Iter;
+
+/// How far the records tell peeled ids.
+#[derive(Debug, Clone, Copy, PartialEq, Eq)]
+pub enum Peeled {
+    /// The header says nothing of it.
+    Unspecified,
+    /// Tags below `refs/tags/` have peeled ids.
+    Partial,
+    /// Each record of a tag has its peeled id.
+    Fully,
+}
+
+/// What the first line says of the records.
+#[derive(Debug, Clone, Copy, PartialEq, Eq)]
+pub struct Header {
+    /// How far they tell peeled ids.
+    pub peeled: Peeled,
+    /// Whether they ascend by their names.
+    pub sorted: bool,
+}
+
+/// A record.
+#[derive(Debug, Clone, Copy)]
+pub struct Reference<'a> {
+    /// Its name.
+    pub name: FullNameRef<'a>,
+    /// The id that it points to.
+    pub target: ObjectId,
+    /// The id of the object that a tag points to in the end, where the record tells it.
+    pub object: Option<ObjectId>,
+}
+
+impl Reference<'_> {
+    /// The id that it points to.
+    pub fn target(&self) -> ObjectId
+        ensures { result ≡ self.now.target }
+    {
+        self.target
+    }
+
+    /// The object that it points to in the end: the peeled id where the record tells one, else the target.
+    pub fn object(&self) -> ObjectId
+        ensures { result ≡ unwrap_or self.now.object self.now.target }
+    {
+        self.object.unwrap_or(self.target)
+    }
+}
