@@ -12,4 +12,4 @@ pub returns : goal.returns
 returns c =
     let kind = c.args.kind in
     let fed = c.update-2.ensures kind _ (c.update.ensures kind _ c.hasher-hasher.ensures) in
-    c.try_finalize.ensures kind _ fed ∙ ap (λ (header : List ℕ). id_of_message kind (([] ++ header) ++ c.args.content.now)) (c.deref.ensures ∙ c.loose_header-header.ensures.items) ∙ is_digest kind _
+    c.try_finalize.ensures kind _ fed ∙ ap (λ (header : List ℕ). id_of_message kind (([] ++ header) ++ c.args.content.now)) (c.deref.ensures.0 ∙ c.loose_header-header.ensures) ∙ is_digest kind _

@@ -42,10 +42,10 @@ returns-then-not-branch-clause-taken g c = λ id is.
           (c.in_ok-place.ensures ∙ ap object_place c.object_id-id.ensures)
           (ap (is_file_at tree) (sym c.deref.ensures.value) ∙ sym (c.in_ok-is_file.ensures.told honest) ∙ c.if-branch.true)
           (λ equal.
-          let found = (c.in_ok-holds.ensures.same honest).1 (ap (bytes_at tree) c.deref-then-branch.ensures.value ∙ equal ∙ ap (λ h. h ++ content) (sym c.deref-then-branch-2.ensures)) in
+          let found = (c.in_ok-holds.ensures.same honest).1 (ap (bytes_at tree) c.deref-then-branch.ensures.value ∙ equal ∙ ap (λ h. h ++ content) (sym c.deref-then-branch-2.ensures.0)) in
           let unlike = c.if-not-branch.true in
           cc)
-          (sym (spelled c.args.object content header c.loose_header-header.ensures.items))),
+          (sym (spelled c.args.object content header c.loose_header-header.ensures))),
     )
 
 file_fault : (e : FileError) → put_fault e ≡ errors.File → e ≡ files.Failed
@@ -70,8 +70,8 @@ returns-clause-free g c = λ honest.
     elim c.if-branch.branch [
       | then-branch+in_ok-holds+else-not-branch w ↦
           free (same_other tree c.in_ok-place.place.items _ c.loose_header-header.result.items content _ (c.in_ok-place.ensures ∙ ap object_place c.object_id-id.ensures)
-          (ap (bytes_at tree) (sym w.deref-then-branch.ensures.value) ∙ (w.in_ok-holds.ensures.same honest).0 w.if-not-branch.false ∙ ap (λ h. h ++ content) w.deref-then-branch-2.ensures)
-          (sym (spelled c.args.object content _ c.loose_header-header.ensures.items)))
+          (ap (bytes_at tree) (sym w.deref-then-branch.ensures.value) ∙ (w.in_ok-holds.ensures.same honest).0 w.if-not-branch.false ∙ ap (λ h. h ++ content) w.deref-then-branch-2.ensures.0)
+          (sym (spelled c.args.object content _ c.loose_header-header.ensures)))
       | else-branch+in_ok-write w ↦
           free (none_other tree c.deref.result.now _ _ (c.deref.ensures.value ∙ c.in_ok-place.ensures ∙ ap object_place c.object_id-id.ensures) (sym (c.in_ok-is_file.ensures.told honest) ∙ w.if-branch.false))
     ]
@@ -86,7 +86,7 @@ returns-clause-moments g c = λ honest.
       | else-branch+in_ok-write w ↦
           subst (λ s. Adds may old (g.F.Files.history s.files)) (sym w.self-is)
           (told _ _ _ _ old _ (w.deref-else-branch.ensures.value ∙ c.in_ok-place.ensures ∙ ap object_place c.object_id-id.ensures)
-          (ap (λ h. h ++ content) w.deref-else-branch-2.ensures ∙ spelled c.args.object content _ c.loose_header-header.ensures.items) (w.write.ensures.moments honest))
+          (ap (λ h. h ++ content) w.deref-else-branch-2.ensures.0 ∙ spelled c.args.object content _ c.loose_header-header.ensures) (w.write.ensures.moments honest))
     ]
 
 pub returns-in_err-insert-clause-moments : goal.returns-in_err-insert-clause-moments
@@ -99,7 +99,7 @@ returns-in_err-insert-clause-moments g c = λ honest.
       | else-branch+in_ok-write w ↦
           subst (λ s. Adds may old (g.F.Files.history s.files)) (sym w.self-is)
           (told _ _ _ _ old _ (w.deref-else-branch.ensures.value ∙ c.in_ok-place.ensures ∙ ap object_place c.object_id-id.ensures)
-          (ap (λ h. h ++ content) w.deref-else-branch-2.ensures ∙ spelled c.args.object content _ c.loose_header-header.ensures.items) (w.write.ensures.moments honest))
+          (ap (λ h. h ++ content) w.deref-else-branch-2.ensures.0 ∙ spelled c.args.object content _ c.loose_header-header.ensures) (w.write.ensures.moments honest))
     ]
 
 above_at : (written place : Bytes) (old new : History) → written ≡ place → Adds (FoldersAbove written old.tree) old new → Adds (FoldersAbove place old.tree) old new
