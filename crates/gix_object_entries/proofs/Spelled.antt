@@ -28,7 +28,7 @@ one_mode text a b one other =
     let zeros = one.padded ∙ ap (λ n. (slice_index text 0 == 48) && (n == 16384)) values ∙ sym other.padded in
     ap (λ n. make n a.padded) values ∙ ap (make b.value) zeros
 
-one_kind : (a b : Kind) → byte_len a ≡ byte_len b → a ≡ b
+pub one_kind : (a b : Kind) → byte_len a ≡ byte_len b → a ≡ b
 one_kind Sha1 Sha1 e = refl
 one_kind Sha1 Sha256 e = absurd (omega arith)
 one_kind Sha256 Sha1 e = absurd (omega arith)

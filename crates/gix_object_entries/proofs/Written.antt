@@ -34,7 +34,7 @@ cut_at item xs at x below is =
 pub no_refusal : (items : List Item) → list_any has_zero items ≡ false → tree_refusal items ≡ None
 no_refusal items fine = ap (λ b. if b then Some (record { before = tree_text (written_front items); cause = Filename NullbyteInFilename }) else None) fine
 
-refused : (items : List Item) → list_any has_zero items ≡ true → tree_refusal items ≡ Some (record { before = tree_text (written_front items); cause = Filename NullbyteInFilename })
+pub refused : (items : List Item) → list_any has_zero items ≡ true → tree_refusal items ≡ Some (record { before = tree_text (written_front items); cause = Filename NullbyteInFilename })
 refused items bad = ap (λ b. if b then Some (record { before = tree_text (written_front items); cause = Filename NullbyteInFilename }) else None) bad
 
 head_fine : (item : Item) (rest : List Item) → has_zero item ≡ false → written_front (item ∷ rest) ≡ item ∷ written_front rest

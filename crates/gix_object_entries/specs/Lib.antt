@@ -5,3 +5,4 @@ pub mod Reading
 pub mod Order
 pub mod OrderLaws
 pub mod Writing
+pub mod WellFormed

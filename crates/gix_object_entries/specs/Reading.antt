@@ -1,5 +1,5 @@
 -- A tree's entries one after another.
-use Rattle.std.specs.Prelude.{ℕ, ◌≡◌, ◌≢◌, List, [], Option, None, Some, Result, Ok, Err}
+use Rattle.std.specs.Prelude.{ℕ, ◌≡◌, ◌≢◌, List, [], ◌∷◌, Option, None, Some, Result, Ok, Err}
 use Rattle.gix_hash.specs.declared.kind.Kind.{Kind}
 use Rattle.gix_object_lines.specs.declared.decode.Error.{Error}
 use Rattle.gix_object_entries.specs.Entry.{item_of, SpellsEntry, SpellsNoEntry, EntryFault}
@@ -24,3 +24,8 @@ Steps before None after = (before.input ≡ []) × (after ≡ before)
 Steps before (Some (Ok entry)) after = (after.kind ≡ before.kind) × SpellsEntry before.kind before.input (item_of entry) after.input
 Steps before (Some (Err error)) after =
     (before.input ≢ []) × SpellsNoEntry before.kind before.input × EntryFault before.kind before.input error × (after.kind ≡ before.kind) × (after.input ≡ [])
+
+-- the reader gives these entries one after another, and then stands there
+abbrev pub Gives : Place → List EntryRef → Place → Type 0
+Gives before [] there = there ≡ before
+Gives before (entry ∷ entries) there = (next : Place) × Steps before (Some (Ok entry)) next × Gives next entries there

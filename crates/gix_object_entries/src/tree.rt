@@ -1,12 +1,14 @@
 //! Trees, and what their entries are made of.
 
 mod decode;
-mod entry;
+pub(crate) mod entry;
 mod mode;
 mod mode_text;
 mod order;
 mod owned;
 mod ref_iter;
+mod search;
+mod well_formed;
 mod whole;
 mod write;
 

@@ -1,12 +1,13 @@
 //! Objects that must stand, of any kind and of one.
 
-ghost use Rattle.std.specs.Prelude.{◌≡◌, Some, IfOk, IfErr};
+ghost use Rattle.std.specs.Prelude.{◌≡◌, Some, IfOk, IfErr, map};
 ghost use Rattle.gix_hash.specs.Views.{viewed_id};
 ghost use Rattle.gix_object_lines.specs.declared.kind.Kind.TheVariants as kinds;
 ghost use Rattle.gix_object_commit.specs.Views.{parts_of};
+ghost use Rattle.gix_object_entries.specs.Entry.{item_of};
 ghost use Rattle.gix_object_tag.specs.Views.{parts_of as tag_parts_of};
-ghost use Rattle.gix_object_tree.specs.Object.{Commit, Tag};
-ghost use Rattle.gix_object_tree.specs.Readers.{ReadsCommit, ReadsTag};
+ghost use Rattle.gix_object_tree.specs.Object.{Commit, Tag, Tree};
+ghost use Rattle.gix_object_tree.specs.Readers.{ReadsCommit, ReadsTag, ReadsTree};
 ghost use Rattle.gix_object_find.specs.Table.{object_of, header_at};
 ghost use Rattle.gix_object_find.specs.Existing.{Stands, StandsAs, ReadsStanding, ExistingFault, KindFault, ObjectFault};
 
@@ -14,6 +15,7 @@ use crate::find::{existing, existing_iter, existing_object};
 use crate::{Find, FindHeader};
 use gix_hash::{ObjectId, oid};
 use gix_object_commit::{BlobRef, CommitRef, CommitRefIter};
+use gix_object_entries::{TreeRef, TreeRefIter};
 use gix_object_lines::{Header, Kind};
 use gix_object_tag::{TagRef, TagRefIter};
 use gix_object_tree::Data;
@@ -73,6 +75,26 @@ pub trait FindExt: Find {
         Ok(BlobRef::from_bytes(content))
     }
 
+    /// The tree of this id, whose entries stand in the buffer.
+    fn find_tree<'a>(
+        &self,
+        alloc: Global,
+        id: oid<'_>,
+        buffer: &'a mut Vec<u8>,
+    ) -> Result<TreeRef<'a>, existing_object::Error>
+        ensures found { Self.is_honest self.now → IfOk result (λ tree. StandsAs (Self.table self.now) (viewed_id id.entry) kinds.Tree (Tree (map item_of tree.entries.items))) }
+        ensures refused { IfErr result (λ error. ObjectFault (Self.is_honest self.now) (Self.may_fail self.now) (Self.table self.now) (viewed_id id.entry) kinds.Tree error) }
+    {
+        let content = content_of(self, id, Kind::Tree, buffer)?;
+        match TreeRef::from_bytes(alloc, content, id.kind()) {
+            Ok(tree) => Ok(tree),
+            Err(source) => Err(existing_object::Error::Decode {
+                oid: ObjectId::from(id),
+                source,
+            }),
+        }
+    }
+
     /// The commit of this id, whose parts stand in the buffer.
     fn find_commit<'a>(
         &self,
@@ -110,6 +132,19 @@ pub trait FindExt: Find {
                 source,
             }),
         }
+    }
+
+    /// A reader of the entries of the tree of this id, which stand in the buffer.
+    fn find_tree_iter<'a>(
+        &self,
+        id: oid<'_>,
+        buffer: &'a mut Vec<u8>,
+    ) -> Result<TreeRefIter<'a>, existing_iter::Error>
+        ensures found { Self.is_honest self.now → IfOk result (λ reader. ReadsStanding ReadsTree (Self.table self.now) (viewed_id id.entry) kinds.Tree reader) }
+        ensures refused { IfErr result (λ error. KindFault (Self.is_honest self.now) (Self.may_fail self.now) (Self.table self.now) (viewed_id id.entry) kinds.Tree error) }
+    {
+        let content = content_of(self, id, Kind::Tree, buffer)?;
+        Ok(TreeRefIter::from_bytes(content, id.kind()))
     }
 
     /// A reader of the parts of the commit of this id, which stand in the buffer.

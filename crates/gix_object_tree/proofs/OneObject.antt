@@ -11,7 +11,8 @@ use Rattle.gix_object_commit.specs.Commit.{SpellsCommit}
 use Rattle.gix_object_tag.specs.Tag as tag
 use Rattle.gix_object_tag.specs.Tag.{SpellsTag}
 use Rattle.gix_object_tree.specs.Loose.{IsLoose, loose_text}
-use Rattle.gix_object_tree.specs.Object.{Value, Blob, Commit, Tag, Tells}
+use Rattle.gix_object_entries.specs.Entry.{Item, SpellsTree}
+use Rattle.gix_object_tree.specs.Object.{Value, Blob, Tree, Commit, Tag, Tells}
 
 -- what stands behind one header
 behind : (front head content rest : List ℕ) → front ≡ head → front ++ content ≡ head ++ rest → content ≡ rest
@@ -30,18 +31,26 @@ same_cut input r kind other content rest m n one two is is' =
     (kinds_are, behind (header_text kind (length content)) (header_text other (length rest)) content rest heads (sym is ∙ is'))
 
 module _ (ids : hash.Kind) where
-  pub same_value : (content : List ℕ) → ((a b : commit.Parts) → SpellsCommit (hex_len ids) content a → SpellsCommit (hex_len ids) content b → a ≡ b)
+  pub same_value : (content : List ℕ) → ((a b : List Item) → SpellsTree ids content a → SpellsTree ids content b → a ≡ b)
+      → ((a b : commit.Parts) → SpellsCommit (hex_len ids) content a → SpellsCommit (hex_len ids) content b → a ≡ b)
       → ((a b : tag.Parts) → SpellsTag ids content a → SpellsTag ids content b → a ≡ b)
       → (kind : Kind) (a b : Value) → Tells ids kind content a → Tells ids kind content b → a ≡ b
-  same_value content one_commit one_tag kind (Blob x) (Blob y) s t = ap Blob (sym s.spelled ∙ t.spelled)
-  same_value content one_commit one_tag kind (Commit x) (Commit y) s t = ap Commit (one_commit x y s.spelled t.spelled)
-  same_value content one_commit one_tag kind (Tag x) (Tag y) s t = ap Tag (one_tag x y s.spelled t.spelled)
-  same_value content one_commit one_tag kind (Blob x) (Commit y) s t = let e : kinds.Blob ≡ kinds.Commit = sym s.of_kind ∙ t.of_kind in cc
-  same_value content one_commit one_tag kind (Blob x) (Tag y) s t = let e : kinds.Blob ≡ kinds.Tag = sym s.of_kind ∙ t.of_kind in cc
-  same_value content one_commit one_tag kind (Commit x) (Blob y) s t = let e : kinds.Commit ≡ kinds.Blob = sym s.of_kind ∙ t.of_kind in cc
-  same_value content one_commit one_tag kind (Commit x) (Tag y) s t = let e : kinds.Commit ≡ kinds.Tag = sym s.of_kind ∙ t.of_kind in cc
-  same_value content one_commit one_tag kind (Tag x) (Blob y) s t = let e : kinds.Tag ≡ kinds.Blob = sym s.of_kind ∙ t.of_kind in cc
-  same_value content one_commit one_tag kind (Tag x) (Commit y) s t = let e : kinds.Tag ≡ kinds.Commit = sym s.of_kind ∙ t.of_kind in cc
+  same_value content one_tree one_commit one_tag kind (Blob x) (Blob y) s t = ap Blob (sym s.spelled ∙ t.spelled)
+  same_value content one_tree one_commit one_tag kind (Blob x) (Tree y) s t = let e : kinds.Blob ≡ kinds.Tree = sym s.of_kind ∙ t.of_kind in cc
+  same_value content one_tree one_commit one_tag kind (Blob x) (Commit y) s t = let e : kinds.Blob ≡ kinds.Commit = sym s.of_kind ∙ t.of_kind in cc
+  same_value content one_tree one_commit one_tag kind (Blob x) (Tag y) s t = let e : kinds.Blob ≡ kinds.Tag = sym s.of_kind ∙ t.of_kind in cc
+  same_value content one_tree one_commit one_tag kind (Tree x) (Blob y) s t = let e : kinds.Tree ≡ kinds.Blob = sym s.of_kind ∙ t.of_kind in cc
+  same_value content one_tree one_commit one_tag kind (Tree x) (Tree y) s t = ap Tree (one_tree x y s.spelled t.spelled)
+  same_value content one_tree one_commit one_tag kind (Tree x) (Commit y) s t = let e : kinds.Tree ≡ kinds.Commit = sym s.of_kind ∙ t.of_kind in cc
+  same_value content one_tree one_commit one_tag kind (Tree x) (Tag y) s t = let e : kinds.Tree ≡ kinds.Tag = sym s.of_kind ∙ t.of_kind in cc
+  same_value content one_tree one_commit one_tag kind (Commit x) (Blob y) s t = let e : kinds.Commit ≡ kinds.Blob = sym s.of_kind ∙ t.of_kind in cc
+  same_value content one_tree one_commit one_tag kind (Commit x) (Tree y) s t = let e : kinds.Commit ≡ kinds.Tree = sym s.of_kind ∙ t.of_kind in cc
+  same_value content one_tree one_commit one_tag kind (Commit x) (Commit y) s t = ap Commit (one_commit x y s.spelled t.spelled)
+  same_value content one_tree one_commit one_tag kind (Commit x) (Tag y) s t = let e : kinds.Commit ≡ kinds.Tag = sym s.of_kind ∙ t.of_kind in cc
+  same_value content one_tree one_commit one_tag kind (Tag x) (Blob y) s t = let e : kinds.Tag ≡ kinds.Blob = sym s.of_kind ∙ t.of_kind in cc
+  same_value content one_tree one_commit one_tag kind (Tag x) (Tree y) s t = let e : kinds.Tag ≡ kinds.Tree = sym s.of_kind ∙ t.of_kind in cc
+  same_value content one_tree one_commit one_tag kind (Tag x) (Commit y) s t = let e : kinds.Tag ≡ kinds.Commit = sym s.of_kind ∙ t.of_kind in cc
+  same_value content one_tree one_commit one_tag kind (Tag x) (Tag y) s t = ap Tag (one_tag x y s.spelled t.spelled)
 
   pub same_object : (input content : List ℕ) → ((kind other : Kind) (content rest : List ℕ) → input ≡ loose_text kind content → input ≡ loose_text other rest → (kind ≡ other) × (content ≡ rest))
       → ((kind : Kind) (rest : List ℕ) → input ≡ loose_text kind rest → content ≡ rest)

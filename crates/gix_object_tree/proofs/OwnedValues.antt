@@ -25,7 +25,7 @@ use Rattle.gix_object_tag.specs.Tag as tag
 use Rattle.gix_object_tag.specs.Tag.{Tagger}
 use Rattle.gix_object_tag.specs.declared.tag.owned.Tag as owned_tag
 use Rattle.gix_object_tree.specs.Format.{IsTimeText, HasOwnTexts, HasOwnTagTexts, IsKeptWhole}
-use Rattle.gix_object_tree.specs.Object.{Value, Blob, Commit, Tag, SpellsValue}
+use Rattle.gix_object_tree.specs.Object.{Value, Blob, Tree, Commit, Tag, SpellsValue}
 use Rattle.gix_object_tree.specs.Owned.{own_value, IsOwned}
 use Rattle.gix_object_tree.specs.declared.owned.Object.{Object}
 use Rattle.gix_object_tree.specs.declared.owned.Object.TheVariants as object
@@ -98,11 +98,18 @@ same_tag same_digits parts own is kept =
 
 pub same_value : IsWrittenSo → (ids : hash.Kind) (content : List ℕ) (value : Value) (own : Object) → SpellsValue ids content value → IsOwned value own → IsKeptWhole value → own_value own ≡ value
 same_value same_digits ids content (Blob bytes) (object.Blob blob) spells is kept = ap Blob is
-same_value same_digits ids content (Commit parts) (object.Commit commit) spells is kept = ap Commit (same_commit same_digits (hex_len ids) content parts commit spells is kept)
-same_value same_digits ids content (Tag parts) (object.Tag tag) spells is kept = ap Tag (same_tag same_digits parts tag is kept)
+same_value same_digits ids content (Blob bytes) (object.Tree tree) spells is kept = absurd is
 same_value same_digits ids content (Blob bytes) (object.Commit commit) spells is kept = absurd is
 same_value same_digits ids content (Blob bytes) (object.Tag tag) spells is kept = absurd is
+same_value same_digits ids content (Tree items) (object.Blob blob) spells is kept = absurd is
+same_value same_digits ids content (Tree items) (object.Tree tree) spells is kept = ap Tree is
+same_value same_digits ids content (Tree items) (object.Commit commit) spells is kept = absurd is
+same_value same_digits ids content (Tree items) (object.Tag tag) spells is kept = absurd is
 same_value same_digits ids content (Commit parts) (object.Blob blob) spells is kept = absurd is
+same_value same_digits ids content (Commit parts) (object.Tree tree) spells is kept = absurd is
+same_value same_digits ids content (Commit parts) (object.Commit commit) spells is kept = ap Commit (same_commit same_digits (hex_len ids) content parts commit spells is kept)
 same_value same_digits ids content (Commit parts) (object.Tag tag) spells is kept = absurd is
 same_value same_digits ids content (Tag parts) (object.Blob blob) spells is kept = absurd is
+same_value same_digits ids content (Tag parts) (object.Tree tree) spells is kept = absurd is
 same_value same_digits ids content (Tag parts) (object.Commit commit) spells is kept = absurd is
+same_value same_digits ids content (Tag parts) (object.Tag tag) spells is kept = ap Tag (same_tag same_digits parts tag is kept)

@@ -3,6 +3,8 @@ use Rattle.std.specs.Prelude.{ℕ, ◌≡◌, List}
 use Rattle.gix_hash.specs.declared.kind.Kind as hash
 use Rattle.gix_object_commit.specs.Tokens as commit
 use Rattle.gix_object_commit.specs.declared.commit.ref_iter.CommitRefIter.{CommitRefIter}
+use Rattle.gix_object_entries.specs.Reading as tree
+use Rattle.gix_object_entries.specs.declared.tree.ref_iter.TreeRefIter.{TreeRefIter}
 use Rattle.gix_object_tag.specs.Tokens as tag
 use Rattle.gix_object_tag.specs.declared.tag.ref_iter.TagRefIter.{TagRefIter}
 use Rattle.gix_object_tag.specs.declared.tag.ref_iter.Stage.TheVariants.{BeforeTarget}
@@ -13,3 +15,6 @@ ReadsCommit ids content reader = commit.place_of reader ≡ commit.start ids con
 
 abbrev pub ReadsTag : hash.Kind → List ℕ → TagRefIter → Type 0
 ReadsTag ids content reader = tag.place_of reader ≡ record { kind = ids; stage = BeforeTarget; input = content }
+
+abbrev pub ReadsTree : hash.Kind → List ℕ → TreeRefIter → Type 0
+ReadsTree ids content reader = tree.place_of reader ≡ tree.start ids content

@@ -1,6 +1,6 @@
 //! The bytes of an object.
 
-ghost use Rattle.std.specs.Prelude.{◌≡◌, ◌≢◌, ℕ, List, Err, IfOk, IfErr, MatchOption, MatchResult};
+ghost use Rattle.std.specs.Prelude.{◌≡◌, ◌≢◌, ◌⊎◌, ℕ, List, Err, IfOk, IfErr, MatchOption, MatchResult};
 ghost use Rattle.gix_hash.specs.Id.{id_of};
 ghost use Rattle.gix_hash.specs.Hasher.{id_of_message};
 ghost use Rattle.gix_hash.specs.Views.{viewed_id};
@@ -9,7 +9,7 @@ ghost use Rattle.gix_object_lines.specs.declared.kind.Kind.TheVariants as kinds;
 ghost use Rattle.gix_object_tree.specs.Checks.{TellsBoth};
 ghost use Rattle.gix_object_tree.specs.Loose.{loose_text};
 ghost use Rattle.gix_object_tree.specs.Object.{Value, Tells, ContentFault};
-ghost use Rattle.gix_object_tree.specs.Readers.{ReadsCommit, ReadsTag};
+ghost use Rattle.gix_object_tree.specs.Readers.{ReadsCommit, ReadsTag, ReadsTree};
 ghost use Rattle.gix_object_tree.specs.Views.{value_of};
 
 pub mod verify;
@@ -17,6 +17,7 @@ pub mod verify;
 use crate::ObjectRef;
 use gix_hash::{ObjectId, oid};
 use gix_object_commit::{CommitRefIter, compute_hash};
+use gix_object_entries::TreeRefIter;
 use gix_object_lines::Kind;
 use gix_object_lines::decode::Error;
 use gix_object_tag::TagRefIter;
@@ -51,10 +52,21 @@ impl<'a> Data<'a> {
     pub fn decode(&self, alloc: Global) -> Result<ObjectRef<'a>, Error>
         ensures read { IfOk result (λ object. Tells self.now.object_hash self.now.kind self.now.content.now (value_of object)) }
         ensures every { (value : Value) → Tells self.now.object_hash self.now.kind self.now.content.now value
-            → MatchResult result (λ object. value_of object ≡ value) (λ fault. (self.now.kind ≡ kinds.Commit) × (fault ≡ Memory)) }
+            → MatchResult result (λ object. value_of object ≡ value) (λ fault. ((self.now.kind ≡ kinds.Tree) ⊎ (self.now.kind ≡ kinds.Commit)) × (fault ≡ Memory)) }
         ensures refused { IfErr result (λ fault. ContentFault self.now.object_hash self.now.kind self.now.content.now fault) }
     {
         ObjectRef::from_bytes(alloc, self.kind, self.content, self.object_hash)
+    }
+
+    /// A reader of the tree's entries; `None` where the object is of another kind.
+    pub fn try_into_tree_iter(self) -> Option<TreeRefIter<'a>>
+        ensures { MatchOption result (self.entry.kind ≢ kinds.Tree)
+            (λ reader. (self.entry.kind ≡ kinds.Tree) × ReadsTree self.entry.object_hash self.entry.content.now reader) }
+    {
+        match self.kind {
+            Kind::Tree => Some(TreeRefIter::from_bytes(self.content, self.object_hash)),
+            Kind::Blob | Kind::Commit | Kind::Tag => None,
+        }
     }
 
     /// A reader of the commit's parts; `None` where the object is of another kind.

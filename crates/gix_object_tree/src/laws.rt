@@ -1,8 +1,8 @@
-//! Laws of loose objects: the contract is the law. The functions call the laws of commits and tags, and do nothing else.
+//! Laws of loose objects: the contract is the law. The functions call the laws of trees, commits and tags, and do nothing else.
 
 ghost use Rattle.std.specs.Prelude.{◌≡◌, ℕ, List, None};
 ghost use Rattle.gix_object_lines.specs.declared.kind.Kind.{Kind};
-ghost use Rattle.gix_object_tree.specs.Format.{HasIds, IsWritable, HasOneSpelling};
+ghost use Rattle.gix_object_tree.specs.Format.{HasIds, IsWritable, IsSpelledAsWritten};
 ghost use Rattle.gix_object_tree.specs.Loose.{IsLoose, loose_text};
 ghost use Rattle.gix_object_tree.specs.Object.{Value, Tells, kind_of, value_text, value_refusal};
 ghost use Rattle.gix_object_tree.specs.Views.{value_of};
@@ -11,6 +11,9 @@ pub mod owned;
 
 use crate::ObjectRef;
 use gix_object_commit::laws::{one_commit, read_is_written, written_is_read};
+use gix_object_entries::laws::{
+    bytes_spell_one_tree, read_tree_is_written, written_tree_is_read_back,
+};
 use gix_object_lines::decode::loose_header;
 use gix_object_tag::laws::{
     bytes_spell_one_tag, read_tag_is_written, read_tag_is_written_back, written_tag_is_read_back,
@@ -29,6 +32,7 @@ pub fn one_value(content: &[u8], hash_kind: gix_hash::Kind)
     ensures { (kind : Kind) (one other : Value) → Tells hash_kind kind content.now one
         → Tells hash_kind kind content.now other → one ≡ other }
 {
+    bytes_spell_one_tree(content, hash_kind);
     one_commit(content, hash_kind);
     bytes_spell_one_tag(content, hash_kind);
 }
@@ -49,6 +53,7 @@ pub fn written_object_is_read_back(object: &ObjectRef<'_>, hash_kind: gix_hash::
 {
     match object {
         ObjectRef::Blob(_) => {}
+        ObjectRef::Tree(tree) => written_tree_is_read_back(tree, hash_kind),
         ObjectRef::Commit(_) => written_is_read(),
         ObjectRef::Tag(tag) => written_tag_is_read_back(tag, hash_kind),
     }
@@ -60,15 +65,16 @@ pub fn read_object_has_ids(_bytes: &[u8], _hash_kind: gix_hash::Kind)
     ensures { (value : Value) → IsLoose _hash_kind _bytes.now value → HasIds _hash_kind value }
 {}
 
-/// An object that was read is written to the bytes that it was read from, unless it is a tag with an empty message: such a
-/// tag may end behind its lines, or have a line feed more before its signature. Its writing is refused only where a name or
+/// An object that was read is written to the bytes that it was read from, unless it is a tree with further zeros before a mode,
+/// or a tag with an empty message: such a tag may end behind its lines, or have a line feed more before its signature. Its writing is refused only where a name or
 /// an email holds `<` or `>`, a commit's encoding has no name, or a tag's name is none that Git makes.
 pub fn read_object_is_written_back(bytes: &[u8], hash_kind: gix_hash::Kind)
-    ensures bytes { (value : Value) → IsLoose hash_kind bytes.now value → HasOneSpelling value
+    ensures bytes { (value : Value) → (is : IsLoose hash_kind bytes.now value) → IsSpelledAsWritten hash_kind is.content value
         → loose_text (kind_of value) (value_text value) ≡ bytes.now }
     ensures accepted { (value : Value) → IsLoose hash_kind bytes.now value → IsWritable value → value_refusal value ≡ None }
 {
     let content = content_of(bytes);
+    read_tree_is_written(content, hash_kind);
     read_is_written(content, hash_kind);
     read_tag_is_written(content, hash_kind);
     read_tag_is_written_back(content, hash_kind);

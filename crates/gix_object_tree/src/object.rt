@@ -11,6 +11,7 @@ mod decode;
 mod write;
 
 use gix_object_commit::{BlobRef, CommitRef};
+use gix_object_entries::TreeRef;
 use gix_object_lines::Kind;
 use gix_object_lines::decode::{Error, LooseHeaderDecodeError};
 use gix_object_tag::TagRef;
@@ -21,6 +22,8 @@ use std::convert::TryFrom;
 pub enum ObjectRef<'a> {
     /// The content of a file.
     Blob(BlobRef<'a>),
+    /// The entries of a folder.
+    Tree(TreeRef<'a>),
     /// A tree with its history.
     Commit(CommitRef<'a>),
     /// A name and a message for another object.
@@ -49,6 +52,7 @@ impl<'a> ObjectRef<'a> {
     {
         match self {
             ObjectRef::Blob(_) => Kind::Blob,
+            ObjectRef::Tree(_) => Kind::Tree,
             ObjectRef::Commit(_) => Kind::Commit,
             ObjectRef::Tag(_) => Kind::Tag,
         }
@@ -60,7 +64,17 @@ impl<'a> ObjectRef<'a> {
     {
         match self {
             ObjectRef::Blob(blob) => Some(blob),
-            ObjectRef::Commit(_) | ObjectRef::Tag(_) => None,
+            ObjectRef::Tree(_) | ObjectRef::Commit(_) | ObjectRef::Tag(_) => None,
+        }
+    }
+
+    /// The tree; `None` where the object is of another kind.
+    pub fn as_tree(&self) -> Option<&TreeRef<'a>>
+        ensures { MatchOption result (kind_of (value_of self.now) ≢ kinds.Tree) (λ tree. self.now ≡ object.Tree tree.now) }
+    {
+        match self {
+            ObjectRef::Tree(tree) => Some(tree),
+            ObjectRef::Blob(_) | ObjectRef::Commit(_) | ObjectRef::Tag(_) => None,
         }
     }
 
@@ -70,7 +84,7 @@ impl<'a> ObjectRef<'a> {
     {
         match self {
             ObjectRef::Commit(commit) => Some(commit),
-            ObjectRef::Blob(_) | ObjectRef::Tag(_) => None,
+            ObjectRef::Blob(_) | ObjectRef::Tree(_) | ObjectRef::Tag(_) => None,
         }
     }
 
@@ -80,7 +94,7 @@ impl<'a> ObjectRef<'a> {
     {
         match self {
             ObjectRef::Tag(tag) => Some(tag),
-            ObjectRef::Blob(_) | ObjectRef::Commit(_) => None,
+            ObjectRef::Blob(_) | ObjectRef::Tree(_) | ObjectRef::Commit(_) => None,
         }
     }
 
@@ -89,6 +103,13 @@ impl<'a> ObjectRef<'a> {
         ensures { MatchOption result (kind_of (value_of self.entry) ≢ kinds.Blob) (λ blob. self.entry ≡ object.Blob blob) }
     {
         BlobRef::try_from(self).ok()
+    }
+
+    /// The tree itself; `None` where the object is of another kind.
+    pub fn into_tree(self) -> Option<TreeRef<'a>>
+        ensures { MatchOption result (kind_of (value_of self.entry) ≢ kinds.Tree) (λ tree. self.entry ≡ object.Tree tree) }
+    {
+        TreeRef::try_from(self).ok()
     }
 
     /// The commit itself; `None` where the object is of another kind.

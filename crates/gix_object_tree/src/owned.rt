@@ -13,6 +13,7 @@ mod write;
 
 use crate::ObjectRef;
 use gix_object_commit::{Blob, BlobRef, Commit};
+use gix_object_entries::Tree;
 use gix_object_lines::Kind;
 use gix_object_lines::decode::Error;
 use gix_object_tag::Tag;
@@ -24,6 +25,8 @@ use std::convert::TryFrom;
 pub enum Object {
     /// The content of a file.
     Blob(Blob),
+    /// The entries of a folder.
+    Tree(Tree),
     /// A tree with its history.
     Commit(Commit),
     /// A name and a message for another object.
@@ -37,6 +40,7 @@ impl Object {
     {
         match self {
             Object::Blob(_) => Kind::Blob,
+            Object::Tree(_) => Kind::Tree,
             Object::Commit(_) => Kind::Commit,
             Object::Tag(_) => Kind::Tag,
         }
@@ -48,7 +52,17 @@ impl Object {
     {
         match self {
             Object::Blob(blob) => Some(blob),
-            Object::Commit(_) | Object::Tag(_) => None,
+            Object::Tree(_) | Object::Commit(_) | Object::Tag(_) => None,
+        }
+    }
+
+    /// The tree; `None` where the object is of another kind.
+    pub fn as_tree(&self) -> Option<&Tree>
+        ensures { MatchOption result (kind_of (own_value self.now) ≢ kinds.Tree) (λ tree. self.now ≡ object.Tree tree.now) }
+    {
+        match self {
+            Object::Tree(tree) => Some(tree),
+            Object::Blob(_) | Object::Commit(_) | Object::Tag(_) => None,
         }
     }
 
@@ -58,7 +72,7 @@ impl Object {
     {
         match self {
             Object::Commit(commit) => Some(commit),
-            Object::Blob(_) | Object::Tag(_) => None,
+            Object::Blob(_) | Object::Tree(_) | Object::Tag(_) => None,
         }
     }
 
@@ -68,7 +82,7 @@ impl Object {
     {
         match self {
             Object::Tag(tag) => Some(tag),
-            Object::Blob(_) | Object::Commit(_) => None,
+            Object::Blob(_) | Object::Tree(_) | Object::Commit(_) => None,
         }
     }
 
@@ -84,6 +98,13 @@ impl Object {
         ensures { MatchOption result (kind_of (own_value self.now) ≢ kinds.Blob) (λ blob. value.Blob blob.content.now ≡ own_value self.now) }
     {
         Some(self.as_blob()?.to_ref())
+    }
+
+    /// The tree itself, or the object where it is of another kind.
+    pub fn try_into_tree(self) -> Result<Tree, Object>
+        ensures { MatchResult result (λ tree. self ≡ object.Tree tree) (λ back. (back ≡ self) × (kind_of (own_value self) ≢ kinds.Tree)) }
+    {
+        Tree::try_from(self)
     }
 
     /// The commit itself, or the object where it is of another kind.
@@ -106,6 +127,14 @@ impl Object {
         ensures { self ≡ object.Blob result }
     {
         self.try_into_blob().unwrap()
+    }
+
+    /// The tree itself. The caller gives an object of this kind.
+    pub fn into_tree(self) -> Tree
+        requires { kind_of (own_value self) ≡ kinds.Tree }
+        ensures { self ≡ object.Tree result }
+    {
+        self.try_into_tree().unwrap()
     }
 
     /// The commit itself. The caller gives an object of this kind.
@@ -143,6 +172,10 @@ impl<'a> ObjectRef<'a> {
         match self {
             ObjectRef::Blob(blob) => match blob.into_owned(alloc) {
                 Ok(blob) => Ok(Object::Blob(blob)),
+                Err(_) => Err(Error::Memory),
+            },
+            ObjectRef::Tree(tree) => match tree.to_owned(alloc) {
+                Ok(tree) => Ok(Object::Tree(tree)),
                 Err(_) => Err(Error::Memory),
             },
             ObjectRef::Commit(commit) => Ok(Object::Commit(commit.to_owned(alloc)?)),

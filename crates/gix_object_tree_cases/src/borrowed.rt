@@ -3,6 +3,7 @@
 use crate::case::Case;
 use crate::page::Page;
 use gix_object_commit::{BlobRef, CommitRef};
+use gix_object_entries::TreeRef;
 use gix_object_lines::Kind;
 use gix_object_lines::decode::Error;
 use gix_object_tag::TagRef;
@@ -20,6 +21,7 @@ pub fn show(alloc: Global, hash_kind: gix_hash::Kind, object: &ObjectRef<'_>, pa
         object.as_commit().map(|commit| commit.message.as_bytes()),
     );
     page.part("tag", object.as_tag().map(|tag| tag.name.as_bytes()));
+    page.entries(object.as_tree().map(|tree| tree.entries.len()));
 }
 
 /// A loose object.
@@ -66,6 +68,13 @@ fn given_tag<'a>(object: ObjectRef<'a>, page: &mut Page) {
     }
 }
 
+fn given_tree<'a>(object: ObjectRef<'a>, page: &mut Page) {
+    match object.into_tree() {
+        Some(tree) => page.entries(Some(tree.entries.len())),
+        None => page.entries(None),
+    }
+}
+
 /// What a loose object gives as each kind.
 pub fn give(alloc: Global, case: &Case, page: &mut Page) {
     match read(alloc, case) {
@@ -79,6 +88,10 @@ pub fn give(alloc: Global, case: &Case, page: &mut Page) {
     match read(alloc, case) {
         Some(object) => given_tag(object, page),
         None => page.part("tag", None),
+    }
+    match read(alloc, case) {
+        Some(object) => given_tree(object, page),
+        None => page.entries(None),
     }
 }
 
@@ -122,7 +135,14 @@ fn to_tag<'a>(object: ObjectRef<'a>) -> Result<ObjectRef<'a>, ObjectRef<'a>> {
     }
 }
 
-/// A loose object turned into a blob, a commit and a tag, and an object made of that; or the object that is handed back.
+fn to_tree<'a>(object: ObjectRef<'a>) -> Result<ObjectRef<'a>, ObjectRef<'a>> {
+    match TreeRef::try_from(object) {
+        Ok(tree) => Ok(ObjectRef::from(tree)),
+        Err(back) => Err(back),
+    }
+}
+
+/// A loose object turned into a blob, a commit, a tag and a tree, and an object made of that; or the object that is handed back.
 pub fn convert(alloc: Global, case: &Case, page: &mut Page) {
     if let Some(object) = read(alloc, case) {
         show_either(alloc, case.kind, to_blob(object), page);
@@ -132,5 +152,8 @@ pub fn convert(alloc: Global, case: &Case, page: &mut Page) {
     }
     if let Some(object) = read(alloc, case) {
         show_either(alloc, case.kind, to_tag(object), page);
+    }
+    if let Some(object) = read(alloc, case) {
+        show_either(alloc, case.kind, to_tree(object), page);
     }
 }

@@ -25,7 +25,7 @@ pub fn decode(alloc: Global, case: &Case, page: &mut Page) {
     }
 }
 
-/// How many tokens a commit's and a tag's reader give of the content, the last of which may be an error.
+/// How many tokens a commit's and a tag's reader and entries a tree's give of the content, the last of which may be an error.
 pub fn tokens(case: &Case, page: &mut Page) {
     let Some(data) = data(case) else {
         return page.word("no kind");
@@ -37,6 +37,10 @@ pub fn tokens(case: &Case, page: &mut Page) {
     match data.try_into_tag_iter() {
         Some(tokens) => page.value("; tag ", tokens.count(), ""),
         None => page.word("; tag none"),
+    }
+    match data.try_into_tree_iter() {
+        Some(entries) => page.value("; tree ", entries.count(), ""),
+        None => page.word("; tree none"),
     }
 }
 

@@ -3,6 +3,7 @@
 use crate::case::Case;
 use crate::page::Page;
 use gix_object_commit::{Blob, Commit};
+use gix_object_entries::Tree;
 use gix_object_lines::Kind;
 use gix_object_tag::Tag;
 use gix_object_tree::{Object, ObjectRef};
@@ -22,6 +23,7 @@ fn show(alloc: Global, hash_kind: gix_hash::Kind, object: &Object, page: &mut Pa
         object.as_commit().map(|commit| commit.message.as_bytes()),
     );
     page.part("tag", object.as_tag().map(|tag| tag.name.as_bytes()));
+    page.entries(object.as_tree().map(|tree| tree.entries.len()));
 }
 
 /// A copy of a loose object, and whether one that is given is like one that is lent.
@@ -55,7 +57,7 @@ pub fn give(alloc: Global, case: &Case, page: &mut Page) {
         Kind::Blob => page.object(alloc, case.kind, &object.into_blob()),
         Kind::Commit => page.object(alloc, case.kind, &object.into_commit()),
         Kind::Tag => page.object(alloc, case.kind, &object.into_tag()),
-        Kind::Tree => page.word("tree"),
+        Kind::Tree => page.object(alloc, case.kind, &object.into_tree()),
     }
 }
 
@@ -100,7 +102,14 @@ fn to_tag(object: Object) -> Result<Object, Object> {
     }
 }
 
-/// A copy of a loose object turned into a blob, a commit and a tag, and an object made of that; or the object that is handed
+fn to_tree(object: Object) -> Result<Object, Object> {
+    match object.try_into_tree() {
+        Ok(tree) => Tree::try_from(Object::from(tree)).map(|tree| Object::from(tree)),
+        Err(back) => Err(back),
+    }
+}
+
+/// A copy of a loose object turned into a blob, a commit, a tag and a tree, and an object made of that; or the object that is handed
 /// back.
 pub fn convert(alloc: Global, case: &Case, page: &mut Page) {
     if let Some(object) = read(alloc, case) {
@@ -111,5 +120,8 @@ pub fn convert(alloc: Global, case: &Case, page: &mut Page) {
     }
     if let Some(object) = read(alloc, case) {
         show_either(alloc, case.kind, to_tag(object), page);
+    }
+    if let Some(object) = read(alloc, case) {
+        show_either(alloc, case.kind, to_tree(object), page);
     }
 }

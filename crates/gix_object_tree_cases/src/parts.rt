@@ -29,6 +29,14 @@ impl Page {
         self.put(id);
     }
 
+    /// Adds how many entries a tree has, or that there is none.
+    pub fn entries(&mut self, count: Option<usize>) {
+        match count {
+            Some(count) => self.value("; tree ", count, ""),
+            None => self.word("; tree none"),
+        }
+    }
+
     /// Adds the bytes of a blob, the message of a commit or the name of a tag behind the word of its kind, or that there is none.
     pub fn part(&mut self, kind: &str, bytes: Option<&[u8]>) {
         self.word("; ");

@@ -1,7 +1,7 @@
 //! Laws of loose objects that own their parts.
 
 ghost use Rattle.std.specs.Prelude.{◌≡◌, None};
-ghost use Rattle.gix_object_tree.specs.Format.{HasOwnIds, HasOneSpelling, IsKeptWhole};
+ghost use Rattle.gix_object_tree.specs.Format.{HasOwnIds, IsSpelledAsWritten, IsKeptWhole};
 ghost use Rattle.gix_object_tree.specs.Loose.{IsLoose, loose_text};
 ghost use Rattle.gix_object_tree.specs.Object.{Value, kind_of, value_text};
 ghost use Rattle.gix_object_tree.specs.Owned.{own_value, own_value_refusal, IsOwned};
@@ -11,6 +11,7 @@ use crate::Object;
 use crate::laws::read_object_is_written_back;
 use gix_hash::laws::lower_case_is_written;
 use gix_object_commit::laws::owned::owned_written_is_read;
+use gix_object_entries::laws::owned_written_tree_is_read_back;
 use gix_object_tag::laws::owned::owned_written_tag_is_read_back;
 
 /// What is written of an object that owns its parts and isn't refused, behind its header, is a loose object that tells its
@@ -21,6 +22,7 @@ pub fn owned_written_object_is_read_back(object: &Object, _hash_kind: gix_hash::
 {
     match object {
         Object::Blob(_) => {}
+        Object::Tree(tree) => owned_written_tree_is_read_back(tree, _hash_kind),
         Object::Commit(commit) => owned_written_is_read(commit),
         Object::Tag(tag) => owned_written_tag_is_read_back(tag),
     }
@@ -35,10 +37,11 @@ pub fn owned_object_keeps_its_value(_bytes: &[u8], _hash_kind: gix_hash::Kind)
     lower_case_is_written();
 }
 
-/// So it is written to the bytes that it was read from, unless it is a tag with an empty message.
+/// So it is written to the bytes that it was read from, unless it is a tree with further zeros before a mode, or a tag with an
+/// empty message.
 pub fn owned_object_is_written_back(bytes: &[u8], hash_kind: gix_hash::Kind)
-    ensures { (value : Value) (object : owned.Object) → IsLoose hash_kind bytes.now value → IsOwned value object → IsKeptWhole value
-        → HasOneSpelling value → loose_text (kind_of (own_value object)) (value_text (own_value object)) ≡ bytes.now }
+    ensures { (value : Value) (object : owned.Object) → (is : IsLoose hash_kind bytes.now value) → IsOwned value object → IsKeptWhole value
+        → IsSpelledAsWritten hash_kind is.content value → loose_text (kind_of (own_value object)) (value_text (own_value object)) ≡ bytes.now }
 {
     owned_object_keeps_its_value(bytes, hash_kind);
     read_object_is_written_back(bytes, hash_kind);

@@ -8,6 +8,7 @@ ghost use Rattle.gix_object_tree.specs.declared.object.ObjectRef.TheVariants as 
 
 use crate::object::ObjectRef;
 use gix_object_commit::{BlobRef, CommitRef};
+use gix_object_entries::TreeRef;
 use gix_object_tag::TagRef;
 use std::convert::TryFrom;
 
@@ -16,6 +17,14 @@ impl<'a> From<BlobRef<'a>> for ObjectRef<'a> {
 
     fn from(blob: BlobRef<'a>) -> ObjectRef<'a> {
         ObjectRef::Blob(blob)
+    }
+}
+
+impl<'a> From<TreeRef<'a>> for ObjectRef<'a> {
+    ghost from_gives = { λ tree given. given ≡ object.Tree tree };
+
+    fn from(tree: TreeRef<'a>) -> ObjectRef<'a> {
+        ObjectRef::Tree(tree)
     }
 }
 
@@ -44,6 +53,20 @@ impl<'a> TryFrom<ObjectRef<'a>> for BlobRef<'a> {
     fn try_from(object: ObjectRef<'a>) -> Result<BlobRef<'a>, ObjectRef<'a>> {
         match object {
             ObjectRef::Blob(blob) => Ok(blob),
+            other => Err(other),
+        }
+    }
+}
+
+// An object of another kind is handed back.
+impl<'a> TryFrom<ObjectRef<'a>> for TreeRef<'a> {
+    type Error = ObjectRef<'a>;
+
+    ghost try_from_gives = { λ given r. MatchResult r (λ tree. given ≡ object.Tree tree) (λ back. (back ≡ given) × (kind_of (value_of back) ≢ kinds.Tree)) };
+
+    fn try_from(object: ObjectRef<'a>) -> Result<TreeRef<'a>, ObjectRef<'a>> {
+        match object {
+            ObjectRef::Tree(tree) => Ok(tree),
             other => Err(other),
         }
     }

@@ -1,6 +1,6 @@
 //! Reading objects.
 
-ghost use Rattle.std.specs.Prelude.{◌≡◌, ◌++◌, ℕ, List, IfOk, IfErr, MatchOption, MatchResult, length};
+ghost use Rattle.std.specs.Prelude.{◌≡◌, ◌⊎◌, ◌++◌, ℕ, List, IfOk, IfErr, MatchOption, MatchResult, length};
 ghost use Rattle.gix_object_lines.specs.declared.decode.Error.TheVariants.{Memory};
 ghost use Rattle.gix_object_lines.specs.declared.kind.Kind.{Kind};
 ghost use Rattle.gix_object_lines.specs.declared.kind.Kind.TheVariants as kinds;
@@ -11,6 +11,7 @@ ghost use Rattle.gix_object_tree.specs.declared.object.LooseDecodeError.TheVaria
 
 use crate::object::{LooseDecodeError, ObjectRef};
 use gix_object_commit::{BlobRef, CommitRef};
+use gix_object_entries::TreeRef;
 use gix_object_lines::Kind;
 use gix_object_lines::decode::{Error, loose_header};
 use gix_object_tag::TagRef;
@@ -22,7 +23,7 @@ impl<'a> ObjectRef<'a> {
     ///
     /// It is `InvalidHeader` where no header begins the bytes. It is `InvalidContent(None)` where fewer bytes stand behind the
     /// header than it tells, or more, neither of which git-fsck lets pass; and `InvalidContent` with an error of `from_bytes`
-    /// where the content isn't read. It is `OutOfMemory` where no memory is left for a commit's parts.
+    /// where the content isn't read. It is `OutOfMemory` where no memory is left for a tree's entries or a commit's parts.
     pub fn from_loose(
         alloc: Global,
         bytes: &'a [u8],
@@ -43,8 +44,8 @@ impl<'a> ObjectRef<'a> {
 
     /// The object of this kind that the content spells, its ids of this hash function.
     ///
-    /// Any bytes are a blob. The errors of a commit and a tag are those of their readers, `Memory` only a commit's. The content
-    /// of a tree is `FieldName`: trees aren't read.
+    /// Any bytes are a blob. The errors of a tree, a commit and a tag are those of their readers, `Memory` only a tree's or a
+    /// commit's.
     pub fn from_bytes(
         alloc: Global,
         kind: Kind,
@@ -53,12 +54,12 @@ impl<'a> ObjectRef<'a> {
     ) -> Result<ObjectRef<'a>, Error>
         ensures read { IfOk result (λ object. Tells hash_kind kind content.now (value_of object)) }
         ensures every { (value : Value) → Tells hash_kind kind content.now value
-            → MatchResult result (λ object. value_of object ≡ value) (λ fault. (kind ≡ kinds.Commit) × (fault ≡ Memory)) }
+            → MatchResult result (λ object. value_of object ≡ value) (λ fault. ((kind ≡ kinds.Tree) ⊎ (kind ≡ kinds.Commit)) × (fault ≡ Memory)) }
         ensures refused { IfErr result (λ fault. ContentFault hash_kind kind content.now fault) }
     {
         match kind {
-            Kind::Tree => Err(Error::FieldName),
             Kind::Blob => Ok(ObjectRef::Blob(BlobRef::from_bytes(content))),
+            Kind::Tree => Ok(ObjectRef::Tree(TreeRef::from_bytes(alloc, content, hash_kind)?)),
             Kind::Commit => Ok(ObjectRef::Commit(CommitRef::from_bytes(
                 alloc, content, hash_kind,
             )?)),

@@ -18,6 +18,7 @@ impl<'a> WriteTo for ObjectRef<'a> {
     fn write_to<W: io::Write>(&self, out: &mut W) -> Result<(), Error> {
         match self {
             ObjectRef::Blob(blob) => blob.write_to(out),
+            ObjectRef::Tree(tree) => tree.write_to(out),
             ObjectRef::Commit(commit) => commit.write_to(out),
             ObjectRef::Tag(tag) => tag.write_to(out),
         }
@@ -30,6 +31,7 @@ impl<'a> WriteTo for ObjectRef<'a> {
     fn size(&self) -> Option<u64> {
         match self {
             ObjectRef::Blob(blob) => blob.size(),
+            ObjectRef::Tree(tree) => tree.size(),
             ObjectRef::Commit(commit) => commit.size(),
             ObjectRef::Tag(tag) => tag.size(),
         }

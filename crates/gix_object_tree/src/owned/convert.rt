@@ -8,6 +8,7 @@ ghost use Rattle.gix_object_tree.specs.declared.owned.Object.TheVariants as obje
 
 use crate::Object;
 use gix_object_commit::{Blob, Commit};
+use gix_object_entries::Tree;
 use gix_object_tag::Tag;
 use std::convert::TryFrom;
 
@@ -16,6 +17,14 @@ impl From<Blob> for Object {
 
     fn from(blob: Blob) -> Object {
         Object::Blob(blob)
+    }
+}
+
+impl From<Tree> for Object {
+    ghost from_gives = { λ tree given. given ≡ object.Tree tree };
+
+    fn from(tree: Tree) -> Object {
+        Object::Tree(tree)
     }
 }
 
@@ -44,6 +53,20 @@ impl TryFrom<Object> for Blob {
     fn try_from(object: Object) -> Result<Blob, Object> {
         match object {
             Object::Blob(blob) => Ok(blob),
+            other => Err(other),
+        }
+    }
+}
+
+// An object of another kind is handed back.
+impl TryFrom<Object> for Tree {
+    type Error = Object;
+
+    ghost try_from_gives = { λ given r. MatchResult r (λ tree. given ≡ object.Tree tree) (λ back. (back ≡ given) × (kind_of (own_value back) ≢ kinds.Tree)) };
+
+    fn try_from(object: Object) -> Result<Tree, Object> {
+        match object {
+            Object::Tree(tree) => Ok(tree),
             other => Err(other),
         }
     }

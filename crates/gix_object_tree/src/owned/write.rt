@@ -18,6 +18,7 @@ impl WriteTo for Object {
     fn write_to<W: io::Write>(&self, out: &mut W) -> Result<(), Error> {
         match self {
             Object::Blob(blob) => blob.write_to(out),
+            Object::Tree(tree) => tree.write_to(out),
             Object::Commit(commit) => commit.write_to(out),
             Object::Tag(tag) => tag.write_to(out),
         }
@@ -30,6 +31,7 @@ impl WriteTo for Object {
     fn size(&self) -> Option<u64> {
         match self {
             Object::Blob(blob) => blob.size(),
+            Object::Tree(tree) => tree.size(),
             Object::Commit(commit) => commit.size(),
             Object::Tag(tag) => tag.size(),
         }

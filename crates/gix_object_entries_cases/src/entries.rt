@@ -1,0 +1,46 @@
+//! Entries and their order.
+
+use crate::case::Case;
+use crate::page::Page;
+use gix_object_entries::TreeRef;
+use gix_object_entries::tree::{EntryRef, name_order};
+use std::alloc::Global;
+
+/// Adds an entry: its mode, what it names, its id and its name.
+pub fn show(entry: EntryRef<'_>, page: &mut Page) {
+    let mut backing = [0; 6];
+    page.bytes(entry.mode.as_bytes(&mut backing).as_bytes());
+    page.value(" ", entry.mode.as_str(), " ");
+    page.put(entry.oid);
+    page.text(" ", entry.filename.as_bytes(), "");
+}
+
+/// The order of two names, each a tree's where the word behind it isn't empty.
+pub fn order(case: &Case, page: &mut Page) {
+    page.name(name_order(
+        case.text(0),
+        !case.text(1).is_empty(),
+        case.text(2),
+        !case.text(3).is_empty(),
+    ));
+}
+
+/// The order of the first entries of two trees, whether they are equal, and the same of entries that own their names.
+pub fn compare(alloc: Global, case: &Case, page: &mut Page) {
+    let (Ok(one), Ok(other)) = (
+        TreeRef::from_bytes(alloc, case.text(0), case.kind),
+        TreeRef::from_bytes(alloc, case.text(1), case.kind),
+    ) else {
+        return page.word("no trees");
+    };
+    let (Some(a), Some(b)) = (one.entries.first(), other.entries.first()) else {
+        return page.word("no entries");
+    };
+    page.name(a.cmp(b));
+    page.test(" equal", a == b);
+    if let (Ok(a), Ok(b)) = (a.to_owned(alloc), b.to_owned(alloc)) {
+        page.word("; ");
+        page.name(a.cmp(&b));
+        page.test(" equal", a == b);
+    }
+}

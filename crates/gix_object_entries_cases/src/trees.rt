@@ -1,0 +1,126 @@
+//! Trees, read whole and entry by entry, and written.
+
+use crate::case::Case;
+use crate::entries;
+use crate::page::Page;
+use bstr::BStr;
+use gix_hash::ObjectId;
+use gix_object_entries::tree::{Entry, EntryKind, EntryMode};
+use gix_object_entries::{Tree, TreeRef, TreeRefIter};
+use gix_object_lines::{ByteString, WriteTo};
+use std::alloc::{AllocError, Global};
+
+// The kind, the length and the id of what is written of a tree; or why it isn't, and how many bytes were written.
+fn show_written<T: WriteTo>(alloc: Global, kind: gix_hash::Kind, tree: &T, page: &mut Page) {
+    let mut content = Vec::new(alloc);
+    if let Err(error) = tree.write_to(&mut content) {
+        page.value("; ", content.len(), " bytes, then refused ");
+        return page.name(error);
+    }
+    let mut digest = gix_hash::hasher::hasher(kind);
+    match tree.loose_header(alloc) {
+        Some(header) => digest.update(header.as_slice()),
+        None => page.word("no header "),
+    }
+    digest.update(content.as_slice());
+    page.value("; ", tree.kind(), " ");
+    match tree.size() {
+        Some(size) => page.value("", size, " "),
+        None => page.word("no size "),
+    }
+    page.put(digest.try_finalize());
+}
+
+/// The tree that a content spells: its entries, whether it is well-formed, and what is written of it.
+pub fn tree(alloc: Global, case: &Case, page: &mut Page) {
+    let tree = match TreeRef::from_bytes(alloc, case.text(0), case.kind) {
+        Ok(tree) => tree,
+        Err(error) => return page.refused(error),
+    };
+    page.value("", tree.entries.len(), " entries");
+    for entry in &tree.entries {
+        page.word("; ");
+        entries::show(*entry, page);
+    }
+    page.test("; well-formed", tree.is_well_formed());
+    page.test("; empty", tree == TreeRef::empty(alloc));
+    show_written(alloc, case.kind, &tree, page);
+}
+
+fn read_owned(alloc: Global, case: &Case) -> Option<Tree> {
+    let tree = TreeRef::from_bytes(alloc, case.text(0), case.kind).ok()?;
+    tree.into_owned(alloc).ok()
+}
+
+/// The tree that owns the entries of a content: the same, and whether a copy that is lent is like it.
+pub fn owned(alloc: Global, case: &Case, page: &mut Page) {
+    let Some(tree) = read_owned(alloc, case) else {
+        return page.word("not owned");
+    };
+    page.value("", tree.entries.len(), " entries");
+    page.test("; well-formed", tree.is_well_formed());
+    page.test("; empty", tree == Tree::empty(alloc));
+    show_written(alloc, case.kind, &tree, page);
+    if let Ok(borrowed) = TreeRef::from_bytes(alloc, case.text(0), case.kind) {
+        match borrowed.to_owned(alloc) {
+            Ok(other) => page.test("; alike", tree == other),
+            Err(AllocError) => page.word("; not owned"),
+        }
+    }
+}
+
+fn make(alloc: Global, case: &Case) -> Result<Tree, AllocError> {
+    let mut tree = Tree::empty(alloc);
+    for name in &case.texts {
+        tree.entries.push(Entry {
+            mode: EntryMode::from(EntryKind::Blob),
+            filename: ByteString::from_slice(alloc, name.as_slice())?,
+            oid: ObjectId::null(case.kind),
+        })?;
+    }
+    Ok(tree)
+}
+
+/// A tree of files of these names and the null id: whether it is well-formed, and what is written of it.
+pub fn made(alloc: Global, case: &Case, page: &mut Page) {
+    let Ok(tree) = make(alloc, case) else {
+        return page.word("not made");
+    };
+    page.value("", tree.entries.len(), " entries");
+    page.test("; well-formed", tree.is_well_formed());
+    show_written(alloc, case.kind, &tree, page);
+}
+
+/// The entries of a content one by one, each with where the next begins, and the error that ends them.
+pub fn iter(case: &Case, page: &mut Page) {
+    let content = case.text(0);
+    let mut tokens = TreeRefIter::from_bytes(content, case.kind);
+    let mut count = 0;
+    'tokens: while let Some(token) = tokens.next() {
+        match token {
+            Ok(entry) => {
+                entries::show(entry, page);
+                page.word("; ");
+            }
+            Err(error) => {
+                page.refused(error);
+                page.word("; ");
+            }
+        }
+        if count < 1000 {
+            count += 1;
+        }
+    }
+    page.value("", count, " in all");
+}
+
+/// The entry of a name, a tree's where the last word isn't empty.
+pub fn bisect(alloc: Global, case: &Case, page: &mut Page) {
+    let Ok(tree) = TreeRef::from_bytes(alloc, case.text(0), case.kind) else {
+        return page.word("no tree");
+    };
+    match tree.bisect_entry(BStr::new(case.text(1)), !case.text(2).is_empty()) {
+        Some(entry) => entries::show(entry, page),
+        None => page.word("none"),
+    }
+}

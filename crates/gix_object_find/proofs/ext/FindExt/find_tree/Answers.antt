@@ -1,0 +1,8 @@
+use Rattle.std.proofs.Common.{subst}
+use Rattle.gix_object_entries.specs.Entry.{TreeFault}
+use Rattle.gix_object_find.proofs.ext.FindExt.find_tree.Goals as goal
+
+pub returns-in-Err-clause-refused : goal.returns-in-Err-clause-refused
+returns-in-Err-clause-refused g c =
+    let fault = subst (λ kind. TreeFault kind c.in_ok-content.content.now c.in-Err.source) c.kind.ensures c.in-Err.ensures.refused in
+    (c.from.ensures, (c.in_ok-content.content.now, c.in_ok-content.ensures.found, fault))
