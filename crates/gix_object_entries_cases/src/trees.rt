@@ -18,7 +18,7 @@ fn show_written<T: WriteTo>(alloc: Global, kind: gix_hash::Kind, tree: &T, page:
         return page.name(error);
     }
     let mut digest = gix_hash::hasher::hasher(kind);
-    match tree.loose_header(alloc) {
+    match tree.loose_header() {
         Some(header) => digest.update(header.as_slice()),
         None => page.word("no header "),
     }
