@@ -129,11 +129,6 @@ pub mod tree {
     pub use gix_object_entries::tree::{Entry, EntryKind, EntryMode, EntryRef, name_order};
 }
 
-/// Writing objects.
-pub mod write {
-    pub use gix_object_lines::write::Error;
-}
-
 pub use gix_object_commit::{
     Blob, BlobRef, Commit, CommitRef, CommitRefIter, compute_hash, compute_stream_hash,
 };
@@ -141,6 +136,7 @@ pub use gix_object_entries::{Tree, TreeRef, TreeRefIter};
 pub use gix_object_find::{
     Exists, Find, FindExt, FindHeader, FindObjectOrHeader, HeaderExt, Lookup,
 };
+pub use gix_object_lines::write::Error as WriteToError;
 pub use gix_object_lines::{ByteString, Header, Kind, WriteTo};
 pub use gix_object_tag::{Tag, TagRef, TagRefIter};
 pub use gix_object_tree::{Data, Object, ObjectRef};
