@@ -4,3 +4,5 @@ pub mod SpaceLemmas
 pub mod PackedLemmas
 pub mod SortLemmas
 pub mod GatherLemmas
+pub mod WordLemmas
+pub mod WrittenLemmas

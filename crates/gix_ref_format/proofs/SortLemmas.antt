@@ -140,8 +140,8 @@ search_ends key (x ∷ xs) zero up parts = go (slice_cmp nat_cmp x.name key) ref
     go Greater is =
         let differs : named key x ≡ false = sym (is_eq-slice_cmp x.name key) ∙ ap is_eq is in
         let high : (k : ℕ) (d : Entry) → k < length xs → rank key (get_or xs k d) ≡ 2 = λ k d lt.
-          highest (slice_cmp nat_cmp (get_or xs k d).name key)
-          (subst (λ (o : Ordering). ordering_index o ≤ rank key (get_or xs k d)) is (up 0 (suc k) d (omega arith) (omega (arith, lt)))) in
+        highest (slice_cmp nat_cmp (get_or xs k d).name key)
+        (subst (λ (o : Ordering). ordering_index o ≤ rank key (get_or xs k d)) is (up 0 (suc k) d (omega arith) (omega (arith, lt)))) in
         passed key x xs differs ∙ none_behind key xs high ∙ sym (ap (λ b. cond b (Some x) None) differs)
 
 lowest : (o : Ordering) → is_lt o ≡ true → ordering_index o ≡ 0

@@ -5,3 +5,4 @@ pub mod Packed
 pub mod PackedIter
 pub mod PackedBuffer
 pub mod PackedKept
+pub mod Lookup

@@ -9,12 +9,13 @@ mod decode;
 mod find;
 pub mod iter;
 mod open;
-
-use gix_hash::ObjectId;
-use gix_ref_name::FullNameRef;
+mod records;
 
 pub use crate::packed::buffer::Buffer;
 pub use crate::packed::iter::Iter;
+pub use crate::packed::records::Records;
+use gix_hash::ObjectId;
+use gix_ref_name::FullNameRef;
 
 /// How far the records tell peeled ids.
 #[derive(Debug, Clone, Copy, PartialEq, Eq)]

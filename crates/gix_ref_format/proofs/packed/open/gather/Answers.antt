@@ -14,11 +14,11 @@ returns-in_err-owned_record c =
 
 pub loop-item-preserved : goal.loop-item-preserved
 loop-item-preserved c = (
-    tt,
-    tt,
-    gathered_on (items_left c.args.records) c.loop-item.entries.items c.push.new.self.items c.in_ok-owned_record.field-0 (item_view c.in-Some.item) (items_left c.loop-item.left)
-    (items_left c.next.new.self) c.loop-item.invariant.2 c.in-Some.ensures.steps c.in_ok-owned_record.ensures c.in_ok-push.ensures.items,
-  )
+  tt,
+  tt,
+  gathered_on (items_left c.args.records) c.loop-item.entries.items c.push.new.self.items c.in_ok-owned_record.field-0 (item_view c.in-Some.item) (items_left c.loop-item.left)
+      (items_left c.next.new.self) c.loop-item.invariant.2 c.in-Some.ensures.steps c.in_ok-owned_record.ensures c.in_ok-push.ensures.items,
+)
 
 pub returns : goal.returns
 returns c =

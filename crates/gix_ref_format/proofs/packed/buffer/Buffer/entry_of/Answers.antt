@@ -10,7 +10,7 @@ returns-in_err-entry c =
     let xs = c.args.self.now.entries.items in
     let key = c.args.name.now in
     let parts = IsPartitionPoint-from_clause (below key) c.deref.result.now c.partition_point-at.result c.partition_point-at.ensures.partitioned
-      (parted key c.deref.result.now xs c.deref.ensures.value c.args.self.now.in_order) (λ a r q k. search (rules, tests)) in
+    (parted key c.deref.result.now xs c.deref.ensures.value c.args.self.now.in_order) (λ a r q k. search (rules, tests)) in
     let none = none_there c.deref-2.result.now xs c.partition_point-at.result c.deref-2.ensures.value c.in_err-entry.ensures.lookup.3 in
     rw c.from_residual.ensures (sym (searched_hit key c.deref.result.now xs c.partition_point-at.result None c.deref.ensures.value c.args.self.now.in_order parts none))
 
@@ -20,7 +20,7 @@ returns-then-eq c =
     let key = c.args.name.now in
     let e = c.in_ok-entry.entry.now in
     let parts = IsPartitionPoint-from_clause (below key) c.deref.result.now c.partition_point-at.result c.partition_point-at.ensures.partitioned
-      (parted key c.deref.result.now xs c.deref.ensures.value c.args.self.now.in_order) (λ a r q k. search (rules, tests)) in
+    (parted key c.deref.result.now xs c.deref.ensures.value c.args.self.now.in_order) (λ a r q k. search (rules, tests)) in
     let there = found_there c.deref-2.result.now xs c.partition_point-at.result e c.deref-2.ensures.value c.in_ok-entry.ensures.lookup.3.0 c.in_ok-entry.ensures.lookup.1 in
     let same : named key e ≡ true = sym (ap (λ n. bytes_eq n key) c.name_of.ensures) ∙ sym c.eq.ensures ∙ c.if-eq.true in
     sym (searched_hit key c.deref.result.now xs c.partition_point-at.result (Some e) c.deref.ensures.value c.args.self.now.in_order parts there
@@ -32,7 +32,7 @@ returns-else-eq c =
     let key = c.args.name.now in
     let e = c.in_ok-entry.entry.now in
     let parts = IsPartitionPoint-from_clause (below key) c.deref.result.now c.partition_point-at.result c.partition_point-at.ensures.partitioned
-      (parted key c.deref.result.now xs c.deref.ensures.value c.args.self.now.in_order) (λ a r q k. search (rules, tests)) in
+    (parted key c.deref.result.now xs c.deref.ensures.value c.args.self.now.in_order) (λ a r q k. search (rules, tests)) in
     let there = found_there c.deref-2.result.now xs c.partition_point-at.result e c.deref-2.ensures.value c.in_ok-entry.ensures.lookup.3.0 c.in_ok-entry.ensures.lookup.1 in
     let differs : named key e ≡ false = sym (ap (λ n. bytes_eq n key) c.name_of.ensures) ∙ sym c.eq.ensures ∙ c.if-eq.false in
     sym (searched_hit key c.deref.result.now xs c.partition_point-at.result (Some e) c.deref.ensures.value c.args.self.now.in_order parts there
