@@ -2,6 +2,7 @@
 #![tactic(auto)]
 
 mod ids;
+pub mod laws;
 mod lines;
 pub mod loose;
 pub mod packed;

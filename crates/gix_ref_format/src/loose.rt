@@ -116,7 +116,11 @@ fn id_in(text: &[u8], kind: Kind) -> Option<ObjectId>
     ensures { option_map id_of result ≡ leading_id kind text.now }
 {
     let (digits, rest) = text.split_at_checked(kind.len_in_hex())?;
-    if ends_word(rest) { parse_hex(kind, digits) } else { None }
+    if ends_word(rest) {
+        parse_hex(kind, digits)
+    } else {
+        None
+    }
 }
 
 fn ends_word(rest: &[u8]) -> bool

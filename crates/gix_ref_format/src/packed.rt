@@ -4,13 +4,18 @@ ghost use Rattle.std.specs.Prelude.{◌≡◌, unwrap_or};
 ghost use Rattle.std.specs.Option.{option_map};
 ghost use Rattle.gix_hash.specs.Id.{id_of};
 
+pub mod buffer;
 mod decode;
+mod find;
 pub mod iter;
+mod open;
+mod records;
 
+pub use crate::packed::buffer::Buffer;
+pub use crate::packed::iter::Iter;
+pub use crate::packed::records::Records;
 use gix_hash::ObjectId;
 use gix_ref_name::FullNameRef;
-
-pub use crate::packed::iter::Iter;
 
 /// How far the records tell peeled ids.
 #[derive(Debug, Clone, Copy, PartialEq, Eq)]

@@ -99,5 +99,9 @@ pub(crate) fn peel_in_line(line: &[u8], kind: Kind) -> Option<ObjectId>
 fn peel_in(text: &[u8], kind: Kind) -> Option<ObjectId>
     ensures { option_map id_of result ≡ peel_text kind text.now }
 {
-    if text.starts_with(b"^") { parse_hex(kind, &text[1..]) } else { None }
+    if text.starts_with(b"^") {
+        parse_hex(kind, &text[1..])
+    } else {
+        None
+    }
 }

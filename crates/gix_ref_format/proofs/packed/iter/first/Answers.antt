@@ -11,8 +11,8 @@ pub returns : goal.returns
 returns c =
     let before = c.args.before in
     let has =
-      has_moved c.behind-after.result.kind before.kind c.behind-after.result.line_number (next_number before.line_number) c.behind-after.result.rest.now c.split_line.result.1.now
-      (option_map id_of c.peeled-object.result.0) (items_left c.peeled-object.result.1) c.behind-after.ensures.kind c.behind-after.ensures.number c.behind-after.ensures.rest c.peeled-object.ensures
+    has_moved c.behind-after.result.kind before.kind c.behind-after.result.line_number (next_number before.line_number) c.behind-after.result.rest.now c.split_line.result.1.now
+    (option_map id_of c.peeled-object.result.0) (items_left c.peeled-object.result.1) c.behind-after.ensures.kind c.behind-after.ensures.number c.behind-after.ensures.rest c.peeled-object.ensures
     in
     ap (items before.kind before.line_number false) c.split_line.ensures.lines
     ∙ good_first before.kind before.line_number c.split_line.result.0.now (lines c.split_line.result.1.now) (without_peel (name_of c.in-Some.name) (id_of c.in-Some.target))

@@ -1,0 +1,13 @@
+-- What a buffer of `packed-refs` holds, and what an iterator over it has yet to give.
+use Rattle.std.specs.Prelude.{List}
+use Rattle.gix_ref_format.specs.Packed.{Record}
+use Rattle.gix_ref_format.specs.PackedBuffer.{entry_records}
+use Rattle.gix_ref_format.specs.declared.packed.buffer.Buffer.{Buffer}
+use Rattle.gix_ref_format.specs.declared.packed.records.Records.{Records}
+
+-- the records, ascending by name
+abbrev pub kept : Buffer → List Record
+kept buffer = entry_records buffer.entries.items
+
+abbrev pub records_left : Records → List Record
+records_left records = entry_records records.rest.now

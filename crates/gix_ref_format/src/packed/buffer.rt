@@ -1,0 +1,66 @@
+//! The whole of `packed-refs`: what a buffer keeps, and why a file isn't opened.
+
+ghost use Rattle.std.specs.Prelude.{◌≡◌};
+ghost use Rattle.gix_ref_format.specs.declared.packed.buffer.Error.TheVariants.{Memory};
+ghost use Rattle.gix_ref_format.specs.PackedBuffer.{IsInOrder};
+
+use gix_hash::ObjectId;
+use gix_ref_name::FullName;
+use std::alloc::{AllocError, AllocFailed};
+use thiserror::Error;
+
+/// Why a file isn't opened.
+#[derive(Debug, Clone, Copy, PartialEq, Eq, Error)]
+pub enum Error {
+    /// A line is neither a record nor the peeled id of the one before it, or no line feed ends it.
+    #[error("line {line_number} of the packed references can't be read")]
+    Iter {
+        /// The number of the first such line, from 1 on.
+        line_number: u64,
+    },
+    /// The first line begins with `#` and is no header.
+    #[error("the header of the packed references can't be read")]
+    HeaderParsing,
+    /// No memory is left.
+    #[error("no memory is left")]
+    Memory,
+}
+
+impl From<AllocError> for Error {
+    ghost from_gives = { λ _ e. e ≡ Memory };
+
+    fn from(_: AllocError) -> Self {
+        Error::Memory
+    }
+}
+
+impl<T: Drop> From<AllocFailed<T>> for Error {
+    ghost from_gives = { λ _ e. e ≡ Memory };
+
+    fn from(_: AllocFailed<T>) -> Self {
+        Error::Memory
+    }
+}
+
+// A record that owns its name.
+#[derive(Debug, Drop)]
+pub(crate) struct Entry {
+    pub(crate) name: FullName,
+    pub(crate) target: ObjectId,
+    pub(crate) object: Option<ObjectId>,
+}
+
+/// The bytes of `packed-refs`, and its records in the order of their names, whatever order the file has.
+#[derive(Debug, Drop)]
+pub struct Buffer {
+    pub(crate) bytes: Vec<u8>,
+    pub(crate) entries: Vec<Entry>,
+    ghost in_order: { IsInOrder entries.items },
+}
+
+// The bytes of its name.
+pub(crate) fn name_of(entry: &Entry) -> &[u8]
+    ensures { result.now ≡ entry.now.name }
+{
+    entry.name.to_path()
+}

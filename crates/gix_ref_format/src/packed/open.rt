@@ -1,0 +1,73 @@
+//! Opening `packed-refs`.
+
+ghost use Rattle.std.specs.Prelude.{◌≡◌, Some, IfOk, MatchResult};
+ghost use Rattle.gix_ref_format.specs.Packed.{Good, item_view, packed_records, all_good};
+ghost use Rattle.gix_ref_format.specs.PackedBuffer.{entry_record, entry_records, IsInOrder, Holds, Keeps, OpenFault, GatherFault, ItemFault};
+ghost use Rattle.gix_ref_format.specs.PackedIter.{items_left};
+ghost use Rattle.gix_ref_format.specs.PackedKept.{kept};
+
+use crate::packed::Reference;
+use crate::packed::buffer::{Buffer, Entry, Error, name_of};
+use crate::packed::iter::{self, Iter};
+use gix_hash::Kind;
+use std::alloc::{AllocError, Global};
+
+impl Buffer {
+    /// The buffer of these bytes, which are taken over, with ids of this kind. It reads each line once: the first bad one is told
+    /// by its number (`Iter`), a first line that begins with `#` and is no header is `HeaderParsing`.
+    pub fn from_bytes(alloc: Global, bytes: Vec<u8>, kind: Kind) -> Result<Buffer, Error>
+        ensures kept { MatchResult result (λ buffer. Keeps kind bytes.items (kept buffer)) (OpenFault kind bytes.items) }
+        ensures bytes { IfOk result (λ buffer. buffer.bytes ≡ bytes) }
+    {
+        let entries = sorted(collect(alloc, &bytes, kind)?)?;
+        Ok(Buffer { bytes, entries })
+    }
+}
+
+// All records, in the order of the file.
+fn collect(alloc: Global, bytes: &[u8], kind: Kind) -> Result<Vec<Entry>, Error>
+    ensures { MatchResult result (λ entries. packed_records kind bytes.now ≡ Some (entry_records entries.items)) (OpenFault kind bytes.now) }
+{
+    match Iter::new(bytes, kind) {
+        Ok(records) => gather(alloc, records),
+        Err(_) => Err(Error::HeaderParsing),
+    }
+}
+
+// The records that are left, in their order.
+fn gather(alloc: Global, records: Iter<'_>) -> Result<Vec<Entry>, Error>
+    ensures { MatchResult result
+        (λ entries. all_good (items_left records.entry) ≡ Some (entry_records entries.items))
+        (GatherFault (items_left records.entry)) }
+{
+    let mut left = records;
+    let mut entries = Vec::new(alloc);
+    while let Some(item) = left.next() {
+        entries.push(owned_record(alloc, item)?)?;
+    }
+    Ok(entries)
+}
+
+// The record of an item, with a name of its own.
+fn owned_record(alloc: Global, item: Result<Reference<'_>, iter::Error<'_>>) -> Result<Entry, Error>
+    ensures { MatchResult result (λ entry. item_view item.entry ≡ Good (entry_record entry)) (ItemFault (item_view item.entry)) }
+{
+    match item {
+        Ok(record) => Ok(Entry {
+            name: record.name.to_owned(alloc)?,
+            target: record.target,
+            object: record.object,
+        }),
+        Err(iter::Error::Reference { line_number, .. }) => Err(Error::Iter { line_number }),
+        Err(iter::Error::Header { .. }) => Err(Error::Iter { line_number: 1 }),
+    }
+}
+
+// The entries in the order of their names; those of one name stay in theirs.
+fn sorted(mut entries: Vec<Entry>) -> Result<Vec<Entry>, AllocError>
+    ensures order { IfOk result (λ found. IsInOrder found.items) }
+    ensures holds { IfOk result (λ found. Holds (entry_records entries.items) (entry_records found.items)) }
+{
+    entries.sort_by(|one, other| name_of(one).cmp(name_of(other)))?;
+    Ok(entries)
+}
