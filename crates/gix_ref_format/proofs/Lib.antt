@@ -1,0 +1,3 @@
+pub mod HexDigits
+pub mod LineLemmas
+pub mod WriteLemmas

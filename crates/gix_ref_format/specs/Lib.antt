@@ -1,0 +1,4 @@
+pub mod LogLine
+pub mod LogCuts
+pub mod LogViews
+pub mod LogOwned

@@ -1,0 +1,6 @@
+//! Logs of references: each line tells one update.
+
+pub mod laws;
+mod line;
+
+pub use crate::log::line::{Line, LineRef, decode, write};
