@@ -1,5 +1,5 @@
 -- Lines that own their parts: what is written of them, and what they are copies of.
-use Rattle.std.specs.Prelude.{ℕ, ◌≡◌, List, [], ◌∷◌, ◌++◌, Option, Result, Ok, Err, IsTrue}
+use Rattle.std.specs.Prelude.{ℕ, ◌≡◌, List, [], ◌∷◌, ◌++◌, Option, None, Some, Result, Ok, Err, IsTrue}
 use Rattle.std.specs.Io.KnownBytes.{Appends, Keeps}
 use Rattle.gix_hash.specs.Id.{id_of}
 use Rattle.gix_hash.specs.Spelling.{hex_text}
@@ -11,7 +11,7 @@ use Rattle.gix_object_lines.specs.Time.{SpellsTime, time_text}
 use Rattle.gix_object_lines.specs.Writes.{AppendsFront}
 use Rattle.gix_object_lines.specs.declared.decode.Error.{Error as DecodeError}
 use Rattle.gix_object_lines.specs.declared.decode.Error.TheVariants as decode
-use Rattle.gix_ref_format.specs.LogLine.{LineParts, line_text}
+use Rattle.gix_ref_format.specs.LogLine.{LineParts, SpellsLine, IsNoLine, line_text}
 use Rattle.gix_ref_format.specs.declared.log.line.Line.{Line}
 use Rattle.gix_ref_format.specs.declared.log.line.write.Error.{Error}
 use Rattle.gix_ref_format.specs.declared.log.line.write.Error.TheVariants.{Writer, Unspellable, MessageWithNewlines}
@@ -51,6 +51,11 @@ pub record IsLineOf (parts : LineParts) (line : Line) : Type 0 where
   pub email : line.signature.email ≡ parts.email
   pub time : SpellsTime parts.time line.signature.time
   pub message : line.message ≡ parts.message
+
+-- a copy of the line that the text spells, and none where it spells none
+abbrev pub IsCopied : List ℕ → Option Line → Type 0
+IsCopied text None = IsNoLine text
+IsCopied text (Some line) = (parts : LineParts) × SpellsLine text parts × IsLineOf parts line
 
 -- both ids are spelled by digits of the length of an id
 abbrev pub AreIds : LineParts → Type 0

@@ -1,5 +1,6 @@
 //! Logs of references: each line tells one update.
 
+pub mod iter;
 pub mod laws;
 mod line;
 

@@ -1,6 +1,6 @@
 //! Reading a line of a log.
 
-ghost use Rattle.std.specs.Prelude.{◌≡◌, ℕ, List, IfOk, IsOkAnd, MatchOption};
+ghost use Rattle.std.specs.Prelude.{◌≡◌, ◌≤◌, ℕ, List, length, IfOk, IsOkAnd, MatchOption};
 ghost use Rattle.gix_object_lines.specs.Bytes.{without_last_feed};
 ghost use Rattle.gix_ref_format.specs.LogLine.{LineParts, SpellsLine, IsNoLine};
 ghost use Rattle.gix_ref_format.specs.LogCuts.{IsIdsCut, IsMessageCut};
@@ -33,9 +33,10 @@ impl<'a> LineRef<'a> {
     }
 }
 
-// The text without the line feed that ends it, where one does.
-fn without_feed(input: &[u8]) -> &[u8]
-    ensures { result.now ≡ without_last_feed input.now }
+/// The text without the line feed that ends it, where one does.
+pub(crate) fn without_feed(input: &[u8]) -> &[u8]
+    ensures bytes { result.now ≡ without_last_feed input.now }
+    ensures shorter { length result.now ≤ length input.now }
 {
     if input.ends_with(b"\n") {
         &input[..input.len() - 1]
@@ -44,8 +45,8 @@ fn without_feed(input: &[u8]) -> &[u8]
     }
 }
 
-// The line that a text without its line feed spells.
-fn read_line(line: &[u8]) -> Option<LineRef<'_>>
+/// The line that a text without its line feed spells.
+pub(crate) fn read_line(line: &[u8]) -> Option<LineRef<'_>>
     ensures { MatchOption result (IsNoLine line.now) (λ read. SpellsLine line.now (parts_of read)) }
 {
     let (front, message) = cut_message(line);
