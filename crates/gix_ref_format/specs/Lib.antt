@@ -7,3 +7,4 @@ pub mod LogForward
 pub mod LogFound
 pub mod LogPlace
 pub mod LogBackward
+pub mod LogReverse

@@ -52,13 +52,25 @@ EndsWalk (Some (Err Memory)) = ⊤
 abbrev pub IsNearer : ℕ → Bool → ℕ → Type 0
 IsNearer end is_done after = MatchBool is_done ⊤ (after < end)
 
--- What a call of `next` gives, from where the reader stood to where it stands.
-pub record GivesNext (honest : Type 0) (log : List ℕ) (may_fail : Type 0) (done : Bool) (end held : ℕ) (buffer : List ℕ) (given : ℕ)
-    (item : Option (Result Line Error)) (done' : Bool) (end' held' : ℕ) (buffer' : List ℕ) (given' : ℕ) : Type 0 where
-  pub told : honest → (left : List (List ℕ)) → IsAt log done end held buffer left
-      → (after : List (List ℕ)) × IsAt log done' end' held' buffer' after × GivesBack (length buffer) may_fail given' left item after
-  pub room : length buffer' ≡ length buffer
-  pub counted : given' ≡ (if done then given else one_more given)
+-- where a reader of a log from its end stands
+pub record Stand : Type 0 where
+  pub is_done : Bool
+  pub end : ℕ
+  pub held : ℕ
+  pub buffer : List ℕ
+  pub given : ℕ
+
+-- these lines are left there, the next first
+abbrev pub StandsAt : List ℕ → Stand → List (List ℕ) → Type 0
+StandsAt log stand left = IsAt log stand.is_done stand.end stand.held stand.buffer left
+
+-- What a call of `next` gives. Over readings that tell the log's bytes the next of the lines that are left comes, and the
+-- reader stands behind it.
+pub record GivesNext (honest : Type 0) (log : List ℕ) (may_fail : Type 0) (before : Stand) (item : Option (Result Line Error)) (after : Stand) : Type 0 where
+  pub told : honest → (left : List (List ℕ)) → StandsAt log before left
+      → (rest : List (List ℕ)) × StandsAt log after rest × GivesBack (length before.buffer) may_fail after.given left item rest
+  pub room : length after.buffer ≡ length before.buffer
+  pub counted : after.given ≡ (if before.is_done then before.given else one_more before.given)
   -- whatever the readings tell
-  pub nothing : item ≡ None → done ≡ true
-  pub ended : EndsWalk item → done' ≡ true
+  pub nothing : item ≡ None → before.is_done ≡ true
+  pub ended : EndsWalk item → after.is_done ≡ true

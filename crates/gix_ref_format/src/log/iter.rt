@@ -4,7 +4,8 @@ ghost use Rattle.std.specs.Prelude.{◌≡◌, ◌↔◌, [], length, reverse as
 ghost use Rattle.gix_ref_file.specs.declared.files.FileError.TheVariants.{Failed};
 ghost use Rattle.gix_ref_format.specs.LogLine.{split_lines};
 ghost use Rattle.gix_ref_format.specs.LogForward.{lines_of};
-ghost use Rattle.gix_ref_format.specs.LogBackward.{IsAt};
+ghost use Rattle.gix_ref_format.specs.LogBackward.{StandsAt};
+ghost use Rattle.gix_ref_format.specs.LogReverse.{stand_of};
 ghost use Rattle.gix_ref_format.specs.declared.log.iter.error.IoError.TheVariants.{LineTooLong, NoBuffer, Reader, Short};
 
 mod backward;
@@ -51,7 +52,7 @@ pub fn reverse<R: ReadAt + Drop>(
     buffer: &mut [u8],
 ) -> Result<Reverse<'_, R>, IoError>
     ensures begins { R.is_honest log → IfOk result (λ reader. (reader.log ≡ log)
-        × IsAt (R.contents reader.log) reader.is_done reader.end reader.held reader.buffer.now (reversed (split_lines (R.contents log)))) }
+        × StandsAt (R.contents log) (stand_of reader) (reversed (split_lines (R.contents log)))) }
     ensures given { IfOk result (λ reader. reader.given ≡ 0) }
     ensures room { IfOk result (λ reader. length reader.buffer.now ≡ length buffer.old) }
     ensures empty { IsErrOf result NoBuffer ↔ (buffer.old ≡ []) }

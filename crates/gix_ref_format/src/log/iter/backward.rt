@@ -61,13 +61,13 @@ impl<R: ReadAt + Drop> Reverse<'_, R> {
 }
 
 impl<R: ReadAt + Drop> Iterator for Reverse<'_, R> {
-    ghost use Rattle.gix_ref_format.specs.LogBackward.{EndsWalk, GivesBack, IsAt, GivesNext};
+    ghost use Rattle.gix_ref_format.specs.LogBackward.{GivesNext};
+    ghost use Rattle.gix_ref_format.specs.LogReverse.{stand_of};
 
     type Item = Result<Line, Error>;
 
-    ghost next_gives = { λ before item after. GivesNext (R.is_honest before.log) (R.contents before.log) R.may_fail
-        before.is_done before.end before.held before.buffer.now before.given item
-        after.is_done after.end after.held after.buffer.now after.given × (after.log ≡ before.log) };
+    ghost next_gives = { λ before item after. (after.log ≡ before.log)
+        × GivesNext (R.is_honest before.log) (R.contents before.log) R.may_fail (stand_of before) item (stand_of after) };
 
     ghost remaining = { λ reader. at_most (if reader.is_done then 0 else reader.end + 1) };
 
