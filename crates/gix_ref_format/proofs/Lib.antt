@@ -6,3 +6,9 @@ pub mod SortLemmas
 pub mod GatherLemmas
 pub mod WordLemmas
 pub mod WrittenLemmas
+pub mod HexDigits
+pub mod LogLineLemmas
+pub mod WriteLemmas
+pub mod SplitLemmas
+pub mod WindowLemmas
+pub mod GivesLemmas

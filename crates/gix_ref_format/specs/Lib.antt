@@ -6,3 +6,13 @@ pub mod PackedIter
 pub mod PackedBuffer
 pub mod PackedKept
 pub mod Lookup
+pub mod LogLine
+pub mod LogCuts
+pub mod LogViews
+pub mod LogOwned
+pub mod LogNumbers
+pub mod LogForward
+pub mod LogFound
+pub mod LogPlace
+pub mod LogBackward
+pub mod LogReverse

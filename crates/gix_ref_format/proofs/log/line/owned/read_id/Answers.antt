@@ -1,0 +1,15 @@
+use Rattle.std.proofs.Common.{subst, refl}
+use Rattle.hex.specs.Hex.{hex_digit_value}
+use Rattle.bstr.specs.BStr.{bstr_bytes}
+use Rattle.gix_hash.specs.Id.{id_of}
+use Rattle.gix_hash.specs.Views.{IsFaultOf, IsHexOfId}
+use Rattle.gix_ref_format.proofs.HexDigits.{id_of_spelled, not_refused}
+use Rattle.gix_ref_format.proofs.log.line.owned.read_id.Goals as goal
+
+pub returns-in-Ok : goal.returns-in-Ok
+returns-in-Ok c =
+    let spelled = subst (λ t. IsHexOfId t (id_of c.in-Ok.id)) c.as_bytes.ensures c.in-Ok.ensures in
+    (spelled, id_of_spelled (bstr_bytes c.args.digits) (id_of c.in-Ok.id) spelled)
+
+pub returns-in-Err : goal.returns-in-Err
+returns-in-Err c = (refl, λ is. not_refused (bstr_bytes c.args.digits) c.in-Err.field-0 is (subst (λ t. IsFaultOf hex_digit_value t c.in-Err.field-0) c.as_bytes.ensures c.in-Err.ensures))
