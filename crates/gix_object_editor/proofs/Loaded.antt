@@ -1,0 +1,155 @@
+-- A node of entries in order, and trees that are no such.
+use Rattle.std.proofs.Common.{ℕ, zero, suc, ◌≡◌, ◌≢◌, ◌<◌, ◌≤◌, ◌+◌, ◌⊎◌, Bool, true, false, List, [], ◌∷◌, ◌++◌, Option, Some, None, refl, sym, ap, subst, ◌∙◌, inl, inr, arith, length, get_or, map, take, add-one, if◌then◌else◌}
+use Rattle.std.specs.Prelude.{bytes_eq, is_some, IsTrue, ◌↔◌}
+use Rattle.std.proofs.lemmas.List.{get_or-map, take-map, map-append}
+use Rattle.std.proofs.Math.Seq.{take-suc}
+use Rattle.gix_object_entries.specs.Entry.{Item}
+use Rattle.gix_object_entries.specs.Order.{name_cmp, is_tree}
+use Rattle.std.specs.declared.cmp.Ordering.{Ordering}
+use Rattle.std.specs.declared.cmp.Ordering.TheVariants.{Less, Equal, Greater}
+use Rattle.std.specs.Ordering.{is_lt}
+use Rattle.gix_hash.specs.Id.{Id, null_id}
+use Rattle.gix_hash.specs.OrderLaws.{id_eq-same}
+use Rattle.gix_object_editor.specs.declared.tree.editor.node.NodeId.{NodeId}
+use Rattle.gix_object_editor.specs.declared.tree.editor.node.Slot.{Slot}
+use Rattle.gix_object_editor.specs.Files.{Bytes, Path, Leaf, Trees, leaf_of, named, is_null, through, files_of_entry, files_of_tree}
+use Rattle.gix_object_editor.specs.Nodes.{Slots, StandsFor, leaf_in, child_of, child_or, files_of_slot, files_of_node, IsForest}
+use Rattle.gix_object_editor.specs.WellFormed.{IsWellFormed, is_entry_name}
+use Rattle.gix_object_editor.proofs.Paths.{same_name, name_itself, by_test, not_both}
+
+named-more : (xs : List Item) (x : Item) (m : Bytes) → named m xs ≡ None → bytes_eq m x.name ≡ true → named m (xs ++ x ∷ []) ≡ Some x
+named-more [] x m none is = ap (λ b. if b then Some x else None) is
+named-more (y ∷ xs) x m none is = elim (by_test (bytes_eq m y.name)) [
+  | inl t ↦ let found : Some y ≡ None = ap (λ b. if b then Some y else named m xs) (sym t) ∙ none in absurd (cc found)
+  | inr f ↦
+    let later : named m xs ≡ None = ap (λ b. if b then Some y else named m xs) (sym f) ∙ none in
+    ap (λ b. if b then Some y else named m (xs ++ x ∷ [])) f ∙ named-more xs x m later is
+]
+
+named-kept : (xs : List Item) (x : Item) (m : Bytes) → bytes_eq m x.name ≡ false → named m (xs ++ x ∷ []) ≡ named m xs
+named-kept [] x m isnt = ap (λ b. if b then Some x else None) isnt
+named-kept (y ∷ xs) x m isnt = ap (λ o. if bytes_eq m y.name then Some y else o) (named-kept xs x m isnt)
+
+none_for_none : (p : Option Item) → StandsFor None p → p ≡ None
+none_for_none None h = refl
+none_for_none (Some x) h = absurd h
+
+pub none_by_test : (o : Option Slot) → is_some o ≡ false → o ≡ None
+none_by_test None e = refl
+none_by_test (Some s) e = absurd (cc e)
+
+module _ {E : Type 0} (item_of : E → Item) where
+  -- the entries so far, and one more
+  take_one : (entries : List E) (i : ℕ) (e : E) → i < length entries → e ≡ get_or entries i e → map item_of (take (i + 1) entries) ≡ map item_of (take i entries) ++ item_of e ∷ []
+  take_one entries i e lt is =
+      ap (λ n. map item_of (take n entries)) (add-one i) ∙ ap (map item_of) (take-suc entries i e lt)
+      ∙ ap (λ x. map item_of (take i entries ++ x ∷ [])) (sym is) ∙ map-append item_of (take i entries) (e ∷ [])
+
+  pub stands_more : (entries : List E) (i : ℕ) (e : E) (old new : Bytes → Option Slot) (s : Slot) → i < length entries → e ≡ get_or entries i e
+      → ((m : Bytes) → StandsFor (old m) (named m (map item_of (take i entries)))) → old (item_of e).name ≡ None → new (item_of e).name ≡ Some s
+      → leaf_in s ≡ leaf_of (item_of e) → s.child ≡ None → ((m : Bytes) → m ≢ (item_of e).name → new m ≡ old m)
+      → (m : Bytes) → StandsFor (new m) (named m (map item_of (take (i + 1) entries)))
+  stands_more entries i e old new s lt is before absent stands leaf closed others m =
+      subst (λ xs. StandsFor (new m) (named m xs)) (sym (take_one entries i e lt is)) (elim (by_test (bytes_eq m (item_of e).name)) [
+        | inl t ↦
+          let same : m ≡ (item_of e).name = same_name m (item_of e).name t in
+          let none : named m (map item_of (take i entries)) ≡ None =
+            none_for_none (named m (map item_of (take i entries))) (subst (λ o. StandsFor o (named m (map item_of (take i entries)))) (ap old same ∙ absent) (before m)) in
+          let here : new m ≡ Some s = ap new same ∙ stands in
+          let both : StandsFor (Some s) (Some (item_of e)) = (leaf, closed) in
+          subst (λ o. StandsFor o (named m (map item_of (take i entries) ++ item_of e ∷ []))) (sym here)
+            (subst (λ p. StandsFor (Some s) p) (sym (named-more (map item_of (take i entries)) (item_of e) m none t)) both)
+        | inr f ↦
+          let apart : m ≢ (item_of e).name = λ same. let yes : bytes_eq m (item_of e).name ≡ true = ap (bytes_eq m) (sym same) ∙ name_itself m in cc in
+          subst (λ o. StandsFor o (named m (map item_of (take i entries) ++ item_of e ∷ []))) (sym (others m apart))
+            (subst (λ p. StandsFor (old m) p) (sym (named-kept (map item_of (take i entries)) (item_of e) m f)) (before m))
+      ])
+
+  length-of : (entries : List E) → length (map item_of entries) ≡ length entries
+  length-of [] = refl
+  length-of (e ∷ entries) = ap suc (length-of entries)
+
+  -- ---- what no well-formed tree has
+
+  pub name_twice : (entries : List E) (i : ℕ) (e : E) (o : Option Slot) → i < length entries → e ≡ get_or entries i e → is_some o ≡ true
+      → StandsFor o (named (item_of e).name (map item_of (take i entries))) → IsWellFormed (map item_of entries) → ⊥
+  name_twice entries i e None lt is some stands whole = absurd (cc some)
+  name_twice entries i e (Some s) lt is some stands whole =
+      let more : i < length (map item_of entries) = omega (arith, length-of entries) in
+      let at : get_or (map item_of entries) i (item_of e) ≡ item_of e = get_or-map item_of entries i e (item_of e) lt ∙ ap item_of (sym is) in
+      let none : named (item_of e).name (map item_of (take i entries)) ≡ None =
+        ap (named (item_of e).name) (sym (take-map item_of i entries)) ∙ ap (λ x. named x.name (take i (map item_of entries))) (sym at) ∙ whole.once i (item_of e) more in
+      subst (λ p. StandsFor (Some s) p) none stands
+
+  pub name_isnt_one : (entries : List E) (i : ℕ) (e : E) → i < length entries → e ≡ get_or entries i e → is_entry_name (item_of e).name ≡ false → IsWellFormed (map item_of entries) → ⊥
+  name_isnt_one entries i e lt is bad whole =
+      let more : i < length (map item_of entries) = omega (arith, length-of entries) in
+      let at : get_or (map item_of entries) i (item_of e) ≡ item_of e = get_or-map item_of entries i e (item_of e) lt ∙ ap item_of (sym is) in
+      let good : is_entry_name (item_of e).name ≡ true = ap (λ x. is_entry_name x.name) (sym at) ∙ whole.full i (item_of e) more in
+      cc
+
+  pub isnt_behind : (entries : List E) (k i : ℕ) (a b : E) → i ≡ suc k → i < length entries → a ≡ get_or entries k a → b ≡ get_or entries i b
+      → is_lt (name_cmp (item_of a).name (is_tree (item_of a)) (item_of b).name (is_tree (item_of b))) ≡ false → IsWellFormed (map item_of entries) → ⊥
+  isnt_behind entries k i a b next lt is_a is_b bad whole =
+      let below : k < length entries = omega arith in
+      let here : suc k < length entries = omega arith in
+      let more : suc k < length (map item_of entries) = omega (arith, length-of entries) in
+      let first : get_or (map item_of entries) k (item_of a) ≡ item_of a = get_or-map item_of entries k a (item_of a) below ∙ ap item_of (sym is_a) in
+      let second : get_or (map item_of entries) (suc k) (item_of a) ≡ item_of b =
+        get_or-map item_of entries (suc k) b (item_of a) here ∙ ap (λ n. item_of (get_or entries n b)) (sym next) ∙ ap item_of (sym is_b) in
+      let good : name_cmp (item_of a).name (is_tree (item_of a)) (item_of b).name (is_tree (item_of b)) ≡ Less =
+        ap (λ x. name_cmp x.name (is_tree x) (item_of b).name (is_tree (item_of b))) (sym first)
+        ∙ ap (λ y. name_cmp (get_or (map item_of entries) k (item_of a)).name (is_tree (get_or (map item_of entries) k (item_of a))) y.name (is_tree y)) (sym second)
+        ∙ whole.ascending k (item_of a) more in
+      let yes : is_lt (name_cmp (item_of a).name (is_tree (item_of a)) (item_of b).name (is_tree (item_of b))) ≡ true = ap is_lt good in
+      cc
+
+  -- a name that no well-formed tree has twice
+  pub absent_before : (entries : List E) (i : ℕ) (e : E) (o : Option Slot) → i < length entries → e ≡ get_or entries i e
+      → StandsFor o (named (item_of e).name (map item_of (take i entries))) → IsWellFormed (map item_of entries) → o ≡ None
+  absent_before entries i e None lt is stands whole = refl
+  absent_before entries i e (Some s) lt is stands whole = absurd (name_twice entries i e (Some s) lt is refl stands whole)
+
+pub fresh_of : (o : Option Slot) (p : Option Item) → StandsFor o p → child_of o ≡ None
+fresh_of None p h = refl
+fresh_of (Some s) None h = absurd h
+fresh_of (Some s) (Some x) h = ap (λ c. child_or c (λ k. Some k) None) h.1
+
+pub not_null : (id : Id) (b : Bool) → (IsTrue b ↔ (id ≡ null_id id.kind)) → b ≡ false → is_null id ≡ false
+not_null id b says isnt = elim (by_test (is_null id)) [
+  | inl t ↦ absurd (not_both b (says.1 (id_eq-same id (null_id id.kind) t)) isnt)
+  | inr f ↦ f
+]
+
+pub no_child : (o : Option NodeId) → is_some o ≡ false → o ≡ None
+no_child None e = refl
+no_child (Some c) e = absurd (cc e)
+
+-- the files of a node with a tree's entries
+pub tree_files : (trees : Trees) (slots : Slots) (i : ℕ) (items : List Item) → ((m : Bytes) → StandsFor (slots i m) (named m items)) → (q : Path) → files_of_node trees slots i q ≡ files_of_tree trees items q
+tree_files trees slots i items stands [] = refl
+tree_files trees slots i items stands (name ∷ rest) = entry rest (slots i name) (named name items) (stands name)
+  where
+    one : (rest : Path) (u : Slot) (item : Item) → leaf_in u ≡ leaf_of item → u.child ≡ None → files_of_slot trees slots rest u ≡ files_of_entry trees rest (leaf_of item)
+    one [] u item same none = ap (λ o. child_or o (λ c. None) (files_of_entry trees [] (leaf_in u))) none ∙ ap (files_of_entry trees []) same
+    one (k ∷ more) u item same none =
+        ap (λ o. child_or o (λ c. files_of_node trees slots c (k ∷ more)) (files_of_entry trees (k ∷ more) (leaf_in u))) none ∙ ap (files_of_entry trees (k ∷ more)) same
+
+    entry : (rest : Path) (o : Option Slot) (p : Option Item) → StandsFor o p → through o (files_of_slot trees slots rest) ≡ through p (λ item. files_of_entry trees rest (leaf_of item))
+    entry rest None None h = refl
+    entry rest None (Some item) h = absurd h
+    entry rest (Some u) None h = absurd h
+    entry rest (Some u) (Some item) h = one rest u item h.0 h.1
+
+-- one node whose slots lead nowhere is a forest
+pub one_tree : (slots : Slots) → ((m : Bytes) → child_of (slots 0 m) ≡ None) → ((i : ℕ) (m : Bytes) → 0 < i → slots i m ≡ None) → IsForest slots 1
+one_tree slots fresh past = record {
+  rooted = omega arith;
+  forward = λ i n c e. absurd (no i n c e);
+  within = λ i n c e. absurd (no i n c e);
+  one = λ i j c n m e f. absurd (no i n c e);
+}
+  where
+    no : (i : ℕ) (n : Bytes) (c : ℕ) → child_of (slots i n) ≡ Some c → ⊥
+    no zero n c e = let none = fresh n in absurd (cc (sym none ∙ e))
+    no (suc i) n c e = let none : child_of (slots (suc i) n) ≡ None = ap child_of (past (suc i) n (omega arith)) in absurd (cc (sym none ∙ e))

@@ -1,0 +1,215 @@
+-- Opening a stored tree changes no file, and links make a forest.
+use Rattle.std.proofs.Common.{ℕ, zero, suc, ◌≡◌, ◌≢◌, ◌<◌, ◌≤◌, ◌⊎◌, Bool, true, false, List, [], ◌∷◌, Option, Some, None, refl, sym, ap, subst, ◌∙◌, inl, inr, arith, if◌then◌else◌}
+use Rattle.std.specs.Prelude.{bytes_eq}
+use Rattle.std.proofs.lemmas.Bool.{cases_eq, cases_lt, cases_order}
+use Rattle.gix_object_find.specs.Table.{Table}
+use Rattle.gix_object_entries.specs.Entry.{Item}
+use Rattle.gix_object_entries.specs.Mode.{is_tree_value}
+use Rattle.gix_object_editor.specs.declared.tree.editor.node.NodeId.{NodeId}
+use Rattle.gix_object_editor.specs.declared.tree.editor.node.Slot.{Slot}
+use Rattle.gix_object_editor.specs.Files.{Bytes, Path, Leaf, Trees, through, named, leaf_of, is_null, tree_under, unless_tree, files_of_entry, HasStored}
+use Rattle.gix_object_editor.specs.Nodes.{Slots, child_or, child_of, leaf_in, files_of_slot, files_of_node, IsForest, StandsFor, IsOpened, IsFolderAt}
+use Rattle.gix_object_editor.proofs.Paths.{same_name, name_itself, by_test}
+
+-- both the number and the name, or not
+pub at_or_off : (i j : ℕ) (n m : Bytes) → ((i ≡ j) × (n ≡ m)) ⊎ ((i ≡ j) → (n ≡ m) → ⊥)
+at_or_off i j n m = elim (cases_eq i j) [
+  | inl e ↦ elim (by_test (bytes_eq n m)) [
+    | inl t ↦ inl (e, same_name n m t)
+    | inr f ↦ inr (λ _ same. let yes : bytes_eq n m ≡ true = ap (bytes_eq n) (sym same) ∙ name_itself n in cc)
+  ]
+  | inr ne ↦ inr (λ e _. ne e)
+]
+
+-- the folder of a name: an entry of tree mode that isn't null
+pub record IsFolder (leaf : Leaf) : Type 0 where
+  pub is_tree : is_tree_value leaf.mode.value ≡ true
+  pub isnt_null : is_null leaf.id ≡ false
+
+-- an entry that is no folder has no file below it
+pub plain_below : (trees : Trees) (leaf : Leaf) (m : Bytes) (rest : Path) → (is_tree_value leaf.mode.value ≡ false) ⊎ (is_null leaf.id ≡ true) → files_of_entry trees (m ∷ rest) leaf ≡ None
+plain_below trees leaf m rest (inl file) =
+    ap (λ b. if is_null leaf.id then None else through (if b then trees leaf.id else None) (λ items. through (named m items) (λ item. files_of_entry trees rest (leaf_of item)))) file
+    ∙ same (is_null leaf.id)
+  where
+    same : (b : Bool) → ◌≡◌ {A = Option Leaf} (if b then None else None) None
+    same true = refl
+    same false = refl
+plain_below trees leaf m rest (inr null) =
+    ap (λ b. if b then None else through (tree_under trees leaf) (λ items. through (named m items) (λ item. files_of_entry trees rest (leaf_of item)))) null
+
+module _ (trees : Trees) (slots new : Slots) (bound : ℕ) (ok : IsForest slots bound) (j : ℕ) (name : Bytes) (s t : Slot) (items : List Item)
+    (stood : slots j name ≡ Some s) (closed : s.child ≡ None) (folder : IsFolder (leaf_in s)) (stored : trees (leaf_in s).id ≡ Some items)
+    (stands : new j name ≡ Some t) (linked : child_of (Some t) ≡ Some bound)
+    (opened : (m : Bytes) → StandsFor (new bound m) (named m items))
+    (agree : (i : ℕ) (m : Bytes) → i < bound → ((i ≡ j) → (m ≡ name) → ⊥) → new i m ≡ slots i m) where
+
+  leads : tree_under trees (leaf_in s) ≡ Some items
+  leads = ap (λ b. if b then trees (leaf_in s).id else None) folder.is_tree ∙ stored
+
+  entry_of_one : (more : Path) (u : Slot) (item : Item) → leaf_in u ≡ leaf_of item → u.child ≡ None → files_of_slot trees new more u ≡ files_of_entry trees more (leaf_of item)
+  entry_of_one [] u item same none = ap (λ o. child_or o (λ c. None) (files_of_entry trees [] (leaf_in u))) none ∙ ap (files_of_entry trees []) same
+  entry_of_one (k ∷ more) u item same none =
+      ap (λ o. child_or o (λ c. files_of_node trees new c (k ∷ more)) (files_of_entry trees (k ∷ more) (leaf_in u))) none ∙ ap (files_of_entry trees (k ∷ more)) same
+
+  entries : (more : Path) (o : Option Slot) (p : Option Item) → StandsFor o p → through o (files_of_slot trees new more) ≡ through p (λ item. files_of_entry trees more (leaf_of item))
+  entries more None None h = refl
+  entries more None (Some item) h = absurd h
+  entries more (Some u) None h = absurd h
+  entries more (Some u) (Some item) h = entry_of_one more u item h.0 h.1
+
+  below_slot : (child : Option NodeId) (x y : Option Leaf) (F : ℕ → Option Leaf) → child_or child (λ c. Some c) None ≡ Some bound → F bound ≡ y → child_or child F x ≡ y
+  below_slot None x y F e h = absurd (cc e)
+  below_slot (Some c) x y F e h = let same : c.0 ≡ bound = cc in ap F same ∙ h
+
+  at_slot : (rest : Path) → files_of_slot trees new rest t ≡ files_of_slot trees slots rest s
+  at_slot [] =
+      below_slot t.child (files_of_entry trees [] (leaf_in t)) None (λ c. None) linked refl
+      ∙ sym (ap (λ o. child_or o (λ c. None) (files_of_entry trees [] (leaf_in s))) closed
+        ∙ ap (λ b. if b then None else unless_tree (tree_under trees (leaf_in s)) (leaf_in s)) folder.isnt_null
+        ∙ ap (λ o. unless_tree o (leaf_in s)) leads)
+  at_slot (m ∷ more) =
+      below_slot t.child (files_of_entry trees (m ∷ more) (leaf_in t)) (files_of_node trees new bound (m ∷ more)) (λ c. files_of_node trees new c (m ∷ more)) linked refl
+      ∙ entries more (new bound m) (named m items) (opened m)
+      ∙ sym (ap (λ o. child_or o (λ c. files_of_node trees slots c (m ∷ more)) (files_of_entry trees (m ∷ more) (leaf_in s))) closed
+        ∙ ap (λ b. if b then None else through (tree_under trees (leaf_in s)) (λ tree. through (named m tree) (λ item. files_of_entry trees more (leaf_of item)))) folder.isnt_null
+        ∙ ap (λ o. through o (λ tree. through (named m tree) (λ item. files_of_entry trees more (leaf_of item)))) leads)
+
+  same_child : (child : Option NodeId) (m : Bytes) (more : Path) (x : Option Leaf) → ((c : ℕ) → child_or child (λ c. Some c) None ≡ Some c → files_of_node trees new c (m ∷ more) ≡ files_of_node trees slots c (m ∷ more))
+      → child_or child (λ c. files_of_node trees new c (m ∷ more)) x ≡ child_or child (λ c. files_of_node trees slots c (m ∷ more)) x
+  same_child None m more x h = refl
+  same_child (Some c) m more x h = h c.0 refl
+
+  same_through : (rest : Path) (o : Option Slot) → ((c : ℕ) → child_of o ≡ Some c → files_of_node trees new c rest ≡ files_of_node trees slots c rest)
+      → through o (files_of_slot trees new rest) ≡ through o (files_of_slot trees slots rest)
+  same_through rest None h = refl
+  same_through [] (Some u) h = refl
+  same_through (m ∷ more) (Some u) h = same_child u.child m more (files_of_entry trees (m ∷ more) (leaf_in u)) h
+
+  -- no node's files change
+  pub opens : (q : Path) (i : ℕ) → i < bound → files_of_node trees new i q ≡ files_of_node trees slots i q
+  opens [] i lt = refl
+  opens (n ∷ rest) i lt = elim (at_or_off i j n name) [
+    | inl e ↦
+      ap (λ k. through (new k n) (files_of_slot trees new rest)) e.0 ∙ ap (λ k. through (new j k) (files_of_slot trees new rest)) e.1
+      ∙ ap (λ o. through o (files_of_slot trees new rest)) stands ∙ at_slot rest ∙ sym (ap (λ o. through o (files_of_slot trees slots rest)) stood)
+      ∙ sym (ap (λ k. through (slots k n) (files_of_slot trees slots rest)) e.0 ∙ ap (λ k. through (slots j k) (files_of_slot trees slots rest)) e.1)
+    | inr off ↦
+      ap (λ o. through o (files_of_slot trees new rest)) (agree i n lt off)
+      ∙ same_through rest (slots i n) (λ c is. opens rest c (ok.within i n c is))
+  ]
+
+-- ---- forests
+
+-- each link of the second is one of the first
+pub fewer : (slots new : Slots) (bound more : ℕ) → IsForest slots bound → bound ≤ more → ((i : ℕ) (n : Bytes) (c : ℕ) → child_of (new i n) ≡ Some c → child_of (slots i n) ≡ Some c) → IsForest new more
+fewer slots new bound more ok le h = record {
+  rooted = let r = ok.rooted in omega arith;
+  forward = λ i n c e. ok.forward i n c (h i n c e);
+  within = λ i n c e. let w = ok.within i n c (h i n c e) in omega arith;
+  one = λ i j c n m e f. ok.one i j c n m (h i n c e) (h j m c f);
+}
+
+-- one link more, to a tree that none led to
+pub linked_more : (slots new : Slots) (bound : ℕ) → IsForest slots bound → (j : ℕ) (name : Bytes) (c : ℕ) → j < c → c < bound
+    → ((i : ℕ) (n : Bytes) → child_of (slots i n) ≡ Some c → ⊥)
+    → ((i : ℕ) (n : Bytes) (d : ℕ) → child_of (new i n) ≡ Some d → ((i ≡ j) × (n ≡ name) × (d ≡ c)) ⊎ (child_of (slots i n) ≡ Some d))
+    → IsForest new bound
+linked_more slots new bound ok j name c above below free h = record {
+  rooted = ok.rooted;
+  forward = λ i n d e. elim (h i n d e) [ | inl x ↦ let a = x.0 in let b = x.2 in omega arith | inr o ↦ ok.forward i n d o ];
+  within = λ i n d e. elim (h i n d e) [ | inl x ↦ let b = x.2 in omega arith | inr o ↦ ok.within i n d o ];
+  one = λ i k d n m e f. elim (h i n d e) [
+    | inl x ↦ elim (h k m d f) [
+      | inl y ↦ (x.0 ∙ sym y.0, x.1 ∙ sym y.1)
+      | inr o ↦ absurd (free k m (o ∙ ap (λ z. Some z) x.2))
+    ]
+    | inr o ↦ elim (h k m d f) [
+      | inl y ↦ absurd (free i n (o ∙ ap (λ z. Some z) y.2))
+      | inr p ↦ ok.one i k d n m o p
+    ]
+  ];
+}
+
+-- ---- trees that are opened
+
+pub as_function : (f g : Slots) → ((i : ℕ) (m : Bytes) → f i m ≡ g i m) → f ≡ g
+as_function f g h = λ i. λ n m. h n m i
+
+pub opened_none : (honest : Type 0) (table : Table) (slots : Slots) (bound : ℕ) → IsForest slots bound → IsOpened honest table slots slots bound bound
+opened_none honest table slots bound ok = record {
+  longer = omega arith;
+  forest = ok;
+  links = λ i m c e. e;
+  files = λ h trees has q i lt. refl;
+}
+
+pub opened_same : (honest : Type 0) (table : Table) (old new : Slots) (bound more : ℕ) → IsForest old bound → bound ≡ more → ((i : ℕ) (m : Bytes) → new i m ≡ old i m) → IsOpened honest table old new bound more
+opened_same honest table old new bound more ok e same =
+    subst (λ n. IsOpened honest table old new bound n) e (subst (λ f. IsOpened honest table old f bound bound) (sym (as_function new old same)) (opened_none honest table old bound ok))
+
+pub opened_then : (honest : Type 0) (table : Table) (a b c : Slots) (k l m : ℕ) → IsOpened honest table a b k l → IsOpened honest table b c l m → IsOpened honest table a c k m
+opened_then honest table a b c k l m first second = record {
+  longer = let f = first.longer in let s = second.longer in omega arith;
+  forest = second.forest;
+  links = λ i n d e. second.links i n d (first.links i n d e);
+  files = λ h trees has q i lt. let f = first.longer in let less : i < l = omega arith in second.files h trees has q i less ∙ first.files h trees has q i lt;
+}
+
+-- one tree more, from the slot of a folder
+pub opened_one : (honest : Type 0) (table : Table) (slots new : Slots) (bound more : ℕ) → IsForest slots bound → more ≡ suc bound
+    → (j : ℕ) (name : Bytes) (s t : Slot) → j < bound → slots j name ≡ Some s → s.child ≡ None → IsFolder (leaf_in s)
+    → (honest → (items : List Item) × ((m : Bytes) → StandsFor (new bound m) (named m items)) × ((trees : Trees) → HasStored table trees → trees (leaf_in s).id ≡ Some items))
+    → new j name ≡ Some t → child_of (Some t) ≡ Some bound → ((m : Bytes) → child_of (new bound m) ≡ None)
+    → ((i : ℕ) (m : Bytes) → i < bound → ((i ≡ j) → (m ≡ name) → ⊥) → new i m ≡ slots i m)
+    → ((i : ℕ) (m : Bytes) → bound < i → new i m ≡ None)
+    → ((i : ℕ) (m : Bytes) → bound ≤ i → slots i m ≡ None)
+    → IsOpened honest table slots new bound more
+opened_one honest table slots new bound more ok next j name s t lt stood closed folder loaded stands linked fresh agree past empty = record {
+  longer = omega arith;
+  forest = subst (IsForest new) (sym next) (linked_more slots new (suc bound) wider j name bound lt (omega arith) free split);
+  links = kept;
+  files = λ h trees has q i less.
+    let tree = loaded h in
+    opens trees slots new bound ok j name s t tree.0 stood closed folder (tree.2 trees has) stands linked tree.1 agree q i less;
+}
+  where
+    wider : IsForest slots (suc bound)
+    wider = let le : bound ≤ suc bound = omega arith in fewer slots slots bound (suc bound) ok le (λ i n c e. e)
+
+    free : (i : ℕ) (n : Bytes) → child_of (slots i n) ≡ Some bound → ⊥
+    free i n e = let w = ok.within i n bound e in omega arith
+
+    inside : (i : ℕ) (m : Bytes) (c : ℕ) → child_of (slots i m) ≡ Some c → i < bound
+    inside i m c e = elim (cases_lt i bound) [
+      | inl less ↦ less
+      | inr le ↦ let none : child_of (slots i m) ≡ None = ap child_of (empty i m le) in absurd (cc (sym none ∙ e))
+    ]
+
+    closed_child : child_of (slots j name) ≡ None
+    closed_child = ap child_of stood ∙ ap (λ o. child_or o (λ c. Some c) None) closed
+
+    kept : (i : ℕ) (m : Bytes) (c : ℕ) → child_of (slots i m) ≡ Some c → child_of (new i m) ≡ Some c
+    kept i m c e = elim (at_or_off i j m name) [
+      | inl x ↦
+        let here : child_of (slots i m) ≡ None = ap (λ k. child_of (slots k m)) x.0 ∙ ap (λ k. child_of (slots j k)) x.1 ∙ closed_child in
+        absurd (cc (sym here ∙ e))
+      | inr off ↦ let less : i < bound = inside i m c e in ap child_of (agree i m less off) ∙ e
+    ]
+
+    split : (i : ℕ) (n : Bytes) (d : ℕ) → child_of (new i n) ≡ Some d → ((i ≡ j) × (n ≡ name) × (d ≡ bound)) ⊎ (child_of (slots i n) ≡ Some d)
+    split i n d e = elim (cases_order i bound) [
+      | inr (inl less) ↦ elim (at_or_off i j n name) [
+        | inl x ↦
+          let here : child_of (new i n) ≡ Some bound = ap (λ k. child_of (new k n)) x.0 ∙ ap (λ k. child_of (new j k)) x.1 ∙ ap child_of stands ∙ linked in
+          let same : d ≡ bound = cc in
+          inl (x.0, x.1, same)
+        | inr off ↦ inr (ap child_of (sym (agree i n less off)) ∙ e)
+      ]
+      | inl same ↦
+        let none : child_of (new i n) ≡ None = ap (λ k. child_of (new k n)) same ∙ fresh n in
+        absurd (cc (sym none ∙ e))
+      | inr (inr above) ↦
+        let none : child_of (new i n) ≡ None = ap child_of (past i n above) in
+        absurd (cc (sym none ∙ e))
+    ]

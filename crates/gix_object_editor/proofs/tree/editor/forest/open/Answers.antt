@@ -1,0 +1,35 @@
+use Rattle.std.proofs.Common.{◌≡◌, ◌∙◌, ◌<◌, ◌≤◌, ap, sym, subst, arith, true, false, length, suc, rules, None, Some, ℕ}
+use Rattle.std.specs.Prelude.{is_ok, is_some}
+use Rattle.std.proofs.lemmas.Result.{err_from_is_err_and}
+use Rattle.gix_hash.specs.Id.{id_of}
+use Rattle.gix_object_entries.specs.Mode.{is_tree_value}
+use Rattle.gix_object_editor.specs.declared.tree.editor.node.Slot.{Slot}
+use Rattle.gix_object_editor.specs.Files.{Bytes, named, is_null}
+use Rattle.gix_object_editor.specs.Nodes.{slots_of, slot_in, leaf_in, child_of, StandsFor}
+use Rattle.gix_object_editor.proofs.Loaded.{not_null, no_child}
+use Rattle.gix_object_editor.proofs.Opening.{IsFolder, opened_one, opened_none, opened_same, plain_below}
+use Rattle.gix_object_editor.proofs.Slots.{none_past}
+use Rattle.gix_object_editor.proofs.tree.editor.forest.open.Goals as goal
+
+pub returns-in_err-attach-clause-refused : goal.returns-in_err-attach-clause-refused
+returns-in_err-attach-clause-refused g c =
+    let p = err_from_is_err_and c.from_residual-in_err-attach.result c.from_residual-in_err-attach.ensures.1 in
+    rw (p.1, p.2) (id_of c.in-Some.slot.oid, tt)
+
+pub returns-clause-opened : goal.returns-clause-opened
+returns-clause-opened g c =
+    let old = c.args.nodes.now.items in
+    let new = c.attach.new.nodes.items in
+    let s : Slot = c.in-Some.slot in
+    let t : Slot = record { mode = s.mode; oid = s.oid; child = Some c.in_ok-attach.field-0 } in
+    let ok : is_ok c.attach.result ≡ true = search rules in
+    let next : length new ≡ suc (length old) = search rules in
+    let stood : slots_of old c.args.at.0 c.args.name.now ≡ Some s = ap (λ ns. slots_of ns c.args.at.0 c.args.name.now) (sym c.as_slice.ensures.value) ∙ sym c.slot_at.ensures ∙ c.in-Some.is in
+    let closed : s.child ≡ None = no_child s.child (sym c.is_some.ensures ∙ c.if-is_some.false) in
+    let tree_mode : is_tree_value (leaf_in s).mode.value ≡ true = search rules in
+    let folder : IsFolder (leaf_in s) = record { is_tree = tree_mode; isnt_null = not_null (id_of s.oid) c.is_null.result c.is_null.ensures c.if-is_null.false } in
+    let at : (m : Bytes) → slots_of new (length old) m ≡ slot_in c.in_ok-tree.tree m = c.in_ok-attach.ensures.behind in
+    opened_one _ _ (slots_of old) (slots_of new) (length old) (length new) c.requires.forest next c.args.at.0 c.args.name.now s t c.requires.within stood closed folder
+    (λ honest. let tree = c.in_ok-tree.ensures.opened honest in (tree.0, λ m. subst (λ o. StandsFor o (named m tree.0)) (sym (at m)) (tree.1 m), tree.2))
+    c.in_ok-attach.ensures.here (ap Some c.in_ok-attach.ensures.number) (λ m. ap child_of (at m) ∙ c.in_ok-tree.ensures.fresh m) c.in_ok-attach.ensures.others
+    (λ i m lt. let le : length new ≤ i = omega arith in none_past new i m le) (λ i m le. none_past old i m le)

@@ -1,0 +1,103 @@
+-- The files that a tree unfolds to, as a map from paths to mode and id, and edits of it (Git's glossary, "tree object"; Pro Git,
+-- "Tree Objects"). Trees are followed in a table of trees by their ids. Each path is followed to its own end, so that a cycle of
+-- trees does no harm.
+use Rattle.std.specs.Prelude.{ℕ, ◌≡◌, ◌≢◌, Bool, List, [], ◌∷◌, Option, Some, None, is_some, bytes_eq, if◌then◌else◌}
+use Rattle.std.specs.List.{All}
+use Rattle.gix_hash.specs.Id.{Id, null_id}
+use Rattle.gix_hash.specs.Order.{id_eq}
+use Rattle.gix_object_lines.specs.declared.kind.Kind.TheVariants as kinds
+use Rattle.gix_object_entries.specs.Entry.{Item, SpellsTree}
+use Rattle.gix_object_entries.specs.Mode.{is_tree_value}
+use Rattle.gix_object_entries.specs.ModeText.{Mode}
+use Rattle.gix_object_find.specs.Table as stored
+
+abbrev pub Bytes : Type 0
+Bytes = List ℕ
+
+-- names, one below the other
+abbrev pub Path : Type 0
+Path = List Bytes
+
+-- what stands at a path
+pub record Leaf : Type 0 where
+  pub mode : Mode
+  pub id : Id
+
+abbrev pub FileMap : Type 0
+FileMap = Path → Option Leaf
+
+-- the entries of the tree under each id, as far as there are any
+abbrev pub Trees : Type 0
+Trees = Id → Option (List Item)
+
+-- the table of trees has each stored tree
+abbrev pub HasStored : stored.Table → Trees → Type 0
+HasStored table trees =
+    (id : Id) (content : List ℕ) (items : List Item) → table id ≡ Some (record { kind = kinds.Tree; content = content })
+    → SpellsTree id.kind content items → trees id ≡ Some items
+
+-- ---- unfolding
+
+abbrev pub is_null : Id → Bool
+is_null id = id_eq id (null_id id.kind)
+
+abbrev pub leaf_of : Item → Leaf
+leaf_of item = record { mode = item.mode; id = item.id }
+
+-- the entry of this name
+abbrev pub named : Bytes → List Item → Option Item
+named name [] = None
+named name (item ∷ items) = if bytes_eq name item.name then Some item else named name items
+
+abbrev pub through : {A B : Type 0} → Option A → (A → Option B) → Option B
+through None f = None
+through (Some a) f = f a
+
+-- the tree that an entry leads to
+abbrev pub tree_under : Trees → Leaf → Option (List Item)
+tree_under trees leaf = if is_tree_value leaf.mode.value then trees leaf.id else None
+
+-- an entry that leads to no tree is a file
+abbrev pub unless_tree : {A B : Type 0} → Option A → B → Option B
+unless_tree None leaf = Some leaf
+unless_tree (Some tree) leaf = None
+
+-- the files of an entry, below it or itself; an entry with the null id has none
+abbrev pub files_of_entry : Trees → Path → Leaf → Option Leaf
+files_of_entry trees [] leaf = if is_null leaf.id then None else unless_tree (tree_under trees leaf) leaf
+files_of_entry trees (name ∷ rest) leaf =
+    if is_null leaf.id then None
+    else through (tree_under trees leaf) (λ items. through (named name items) (λ item. files_of_entry trees rest (leaf_of item)))
+
+-- the files of a tree
+abbrev pub files_of_tree : Trees → List Item → FileMap
+files_of_tree trees items [] = None
+files_of_tree trees items (name ∷ rest) = through (named name items) (λ item. files_of_entry trees rest (leaf_of item))
+
+-- ---- edits
+
+-- what follows the first path in the second, where it begins it
+abbrev pub behind : Path → Path → Option Path
+behind [] q = Some q
+behind (name ∷ p) [] = None
+behind (name ∷ p) (other ∷ q) = if bytes_eq name other then behind p q else None
+
+-- all at or below the path is taken out
+abbrev pub removed : Path → FileMap → FileMap
+removed p files q = if is_some (behind p q) then None else files q
+
+abbrev pub put_at : Trees → Leaf → Option Path → Option Leaf → Option Leaf
+put_at trees leaf (Some rest) old = files_of_entry trees rest leaf
+put_at trees leaf None old = old
+
+-- all at or below the path, and each file above it, is taken out, and what the entry has comes there: itself, or the files of the
+-- tree that it leads to
+abbrev pub put : Trees → Path → Leaf → FileMap → FileMap
+put trees p leaf files q = put_at trees leaf (behind p q) (if is_some (behind q p) then None else files q)
+
+abbrev pub SameFiles : FileMap → FileMap → Type 0
+SameFiles a b = (q : Path) → a q ≡ b q
+
+-- a path has a name, and none of its names is empty
+abbrev pub NamesAreFull : Path → Type 0
+NamesAreFull path = (path ≢ []) × All (λ name. name ≢ []) path

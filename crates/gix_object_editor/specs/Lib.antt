@@ -1,0 +1,5 @@
+pub mod Files
+pub mod Nodes
+pub mod WellFormed
+pub mod Refusals
+pub mod Editor

@@ -1,0 +1,122 @@
+-- Opened trees as numbered nodes, and the files that they stand for.
+use Rattle.std.specs.Prelude.{ℕ, zero, suc, ◌≡◌, ◌≢◌, ◌<◌, ◌≤◌, Bool, List, [], ◌∷◌, Option, Some, None, Vec, ⊤}
+use Rattle.std.specs.Map.{lookup}
+use Rattle.std.specs.BTreeMap.{is_at}
+use Rattle.std.specs.Cmp.Lexicographic.{slice_cmp}
+use Rattle.std.specs.Ordering.{nat_cmp}
+use Rattle.std.specs.declared.alloc.Global.{Global}
+use Rattle.gix_hash.specs.Id.{Id, id_of}
+use Rattle.gix_object_lines.specs.declared.kind.Kind.TheVariants as kinds
+use Rattle.gix_object_find.specs.Table.{Table}
+use Rattle.gix_object_find.specs.Existing.{Stands}
+use Rattle.gix_object_entries.specs.Entry.{Item, SpellsTree}
+use Rattle.gix_object_entries.specs.Mode.{is_tree_value}
+use Rattle.gix_object_entries.specs.ModeText.{mode_of}
+use Rattle.gix_object_editor.specs.declared.tree.editor.node.Node.{Node}
+use Rattle.gix_object_editor.specs.declared.tree.editor.node.NodeId.{NodeId}
+use Rattle.gix_object_editor.specs.declared.tree.editor.node.Slot.{Slot}
+use Rattle.gix_object_editor.specs.Files.{Bytes, Path, Leaf, FileMap, Trees, through, files_of_entry, leaf_of, HasStored, named}
+
+abbrev pub Key : Type 0
+Key = Vec ℕ Global
+
+-- the slot of this name in a node
+abbrev pub slot_in : Node → Bytes → Option Slot
+slot_in node name = lookup (is_at (λ (k : Key). slice_cmp nat_cmp name k.items)) node.slots.entries
+
+-- the slot of each name in the node of each number
+abbrev pub Slots : Type 0
+Slots = ℕ → Bytes → Option Slot
+
+abbrev pub slots_of : List Node → Slots
+slots_of [] i name = None
+slots_of (node ∷ nodes) zero name = slot_in node name
+slots_of (node ∷ nodes) (suc i) name = slots_of nodes i name
+
+abbrev pub leaf_in : Slot → Leaf
+leaf_in slot = record { mode = mode_of slot.mode; id = id_of slot.oid }
+
+abbrev pub child_or : {X : Type 0} → Option NodeId → (ℕ → X) → X → X
+child_or None opened closed = closed
+child_or (Some c) opened closed = opened c.0
+
+-- a slot has the files of its opened tree, and those of its entry where none is opened
+abbrev pub files_of_slot : Trees → Slots → Path → Slot → Option Leaf
+files_of_slot trees slots [] s = child_or s.child (λ c. None) (files_of_entry trees [] (leaf_in s))
+files_of_slot trees slots (name ∷ rest) s =
+    child_or s.child (λ c. through (slots c name) (files_of_slot trees slots rest)) (files_of_entry trees (name ∷ rest) (leaf_in s))
+
+-- the files of a node
+abbrev pub files_of_node : Trees → Slots → ℕ → FileMap
+files_of_node trees slots i [] = None
+files_of_node trees slots i (name ∷ rest) = through (slots i name) (files_of_slot trees slots rest)
+
+-- an unopened slot stands for an entry, or none for none
+abbrev pub StandsFor : Option Slot → Option Item → Type 0
+StandsFor None None = ⊤
+StandsFor None (Some item) = ⊥
+StandsFor (Some s) None = ⊥
+StandsFor (Some s) (Some item) = (leaf_in s ≡ leaf_of item) × (s.child ≡ None)
+
+-- the entries are those of the tree that is stored under the id
+abbrev pub IsReadTree : Type 0 → Table → Id → List Item → Type 0
+IsReadTree honest table id items = (content : List ℕ) × (honest → Stands table id kinds.Tree content) × SpellsTree id.kind content items
+
+-- the node has the entries that each table of trees with the stored ones has under the id
+abbrev pub OpensTree : Table → Id → Node → Type 0
+OpensTree table id node = (items : List Item) × ((m : Bytes) → StandsFor (slot_in node m) (named m items)) × ((trees : Trees) → HasStored table trees → trees id ≡ Some items)
+
+-- ---- the invariant
+
+-- the number of the opened tree in a slot
+abbrev pub child_of : Option Slot → Option ℕ
+child_of None = None
+child_of (Some s) = child_or s.child (λ c. Some c) None
+
+-- the root is the first node; opened trees lead to greater numbers, each from one slot alone
+pub record IsForest (slots : Slots) (bound : ℕ) : Type 0 where
+  pub rooted : 0 < bound
+  pub forward : (i : ℕ) (name : Bytes) (c : ℕ) → child_of (slots i name) ≡ Some c → i < c
+  pub within : (i : ℕ) (name : Bytes) (c : ℕ) → child_of (slots i name) ≡ Some c → c < bound
+  pub one : (i j c : ℕ) (name other : Bytes) → child_of (slots i name) ≡ Some c → child_of (slots j other) ≡ Some c → (i ≡ j) × (name ≡ other)
+
+-- ---- walking down
+
+-- the names, last first, lead from the root down to an opened tree
+abbrev pub Way : Slots → Path → ℕ → Type 0
+Way slots [] j = 0 ≡ j
+Way slots (name ∷ way) j = (m : ℕ) × Way slots way m × (child_of (slots m name) ≡ Some j)
+
+-- the names of the first, last first, before those of the second
+abbrev pub onto : Path → Path → Path
+onto [] q = q
+onto (name ∷ way) q = onto way (name ∷ q)
+
+-- the path leads down to an opened tree, below which the rest of its names is left
+abbrev pub LeadsTo : Slots → Path → ℕ → Path → Type 0
+LeadsTo slots path j rest = (way : Path) × Way slots way j × (onto way rest ≡ path)
+
+-- an opened tree's number, or that no file stands below the name
+abbrev pub IsFolderAt : Slots → ℕ → Bytes → Option NodeId → Type 0
+IsFolderAt slots at name (Some c) = child_of (slots at name) ≡ Some c.0
+IsFolderAt slots at name None = (trees : Trees) (m : Bytes) (rest : Path) → through (slots at name) (files_of_slot trees slots (m ∷ rest)) ≡ None
+
+-- some trees were opened, and no file changed
+pub record IsOpened (honest : Type 0) (table : Table) (old new : Slots) (bound more : ℕ) : Type 0 where
+  pub longer : bound ≤ more
+  pub forest : IsForest new more
+  pub links : (i : ℕ) (m : Bytes) (c : ℕ) → child_of (old i m) ≡ Some c → child_of (new i m) ≡ Some c
+  pub files : honest → (trees : Trees) → HasStored table trees → (q : Path) (i : ℕ) → i < bound → files_of_node trees new i q ≡ files_of_node trees old i q
+
+-- ---- trees of one entry each
+
+-- the node has this slot alone
+abbrev pub IsOnly : Slots → ℕ → Bytes → Slot → Type 0
+IsOnly slots n name s = (slots n name ≡ Some s) × ((m : Bytes) → m ≢ name → slots n m ≡ None)
+
+-- nodes one below the other, each with one of the names, and the last with the slot
+abbrev pub IsChain : Slots → ℕ → Path → Slot → Type 0
+IsChain slots n [] s = ⊤
+IsChain slots n (name ∷ []) s = IsOnly slots n name s
+IsChain slots n (name ∷ next ∷ rest) s =
+    (folder : Slot) × IsOnly slots n name folder × (child_of (Some folder) ≡ Some (suc n)) × IsChain slots (suc n) (next ∷ rest) s

@@ -1,0 +1,42 @@
+-- Why an edit is refused.
+use Rattle.std.specs.Prelude.{ℕ, ◌≡◌, ⊤, List, Some}
+use Rattle.gix_hash.specs.Id.{Id, id_of}
+use Rattle.gix_object_lines.specs.declared.kind.Kind.TheVariants as kinds
+use Rattle.gix_object_entries.specs.Entry.{Item, SpellsTree}
+use Rattle.gix_object_find.specs.Table.{Table}
+use Rattle.gix_object_find.specs.Existing.{Stands, LookupFault, IsAbsent, HasOtherKind}
+use Rattle.gix_object_find.specs.declared.find.existing_object.Error as existing
+use Rattle.gix_object_find.specs.declared.find.existing_object.Error.TheVariants as existing_case
+use Rattle.gix_object_entries.specs.Entry.{TreeFault}
+use Rattle.gix_object_editor.specs.WellFormed.{IsWellFormed}
+use Rattle.gix_object_editor.specs.declared.tree.editor.error.Error.{Error}
+use Rattle.gix_object_editor.specs.declared.tree.editor.error.Error.TheVariants.{EmptyPathComponent, FindExistingObject, CannotRemoveNonLeaf, MalformedTree, Memory}
+
+-- the content under an id isn't that of a tree, for this cause, which the error tells with the id
+abbrev pub TreeIsUnread : Type 0 → Type 0 → Table → Id → existing.Error → Type 0
+TreeIsUnread honest may_fail table id (existing_case.Find error) = LookupFault may_fail error
+TreeIsUnread honest may_fail table id (existing_case.Decode oid source) =
+    (id_of oid ≡ id) × ((content : List ℕ) × (honest → Stands table id kinds.Tree content) × TreeFault id.kind content source)
+TreeIsUnread honest may_fail table id (existing_case.NotFound oid) = IsAbsent honest table id (id_of oid)
+TreeIsUnread honest may_fail table id (existing_case.ObjectKind oid actual expected) = HasOtherKind honest table id kinds.Tree (id_of oid) actual expected
+
+-- a stored tree isn't well-formed, and the error tells its id
+abbrev pub TreeIsMalformed : Type 0 → Table → Id → Id → Type 0
+TreeIsMalformed honest table id told =
+    (told ≡ id) × ((content : List ℕ) × (items : List Item) × (honest → Stands table id kinds.Tree content) × SpellsTree id.kind content items × ¬ IsWellFormed items)
+
+-- why the tree under an id isn't opened
+abbrev pub OpeningFault : Type 0 → Type 0 → Table → Id → Error → Type 0
+OpeningFault honest may_fail table id EmptyPathComponent = ⊥
+OpeningFault honest may_fail table id (FindExistingObject error) = TreeIsUnread honest may_fail table id error
+OpeningFault honest may_fail table id (CannotRemoveNonLeaf filename) = ⊥
+OpeningFault honest may_fail table id (MalformedTree oid) = TreeIsMalformed honest table id (id_of oid)
+OpeningFault honest may_fail table id Memory = ⊤
+
+-- the same of a tree's entries alone
+abbrev pub BuildingFault : Id → List Item → Error → Type 0
+BuildingFault id items EmptyPathComponent = ⊥
+BuildingFault id items (FindExistingObject error) = ⊥
+BuildingFault id items (CannotRemoveNonLeaf filename) = ⊥
+BuildingFault id items (MalformedTree oid) = (id_of oid ≡ id) × ¬ IsWellFormed items
+BuildingFault id items Memory = ⊤

@@ -1,0 +1,5 @@
+//! Trees that are edited.
+
+pub mod editor;
+
+

@@ -1,0 +1,106 @@
+//! Walking down opened trees, and opening more of them.
+
+ghost use Rattle.std.specs.Prelude.{◌≡◌, ◌<◌, ◌≤◌, ◌+◌, ℕ, length, map, drop, slice_index_or, if◌then◌else◌, is_ok, IfOk, IfErr, OnOk, OnErr, Some, None, []};
+ghost use Rattle.gix_hash.specs.Id.{Id};
+ghost use Rattle.gix_object_editor.specs.Files.{Bytes};
+ghost use Rattle.gix_object_editor.specs.Nodes.{slot_in, slots_of, child_of, IsForest, IsOpened, IsFolderAt, LeadsTo};
+ghost use Rattle.gix_object_editor.specs.Refusals.{OpeningFault};
+
+use crate::tree::editor::Error;
+use crate::tree::editor::load::load;
+use crate::tree::editor::node::{Node, NodeId, Slot, put_at, slot_at};
+use gix_object_find::Find;
+use std::alloc::{AllocError, Global};
+
+/// Puts a tree behind the others, and its number into the slot of a name.
+pub(crate) fn attach(
+    nodes: &mut Vec<Node>,
+    alloc: Global,
+    at: NodeId,
+    name: &[u8],
+    slot: Slot,
+    tree: Node,
+) -> Result<NodeId, AllocError>
+    requires { at.0 < length nodes.old.items }
+    ensures number { IfOk result (λ child. child.0 ≡ length nodes.old.items) }
+    ensures here { IfOk result (λ child. slots_of nodes.new.items at.0 name.now ≡ Some (record slot { child = Some child })) }
+    ensures others { (i : ℕ) (m : Bytes) → i < length nodes.old.items → (i ≡ at.0 → m ≡ name.now → ⊥) → slots_of nodes.new.items i m ≡ slots_of nodes.old.items i m }
+    ensures behind { OnOk result ((m : Bytes) → slots_of nodes.new.items (length nodes.old.items) m ≡ slot_in tree m) }
+    ensures len { length nodes.new.items ≡ (if is_ok result then length nodes.old.items + 1 else length nodes.old.items) }
+    ensures err { OnErr result ((i : ℕ) (m : Bytes) → slots_of nodes.new.items i m ≡ slots_of nodes.old.items i m) }
+{
+    let child = NodeId(nodes.len());
+    nodes.push(tree)?;
+    let linked = Slot {
+        mode: slot.mode,
+        oid: slot.oid,
+        child: Some(child),
+    };
+    match put_at(nodes.as_mut_slice(), alloc, at, name, linked) {
+        Ok(()) => Ok(child),
+        Err(error) => {
+            nodes.pop();
+            Err(error)
+        }
+    }
+}
+
+/// The folder of a name, opened. `None` where no folder stands there.
+pub(crate) fn open<S: Find>(
+    store: &S,
+    nodes: &mut Vec<Node>,
+    lookups: &mut u64,
+    alloc: Global,
+    at: NodeId,
+    name: &[u8],
+) -> Result<Option<NodeId>, Error>
+    requires forest { IsForest (slots_of nodes.old.items) (length nodes.old.items) }
+    requires within { at.0 < length nodes.old.items }
+    ensures opened { IsOpened (S.is_honest store.now) (S.table store.now) (slots_of nodes.old.items) (slots_of nodes.new.items) (length nodes.old.items) (length nodes.new.items) }
+    ensures found { IfOk result (IsFolderAt (slots_of nodes.new.items) at.0 name.now) }
+    ensures counted { lookups.new ≤ lookups.old + 1 }
+    ensures refused { IfErr result (λ error. (id : Id) × OpeningFault (S.is_honest store.now) (S.may_fail store.now) (S.table store.now) id error) }
+{
+    let Some(slot) = slot_at(nodes.as_slice(), at, name) else {
+        return Ok(None);
+    };
+    if slot.child.is_some() {
+        return Ok(slot.child);
+    }
+    if !slot.mode.is_tree() || slot.oid.is_null() {
+        return Ok(None);
+    }
+    *lookups = lookups.saturating_add(1);
+    let tree = load(store, alloc, slot.oid)?;
+    Ok(Some(attach(nodes, alloc, at, name, slot, tree)?))
+}
+
+/// The opened tree in which a path's walk down ends, and how many names lead there. What is left is one name alone, or begins
+/// with that of no folder.
+pub(crate) fn walk<S: Find>(
+    store: &S,
+    nodes: &mut Vec<Node>,
+    lookups: &mut u64,
+    alloc: Global,
+    path: &[&[u8]],
+) -> Result<(NodeId, usize), Error>
+    requires forest { IsForest (slots_of nodes.old.items) (length nodes.old.items) }
+    requires named { 0 < length path.now }
+    ensures opened { IsOpened (S.is_honest store.now) (S.table store.now) (slots_of nodes.old.items) (slots_of nodes.new.items) (length nodes.old.items) (length nodes.new.items) }
+    ensures within { IfOk result (λ end. (end.0.0 < length nodes.new.items) × (end.1 < length path.now)) }
+    ensures leads { IfOk result (λ end. LeadsTo (slots_of nodes.new.items) (map (λ n. n.now) path.now) end.0.0 (map (λ n. n.now) (drop end.1 path.now))) }
+    ensures stopped { IfOk result (λ end. end.1 + 1 < length path.now → IsFolderAt (slots_of nodes.new.items) end.0.0 (slice_index_or (map (λ n. n.now) path.now) end.1 []) None) }
+    ensures counted { lookups.new ≤ lookups.old + length path.now }
+    ensures refused { IfErr result (λ error. (id : Id) × OpeningFault (S.is_honest store.now) (S.may_fail store.now) (S.table store.now) id error) }
+{
+    let mut at = NodeId(0);
+    let mut depth = 0;
+    'names: while depth + 1 < path.len() {
+        let Some(child) = open(store, nodes, lookups, alloc, at, path[depth])? else {
+            return Ok((at, depth));
+        };
+        at = child;
+        depth += 1;
+    }
+    Ok((at, depth))
+}

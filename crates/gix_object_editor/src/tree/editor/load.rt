@@ -1,0 +1,121 @@
+//! Opening stored trees.
+
+ghost use Rattle.std.specs.Prelude.{◌≡◌, ◌<◌, length, map, None, IfOk, IfErr, IsTrue, IsFalse};
+ghost use Rattle.gix_hash.specs.Id.{id_of};
+ghost use Rattle.gix_object_lines.specs.declared.kind.Kind.TheVariants as kinds;
+ghost use Rattle.gix_object_entries.specs.Entry.{Item, item_of};
+ghost use Rattle.gix_object_find.specs.Existing.{Stands};
+ghost use Rattle.gix_object_editor.specs.Files.{Bytes, Trees, HasStored, named};
+ghost use Rattle.gix_object_editor.specs.Nodes.{slot_in, StandsFor, OpensTree, IsReadTree, child_of};
+ghost use Rattle.gix_object_editor.specs.WellFormed.{IsWellFormed, is_entry_name};
+ghost use Rattle.gix_object_editor.specs.Refusals.{TreeIsUnread, BuildingFault, OpeningFault};
+
+use crate::tree::editor::Error;
+use crate::tree::editor::node::{Node, Slot};
+use gix_hash::ObjectId;
+use gix_object_entries::tree::{EntryRef, TreeRef, name_order};
+use gix_object_find::Find;
+use gix_object_find::find::existing_object;
+use gix_object_lines::Kind;
+use std::alloc::Global;
+
+/// The stored tree of this id, opened.
+pub(crate) fn load<S: Find>(store: &S, alloc: Global, oid: ObjectId) -> Result<Node, Error>
+    ensures opened { S.is_honest store.now → IfOk result (OpensTree (S.table store.now) (id_of oid)) }
+    ensures fresh { IfOk result (λ node. (m : Bytes) → child_of (slot_in node m) ≡ None) }
+    ensures refused { IfErr result (OpeningFault (S.is_honest store.now) (S.may_fail store.now) (S.table store.now) (id_of oid)) }
+{
+    let mut buffer = Vec::new(alloc);
+    let tree = read_tree(store, alloc, oid, &mut buffer)?;
+    node_of(alloc, oid, tree.entries.as_slice())
+}
+
+// The entries of the stored tree of this id.
+fn read_tree<'a, S: Find>(
+    store: &S,
+    alloc: Global,
+    oid: ObjectId,
+    buffer: &'a mut Vec<u8>,
+) -> Result<TreeRef<'a>, existing_object::Error>
+    ensures read { IfOk result (λ tree. IsReadTree (S.is_honest store.now) (S.table store.now) (id_of oid) (map item_of tree.entries.items)) }
+    ensures refused { IfErr result (TreeIsUnread (S.is_honest store.now) (S.may_fail store.now) (S.table store.now) (id_of oid)) }
+{
+    let content = content_of(store, oid, buffer)?;
+    match TreeRef::from_bytes(alloc, content, oid.kind()) {
+        Ok(tree) => Ok(tree),
+        Err(source) => Err(existing_object::Error::Decode { oid, source }),
+    }
+}
+
+// The content of the stored tree of this id.
+fn content_of<'a, S: Find>(
+    store: &S,
+    oid: ObjectId,
+    buffer: &'a mut Vec<u8>,
+) -> Result<&'a [u8], existing_object::Error>
+    ensures found { S.is_honest store.now → IfOk result (λ content. Stands (S.table store.now) (id_of oid) kinds.Tree content.now) }
+    ensures refused { IfErr result (TreeIsUnread (S.is_honest store.now) (S.may_fail store.now) (S.table store.now) (id_of oid)) }
+{
+    let Some(found) = store.try_find(oid.as_oid(), buffer)? else {
+        return Err(existing_object::Error::NotFound { oid });
+    };
+    if found.kind != Kind::Tree {
+        return Err(existing_object::Error::ObjectKind {
+            oid,
+            actual: found.kind,
+            expected: Kind::Tree,
+        });
+    }
+    Ok(found.content)
+}
+
+// The node of a well-formed tree of these entries.
+fn node_of(alloc: Global, oid: ObjectId, entries: &[EntryRef<'_>]) -> Result<Node, Error>
+    ensures opened { IfOk result (λ node. (m : Bytes) → StandsFor (slot_in node m) (named m (map item_of entries.now))) }
+    ensures refused { IfErr result (BuildingFault (id_of oid) (map item_of entries.now)) }
+{
+    let mut node = Node::empty(alloc);
+    for (i, entry) in entries.iter().enumerate() {
+        if !is_in_place(entries, i) {
+            return Err(Error::MalformedTree { oid });
+        }
+        let slot = Slot {
+            mode: entry.mode,
+            oid: ObjectId::from(entry.oid),
+            child: None,
+        };
+        if node.put(alloc, entry.filename.as_bytes(), slot)?.is_some() {
+            return Err(Error::MalformedTree { oid });
+        }
+    }
+    Ok(node)
+}
+
+// Whether an entry has a name, and the one before it comes first in Git's order.
+fn is_in_place(entries: &[EntryRef<'_>], i: usize) -> bool
+    requires { i < length entries.now }
+    ensures { IsFalse result → IsWellFormed (map item_of entries.now) → ⊥ }
+{
+    let entry = entries[i];
+    if !is_name(entry.filename.as_bytes()) {
+        return false;
+    }
+    if i == 0 {
+        return true;
+    }
+    let before = entries[i - 1];
+    name_order(
+        before.filename.as_bytes(),
+        before.mode.is_tree(),
+        entry.filename.as_bytes(),
+        entry.mode.is_tree(),
+    )
+    .is_lt()
+}
+
+// Whether an entry may have this name.
+fn is_name(name: &[u8]) -> bool
+    ensures { result ≡ is_entry_name name.now }
+{
+    !name.is_empty() && !name.contains(&b'/')
+}

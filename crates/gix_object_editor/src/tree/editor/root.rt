@@ -1,0 +1,41 @@
+//! The root of an editor.
+
+ghost use Rattle.std.specs.Prelude.{◌≡◌, ℕ, [], length, map, IfOk, None};
+ghost use Rattle.gix_object_entries.specs.Entry.{own_item};
+ghost use Rattle.gix_object_editor.specs.Files.{Bytes, Path, Trees, named, files_of_tree};
+ghost use Rattle.gix_object_editor.specs.Nodes.{slot_in, slots_of, files_of_node, StandsFor, IsForest};
+ghost use Rattle.gix_object_editor.specs.WellFormed.{IsWellFormed};
+
+use crate::tree::editor::node::{Node, Slot};
+use gix_object_entries::Tree;
+use std::alloc::{AllocError, Global};
+
+/// The nodes below a root: the root alone, opened.
+pub(crate) fn opened_root(alloc: Global, root: &Tree) -> Result<Vec<Node>, AllocError>
+    requires { IsWellFormed (map own_item root.now.entries.items) }
+    ensures forest { IfOk result (λ nodes. IsForest (slots_of nodes.items) (length nodes.items)) }
+    ensures files { IfOk result (λ nodes. (trees : Trees) (q : Path) → files_of_node trees (slots_of nodes.items) 0 q ≡ files_of_tree trees (map own_item root.now.entries.items) q) }
+{
+    let node = node_of(alloc, root)?;
+    let mut nodes = Vec::new(alloc);
+    nodes.push(node)?;
+    Ok(nodes)
+}
+
+// The node of a tree's entries.
+fn node_of(alloc: Global, tree: &Tree) -> Result<Node, AllocError>
+    requires { IsWellFormed (map own_item tree.now.entries.items) }
+    ensures { IfOk result (λ node. (m : Bytes) → StandsFor (slot_in node m) (named m (map own_item tree.now.entries.items))) }
+{
+    let entries = tree.entries.as_slice();
+    let mut node = Node::empty(alloc);
+    for (i, entry) in entries.iter().enumerate() {
+        let slot = Slot {
+            mode: entry.mode,
+            oid: entry.oid,
+            child: None,
+        };
+        node.put(alloc, entry.filename.as_bytes(), slot)?;
+    }
+    Ok(node)
+}
