@@ -1,0 +1,5 @@
+pub mod Called
+pub mod Ways
+pub mod Listed
+pub mod Levelled
+pub mod Walked
