@@ -3,3 +3,5 @@ pub mod Ways
 pub mod Listed
 pub mod Levelled
 pub mod Walked
+pub mod Opening
+pub mod Walking

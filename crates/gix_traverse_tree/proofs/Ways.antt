@@ -102,7 +102,7 @@ linked_more nodes above added linked within n node at =
 
 -- ---- how deep a tree lies
 
-none_equal : (id : Id) (ids : List Id) → is_among id ids ≡ false → AllByRecursion (λ y. id_eq id y ≡ false) ids
+pub none_equal : (id : Id) (ids : List Id) → is_among id ids ≡ false → AllByRecursion (λ y. id_eq id y ≡ false) ids
 none_equal id [] e = tt
 none_equal id (x ∷ ids) e = cut (none_equal id ids) (id_eq id x) refl
   where
@@ -110,19 +110,20 @@ none_equal id (x ∷ ids) e = cut (none_equal id ids) (id_eq id x) refl
     cut later true f = let g : (true || list_any (id_eq id) ids) ≡ false = ap (λ (b : Bool). b || list_any (id_eq id) ids) (sym f) ∙ e in let z : ⊥ = cc in absurd z
     cut later false f = (f, later (let g : (false || list_any (id_eq id) ids) ≡ false = ap (λ (b : Bool). b || list_any (id_eq id) ids) (sym f) ∙ e in g))
 
+-- one more id of the store's
+pub stored_more : (ids : List Id) (id : Id) (above : List Id) → is_among id ids ≡ true → ((x : Id) → is_among x above ≡ true → is_among x ids ≡ true) → (x : Id) → is_among x (id ∷ above) ≡ true → is_among x ids ≡ true
+stored_more ids id above stored all x e = split (id_eq x id) refl
+  where
+    split : (b : Bool) → id_eq x id ≡ b → is_among x ids ≡ true
+    split true f = subst (λ (y : Id). is_among y ids ≡ true) (sym (id_eq-same x id f)) stored
+    split false f = all x (let g : (false || list_any (id_eq x) above) ≡ true = ap (λ (b : Bool). b || list_any (id_eq x) above) (sym f) ∙ e in g)
+
 pub under_more : (ids : List Id) (depth : ℕ) (tree : Tree) (id : Id) → is_among tree.id tree.above ≡ false → is_among tree.id ids ≡ true → IsUnderSome ids depth tree → IsUnderSome ids (suc depth) (under tree id)
 under_more ids depth tree id alone stored is = record {
   deep = ap suc is.deep;
   distinct = IsDistinct-cons id_eq tree.id tree.above (none_equal tree.id tree.above alone) is.distinct;
-  stored = λ x e. inside x e;
+  stored = stored_more ids tree.id tree.above stored is.stored;
 }
-  where
-    inside : (x : Id) → is_among x (tree.id ∷ tree.above) ≡ true → is_among x ids ≡ true
-    inside x e = split (id_eq x tree.id) refl
-      where
-        split : (b : Bool) → id_eq x tree.id ≡ b → is_among x ids ≡ true
-        split true f = subst (λ (y : Id). is_among y ids ≡ true) (sym (id_eq-same x tree.id f)) stored
-        split false f = is.stored x (let g : (false || list_any (id_eq x) tree.above) ≡ true = ap (λ (b : Bool). b || list_any (id_eq x) tree.above) (sym f) ∙ e in g)
 
 pub all_under : (ids : List Id) (depth : ℕ) (tree : Tree) (below : List Id) → is_among tree.id tree.above ≡ false → is_among tree.id ids ≡ true → IsUnderSome ids depth tree → AreUnderSome ids (suc depth) (map (under tree) below)
 all_under ids depth tree [] alone stored is = tt
