@@ -1,0 +1,6 @@
+pub mod Calls
+pub mod Trees
+pub mod Breadth
+pub mod Depth
+pub mod Nodes
+pub mod Opened

@@ -1,0 +1,21 @@
+//! Showing one entry to a delegate.
+
+ghost use Rattle.std.specs.Prelude.{IfOk};
+ghost use Rattle.gix_object_entries.specs.Entry.{item_of};
+ghost use Rattle.gix_traverse_tree.specs.Calls.{Runs, shown};
+
+use crate::Visit;
+use crate::visit::{Action, Error};
+use gix_object_entries::tree::EntryRef;
+
+/// Tells the delegate the entry's name, shows it the entry, and answers what it says.
+pub(crate) fn show<V: Visit>(entry: &EntryRef<'_>, delegate: &mut V) -> Result<Action, Error>
+    ensures { IfOk result (λ action. Runs V.goes delegate.old (shown (item_of entry.now) action) delegate.new) }
+{
+    delegate.push_path_component(entry.filename)?;
+    if entry.mode.is_tree() {
+        delegate.visit_tree(entry)
+    } else {
+        delegate.visit_nontree(entry)
+    }
+}
