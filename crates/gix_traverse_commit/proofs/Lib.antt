@@ -8,3 +8,4 @@ pub mod SampleRows
 pub mod Ids
 pub mod RowLemmas
 pub mod Walked
+pub mod Told

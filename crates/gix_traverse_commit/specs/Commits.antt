@@ -11,6 +11,11 @@ pub record Commit (I : Type 0) : Type 0 where
 abbrev pub Commits : Type 0 → Type 0
 Commits I = I → Commit I
 
+-- all of some parents, or the first
+abbrev pub asked : {I : Type 0} → Parents → List I → List I
+asked All parents = parents
+asked First parents = take 1 parents
+
 -- the parents that a walk goes along
 abbrev pub asked_parents : {I : Type 0} → Parents → Commits I → I → List I
 asked_parents All g x = (g x).parents

@@ -9,3 +9,5 @@ pub mod Rows
 pub mod Numbered
 pub mod RowCommits
 pub mod Standing
+pub mod Told
+pub mod Fetching

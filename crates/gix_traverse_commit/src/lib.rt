@@ -1,6 +1,9 @@
 //! Walks over commits, after the module `commit` of the crate `gix-traverse` 0.61.
 #![tactic(auto)]
 
+mod accept;
+mod either;
+mod fetch;
 mod info;
 pub mod laws;
 mod parents;
@@ -8,7 +11,9 @@ mod rows;
 pub mod sample;
 mod walk;
 
-pub use crate::info::ParentIds;
+pub use crate::accept::{Accept, All};
+pub use crate::either::{Either, find};
+pub use crate::info::{Info, ParentIds};
 pub use crate::parents::Parents;
 pub use crate::rows::{GENERATION_LIMIT, Graph, Row, RowsError};
 pub use crate::walk::{WalkError, breadth_first};

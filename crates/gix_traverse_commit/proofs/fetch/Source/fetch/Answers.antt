@@ -1,0 +1,29 @@
+use Rattle.std.proofs.lemmas.Result.{err_from_is_err_and}
+use Rattle.std.proofs.Common.{◌≡◌, ◌∙◌, ap, sym, subst, List, ℕ, Option}
+use Rattle.gix_hash.specs.Id.{id_of}
+use Rattle.gix_hash.specs.declared.kind.Kind as hash
+use Rattle.gix_object_commit.specs.Tokens.{Place, place_of, start}
+use Rattle.gix_traverse_commit.specs.Rows.{Holds}
+use Rattle.gix_traverse_commit.specs.Told.{rows_of}
+use Rattle.gix_traverse_commit.specs.declared.rows.Row.{Row}
+use Rattle.gix_traverse_commit.proofs.Told.{object_parents, object_time, find_fault}
+use Rattle.gix_traverse_commit.proofs.fetch.Source.fetch.Goals as goal
+
+begun : (place : Place) (kind known : hash.Kind) (bytes content : List ℕ) → place ≡ start kind bytes → kind ≡ known → bytes ≡ content → place ≡ start known content
+begun place kind known bytes content e f h = e ∙ ap (λ (k : hash.Kind). start k bytes) f ∙ ap (start known) h
+
+pub returns-in_err-load-clause-refused : goal.returns-in_err-load-clause-refused
+returns-in_err-load-clause-refused g c =
+    let p = err_from_is_err_and c.from_residual-in_err-load.result c.from_residual-in_err-load.ensures.1 in
+    let fault = find_fault (g.F.Lookup.is_honest c.args.self.now.objects) (g.F.Lookup.may_fail c.args.self.now.objects) (rows_of c.args.self.now.rows) (g.F.Lookup.table c.args.self.now.objects) c.args.id.now c.in_err-load.field-0.0 (subst (λ (o : Option (List Row)). Holds (rows_of o) c.args.id.now → ⊥) c.as_ref.ensures.value c.in_default.ensures.none) c.in_err-load.ensures.refused in
+    rw (p.1, p.2) fault
+
+pub returns-clause-parents : goal.returns-clause-parents
+returns-clause-parents g c = λ honest commits told.
+    object_parents (rows_of c.args.self.now.rows) (g.F.Lookup.table c.args.self.now.objects) commits told c.args.id.now c.load.new.buffer.items c.args.along (place_of c.from_bytes-reader.result) c.in_ok-read_parents.field-0.items
+    (subst (λ (o : Option (List Row)). Holds (rows_of o) c.args.id.now → ⊥) c.as_ref.ensures.value c.in_default.ensures.none) (c.in_ok-load.ensures.stood honest) (begun (place_of c.from_bytes-reader.result) c.kind.result (id_of c.args.id.now).kind c.as_slice-2.result.now c.load.new.buffer.items c.from_bytes-reader.ensures c.kind.ensures c.as_slice-2.ensures.value) c.in_ok-read_parents.ensures.told
+
+pub returns-clause-time : goal.returns-clause-time
+returns-clause-time g c = λ honest commits told.
+    object_time (rows_of c.args.self.now.rows) (g.F.Lookup.table c.args.self.now.objects) commits told c.args.id.now c.load.new.buffer.items (place_of c.from_bytes-reader.result) c.seconds.result c.ok.result
+    (subst (λ (o : Option (List Row)). Holds (rows_of o) c.args.id.now → ⊥) c.as_ref.ensures.value c.in_default.ensures.none) (c.in_ok-load.ensures.stood honest) (begun (place_of c.from_bytes-reader.result) c.kind.result (id_of c.args.id.now).kind c.as_slice-2.result.now c.load.new.buffer.items c.from_bytes-reader.ensures c.kind.ensures c.as_slice-2.ensures.value) c.seconds.ensures.told c.seconds.ensures.every c.ok.ensures.value

@@ -1,0 +1,53 @@
+-- What is read of a commit, and why it isn't.
+use Rattle.std.specs.Prelude.{ℕ, ◌≡◌, ◌⊎◌, List, [], ◌∷◌, Contains, Option, Some, None, Result, Ok, Err, ⊤}
+use Rattle.gix_hash.specs.Id.{Id, id_of}
+use Rattle.gix_hash.specs.declared.object_id.ObjectId.{ObjectId}
+use Rattle.gix_object_commit.specs.ReadingOn.{TellsFirst, parent_told}
+use Rattle.gix_object_commit.specs.Tokens.{Place, GivesToken, start}
+use Rattle.gix_object_find.specs.Existing.{Stands, KindFault}
+use Rattle.gix_object_find.specs.Table.{Table}
+use Rattle.gix_object_find.specs.declared.find.Error.TheVariants as lookup
+use Rattle.gix_object_find.specs.declared.find.existing_iter.Error as existing_iter
+use Rattle.gix_object_find.specs.declared.find.existing_iter.Error.TheVariants as iter_case
+use Rattle.gix_object_lines.specs.declared.decode.Error as decode
+use Rattle.gix_object_lines.specs.declared.kind.Kind.TheVariants as kinds
+use Rattle.gix_traverse_commit.specs.Rows.{Holds}
+use Rattle.gix_traverse_commit.specs.Told.{TellsFront, TellsParents}
+use Rattle.gix_traverse_commit.specs.declared.fetch.FetchError.{FetchError}
+use Rattle.gix_traverse_commit.specs.declared.fetch.FetchError.TheVariants as fault
+use Rattle.gix_traverse_commit.specs.declared.parents.Parents.{Parents}
+use Rattle.gix_traverse_commit.specs.declared.parents.Parents.TheVariants.{All, First}
+use Rattle.gix_traverse_commit.specs.declared.rows.Row.{Row}
+
+-- all parents, or the first alone
+abbrev pub ReadsParents : Parents → Place → List Id → Type 0
+ReadsParents All here ids = TellsParents here ids
+ReadsParents First here ids = (TellsParents here ids × (ids ≡ [])) ⊎ ((id : Id) × (ids ≡ id ∷ []) × TellsFirst parent_told here id)
+
+-- the generation in its row, and none without a row
+abbrev pub HasRowsGeneration : List Row → ObjectId → Option ℕ → Type 0
+HasRowsGeneration rows id None = ¬ Holds rows id
+HasRowsGeneration rows id (Some n) = (row : Row) × Contains rows row × (row.id ≡ id) × (row.generation ≡ n)
+
+-- behind the tree and some parents a line stands that is no part, for this cause
+abbrev pub LacksParents : Place → decode.Error → Type 0
+LacksParents here error = (ids : List Id) × (there : Place) × (after : Place) × TellsFront here ids there × GivesToken there (Some (Err error)) after
+
+abbrev pub ParentsFault : Place → FetchError → Type 0
+ParentsFault here (fault.Find error) = ⊥
+ParentsFault here (fault.ObjectDecode error) = LacksParents here error
+ParentsFault here fault.Memory = ⊤
+
+-- want of memory at a lookup is want of memory
+abbrev pub find_error : existing_iter.Error → FetchError
+find_error (iter_case.Find lookup.Memory) = fault.Memory
+find_error (iter_case.Find lookup.Failed) = fault.Find (iter_case.Find lookup.Failed)
+find_error (iter_case.NotFound oid) = fault.Find (iter_case.NotFound oid)
+find_error (iter_case.ObjectKind oid actual expected) = fault.Find (iter_case.ObjectKind oid actual expected)
+
+-- why a commit isn't read: it has no row, and its object isn't found or is no commit, or its lines aren't a commit's
+abbrev pub FetchFault : Type 0 → Type 0 → List Row → Table → ObjectId → FetchError → Type 0
+FetchFault honest may_fail rows table id (fault.Find error) = (¬ Holds rows id) × KindFault honest may_fail table (id_of id) kinds.Commit error
+FetchFault honest may_fail rows table id (fault.ObjectDecode error) =
+    (¬ Holds rows id) × (honest → (content : List ℕ) × Stands table (id_of id) kinds.Commit content × LacksParents (start (id_of id).kind content) error)
+FetchFault honest may_fail rows table id fault.Memory = ⊤

@@ -1,0 +1,30 @@
+//! Which commits a walk accepts.
+
+ghost use Rattle.std.specs.Prelude.{◌≡◌, Bool, true};
+ghost use Rattle.gix_hash.specs.Id.{Id};
+ghost use Rattle.gix_hash.specs.Views.{viewed_id};
+
+use gix_hash::oid;
+
+/// Tells which commits a walk accepts, and names them in its contract.
+pub trait Accept {
+    /// The ids that are accepted.
+    ghost accepts: { Self → Id → Bool };
+
+    /// Whether this id is accepted. An answer changes no later one.
+    fn accept(&mut self, id: oid<'_>) -> bool
+        ensures told { result ≡ Self.accepts self.old (viewed_id id.entry) }
+        ensures kept { Self.accepts self.new ≡ Self.accepts self.old };
+}
+
+/// Accepts each commit.
+#[derive(Debug, Clone, Copy, PartialEq, Eq)]
+pub struct All;
+
+impl Accept for All {
+    ghost accepts = { λ _ _. true };
+
+    fn accept(&mut self, _id: oid<'_>) -> bool {
+        true
+    }
+}

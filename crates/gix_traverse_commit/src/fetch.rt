@@ -1,0 +1,198 @@
+//! Reading the commits that a walk comes to.
+
+ghost use Rattle.std.specs.Prelude.{◌≡◌, ◌⊎◌, ◌≤◌, ◌+◌, [], Contains, IfOk, IfErr, OnOk, map, unwrap_or, pos};
+ghost use Rattle.gix_hash.specs.Id.{id_of};
+ghost use Rattle.gix_hash.specs.declared.object_id.ObjectId.{ObjectId};
+ghost use Rattle.gix_object_commit.specs.Tokens.{place_of};
+ghost use Rattle.gix_object_find.specs.Existing.{KindFault, Stands};
+ghost use Rattle.gix_object_lines.specs.declared.kind.Kind.TheVariants as kinds;
+ghost use Rattle.gix_traverse_commit.specs.Commits.{Commits, asked_parents, asked};
+ghost use Rattle.gix_traverse_commit.specs.Fetching.{ReadsParents, HasRowsGeneration, ParentsFault, FetchFault, find_error};
+ghost use Rattle.gix_traverse_commit.specs.Rows.{Holds};
+ghost use Rattle.gix_traverse_commit.specs.Told.{AreTold, rows_of};
+ghost use Rattle.gix_traverse_commit.specs.declared.fetch.FetchError.TheVariants.{ObjectDecode, Memory};
+
+use crate::either::{row_in, seconds};
+use crate::{Graph, ParentIds, Parents};
+use gix_hash::ObjectId;
+use gix_object_commit::CommitRefIter;
+use gix_object_commit::commit::ref_iter::Token;
+use gix_object_find::find::{self as lookup, existing_iter};
+use gix_object_find::Find;
+use gix_object_lines::{Kind, decode};
+use std::alloc::{AllocError, AllocFailed, Global};
+
+/// Why a commit isn't read.
+#[derive(Debug, Clone, Copy, PartialEq, Eq)]
+pub(crate) enum FetchError {
+    /// It isn't found.
+    Find(existing_iter::Error),
+    /// Its object's lines aren't those of a commit.
+    ObjectDecode(decode::Error),
+    /// There is no memory.
+    Memory,
+}
+
+impl From<existing_iter::Error> for FetchError {
+    ghost from_gives = { λ error given. given ≡ find_error error };
+
+    fn from(error: existing_iter::Error) -> FetchError {
+        match error {
+            existing_iter::Error::Find(lookup::Error::Memory) => FetchError::Memory,
+            other => FetchError::Find(other),
+        }
+    }
+}
+
+impl From<decode::Error> for FetchError {
+    ghost from_gives = { λ error given. given ≡ ObjectDecode error };
+
+    fn from(error: decode::Error) -> FetchError {
+        FetchError::ObjectDecode(error)
+    }
+}
+
+impl From<AllocError> for FetchError {
+    ghost from_gives = { λ _ given. given ≡ Memory };
+
+    fn from(_error: AllocError) -> FetchError {
+        FetchError::Memory
+    }
+}
+
+impl<T: Drop> From<AllocFailed<T>> for FetchError {
+    ghost from_gives = { λ _ given. given ≡ Memory };
+
+    fn from(_refused: AllocFailed<T>) -> FetchError {
+        FetchError::Memory
+    }
+}
+
+/// What a walk reads of a commit.
+#[derive(Drop)]
+pub(crate) struct Fetched {
+    /// The ids of the parents that were asked for.
+    pub parents: ParentIds,
+    /// The committer's seconds, where the commit tells them.
+    pub time: Option<i64>,
+    /// The generation in its row, where it has one.
+    pub generation: Option<u32>,
+}
+
+// The parents that a walk goes along, of all.
+fn asked_of(parents: &[ObjectId], along: Parents) -> &[ObjectId]
+    ensures { result.now ≡ asked along parents.now }
+{
+    match along {
+        Parents::All => parents,
+        Parents::First => {
+            if parents.is_empty() {
+                parents
+            } else {
+                &parents[..1]
+            }
+        }
+    }
+}
+
+// The ids of the parents that are asked for, from the parts to come.
+fn read_parents(
+    alloc: Global,
+    reader: CommitRefIter<'_>,
+    along: Parents,
+) -> Result<ParentIds, FetchError>
+    ensures told { IfOk result (λ ids. ReadsParents along (place_of reader.entry) (map id_of ids.items)) }
+    ensures refused { IfErr result (ParentsFault (place_of reader.entry)) }
+{
+    let mut ids = ParentIds::new(alloc);
+    'tokens: for token in reader {
+        match token? {
+            Token::Tree(_) => {}
+            Token::Parent(id) => {
+                ids.push(id)?;
+                match along {
+                    Parents::All => {}
+                    Parents::First => return Ok(ids),
+                }
+            }
+            _ => return Ok(ids),
+        }
+    }
+    Ok(ids)
+}
+
+// Puts the content of the commit of this id into the buffer.
+fn load<F: Find>(
+    objects: &F,
+    id: &ObjectId,
+    buffer: &mut Vec<u8>,
+) -> Result<(), existing_iter::Error>
+    ensures stood { F.is_honest objects.now
+        → OnOk result (Stands (F.table objects.now) (id_of id.now) kinds.Commit buffer.new.items) }
+    ensures listed { IfOk result (λ _. Contains (F.ids objects.now) (id_of id.now)) }
+    ensures refused { IfErr result (KindFault (F.is_honest objects.now) (F.may_fail objects.now)
+        (F.table objects.now) (id_of id.now) kinds.Commit) }
+{
+    match objects.find_into(id.as_oid(), buffer)? {
+        Some(Kind::Commit) => Ok(()),
+        Some(actual) => Err(existing_iter::Error::ObjectKind {
+            oid: *id,
+            actual,
+            expected: Kind::Commit,
+        }),
+        None => Err(existing_iter::Error::NotFound { oid: *id }),
+    }
+}
+
+/// Where a walk reads commits from: rows first, else objects. It counts the objects that it asks for.
+#[derive(Drop)]
+pub(crate) struct Source<F> {
+    pub objects: F,
+    pub rows: Option<Graph>,
+    /// The content of the object that was read last, and nothing where a row was.
+    pub buffer: Vec<u8>,
+    pub lookups: usize,
+}
+
+impl<F: Find> Source<F> {
+    /// What the commit of this id is.
+    pub fn fetch(&mut self, id: &ObjectId, along: Parents) -> Result<Fetched, FetchError>
+        ensures objects { self.new.objects ≡ self.old.objects }
+        ensures rows { self.new.rows ≡ self.old.rows }
+        ensures parents { F.is_honest self.old.objects → (g : Commits ObjectId)
+            → AreTold (rows_of self.old.rows) (F.table self.old.objects) g
+            → IfOk result (λ commit. commit.parents.items ≡ asked_parents along g id.now) }
+        ensures time { F.is_honest self.old.objects → (g : Commits ObjectId)
+            → AreTold (rows_of self.old.rows) (F.table self.old.objects) g
+            → IfOk result (λ commit. unwrap_or commit.time (pos 0) ≡ (g id.now).time) }
+        ensures generation { IfOk result (λ commit. HasRowsGeneration (rows_of self.old.rows) id.now
+            commit.generation) }
+        ensures listed { IfOk result (λ _. Holds (rows_of self.old.rows) id.now
+            ⊎ Contains (F.ids self.old.objects) (id_of id.now)) }
+        ensures rowed { Holds (rows_of self.old.rows) id.now
+            → (self.new.lookups ≡ self.old.lookups) × (self.new.buffer.items ≡ []) }
+        ensures counted { self.new.lookups ≤ self.old.lookups + 1 }
+        ensures content { F.is_honest self.old.objects → ¬ Holds (rows_of self.old.rows) id.now
+            → OnOk result (Stands (F.table self.old.objects) (id_of id.now) kinds.Commit self.new.buffer.items) }
+        ensures refused { IfErr result (FetchFault (F.is_honest self.old.objects) (F.may_fail self.old.objects)
+            (rows_of self.old.rows) (F.table self.old.objects) id.now) }
+    {
+        let alloc: Global = *self.buffer.allocator();
+        if let Some(row) = row_in(self.rows.as_ref(), id) {
+            self.buffer.clear();
+            return Ok(Fetched {
+                parents: ParentIds::from_slice(alloc, asked_of(row.parents.as_slice(), along))?,
+                time: Some(row.time),
+                generation: Some(row.generation),
+            });
+        }
+        self.lookups = self.lookups.saturating_add(1);
+        load(&self.objects, id, &mut self.buffer)?;
+        let reader = CommitRefIter::from_bytes(self.buffer.as_slice(), id.kind());
+        Ok(Fetched {
+            parents: read_parents(alloc, reader, along)?,
+            time: seconds(reader).ok(),
+            generation: None,
+        })
+    }
+}
