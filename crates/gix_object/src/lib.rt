@@ -73,6 +73,11 @@ pub mod find {
     pub use gix_object_find::find::{Error, Never};
 }
 
+/// Looking entries of trees up by their paths.
+pub mod lookup {
+    pub use gix_object_find::lookup::{Error, lookup_entry};
+}
+
 /// Actors, times and the names of references.
 pub mod lines {
     pub use gix_object_lines::lines::{

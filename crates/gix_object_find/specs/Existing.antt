@@ -1,12 +1,12 @@
 -- Objects that must stand, and why they aren't given: `honest` says whether a store answers by its table, `may_fail` whether its
 -- lookups may fail.
-use Rattle.std.specs.Prelude.{ℕ, ◌≡◌, ◌≢◌, ⊤, List, Option, None, Some}
+use Rattle.std.specs.Prelude.{ℕ, ◌≡◌, ◌≢◌, ⊤, List, None, Some}
 use Rattle.gix_hash.specs.Id.{Id, id_of}
 use Rattle.gix_hash.specs.declared.kind.Kind as hash
 use Rattle.gix_object_lines.specs.declared.kind.Kind.{Kind}
 use Rattle.gix_object_lines.specs.declared.decode.Error as decode
 use Rattle.gix_object_tree.specs.Object.{Value, Tells, ContentFault}
-use Rattle.gix_object_find.specs.Table.{Table, Object, kind_at}
+use Rattle.gix_object_find.specs.Table.{Table, kind_at}
 use Rattle.gix_object_find.specs.declared.find.Error as find
 use Rattle.gix_object_find.specs.declared.find.Error.TheVariants.{Failed, Memory}
 use Rattle.gix_object_find.specs.declared.find.existing.Error as existing

@@ -3,7 +3,9 @@
 
 mod ext;
 pub mod find;
+pub mod lookup;
 mod traits;
 
 pub use crate::ext::{FindExt, FindObjectOrHeader, HeaderExt};
+pub use crate::lookup::lookup_entry;
 pub use crate::traits::{Exists, Find, FindHeader, Lookup};
