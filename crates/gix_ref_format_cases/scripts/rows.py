@@ -40,12 +40,18 @@ def write(name, data):
 
 def records():
     """What git tells of all references: target, name, and the object behind a tag."""
-    told = git("for-each-ref", "--format=%(objectname) %(refname) %(*objectname)")
-    out = []
-    for line in told.split("\n") if told else []:
-        target, name, peeled = (line.split(" ") + [""])[:3]
-        out.append((target, name, peeled or target))
-    return out
+    told = git("for-each-ref", "--format=%(objectname) %(refname)")
+    lines = [line.split(" ") for line in told.split("\n")] if told else []
+    return [(target, name, git("rev-parse", "--verify", "-q", name + "^{}")) for target, name in lines]
+
+
+def completed(word):
+    """The record that git finds for a word: it tells the id, and of the names of gitrevisions the first that stands has it."""
+    id = git("rev-parse", "--verify", "-q", word, fails=True)
+    names = [word] if word.startswith("refs/") else [f"refs/{word}", f"refs/tags/{word}", f"refs/heads/{word}", f"refs/remotes/{word}", f"refs/remotes/{word}/HEAD"]
+    hits = [r for name in names for r in told if r[1] == name]
+    assert (hits[0][0] if hits else None) == id, word
+    return hits[0] if hits else None
 
 
 git("init", "-q", "-b", "main")
@@ -101,9 +107,8 @@ for data in [packed, bare, backwards, b"# pack-refs with: peeled fully-peeled \n
         if word.endswith("/"):
             add(f"find {word} {data.hex()}", "no name")
             continue
-        name = git("rev-parse", "--symbolic-full-name", "--verify", "-q", word, fails=True)
-        hit = [r for r in told if r[1] == name]
-        answer = "{} {} {}".format(*hit[0]) if hit else "none"
+        hit = completed(word)
+        answer = "{} {} {}".format(*hit) if hit else "none"
         add(f"find {word} {data.hex()}", answer)
         if word.startswith("refs/"):
             add(f"whole {word} {data.hex()}", answer)
