@@ -81,19 +81,19 @@ module _ {S : Type 0} (G : S → Call → S → Type 0) (H M : Type 0) (table : 
             left = ts;
             runs = runs_more G so.calls (pop_front ∷ sh.calls) before after again so.runs sh.runs;
             later = λ after_calls deeper en l.
-              let step = so.later (pop_front ∷ (sh.calls ++ after_calls)) (more ++ deeper) en
-                  (subst (λ (l2 : List Tree). Level H M table l2 (pop_front ∷ (sh.calls ++ after_calls)) (more ++ deeper) en) (sym e) (breadth.tree sh.read sh.listing l)) in
-              let g = sym (append_assoc so.calls (pop_front ∷ sh.calls) after_calls) in
-              let h = sym (append_assoc so.below more deeper) in
-              subst (λ (cs : List Call). Level H M table trees cs ((so.below ++ more) ++ deeper) en) g
-              (subst (λ (bs : List Tree). Level H M table trees (so.calls ++ (pop_front ∷ (sh.calls ++ after_calls))) bs en) h step);
+                let step = so.later (pop_front ∷ (sh.calls ++ after_calls)) (more ++ deeper) en
+                (subst (λ (l2 : List Tree). Level H M table l2 (pop_front ∷ (sh.calls ++ after_calls)) (more ++ deeper) en) (sym e) (breadth.tree sh.read sh.listing l)) in
+                let g = sym (append_assoc so.calls (pop_front ∷ sh.calls) after_calls) in
+                let h = sym (append_assoc so.below more deeper) in
+                subst (λ (cs : List Call). Level H M table trees cs ((so.below ++ more) ++ deeper) en) g
+                (subst (λ (bs : List Tree). Level H M table trees (so.calls ++ (pop_front ∷ (sh.calls ++ after_calls))) bs en) h step);
             stand = subst (λ (ns : List Node). StandFrom ns (suc number) ts) (sym grown) rest;
             count = omega arith;
             all = (subst (λ (ns : List Node). StandFrom ns (length nodes) (so.below ++ more)) (sym grown) joined, omega arith);
             deep = λ depth u.
-              let d = so.deep depth u in
-              let d0 = subst (λ (l : List Tree). AreUnderSome ids depth l) e d.0 in
-              (d0.1, under_append ids (suc depth) so.below more d.1 (all_under ids depth t sh.below sh.read.0 sh.stored d0.0));
+                let d = so.deep depth u in
+                let d0 = subst (λ (l : List Tree). AreUnderSome ids depth l) e d.0 in
+                (d0.1, under_append ids (suc depth) so.below more d.1 (all_under ids depth t sh.below sh.read.0 sh.stored d0.0));
           }
 
   pub levelled_done : (trees : List Tree) (number end : ℕ) (before after : S) (nodes queued : List Node) → end ≤ number → Levelled G H M table ids trees number end before nodes after queued → ShowsLevel G H M table ids trees before nodes after queued
@@ -124,8 +124,12 @@ module _ {S : Type 0} (G : S → Call → S → Type 0) (H M : Type 0) (table : 
       go (t ∷ ts) e =
           let stand = subst (λ (l : List Tree). StandFrom queued number l) e so.stand in
           memory_or (StopsLevel G H M table (t ∷ ts) after last) (StopsLevel G H M table trees before last) error
-          (λ er (calls, below, runs, level). (so.calls ++ calls, so.below ++ below, runs_more G so.calls calls before after last so.runs runs,
-            so.later calls below (failed er) (subst (λ (l : List Tree). Level H M table l calls below (failed er)) (sym e) level)))
+          (λ er (calls, below, runs, level). (
+            so.calls ++ calls,
+            so.below ++ below,
+            runs_more G so.calls calls before after last so.runs runs,
+            so.later calls below (failed er) (subst (λ (l : List Tree). Level H M table l calls below (failed er)) (sym e) level),
+          ))
           (stops t ts stand.0)
 
   -- one tree: it isn't read, its entries are shown, or the walk stops in it

@@ -21,12 +21,13 @@ pub queues_none : (above : Option ℕ) (nodes : List Node) → Queues above node
 queues_none above nodes = ([], refl, sym (append_nil nodes))
 
 pub queues_more : (above : Option ℕ) (a b c : List Node) (xs ys : List Id) → Queues above a b xs → Queues above b c ys → Queues above a c (xs ++ ys)
-queues_more above a b c xs ys (first, named, put) (second, named2, put2) =
-    (first ++ second,
-    map-append id_of first second ∙ (λ i. named i ++ named2 i),
-    put2 ∙ ap (λ (ns : List Node). ns ++ map (node_under above) second) put
-    ∙ append_assoc a (map (node_under above) first) (map (node_under above) second)
-    ∙ ap (λ (ns : List Node). a ++ ns) (sym (map-append (node_under above) first second)))
+queues_more above a b c xs ys (first, named, put) (second, named2, put2) = (
+  first ++ second,
+  map-append id_of first second ∙ (λ i. named i ++ named2 i),
+  put2 ∙ ap (λ (ns : List Node). ns ++ map (node_under above) second) put
+      ∙ append_assoc a (map (node_under above) first) (map (node_under above) second)
+      ∙ ap (λ (ns : List Node). a ++ ns) (sym (map-append (node_under above) first second)),
+)
 
 -- what was shown from `start` on, where `now` is left
 pub record Listed {S : Type 0} (G : S → Call → S → Type 0) (ids : Kind) (start now : List ℕ) (above : Option ℕ) (before : S) (nodes : List Node) (after : S) (queued : List Node) : Type 0 where
@@ -60,11 +61,11 @@ module _ {S : Type 0} (G : S → Call → S → Type 0) (ids : Kind) (above : Op
         runs = runs_more G so.calls told before after again so.runs runs;
         queues = queues_more above nodes queued more_queued so.below id so.queues queues;
         later = λ more deeper end l.
-          let step = so.later (shown item (Continue answer) ++ (behind item (descends item (Continue answer)) ++ more)) (id ++ deeper) end (entry answer spelled l) in
-          let e = ap (λ (cs : List Call). so.calls ++ cs) (sym (append_assoc (shown item (Continue answer)) (behind item (descends item (Continue answer))) more)) ∙ sym (append_assoc so.calls told more) in
-          let f = sym (append_assoc so.below id deeper) in
-          subst (λ (cs : List Call). Listing ids start cs ((so.below ++ id) ++ deeper) end) e
-          (subst (λ (bs : List Id). Listing ids start (so.calls ++ (shown item (Continue answer) ++ (behind item (descends item (Continue answer)) ++ more))) bs end) f step);
+            let step = so.later (shown item (Continue answer) ++ (behind item (descends item (Continue answer)) ++ more)) (id ++ deeper) end (entry answer spelled l) in
+            let e = ap (λ (cs : List Call). so.calls ++ cs) (sym (append_assoc (shown item (Continue answer)) (behind item (descends item (Continue answer))) more)) ∙ sym (append_assoc so.calls told more) in
+            let f = sym (append_assoc so.below id deeper) in
+            subst (λ (cs : List Call). Listing ids start cs ((so.below ++ id) ++ deeper) end) e
+            (subst (λ (bs : List Id). Listing ids start (so.calls ++ (shown item (Continue answer) ++ (behind item (descends item (Continue answer)) ++ more))) bs end) f step);
       }
 
   pub listed_done : (start now : List ℕ) (before after : S) (nodes queued : List Node) → now ≡ [] → Listed G ids start now above before nodes after queued → ShowsListing G ids start above before nodes after queued

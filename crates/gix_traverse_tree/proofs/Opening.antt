@@ -76,14 +76,21 @@ module _ (H M : Type 0) (table : Table) where
   rest_below tree after child trees item answer more end same spelled desc named read (inl (first, later, is, (next, e, inl (f2, l2, is2, res, e2)), all)) =
       let told = (shown item (Continue answer) ++ (pop ∷ entering item)) ++ (pop_back ∷ []) in
       let eq = all ∙ ap (λ (cs : List Call). first ++ cs) (e ∙ ap (λ (cs : List Call). pop_back ∷ cs) e2) ∙ sym (append_assoc first (pop_back ∷ f2) l2) in
-      inl (shown item (Continue answer) ++ (pop ∷ (entering item ++ ((pop_back ∷ first) ++ (pop_back ∷ f2)))), l2,
-      depth.below answer spelled desc (entered tree after child trees item first whole same named read is) (moved tree after trees f2 whole same is2), res,
-      ap (λ (cs : List Call). told ++ cs) eq)
+      inl (
+        shown item (Continue answer) ++ (pop ∷ (entering item ++ ((pop_back ∷ first) ++ (pop_back ∷ f2)))),
+        l2,
+        depth.below answer spelled desc (entered tree after child trees item first whole same named read is) (moved tree after trees f2 whole same is2),
+        res,
+        ap (λ (cs : List Call). told ++ cs) eq,
+      )
   rest_below tree after child trees item answer more end same spelled desc named read (inl (first, later, is, (next, e, inr (is2, ne)), all)) =
       let told = (shown item (Continue answer) ++ (pop ∷ entering item)) ++ (pop_back ∷ []) in
       let eq = all ∙ ap (λ (cs : List Call). first ++ cs) e in
-      inr (subst (λ (cs : List Call). InDepth H M table (ids_of trees) (inside (id_of tree.id) (left_of tree)) cs end) (sym (ap (λ (cs : List Call). told ++ cs) eq))
-        (depth.below answer spelled desc (entered tree after child trees item first whole same named read is) (moved tree after trees next end same is2)), ne)
+      inr (
+        subst (λ (cs : List Call). InDepth H M table (ids_of trees) (inside (id_of tree.id) (left_of tree)) cs end) (sym (ap (λ (cs : List Call). told ++ cs) eq))
+            (depth.below answer spelled desc (entered tree after child trees item first whole same named read is) (moved tree after trees next end same is2)),
+        ne,
+      )
   rest_below tree after child trees item answer more end same spelled desc named read (inr (is, ne)) =
       inr (depth.ended_below answer spelled desc (entered tree after child trees item more end same named read is) ne, ne)
 
@@ -264,17 +271,25 @@ module _ {S : Type 0} (G : S → Call → S → Type 0) (H M : Type 0) (table : 
   end_nothing old a e = ([], whole, refl, subst (λ (ts : List Open). Rest H M table ts [] whole) (sym e) (refl, refl), tt)
 
   pub end_ended : (tree after : Open) (trees old : List Open) (a b : S) → old ≡ tree ∷ trees → ShowsNext G a tree b after Ended → IsAtEnd G H M table a old b IsGood
-  end_ended tree after trees old a b e (item, spelled, runs) =
-      (shown item (Break tt) ++ behind_last item, broken, runs,
-      subst (λ (ts : List Open). Rest H M table ts (shown item (Break tt) ++ behind_last item) broken) (sym e) (rest_stop H M table tree trees (shown item (Break tt) ++ behind_last item) broken (depth.ended spelled) broken_not), tt)
+  end_ended tree after trees old a b e (item, spelled, runs) = (
+    shown item (Break tt) ++ behind_last item,
+    broken,
+    runs,
+    subst (λ (ts : List Open). Rest H M table ts (shown item (Break tt) ++ behind_last item) broken) (sym e) (rest_stop H M table tree trees (shown item (Break tt) ++ behind_last item) broken (depth.ended spelled) broken_not),
+    tt,
+  )
     where
       broken_not : broken ≢ whole
       broken_not q = cc
 
   pub stop_next : (tree : Open) (trees old : List Open) (a b : S) (error : Error) → old ≡ tree ∷ trees → HasNoNext a tree b error → IsAtEnd G H M table a old b (λ end. end ≡ failed error)
-  stop_next tree trees old a b (errors.ObjectDecode error) e (some, none, fault, same) =
-      ([], failed (errors.ObjectDecode error), same,
-      subst (λ (ts : List Open). Rest H M table ts [] (failed (errors.ObjectDecode error))) (sym e) (rest_stop H M table tree trees [] (failed (errors.ObjectDecode error)) (depth.unread some none fault) (not_whole (errors.ObjectDecode error))), refl)
+  stop_next tree trees old a b (errors.ObjectDecode error) e (some, none, fault, same) = (
+    [],
+    failed (errors.ObjectDecode error),
+    same,
+    subst (λ (ts : List Open). Rest H M table ts [] (failed (errors.ObjectDecode error))) (sym e) (rest_stop H M table tree trees [] (failed (errors.ObjectDecode error)) (depth.unread some none fault) (not_whole (errors.ObjectDecode error))),
+    refl,
+  )
   stop_next tree trees old a b (errors.Find _) e h = absurd h
   stop_next tree trees old a b errors.Cancelled e h = absurd h
   stop_next tree trees old a b errors.Cycle e h = absurd h
@@ -287,6 +302,10 @@ module _ {S : Type 0} (G : S → Call → S → Type 0) (H M : Type 0) (table : 
       let f1 = subst (λ (ts : List Open). TreeFault H M table (ids_of ts) (id_of id) error) m fault in
       let f2 = subst (λ (i : Id). TreeFault H M table (ids_of (after ∷ trees)) i error) is_id f1 in
       let f3 = subst (λ i. TreeFault H M table (id_of i ∷ ids_of trees) item.id error) same f2 in
-      let d = depth.ended_below answer spelled desc (depth.unfound f3) (not_whole error) in
-      (told, failed error, subst (λ (s : S). Runs G a told s) (sym stays) runs,
-      subst (λ (ts : List Open). Rest H M table ts told (failed error)) (sym e) (rest_stop H M table tree trees told (failed error) d (not_whole error)), refl)
+      let d = depth.ended_below answer spelled desc (depth.unfound f3) (not_whole error) in (
+        told,
+        failed error,
+        subst (λ (s : S). Runs G a told s) (sym stays) runs,
+        subst (λ (ts : List Open). Rest H M table ts told (failed error)) (sym e) (rest_stop H M table tree trees told (failed error) d (not_whole error)),
+        refl,
+      )

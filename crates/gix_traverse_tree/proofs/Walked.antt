@@ -92,7 +92,7 @@ module _ {S : Type 0} (G : S → Call → S → Type 0) (H M : Type 0) (table : 
     all = shows.all;
     deep = shows.deeper so.depth so.deep;
     later = λ more end l.
-      subst (λ (cs : List Call). InBreadth H M table kind content cs end) (sym (append_assoc so.calls shows.calls more)) (so.later (shows.calls ++ more) end (breadth.level shows.level l));
+        subst (λ (cs : List Call). InBreadth H M table kind content cs end) (sym (append_assoc so.calls shows.calls more)) (so.later (shows.calls ++ more) end (breadth.level shows.level l));
   }
 
   pub walked_done : (start : ℕ) (before after : S) (nodes : List Node) → length nodes ≤ start → Walked G H M table ids kind content start before after nodes → Walks G H M table kind content before after whole

@@ -62,9 +62,10 @@ stand_added nodes number tree (x ∷ added) way =
     let node = node_under (Some number) x in
     let later = stand_added (nodes ++ node ∷ []) number tree added (way_more nodes (node ∷ []) (Some number) (tree.id ∷ tree.above) way) in
     let e = append_assoc_one nodes node (map (node_under (Some number)) added) in
-    let moved = subst (λ (ns : List Node). StandFrom ns (length (nodes ++ node ∷ [])) (map (under tree) (map id_of added))) e later in
-    ((node, at_length nodes node (map (node_under (Some number)) added), refl, way_more nodes (node ∷ map (node_under (Some number)) added) (Some number) (tree.id ∷ tree.above) way),
-    subst (λ (k : ℕ). StandFrom (nodes ++ node ∷ map (node_under (Some number)) added) k (map (under tree) (map id_of added))) (length_one nodes node) moved)
+    let moved = subst (λ (ns : List Node). StandFrom ns (length (nodes ++ node ∷ [])) (map (under tree) (map id_of added))) e later in (
+      (node, at_length nodes node (map (node_under (Some number)) added), refl, way_more nodes (node ∷ map (node_under (Some number)) added) (Some number) (tree.id ∷ tree.above) way),
+      subst (λ (k : ℕ). StandFrom (nodes ++ node ∷ map (node_under (Some number)) added) k (map (under tree) (map id_of added))) (length_one nodes node) moved,
+    )
 
 -- without a tree above
 pub stand_first : (nodes : List Node) (added : List ObjectId) (tree_of : Id → Tree) → ((id : Id) → ((tree_of id).id ≡ id) × ((tree_of id).above ≡ [])) → StandFrom (nodes ++ map (node_under None) added) (length nodes) (map tree_of (map id_of added))
@@ -74,9 +75,10 @@ stand_first nodes (x ∷ added) tree_of h =
     let later = stand_first (nodes ++ node ∷ []) added tree_of h in
     let e = append_assoc_one nodes node (map (node_under None) added) in
     let moved = subst (λ (ns : List Node). StandFrom ns (length (nodes ++ node ∷ [])) (map tree_of (map id_of added))) e later in
-    let all = nodes ++ node ∷ map (node_under None) added in
-    ((node, at_length nodes node (map (node_under None) added), sym (h (id_of x)).0, subst (λ (ids : List Id). IsWayUp all None ids) (sym (h (id_of x)).1) refl),
-    subst (λ (k : ℕ). StandFrom all k (map tree_of (map id_of added))) (length_one nodes node) moved)
+    let all = nodes ++ node ∷ map (node_under None) added in (
+      (node, at_length nodes node (map (node_under None) added), sym (h (id_of x)).0, subst (λ (ids : List Id). IsWayUp all None ids) (sym (h (id_of x)).1) refl),
+      subst (λ (k : ℕ). StandFrom all k (map tree_of (map id_of added))) (length_one nodes node) moved,
+    )
 
 at_cases : {A : Type 0} (xs ys : List A) (k : ℕ) (y : A) (P : A → Type 0) → slice_get (xs ++ ys) k ≡ Some y → (slice_get xs k ≡ Some y → P y) → ((j : ℕ) → k ≡ length xs + j → slice_get ys j ≡ Some y → P y) → P y
 at_cases [] ys k y P a left right = right k (omega arith) a
@@ -93,8 +95,8 @@ linked_more nodes above added linked within n node at =
     at_cases nodes (map (node_under above) added) n node (λ (w : Node). IfSome w.above (λ m. m < n)) at
     (λ a. linked n node a)
     (λ j e a.
-      let (x, is) = at_map (node_under above) added j node a in
-      subst (λ (w : Node). IfSome w.above (λ m. m < n)) is (below above within j e))
+    let (x, is) = at_map (node_under above) added j node a in
+    subst (λ (w : Node). IfSome w.above (λ m. m < n)) is (below above within j e))
   where
     below : (o : Option ℕ) → IfSome o (λ m. m < length nodes) → (j : ℕ) → n ≡ length nodes + j → IfSome o (λ m. m < n)
     below None h j e = tt

@@ -12,6 +12,7 @@ ghost use Rattle.gix_traverse_tree.specs.Breadth.{Tree, behind, queued_id};
 ghost use Rattle.gix_traverse_tree.specs.Nodes.{IsLinked, IsWayUp, StandsAt, AreAllFrom, Queues, MemoryOr, ShowsListing, StopsListing, ShowsTree, ShowsLevel, StopsLevel, Walks};
 
 use crate::entry::show;
+pub use crate::error::Error;
 use crate::lookup::read_tree;
 use crate::{Visit, visit};
 use gix_hash::ObjectId;
@@ -20,8 +21,6 @@ use gix_object_entries::tree::EntryRef;
 use gix_object_find::Find;
 use std::alloc::{AllocError, Global};
 use std::ops::ControlFlow;
-
-pub use crate::error::Error;
 
 /// A tree that a walk has met, and the number of the one that it lies in.
 #[derive(Debug, Clone, Copy)]

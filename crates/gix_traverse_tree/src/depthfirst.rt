@@ -11,6 +11,7 @@ ghost use Rattle.gix_traverse_tree.specs.Nodes.{MemoryOr};
 ghost use Rattle.gix_traverse_tree.specs.Opened.{left_of, ids_of, Rest, AreOpen, ShowsEntry, ShowsNext, HasNoNext, Opens, GoesOn, IsAtEnd, IsGood, WalksIn, WhereTrue, IsResumed};
 
 use crate::entry::show;
+pub use crate::error::Error;
 use crate::lookup::read_tree;
 use crate::{Visit, visit};
 use bstr::BStr;
@@ -20,8 +21,6 @@ use gix_object_entries::tree::EntryRef;
 use gix_object_find::Find;
 use std::alloc::{AllocError, Global};
 use std::ops::ControlFlow;
-
-pub use crate::error::Error;
 
 /// A tree that a walk is in: its content, and where in it the next entry begins.
 #[derive(Drop)]

@@ -42,12 +42,13 @@ up-preserved c =
     let n = c.in-Some.number in
     let within : n < length nodes = subst (λ (o : Option ℕ). IfSome o (λ k. k < length nodes)) c.in-Some.is c.up.invariant.0 in
     let at = slice_get-get_or nodes n default within in
-    let id = id_of c.args.id.now in
-    (some_below _ n (length nodes) (c.requires.linked n _ at) (omega arith),
-    λ ids way.
-      let (rest, up, same) = c.up.invariant.1 ids way in
-      let (more, cons, higher) = way_step nodes n _ rest at (subst (λ (o : Option ℕ). IsWayUp nodes o rest) c.in-Some.is up) in
-      (more, higher, same ∙ ap (is_among id) cons ∙ among_later id _ more (sym c.eq.ensures ∙ c.if-eq.false)))
+    let id = id_of c.args.id.now in (
+      some_below _ n (length nodes) (c.requires.linked n _ at) (omega arith),
+      λ ids way.
+          let (rest, up, same) = c.up.invariant.1 ids way in
+          let (more, cons, higher) = way_step nodes n _ rest at (subst (λ (o : Option ℕ). IsWayUp nodes o rest) c.in-Some.is up) in
+          (more, higher, same ∙ ap (is_among id) cons ∙ among_later id _ more (sym c.eq.ensures ∙ c.if-eq.false)),
+    )
 
 none_up : (nodes : List Node) (link : Option ℕ) (id : Id) (rest : List Id) → ((n : ℕ) → link ≡ Some n → ⊥) → IsWayUp nodes link rest → is_among id rest ≡ false
 none_up nodes link id [] none way = refl

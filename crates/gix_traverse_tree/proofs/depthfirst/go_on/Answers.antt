@@ -27,8 +27,8 @@ returns-in_err-show_next-clause-stopped g c =
     let table = g.F.Lookup.table c.args.objects.now in
     let p = err_from_is_err_and c.from_residual.result c.from_residual.ensures.1 in
     rw (p.1, p.2) (memory_or (HasNoNext c.args.delegate.now tree c.show_next.new.delegate) (λ error. IsAtEnd g.V.Visit.goes H M table c.args.delegate.now (reverse items) c.show_next.new.delegate (λ end. end ≡ failed error)) c.in_err-show_next.field-0.0
-      (λ error h. stop_next g.V.Visit.goes H M table (g.F.Lookup.ids c.args.objects.now) tree (reverse rest) (reverse items) c.args.delegate.now c.show_next.new.delegate error e h)
-      c.in_err-show_next.ensures.refused)
+    (λ error h. stop_next g.V.Visit.goes H M table (g.F.Lookup.ids c.args.objects.now) tree (reverse rest) (reverse items) c.args.delegate.now c.show_next.new.delegate error e h)
+    c.in_err-show_next.ensures.refused)
 
 pub returns-in_err-resume-in-Left-clause-stopped : goal.returns-in_err-resume-in-Left-clause-stopped
 returns-in_err-resume-in-Left-clause-stopped g c =
@@ -60,8 +60,8 @@ returns-in_err-enter-in-Below-clause-stopped g c =
     let table = g.F.Lookup.table c.args.objects.now in
     let p = err_from_is_err_and c.from_residual-in_err-enter-in-Below.result c.from_residual-in_err-enter-in-Below.ensures.1 in
     rw (p.1, p.2) (memory_or (λ error. TreeFault H M table (ids_of (reverse middle)) (id_of c.in-Below.id) error × (c.enter.new.delegate ≡ c.show_next.new.delegate)) (λ error. IsAtEnd g.V.Visit.goes H M table c.args.delegate.now (reverse items) c.enter.new.delegate (λ end. end ≡ failed error)) c.in_err-enter-in-Below.field-0.0
-      (λ error h. stop_below g.V.Visit.goes H M table (g.F.Lookup.ids c.args.objects.now) tree after (reverse rest) (reverse items) (reverse middle) c.in-Below.id c.args.delegate.now c.show_next.new.delegate c.enter.new.delegate error e m c.in_ok-show_next.ensures.kept shows h)
-      c.in_err-enter-in-Below.ensures.refused)
+    (λ error h. stop_below g.V.Visit.goes H M table (g.F.Lookup.ids c.args.objects.now) tree after (reverse rest) (reverse items) (reverse middle) c.in-Below.id c.args.delegate.now c.show_next.new.delegate c.enter.new.delegate error e m c.in_ok-show_next.ensures.kept shows h)
+    c.in_err-enter-in-Below.ensures.refused)
 
 pub returns-in_ok-resume-in-Left-clause-more : goal.returns-in_ok-resume-in-Left-clause-more
 returns-in_ok-resume-in-Left-clause-more g c =

@@ -17,10 +17,10 @@ returns-in_err-enter-clause-stopped g c =
     let root = id_of c.args.root in
     let p = err_from_is_err_and c.from_residual.result c.from_residual.ensures.1 in
     rw (p.1, p.2) (memory_or (λ error. TreeFault H M table (ids_of (reverse c.new-trees.result.items)) root error × (c.enter.new.delegate ≡ c.args.delegate.now)) (λ error. WalksIn g.V.Visit.goes H M table root c.args.delegate.now c.enter.new.delegate (λ end. end ≡ failed error)) c.in_err-enter.field-0.0
-      (λ error h.
-        let fault = subst (λ (ts : List Open). TreeFault H M table (ids_of (reverse ts)) root error) c.new-trees.ensures.items h.0 in
-        subst (λ s. WalksIn g.V.Visit.goes H M table root c.args.delegate.now s (λ end. end ≡ failed error)) (sym h.1) (walking_unfound g.V.Visit.goes H M table (g.F.Lookup.ids c.args.objects.now) root c.args.delegate.now error fault))
-      c.in_err-enter.ensures.refused)
+    (λ error h.
+    let fault = subst (λ (ts : List Open). TreeFault H M table (ids_of (reverse ts)) root error) c.new-trees.ensures.items h.0 in
+    subst (λ s. WalksIn g.V.Visit.goes H M table root c.args.delegate.now s (λ end. end ≡ failed error)) (sym h.1) (walking_unfound g.V.Visit.goes H M table (g.F.Lookup.ids c.args.objects.now) root c.args.delegate.now error fault))
+    c.in_err-enter.ensures.refused)
 
 pub steps-init : goal.steps-init
 steps-init g c =
@@ -37,8 +37,8 @@ returns-in_err-more-clause-stopped g c =
     let so = subst (λ (b : Bool). WhereTrue b (Walking g.V.Visit.goes H M table ids root c.args.delegate.now c.steps.delegate trees) (WalksIn g.V.Visit.goes H M table root c.args.delegate.now c.steps.delegate IsGood)) c.steps-test.true c.steps.invariant in
     let p = err_from_is_err_and c.from_residual-in_err-more.result c.from_residual-in_err-more.ensures.1 in
     rw (p.1, p.2) (memory_or (λ error. IsAtEnd g.V.Visit.goes H M table c.steps.delegate trees c.go_on.new.delegate (λ end. end ≡ failed error)) (λ error. WalksIn g.V.Visit.goes H M table root c.args.delegate.now c.go_on.new.delegate (λ end. end ≡ failed error)) c.in_err-more.field-0.0
-      (λ error h. walking_end g.V.Visit.goes H M table ids root c.args.delegate.now c.steps.delegate c.go_on.new.delegate trees (λ end. end ≡ failed error) so h)
-      c.in_err-more.ensures.stopped)
+    (λ error h. walking_end g.V.Visit.goes H M table ids root c.args.delegate.now c.steps.delegate c.go_on.new.delegate trees (λ end. end ≡ failed error) so h)
+    c.in_err-more.ensures.stopped)
 
 pub steps-smaller : goal.steps-smaller
 steps-smaller g c =

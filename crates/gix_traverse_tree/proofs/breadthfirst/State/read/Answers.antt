@@ -48,7 +48,7 @@ returns-clause-linked g c =
     let nodes = c.args.self.now.nodes.items in
     on_ok c.list.result _ (IsLinked c.list.new.nodes.items)
     (λ (calls, below, runs, listing, (added, named, put)).
-      subst IsLinked (sym put) (linked_more nodes (Some c.args.number) added c.requires.linked c.requires.within))
+    subst IsLinked (sym put) (linked_more nodes (Some c.args.number) added c.requires.linked c.requires.within))
     c.list.ensures.listed
 
 pub returns-clause-longer : goal.returns-clause-longer
@@ -56,9 +56,9 @@ returns-clause-longer g c =
     let nodes = c.args.self.now.nodes.items in
     on_ok c.list.result _ (length nodes ≤ length c.list.new.nodes.items)
     (λ (calls, below, runs, listing, (added, named, put)).
-      let e = ap (λ (ns : List Node). length ns) put in
-      let f = length-append nodes (map (node_under (Some c.args.number)) added) in
-      omega (arith, e, f))
+    let e = ap (λ (ns : List Node). length ns) put in
+    let f = length-append nodes (map (node_under (Some c.args.number)) added) in
+    omega (arith, e, f))
     c.list.ensures.listed
 
 pub returns-clause-read : goal.returns-clause-read
@@ -77,7 +77,7 @@ returns-clause-read g c = λ tree stand.
     let place : place_of c.from_bytes-entries.result ≡ start tree.id.kind content = c.from_bytes-entries.ensures ∙ (λ i. start (kind i) (c.as_slice-2.ensures.value i)) in
     on_ok c.list.result _ _
     (λ shows. tree_shown g.V.Visit.goes H (g.F.Lookup.may_fail c.args.objects.now) table (g.F.Lookup.ids c.args.objects.now) c.args.number tree content c.args.delegate.now c.pop_front_tracked_path_and_set_current.new.self c.list.new.delegate nodes c.list.new.nodes.items (alone, found) listed c.in_ok-pop_front_tracked_path_and_set_current.ensures
-      (subst (λ (p : Place). ShowsListing g.V.Visit.goes p.kind p.input (Some c.args.number) c.pop_front_tracked_path_and_set_current.new.self nodes c.list.new.delegate c.list.new.nodes.items) place shows))
+    (subst (λ (p : Place). ShowsListing g.V.Visit.goes p.kind p.input (Some c.args.number) c.pop_front_tracked_path_and_set_current.new.self nodes c.list.new.delegate c.list.new.nodes.items) place shows))
     c.list.ensures.listed
 
 pub returns-clause-stopped : goal.returns-clause-stopped
@@ -97,6 +97,6 @@ returns-clause-stopped g c = λ tree trees stand.
     let listed : _ → Type 0 = StopsListing g.V.Visit.goes (place_of c.from_bytes-entries.result).kind (place_of c.from_bytes-entries.result).input c.pop_front_tracked_path_and_set_current.new.self c.list.new.delegate in
     on_err c.list.result (MemoryOr listed) (MemoryOr stops)
     (λ error h. memory_or listed stops error
-      (λ e stop. tree_stopped g.V.Visit.goes H (g.F.Lookup.may_fail c.args.objects.now) table (g.F.Lookup.ids c.args.objects.now) tree trees content c.args.delegate.now c.pop_front_tracked_path_and_set_current.new.self c.list.new.delegate e (alone, found) c.in_ok-pop_front_tracked_path_and_set_current.ensures
-        (subst (λ (p : Place). StopsListing g.V.Visit.goes p.kind p.input c.pop_front_tracked_path_and_set_current.new.self c.list.new.delegate e) place stop)) h)
+    (λ e stop. tree_stopped g.V.Visit.goes H (g.F.Lookup.may_fail c.args.objects.now) table (g.F.Lookup.ids c.args.objects.now) tree trees content c.args.delegate.now c.pop_front_tracked_path_and_set_current.new.self c.list.new.delegate e (alone, found) c.in_ok-pop_front_tracked_path_and_set_current.ensures
+    (subst (λ (p : Place). StopsListing g.V.Visit.goes p.kind p.input c.pop_front_tracked_path_and_set_current.new.self c.list.new.delegate e) place stop)) h)
     c.list.ensures.stopped

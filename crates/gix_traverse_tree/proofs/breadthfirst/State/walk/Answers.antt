@@ -19,8 +19,8 @@ returns-in_err-list-clause-stopped g c =
     let M = g.F.Lookup.may_fail c.args.objects.now in
     let table = g.F.Lookup.table c.args.objects.now in
     rw (p.1, p.2) (memory_or (StopsListing g.V.Visit.goes c.args.root.hash_kind c.args.root.rest.now c.args.delegate.now c.list.new.delegate) (λ error. Walks g.V.Visit.goes H M table c.args.root.hash_kind c.args.root.rest.now c.args.delegate.now c.list.new.delegate (failed error)) c.in_err-list.field-0.0
-      (λ error stop. walked_root_stopped g.V.Visit.goes H M table (g.F.Lookup.ids c.args.objects.now) c.args.root.hash_kind c.args.root.rest.now c.args.delegate.now c.list.new.delegate error stop)
-      c.in_err-list.ensures.stopped)
+    (λ error stop. walked_root_stopped g.V.Visit.goes H M table (g.F.Lookup.ids c.args.objects.now) c.args.root.hash_kind c.args.root.rest.now c.args.delegate.now c.list.new.delegate error stop)
+    c.in_err-list.ensures.stopped)
 
 pub levels-init : goal.levels-init
 levels-init g c =
@@ -41,8 +41,8 @@ returns-in_err-read_level-clause-stopped g c =
     let table = g.F.Lookup.table c.args.objects.now in
     let so = c.levels.invariant.walked in
     rw (p.1, p.2) (memory_or (StopsLevel g.V.Visit.goes H M table so.trees c.levels.delegate c.read_level.new.delegate) (λ error. Walks g.V.Visit.goes H M table c.args.root.hash_kind c.args.root.rest.now c.args.delegate.now c.read_level.new.delegate (failed error)) c.in_err-read_level.field-0.0
-      (λ error stop. walked_stopped g.V.Visit.goes H M table (g.F.Lookup.ids c.args.objects.now) c.args.root.hash_kind c.args.root.rest.now c.levels.start c.args.delegate.now c.levels.delegate c.read_level.new.delegate c.levels.self.nodes.items error so stop)
-      (c.in_err-read_level.ensures.stopped so.trees so.all))
+    (λ error stop. walked_stopped g.V.Visit.goes H M table (g.F.Lookup.ids c.args.objects.now) c.args.root.hash_kind c.args.root.rest.now c.levels.start c.args.delegate.now c.levels.delegate c.read_level.new.delegate c.levels.self.nodes.items error so stop)
+    (c.in_err-read_level.ensures.stopped so.trees so.all))
 
 pub levels-smaller : goal.levels-smaller
 levels-smaller g c =
