@@ -1,6 +1,6 @@
-pub mod HexDigits
-pub mod LineLemmas
-pub mod WriteLemmas
-pub mod SplitLemmas
-pub mod WindowLemmas
-pub mod GivesLemmas
+pub mod LogHexDigits
+pub mod LogLineLemmas
+pub mod LogWriteLemmas
+pub mod LogSplitLemmas
+pub mod LogWindowLemmas
+pub mod LogGivesLemmas

@@ -1,6 +1,6 @@
 use Rattle.std.proofs.Common.{subst, sym}
 use Rattle.gix_ref_format.specs.LogLine.{SpellsLine}
-use Rattle.gix_ref_format.proofs.LineLemmas.{every_of}
+use Rattle.gix_ref_format.proofs.LogLineLemmas.{every_of}
 use Rattle.gix_ref_format.proofs.log.line.LineRef.from_bytes.Goals as goal
 
 pub returns-clause-every : goal.returns-clause-every

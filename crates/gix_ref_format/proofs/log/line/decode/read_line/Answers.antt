@@ -3,7 +3,7 @@ use Rattle.std.proofs.lemmas.Bool.{false≢true}
 use Rattle.gix_object_lines.specs.Actor.{SpellsActor}
 use Rattle.gix_object_lines.specs.Bytes.{Lacks}
 use Rattle.gix_ref_format.specs.LogCuts.{IsIdsCut}
-use Rattle.gix_ref_format.proofs.LineLemmas.{cuts_of, ids_cut, ids_of, not_none}
+use Rattle.gix_ref_format.proofs.LogLineLemmas.{cuts_of, ids_cut, ids_of, not_none}
 use Rattle.gix_ref_format.proofs.log.line.decode.read_line.Goals as goal
 
 pub returns-then-not-lacks : goal.returns-then-not-lacks
