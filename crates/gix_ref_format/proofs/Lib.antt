@@ -6,9 +6,9 @@ pub mod SortLemmas
 pub mod GatherLemmas
 pub mod WordLemmas
 pub mod WrittenLemmas
-pub mod HexDigits
+pub mod LogHexDigits
 pub mod LogLineLemmas
-pub mod WriteLemmas
-pub mod SplitLemmas
-pub mod WindowLemmas
-pub mod GivesLemmas
+pub mod LogWriteLemmas
+pub mod LogSplitLemmas
+pub mod LogWindowLemmas
+pub mod LogGivesLemmas

@@ -1,5 +1,5 @@
 use Rattle.std.proofs.Common.{◌≡◌, ap, refl, rules, ℕ, ◌<◌, ◌≤◌, List, length, min, arith}
-use Rattle.gix_ref_format.proofs.GivesLemmas.{begins}
+use Rattle.gix_ref_format.proofs.LogGivesLemmas.{begins}
 use Rattle.gix_ref_format.proofs.log.iter.reverse.Goals as goal
 
 pub returns-clause-begins : goal.returns-clause-begins

@@ -1,7 +1,7 @@
 use Rattle.std.proofs.Common.{◌∙◌, ap}
 use Rattle.std.specs.List.{slice_split}
 use Rattle.gix_ref_format.specs.LogLine.{is_feed}
-use Rattle.gix_ref_format.proofs.SplitLemmas.{split_first, split_none}
+use Rattle.gix_ref_format.proofs.LogSplitLemmas.{split_first, split_none}
 use Rattle.gix_ref_format.proofs.log.iter.lines.first_line.Goals as goal
 
 pub returns-in-Some : goal.returns-in-Some

@@ -1,5 +1,5 @@
 use Rattle.std.proofs.Common.{arith}
-use Rattle.gix_ref_format.proofs.WindowLemmas.{filled}
+use Rattle.gix_ref_format.proofs.LogWindowLemmas.{filled}
 use Rattle.gix_ref_format.proofs.log.iter.place.read_before.Goals as goal
 
 pub returns-in-Ok-clause-told : goal.returns-in-Ok-clause-told

@@ -5,7 +5,7 @@ use Rattle.gix_hash.specs.Spelling.{hex_text}
 use Rattle.gix_object_lines.specs.Actor.{actor_text}
 use Rattle.gix_object_lines.proofs.Fronts.{front_of, front_then}
 use Rattle.gix_object_lines.proofs.Refusals.{on_err, on_err_by}
-use Rattle.gix_ref_format.proofs.WriteLemmas.{all_four, in_four, three_then_one, two_then_two}
+use Rattle.gix_ref_format.proofs.LogWriteLemmas.{all_four, in_four, three_then_one, two_then_two}
 use Rattle.gix_ref_format.proofs.log.line.write.write_whole.Goals as goal
 
 pub returns-in_err-write_id-clause-err : goal.returns-in_err-write_id-clause-err

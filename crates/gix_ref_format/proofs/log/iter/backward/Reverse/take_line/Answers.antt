@@ -1,8 +1,8 @@
 use Rattle.std.proofs.Common.{◌≡◌, ◌∙◌, ap, refl, sym, subst, Err, ℕ, List, ◌<◌, ◌+◌, ◌-◌, [], length, take, drop, arith}
 use Rattle.std.proofs.lemmas.List.{drop-take}
 use Rattle.gix_ref_format.specs.LogPlace.{IsWindow}
-use Rattle.gix_ref_format.proofs.GivesLemmas.{gives_error, gives_line}
-use Rattle.gix_ref_format.proofs.WindowLemmas.{ends_first, goes_on, live, too_long}
+use Rattle.gix_ref_format.proofs.LogGivesLemmas.{gives_error, gives_line}
+use Rattle.gix_ref_format.proofs.LogWindowLemmas.{ends_first, goes_on, live, too_long}
 use Rattle.gix_ref_format.proofs.log.iter.backward.Reverse.take_line.Goals as goal
 
 pub returns-in-Err-clause-told : goal.returns-in-Err-clause-told

@@ -1,4 +1,4 @@
-use Rattle.gix_ref_format.proofs.GivesLemmas.{nearer_counts}
+use Rattle.gix_ref_format.proofs.LogGivesLemmas.{nearer_counts}
 use Rattle.gix_ref_format.proofs.log.iter.backward.ReverseIterator.next.Goals as goal
 
 pub returns-clause-goes : goal.returns-clause-goes

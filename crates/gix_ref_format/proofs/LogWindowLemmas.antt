@@ -13,7 +13,7 @@ use Rattle.gix_ref_format.specs.LogBackward.{Fits, IsAt}
 use Rattle.gix_ref_format.specs.LogFound.{IsLineStart}
 use Rattle.gix_ref_format.specs.LogLine.{is_feed}
 use Rattle.gix_ref_format.specs.LogPlace.{IsWindow, IsLastLine, IsTooLong}
-use Rattle.gix_ref_format.proofs.SplitLemmas.{split_none, split_last, reverse_some, last_feed, IsCutLast}
+use Rattle.gix_ref_format.proofs.LogSplitLemmas.{split_none, split_last, reverse_some, last_feed, IsCutLast}
 
 pub live : (b : Bool) (X Y : Type 0) → b ≡ false → MatchBool b X Y → Y
 live true X Y e h = absurd cc
