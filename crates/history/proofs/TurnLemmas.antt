@@ -33,6 +33,7 @@ use Rattle.history_model.specs.Moments.{Moment, Traces, HasFailedCall as Failed}
 use Rattle.history.specs.Acts.{IsAnswer, CountsRise, HasFailedCall}
 use Rattle.history.specs.Replies.{text_of}
 use Rattle.history.specs.Runs.{EndsRun, EndsHere, GoesOn, Turns}
+use Rattle.history.proofs.ActLemmas.{told_text}
 use Rattle.history.proofs.RunLemmas.{ends_then, not_false, ran_none, ran_one, ran_then}
 
 -- ---- one turn
@@ -73,7 +74,7 @@ module _ (objects names : History) (MayFail : Type 0) (StandsNow RecoversNow : R
 
   answer_ran : (taken rest : Bytes) → Spells taken order → Ran CallFailed r (order ∷ []) (a.reply ∷ []) (taken ++ rest) (text_of answer) rest [] failed a.left
   answer_ran taken rest k =
-      ran_one CallFailed r a.left (taken ++ rest) (text_of answer) order a.reply rest failed (ap (λ xs. xs ++ rest) k.1) a.text k.0 (a.acted).step (a.fails ∙ only_fails (goes_on order a.reply)) (a.acted).failure
+      ran_one CallFailed r a.left (taken ++ rest) (text_of answer) order a.reply rest failed (ap (λ xs. xs ++ rest) k.1) (told_text answer a.reply a.tells) k.0 (a.acted).step (a.fails ∙ only_fails (goes_on order a.reply)) (a.acted).failure
 
   traced : Traced (order ∷ []) (a.reply ∷ []) a.left
   traced = record { moments = finish ∷ []; acts = (a.left, a.acted, inr refl, refl); ends = refl }
@@ -150,7 +151,7 @@ module _ (objects names : History) (MayFail : Type 0) (StandsNow RecoversNow : R
         (a.acted).step,
         a.fails ∙ only_fails (goes_on order a.reply),
         (a.acted).failure,
-        subst (λ xs. IsTrue (begins front xs)) (sym e ∙ a.text) (begins_front front back),
+        subst (λ xs. IsTrue (begins front xs)) (sym e ∙ told_text answer a.reply a.tells) (begins_front front back),
       );
     };
     traced = traced;

@@ -1,29 +1,47 @@
 -- What was taken through a buffer, and how many readings that took.
-use Rattle.std.proofs.Common.{refl, ◌≡◌, ◌∙◌, ℕ, ◌+◌, ◌-◌, ◌^◌, ◌<◌, ◌≤◌, Option, List, [], ◌∷◌, ◌++◌, length, subst, sym, arith}
+use Rattle.std.proofs.Common.{refl, inl, inr, ◌≡◌, ◌∙◌, ℕ, ◌+◌, ◌-◌, ◌^◌, ◌<◌, ◌≤◌, Option, Result, Ok, Err, List, [], ◌∷◌, ◌++◌, length, subst, sym, arith}
 use Rattle.std.proofs.lemmas.List.{length-append}
 use Rattle.history_word.specs.declared.buffer.Buffer.{Buffer}
 use Rattle.history_word.specs.Buffer.{readings_made, unread, work}
-use Rattle.history_word.specs.Taking.{AsksForMore, Took, Came}
+use Rattle.history_word.specs.Taking.{AsksForMore, Gave, Took, Came}
+use Rattle.history_word.proofs.TakingLemmas.{consumes_then, gave_then, took_none}
 use Rattle.std.specs.List.{join_with_byte}
 use Rattle.history_model.specs.Commands.{Command, Commit, Tag, Move, Rename, Delete, Switch, Pack, Index, Names, Files, Past, Log, Show}
 use Rattle.history_model.specs.Spelling.{Part, Line, parts_of, parts_text, spelling}
 use Rattle.history_model.specs.Grammar.{Spells}
 use Rattle.history.specs.Runs.{MadeReadings, MadeLastReading}
 
-pub made_by_taking : {S : Type 0} (left : S → Option (List ℕ)) (readings : S → ℕ) (s : S) (b : Buffer) (t : S) (c : Buffer) (taken : List ℕ) → Took left readings s b t c taken → MadeReadings (readings s) b (readings t) c
-made_by_taking left readings s b t c taken h = record { made = h.made; made_through = h.made_through; counted = h.counted }
+module _ {S : Type 0} (left : S → Option (List ℕ)) (readings : S → ℕ) where
+  pub made_by_taking : (s : S) (b : Buffer) (t : S) (c : Buffer) (taken : List ℕ) → Took left readings s b t c taken → MadeReadings left readings s b t c
+  made_by_taking s b t c taken h = record { more = h.more; came = h.came; made = h.made; made_through = h.made_through; counted = h.counted; gave = h.gave }
 
-pub made_by_coming : {S : Type 0} (left : S → Option (List ℕ)) (readings : S → ℕ) (s : S) (b : Buffer) (t : S) (c : Buffer) (bytes : List ℕ) → Came left readings s b t c bytes → MadeReadings (readings s) b (readings t) c
-made_by_coming left readings s b t c bytes h = record { made = h.made; made_through = h.made_through; counted = h.counted }
+  pub made_by_coming : (s : S) (b : Buffer) (t : S) (c : Buffer) (bytes : List ℕ) → Came left readings s b t c bytes → MadeReadings left readings s b t c
+  made_by_coming s b t c bytes h = record { more = h.more; came = h.came; made = h.made; made_through = h.made_through; counted = h.counted; gave = h.gave }
 
-pub made_none : (n : ℕ) (b : Buffer) → MadeReadings n b n b
-made_none n b = record { made = 0; made_through = omega arith; counted = omega arith }
+  pub made_none : (s : S) (b : Buffer) → MadeReadings left readings s b s b
+  made_none s b = made_by_taking s b s b [] (took_none left readings s b)
 
-pub made_then : (l m n : ℕ) (b c d : Buffer) → MadeReadings l b m c → MadeReadings m c n d → MadeReadings l b n d
-made_then l m n b c d h k = record { made = h.made + k.made; made_through = omega (arith, h.made_through, k.made_through); counted = omega (arith, h.counted, k.counted) }
+  pub made_then : (s : S) (b : Buffer) (t : S) (c : Buffer) (u : S) (d : Buffer) → MadeReadings left readings s b t c → MadeReadings left readings t c u d → MadeReadings left readings s b u d
+  made_then s b t c u d h k = record {
+    more = h.more ++ k.more;
+    came = consumes_then (left s) (left t) (left u) h.more k.more h.came k.came;
+    made = h.made + k.made;
+    made_through = omega (arith, h.made_through, k.made_through);
+    counted = omega (arith, h.counted, k.counted);
+    gave = gave_then b c d h.made k.made h.more k.more h.made_through k.made_through h.gave k.gave;
+  }
 
-pub made_last : (m n : ℕ) (b c : Buffer) → readings_made b ≡ 0 → MadeReadings m b n c → readings_made c ≡ 2 ^ 64 - 1 → MadeLastReading m n
-made_last m n b c fresh h last = record { made = h.made; all = omega (arith, h.made_through, fresh, last); counted = h.counted }
+  pub made_last : (s : S) (b : Buffer) (t : S) (c : Buffer) → readings_made b ≡ 0 → MadeReadings left readings s b t c → readings_made c ≡ 2 ^ 64 - 1 → MadeLastReading left readings s t
+  made_last s b t c fresh h last = record { read = h.more; came = h.came; many = many h.gave; counted = omega (arith, h.counted, h.made_through, fresh, last) }
+    where
+      many : Gave b c h.made h.more → 2 ^ 64 - 2 ≤ length h.more
+      many (inl g) = omega (arith, g, h.made_through, fresh, last)
+      many (inr g) = omega (arith, g.2, h.made_through, fresh, last)
+
+-- the error, if it is one
+abbrev pub error_or : {A E : Type 0} → E → Result A E → E
+error_or other (Ok value) = other
+error_or other (Err error) = error
 
 line_first : (parts : List Part) (words : List (List ℕ)) (more : List Part) → parts ≡ Line words ∷ more → 0 < length (parts_text parts)
 line_first parts words more e =

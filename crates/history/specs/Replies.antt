@@ -1,6 +1,7 @@
 -- What replies say.
-use Rattle.std.specs.Prelude.{Bool, true, false}
+use Rattle.std.specs.Prelude.{◌≡◌, Bool, true, false, IsTrue}
 use Rattle.history_model.specs.Bytes.{Bytes}
+use Rattle.history_model.specs.Replies as replies
 use Rattle.history_model.specs.Replies.{reply_text, RefusedFor, Faulted}
 use Rattle.history.specs.declared.reply.Reply.{Reply}
 use Rattle.history.specs.declared.reply.Reply.TheVariants.{Text, Refused, Fault}
@@ -10,6 +11,18 @@ abbrev pub text_of : Reply → Bytes
 text_of (Text text) = text.items
 text_of (Refused cause) = reply_text (RefusedFor cause)
 text_of (Fault fault) = reply_text (Faulted fault)
+
+-- whether a reply is neither a refusal nor a fault
+abbrev pub is_answer : replies.Reply → Bool
+is_answer (RefusedFor cause) = false
+is_answer (Faulted fault) = false
+is_answer _ = true
+
+-- what was answered is this reply: its text, where no cause holds and no fault was met; the cause; or the fault
+abbrev pub Tells : Reply → replies.Reply → Type 0
+Tells (Text text) reply = IsTrue (is_answer reply) × (text.items ≡ reply_text reply)
+Tells (Refused cause) reply = reply ≡ RefusedFor cause
+Tells (Fault fault) reply = reply ≡ Faulted fault
 
 abbrev pub is_fault : Reply → Bool
 is_fault (Text text) = false

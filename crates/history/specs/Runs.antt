@@ -1,5 +1,5 @@
 -- How turns and runs end.
-use Rattle.std.specs.Prelude.{◌≡◌, ◌≤◌, ◌+◌, ◌-◌, ◌^◌, ℕ, min, Bool, true, false, List, [], Option, Some, None, Result, Ok, Err}
+use Rattle.std.specs.Prelude.{◌≡◌, ◌≤◌, ◌+◌, ◌-◌, ◌^◌, ℕ, min, length, Bool, true, false, List, [], Option, Some, None, Result, Ok, Err}
 use Rattle.history_model.specs.Bytes.{Bytes}
 use Rattle.history_model.specs.Repository as plain
 use Rattle.history_model.specs.Commands.{Command}
@@ -7,7 +7,9 @@ use Rattle.history_model.specs.Replies.{Reply}
 use Rattle.history_model.specs.Runs.{Ran, Runs, EndsReading, EndsWriting}
 use Rattle.history_model.specs.declared.End.{End}
 use Rattle.history_model.specs.declared.End.TheVariants.{Input, Refused, Fault}
+use Rattle.std.specs.Io.KnownBytes.{Consumes}
 use Rattle.history_word.specs.Buffer.{readings_made}
+use Rattle.history_word.specs.Taking.{Gave}
 use Rattle.history_word.specs.declared.buffer.Buffer.{Buffer}
 use Rattle.history_word.specs.declared.command.Command as read_commands
 use Rattle.history_word.specs.declared.command.Command.TheVariants as command
@@ -36,17 +38,22 @@ abbrev pub is_changing : Reading → Bool
 is_changing (reading.Command command) = changes_files command
 is_changing (reading.NoMemory changing) = changing
 
--- The readings made through the buffer meanwhile were counted by the reader, as far as a `u64` counts.
-pub record MadeReadings (before : ℕ) (b : Buffer) (now : ℕ) (c : Buffer) : Type 0 where
-  pub made : ℕ
-  pub made_through : readings_made c ≡ readings_made b + made
-  pub counted : min (before + made) (2 ^ 64 - 1) ≤ now
+module _ {S : Type 0} (left : S → Option (List ℕ)) (readings : S → ℕ) where
+  -- The readings made through the buffer meanwhile were counted by the reader, as far as a `u64` counts, and gave bytes.
+  pub record MadeReadings (s : S) (b : Buffer) (t : S) (c : Buffer) : Type 0 where
+    pub more : List ℕ
+    pub came : Consumes (left s) (left t) more
+    pub made : ℕ
+    pub made_through : readings_made c ≡ readings_made b + made
+    pub counted : min (readings s + made) (2 ^ 64 - 1) ≤ readings t
+    pub gave : Gave b c made more
 
--- as many readings as a `u64` counts were made meanwhile
-pub record MadeLastReading (before now : ℕ) : Type 0 where
-  pub made : ℕ
-  pub all : made ≡ 2 ^ 64 - 1
-  pub counted : min (before + made) (2 ^ 64 - 1) ≤ now
+  -- As many readings as a `u64` counts were made meanwhile, and each but the last gave a byte.
+  pub record MadeLastReading (s t : S) : Type 0 where
+    pub read : List ℕ
+    pub came : Consumes (left s) (left t) read
+    pub many : 2 ^ 64 - 2 ≤ length read
+    pub counted : 2 ^ 64 - 1 ≤ readings t
 
 -- ---- what was read, written and left
 

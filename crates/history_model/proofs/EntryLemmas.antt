@@ -1,8 +1,8 @@
 -- The entries of trees tell the files at and below their paths.
-use Rattle.std.proofs.Common.{◌≡◌, ℕ, zero, suc, ◌+◌, Bool, true, false, cond, ◌||◌, ◌==◌, List, [], ◌∷◌, ◌++◌, map, length, take, drop, refl, sym, ◌∙◌, ap, subst, Option, Some, None, is_some, option_map, unwrap_or, bytes_eq, codes, length-append}
+use Rattle.std.proofs.Common.{◌≡◌, ◌⊎◌, inl, inr, ℕ, zero, suc, ◌+◌, Bool, true, false, cond, ◌||◌, ◌==◌, List, [], ◌∷◌, ◌++◌, map, length, take, drop, refl, sym, ◌∙◌, ap, subst, Option, Some, None, is_some, option_map, unwrap_or, bytes_eq, codes, length-append}
 use Rattle.std.specs.List.{AllByRecursion, list_any, flat_map, filter_map, cons_option}
 use Rattle.std.specs.Ordering.{eq_by_cmp}
-use Rattle.std.specs.FinMap.{get, entries, keys, values, contains_key, contains_key-keys, get-retain_keys, get-from_entries, get-entries, same_map, slice_cmp-IsAntisymmetric, nat_cmp-IsAntisymmetric}
+use Rattle.std.specs.FinMap.{get, get-empty, empty, entries, keys, values, contains_key, contains_key-keys, get-retain_keys, get-from_entries, get-entries, same_map, slice_cmp-IsAntisymmetric, nat_cmp-IsAntisymmetric}
 use Rattle.std.specs.FinMap.Entries.{find}
 use Rattle.std.proofs.lemmas.Cmp.{nat_list_cmp_total}
 use Rattle.std.proofs.lemmas.Map.Text.{is_eq-slice_cmp}
@@ -12,7 +12,7 @@ use Rattle.history_model.proofs.GrammarLemmas.{words_differ}
 use Rattle.history_model.specs.Objects.{Value, StoredBytes, StoredFolder, blob_id, folder_id, mode_of, entry_at}
 use Rattle.gix_hash.specs.Id.{Id}
 use Rattle.history_model.specs.Repository.{Repository, IsWhole, IsStored, file_values}
-use Rattle.history_model.specs.Laws.{EntriesTellFiles}
+use Rattle.history_model.specs.Laws.{EntriesTellFiles, IsTreeIn}
 use Rattle.history_model.specs.declared.FileKind.{FileKind}
 use Rattle.history_model.specs.declared.FileKind.TheVariants.{File, Exec, Link}
 use Rattle.history_model.specs.FileMap.{FileMap, Content, IsFileMap, is_below, is_within, has_below, cut_to, inside, beginnings, beginnings_from, folders_of}
@@ -209,6 +209,20 @@ module _ (r : Repository) (whole : IsWhole r) (id : Id) (files : FileMap) (at : 
       (all_mapped (λ m. IsStored r (StoredFolder m)) (λ folder. inside folder files) (flat_map beginnings (keys files))
       ((all_mapped (IsStored r) StoredFolder (folders_of files) both.0).1))
 
+-- ---- of a tree that is stored, or empty
+
+none_in_empty : {A : Type 0} (files : FileMap) (path : Bytes) → files ≡ empty → contains_key files path ≡ true → A
+none_in_empty files path e h = cc (sym h ∙ ap (λ (m : FileMap). is_some (get m path)) e ∙ ap is_some (get-empty by_bytes path))
+
+module _ (r : Repository) (whole : IsWhole r) (files : FileMap) where
+  bytes_there : IsTreeIn r files → (path : Bytes) (c : Content) → get files path ≡ Some c → IsStored r (StoredBytes c.bytes)
+  bytes_there (inl none) path c e = none_in_empty files path none (ap is_some e)
+  bytes_there (inr (id, at)) path c e = bytes_stored r whole id files at path c e
+
+  folder_there : IsTreeIn r files → (path : Bytes) → has_below files path ≡ true → IsStored r (StoredFolder (inside path files))
+  folder_there (inl none) path h = let found = below_stands files path h in none_in_empty files found.0 none found.2
+  folder_there (inr (id, at)) path h = folder_stored r whole id files at path h
+
 -- ---- ids and modes tell what they are of
 
 some_same : {X : Type 0} (x y : X) → Some x ≡ Some y → x ≡ y
@@ -328,7 +342,7 @@ module _ (r : Repository) (whole : IsWhole r) (path : Bytes) where
       ∙ (λ i. entry_from (below_cut files i) (inside_cut files i) (at_cut files i))
       ∙ sym (is_from files)
 
-  module _ (a b : Id) (m n : FileMap) (m_map : IsFileMap m) (n_map : IsFileMap n) (at_a : get r.objects a ≡ Some (StoredFolder m)) (at_b : get r.objects b ≡ Some (StoredFolder n)) where
+  module _ (m n : FileMap) (m_map : IsFileMap m) (n_map : IsFileMap n) (m_in : IsTreeIn r m) (n_in : IsTreeIn r n) where
     -- two contents with one entry
     same_content : (c d : Content) → IsStored r (StoredBytes c.bytes) → IsStored r (StoredBytes d.bytes) → file_entry c ≡ file_entry d → c ≡ d
     unfolding file_entry
@@ -341,7 +355,7 @@ module _ (r : Repository) (whole : IsWhole r) (path : Bytes) where
     same_file None None f g e = refl
     same_file None (Some d) f g e = cc
     same_file (Some c) None f g e = cc
-    same_file (Some c) (Some d) f g e = ap Some (same_content c d (bytes_stored r whole a m at_a path c f) (bytes_stored r whole b n at_b path d g) (some_same (file_entry c) (file_entry d) e))
+    same_file (Some c) (Some d) f g e = ap Some (same_content c d (bytes_there r whole m m_in path c f) (bytes_there r whole n n_in path d g) (some_same (file_entry c) (file_entry d) e))
 
     not_file : {A : Type 0} (id : Id) (o : Option Content) → Some (codes "40000", id) ≡ option_map file_entry o → A
     unfolding file_entry
@@ -352,7 +366,7 @@ module _ (r : Repository) (whole : IsWhole r) (path : Bytes) where
         → cut_to (path ∷ []) m ≡ cut_to (path ∷ []) n
     unfolding entry_from
     cuts_same true true f g e =
-        let folder : inside path m ≡ inside path n = same_folder r (inside path m) (inside path n) (folder_stored r whole a m at_a path f) (folder_stored r whole b n at_b path g)
+        let folder : inside path m ≡ inside path n = same_folder r (inside path m) (inside path n) (folder_there r whole m m_in path f) (folder_there r whole n n_in path g)
         (ap (λ (p : Bytes × Id). p.1) (some_same (codes "40000", folder_id r.kind (inside path m)) (codes "40000", folder_id r.kind (inside path n)) e)) in
         cut_same path m n (no_file_here m path m_map f ∙ sym (no_file_here n path n_map g))
         (λ rest. sym (get_inside path m rest) ∙ ap (λ files. get files rest) folder ∙ get_inside path n rest)
@@ -361,7 +375,7 @@ module _ (r : Repository) (whole : IsWhole r) (path : Bytes) where
     cuts_same false false f g e = cut_same path m n (same_file (get m path) (get n path) refl refl e) (λ rest. none_below m path rest f ∙ sym (none_below n path rest g))
 
 pub entries_tell_files : EntriesTellFiles
-entries_tell_files r a b m n path whole m_map n_map at_a at_b = (
-  λ e. cuts_same r whole path a b m n m_map n_map at_a at_b (has_below m path) (has_below n path) refl refl (sym (is_from r whole path m) ∙ e ∙ is_from r whole path n),
+entries_tell_files r m n path whole m_map n_map m_in n_in = (
+  λ e. cuts_same r whole path m n m_map n_map m_in n_in (has_below m path) (has_below n path) refl refl (sym (is_from r whole path m) ∙ e ∙ is_from r whole path n),
   λ e. sym (entry_cut r whole path m) ∙ ap (λ files. entry_at r.kind files path) e ∙ entry_cut r whole path n,
 )

@@ -237,9 +237,18 @@ agree (Log c) (Log d) = λ e.
 agree a b = λ e. heads_differ _ _ _ _ refl e
 
 -- a command's parts have a spelling
-pub command_parts : (command : Command) → is_command command ≡ true → list_all is_part (parts_of command) ≡ true
-command_parts command h = (both_true (list_all is_part (parts_of command)) (has_enough command) (both_true (has_spelling command) (is_offered command) h).0).0
+pub spelled_parts : (command : Command) → has_spelling command ≡ true → list_all is_part (parts_of command) ≡ true
+spelled_parts command h = (both_true (list_all is_part (parts_of command)) (has_enough command) h).0
 
-pub is_prefix_free : IsPrefixFree
+pub is_spelled : (command : Command) → is_command command ≡ true → has_spelling command ≡ true
+is_spelled command h = (both_true (has_spelling command) (is_offered command) h).0
+
+pub command_parts : (command : Command) → is_command command ≡ true → list_all is_part (parts_of command) ≡ true
+command_parts command h = spelled_parts command (is_spelled command h)
+
+pub is_prefix_free : IsPrefixFree has_spelling
 is_prefix_free a b x y h k e =
-    agree_reads (a ≡ b) (parts_of a) (parts_of b) x y (command_parts a h) (command_parts b k) (agree a b) e
+    agree_reads (a ≡ b) (parts_of a) (parts_of b) x y (spelled_parts a h) (spelled_parts b k) (agree a b) e
+
+pub offered_prefix_free : IsPrefixFree is_command
+offered_prefix_free a b x y h k e = is_prefix_free a b x y (is_spelled a h) (is_spelled b k) e

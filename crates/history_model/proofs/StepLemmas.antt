@@ -1,5 +1,5 @@
 -- The laws on steps and repositories.
-use Rattle.std.proofs.Common.{◌≡◌, ℕ, ◌⊎◌, Bool, true, false, cond, not, ◌&&◌, ◌||◌, List, [], ◌∷◌, refl, sym, ◌∙◌, ap, subst, inl, inr, Option, Some, None, is_some, IsTrue, bytes_eq, option_map, unwrap_or, find, slice_get, zero, suc, MatchBool}
+use Rattle.std.proofs.Common.{◌≡◌, ℕ, ◌⊎◌, Bool, true, false, cond, not, ◌&&◌, ◌||◌, List, [], ◌∷◌, refl, sym, ◌∙◌, ap, subst, inl, inr, Option, Some, None, is_some, IsTrue, bytes_eq, option_map, unwrap_or, find, filter, slice_get, Contains, zero, suc, MatchBool}
 use Rattle.std.specs.List.{list_any}
 use Rattle.std.specs.Ordering.{eq_by_cmp}
 use Rattle.std.specs.FinMap.{get, get-insert, get-remove, insert, remove}
@@ -11,15 +11,18 @@ use Rattle.history_model.specs.FileMap.{FileMap}
 use Rattle.history_model.specs.Objects.{CommitValue, StoredFolder, id_of}
 use Rattle.gix_hash.specs.Id.{Id, null_id}
 use Rattle.history_model.specs.Repository.{Repository, Reference, id_at, stands, commit_at}
-use Rattle.history_model.specs.Commands.{Command, Commit, Tag, Move, Rename, Delete, Switch, Pack, Index, Names, Files, Past, Log, Show}
-use Rattle.history_model.specs.Replies.{Reply, RefusedFor, Faulted, FilesAre, ShowsCommit, ShowsContent}
+use Rattle.history_model.specs.Commands.{Command, Commit, Tag, Move, Rename, Delete, Switch, Pack, Index, Names, Files, Past, Log, Show, LogCommand, Order, Breadth, Newest, Oldest, NewestSince, OldestSince, Date, Topological}
+use Rattle.history_model.specs.Replies.{Reply, RefusedFor, Faulted, LogIs, FilesAre, ShowsCommit, ShowsContent}
 use Rattle.history_model.specs.Meaning.{after, moved_reference, history_actor}
 use Rattle.history_model.specs.Causes.{first_cause, holds, in_order}
-use Rattle.history_model.specs.Answers.{Answers, StandsForCommit, files_shown, commit_shown, content_shown}
+use Rattle.history_model.specs.Answers.{Answers, StandsForCommit, IsWalk, graph_of, walk_request, kept, differs_at, files_shown, commit_shown, content_shown}
+use Rattle.history_model.specs.Walks.{Graph, WalkRequest, Listed, IsListOf}
 use Rattle.history_model.specs.Steps.{Step, is_faulted, Accepts}
 use Rattle.history_model.specs.Stops.{LeftByStop, Between, IsNotLost, is_changing}
-use Rattle.history_model.specs.Laws.{TreesAreCanonical, StepsAreDetermined, RepliesTellTheState, RenamesLoseNothing, is_log, StopsMayLeaveAll}
+use Rattle.history_model.specs.Laws.{TreesAreCanonical, StepsAreDetermined, ListsTheSame, AreAlike, RepliesTellTheState, RenamesLoseNothing, StopsMayLeaveAll}
 use Rattle.history_model.specs.declared.Cause.{Cause}
+use Rattle.history_model.proofs.WholeLists.{In}
+use Rattle.history_model.proofs.WholeSteps.{contains_in, in_contains}
 use Rattle.history_model.specs.declared.Cause.TheVariants.{NameTwice, NoSuchName, Taken}
 
 some_same : {X : Type 0} (x y : X) → Some x ≡ Some y → x ≡ y
@@ -51,24 +54,103 @@ same_commit r word i j a b h k =
     let ids : i ≡ j = some_same i j (sym h.read ∙ k.read) in
     (ids, some_same a b (sym h.holds ∙ ap (commit_at r) ids ∙ k.holds))
 
-answers_same : (r : Repository) (command : Command) (x y : Reply) → is_log command ≡ false → Answers r command x → Answers r command y → x ≡ y
-answers_same r (Commit c) x y f a b = a ∙ sym b
-answers_same r (Tag c) x y f a b = a ∙ sym b
-answers_same r (Move c) x y f a b = a ∙ sym b
-answers_same r (Rename from to) x y f a b = a ∙ sym b
-answers_same r (Delete name at) x y f a b = a ∙ sym b
-answers_same r (Switch name) x y f a b = a ∙ sym b
-answers_same r Pack x y f a b = a ∙ sym b
-answers_same r Index x y f a b = a ∙ sym b
-answers_same r (Names folder) x y f a b = a ∙ sym b
-answers_same r (Past name) x y f a b = a ∙ sym b
-answers_same r (Log c) x y f a b = cc
-answers_same r (Files word) x y f (i, m, h, e) (j, n, k, g) =
+-- ---- logs
+
+from_filter : (test : Id → Bool) (id : Id) (xs : List Id) → In id (filter test xs) → In id xs × (test id ≡ true)
+from_filter test id [] h = absurd h
+from_filter test id (x ∷ xs) h = go (from_filter test id xs) (test x) refl h
+  where
+    go : (In id (filter test xs) → In id xs × (test id ≡ true)) → (b : Bool) → test x ≡ b → In id (cond b (x ∷ filter test xs) (filter test xs)) → In id (x ∷ xs) × (test id ≡ true)
+    go more true e (inl same) = (inl same, ap test same ∙ e)
+    go more true e (inr further) = (inr (more further).0, (more further).1)
+    go more false e further = (inr (more further).0, (more further).1)
+
+into_filter : (test : Id → Bool) (id : Id) → test id ≡ true → (xs : List Id) → In id xs → In id (filter test xs)
+into_filter test id passes [] h = absurd h
+into_filter test id passes (x ∷ xs) (inl same) = subst (λ b. In id (cond b (x ∷ filter test xs) (filter test xs))) (sym (ap test (sym same) ∙ passes)) (inl same)
+into_filter test id passes (x ∷ xs) (inr further) = go (into_filter test id passes xs further) (test x)
+  where
+    go : In id (filter test xs) → (b : Bool) → In id (cond b (x ∷ filter test xs) (filter test xs))
+    go more true = inr more
+    go more false = more
+
+in_kept : (test : Id → Bool) (xs ys : List Id) → ((id : Id) → Contains xs id → Contains ys id) → (id : Id) → Contains (filter test xs) id → Contains (filter test ys) id
+in_kept test xs ys same id h =
+    let at = from_filter test id xs (contains_in (filter test xs) id h) in
+    in_contains (filter test ys) id (into_filter test id at.1 ys (contains_in ys id (same id (in_contains xs id at.0))))
+
+is_list : (order : Order) (g : Graph) (q : WalkRequest) (ids : List Id) → IsWalk order g q ids → IsListOf (Listed g q) ids
+is_list Breadth g q ids h = h.list
+is_list Newest g q ids h = h.list
+is_list Oldest g q ids h = h.list
+is_list (NewestSince seconds) g q ids h = h.list
+is_list (OldestSince seconds) g q ids h = h.list
+is_list Date g q ids h = h.list
+is_list Topological g q ids h = h.list
+
+-- two walks of one request
+walks_same : (r : Repository) (c : LogCommand) (paths : List Bytes) (xs ys : List Id) → IsWalk c.order (graph_of r) (walk_request r c) xs → IsWalk c.order (graph_of r) (walk_request r c) ys
+    → (id : Id) → Contains (kept r paths xs) id → Contains (kept r paths ys) id
+walks_same r c paths xs ys h k id = go paths
+  where
+    left : IsListOf (Listed (graph_of r) (walk_request r c)) xs
+    left = is_list c.order (graph_of r) (walk_request r c) xs h
+
+    right : IsListOf (Listed (graph_of r) (walk_request r c)) ys
+    right = is_list c.order (graph_of r) (walk_request r c) ys k
+
+    same : (id : Id) → Contains xs id → Contains ys id
+    same id at = (right.each id).1 ((left.each id).0 at)
+
+    go : (paths : List Bytes) → Contains (kept r paths xs) id → Contains (kept r paths ys) id
+    go [] = same id
+    go (path ∷ paths) = in_kept (differs_at r (path ∷ paths)) xs ys same id
+
+log_same : (r : Repository) (c : LogCommand) (x y : Reply) → Answers r (Log c) x → Answers r (Log c) y → ListsTheSame x y
+log_same r c x y (xs, (walked, h, e), f) (ys, (other, k, g), l) = record {
+  first = xs;
+  second = ys;
+  x_is = f;
+  y_is = l;
+  same = λ id. (
+    λ at. subst (λ ids. Contains ids id) (sym g) (walks_same r c c.paths walked other h k id (subst (λ ids. Contains ids id) e at)),
+    λ at. subst (λ ids. Contains ids id) (sym e) (walks_same r c c.paths other walked k h id (subst (λ ids. Contains ids id) g at)),
+  );
+}
+
+same_alike : (command : Command) (x y : Reply) → x ≡ y → AreAlike command x y
+same_alike (Commit c) x y e = e
+same_alike (Tag c) x y e = e
+same_alike (Move c) x y e = e
+same_alike (Rename from to) x y e = e
+same_alike (Delete name at) x y e = e
+same_alike (Switch name) x y e = e
+same_alike Pack x y e = e
+same_alike Index x y e = e
+same_alike (Names folder) x y e = e
+same_alike (Past name) x y e = e
+same_alike (Log c) x y e = inl e
+same_alike (Files word) x y e = e
+same_alike (Show word path) x y e = e
+
+answers_same : (r : Repository) (command : Command) (x y : Reply) → Answers r command x → Answers r command y → AreAlike command x y
+answers_same r (Commit c) x y a b = a ∙ sym b
+answers_same r (Tag c) x y a b = a ∙ sym b
+answers_same r (Move c) x y a b = a ∙ sym b
+answers_same r (Rename from to) x y a b = a ∙ sym b
+answers_same r (Delete name at) x y a b = a ∙ sym b
+answers_same r (Switch name) x y a b = a ∙ sym b
+answers_same r Pack x y a b = a ∙ sym b
+answers_same r Index x y a b = a ∙ sym b
+answers_same r (Names folder) x y a b = a ∙ sym b
+answers_same r (Past name) x y a b = a ∙ sym b
+answers_same r (Log c) x y a b = inr (log_same r c x y a b)
+answers_same r (Files word) x y (i, m, h, e) (j, n, k, g) =
     e ∙ ap (λ commit. FilesAre (files_shown r commit.files)) (same_commit r word i j m n h k).1 ∙ sym g
-answers_same r (Show word None) x y f (i, m, h, e) (j, n, k, g) =
+answers_same r (Show word None) x y (i, m, h, e) (j, n, k, g) =
     let same = same_commit r word i j m n h k in
     e ∙ ap (λ id. ShowsCommit (commit_shown r id m)) same.0 ∙ ap (λ commit. ShowsCommit (commit_shown r j commit)) same.1 ∙ sym g
-answers_same r (Show word (Some path)) x y f (i, m, u, h, p, e) (j, n, v, k, q, g) =
+answers_same r (Show word (Some path)) x y (i, m, u, h, p, e) (j, n, v, k, q, g) =
     let same = same_commit r word i j m n h k in
     let contents : u ≡ v = some_same u v (sym p ∙ ap (λ commit. get commit.files path) same.1 ∙ q) in
     e ∙ ap (λ content. ShowsContent (content_shown r content)) contents ∙ sym g
@@ -77,14 +159,14 @@ none_some : {A X : Type 0} (x : X) → Some x ≡ None → A
 none_some x e = absurd (subst (λ o. IsTrue (is_some o) → ⊥) (sym e) (λ h. cc) refl)
 
 pub steps_are_determined : StepsAreDetermined
-steps_are_determined old a b command x y log fx fy h k = go (outcome old a command x fx h) (outcome old b command y fy k)
+steps_are_determined old a b command x y fx fy h k = go (outcome old a command x fx h) (outcome old b command y fy k)
   where
     go : ((cause : Cause) × (x ≡ RefusedFor cause) × (first_cause old command ≡ Some cause) × (a ≡ old)) ⊎ Accepts old command x a
-        → ((cause : Cause) × (y ≡ RefusedFor cause) × (first_cause old command ≡ Some cause) × (b ≡ old)) ⊎ Accepts old command y b → (x ≡ y) × (a ≡ b)
-    go (inl (c, e, first, s)) (inl (d, g, second, t)) = (e ∙ ap RefusedFor (some_same c d (sym first ∙ second)) ∙ sym g, s ∙ sym t)
+        → ((cause : Cause) × (y ≡ RefusedFor cause) × (first_cause old command ≡ Some cause) × (b ≡ old)) ⊎ Accepts old command y b → AreAlike command x y × (a ≡ b)
+    go (inl (c, e, first, s)) (inl (d, g, second, t)) = (same_alike command x y (e ∙ ap RefusedFor (some_same c d (sym first ∙ second)) ∙ sym g), s ∙ sym t)
     go (inl (c, e, first, s)) (inr v) = none_some c (sym first ∙ v.no_cause)
     go (inr u) (inl (d, g, second, t)) = none_some d (sym second ∙ u.no_cause)
-    go (inr u) (inr v) = (answers_same old command x y log u.answer v.answer, u.result ∙ sym v.result)
+    go (inr u) (inr v) = (answers_same old command x y u.answer v.answer, u.result ∙ sym v.result)
 
 pub replies_tell_the_state : RepliesTellTheState
 replies_tell_the_state old new command (RefusedFor cause) h g = h.1

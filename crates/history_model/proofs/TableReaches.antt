@@ -5,10 +5,10 @@ use Rattle.std.specs.Fmt.{digits}
 use Rattle.history_model.specs.Bytes.{Bytes, line, is_empty}
 use Rattle.history_model.specs.Commands.{Command, Commit, Files, Show, CommitCommand, Expect, EditLine, PutLine, RemoveLine, RemoveFileLine}
 use Rattle.history_model.specs.Spelling.{Part, Line, Field, parts_of, edit_parts, actor_parts, message_parts, end_part, signed_parts, parent_part, is_part, has_spelling}
-use Rattle.history_model.specs.Stage.{is_put, is_offered}
+use Rattle.history_model.specs.Stage.{is_put, is_offered, is_commit_name}
 use Rattle.history_model.specs.Commands as commands
 use Rattle.history_model.specs.Grammar.{is_command, GoesOn, LineFits}
-use Rattle.history_model.specs.LineTable.{Role, Author, Committer, Heading, CommitHeading, PutHeading, ActorHeading, MessageHeading, EndHeading, FilesHeading, ShowHeading, ShowPathHeading, role_word, words_of, sizes, are_sizes, Place, Start, Edits, ToCommitter, ToMessage, ToEnd, Done, is_commit_name, next}
+use Rattle.history_model.specs.LineTable.{Role, Author, Committer, Heading, CommitHeading, PutHeading, ActorHeading, MessageHeading, EndHeading, FilesHeading, ShowHeading, ShowPathHeading, role_word, words_of, sizes, are_sizes, Place, Start, Edits, ToCommitter, ToMessage, ToEnd, Done, next}
 use Rattle.history_model.specs.TableRuns.{Progress, begin, done, part_step, run_from, reached, IsLineAt, TableTellsCommands, TableTellsWhatGoesOn, TableTellsFields, TableTellsLines, TableTellsWhatFits, TableTakesLines, TableTakesFields}
 use Rattle.std.proofs.lemmas.List.{length-replicate}
 use Rattle.history_model.proofs.PartLemmas.{both_true, head_same, tail_same}

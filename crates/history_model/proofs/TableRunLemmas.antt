@@ -5,9 +5,9 @@ use Rattle.history_model.specs.Bytes.{Bytes}
 use Rattle.history_model.specs.Commands.{Command, Commit, Files, Show, CommitCommand, Expect, EditLine, PutLine, RemoveLine, RemoveFileLine}
 use Rattle.history_model.specs.Spelling.{Part, Line, Field, parts_of, expect_words, kind_word, edit_parts, actor_parts, message_parts, end_part, is_part, has_spelling, has_enough}
 use Rattle.history_model.specs.Grammar.{is_command}
-use Rattle.history_model.specs.Stage.{is_put, is_offered}
+use Rattle.history_model.specs.Stage.{is_put, is_offered, is_commit_name}
 use Rattle.history_model.specs.Commands as commands
-use Rattle.history_model.specs.LineTable.{Role, Author, Committer, Heading, CommitHeading, PutHeading, ActorHeading, MessageHeading, EndHeading, FilesHeading, ShowHeading, ShowPathHeading, role_word, words_of, sizes, are_sizes, heading_of, Place, Start, Edits, ToCommitter, ToMessage, ToEnd, Done, is_commit_name, next}
+use Rattle.history_model.specs.LineTable.{Role, Author, Committer, Heading, CommitHeading, PutHeading, ActorHeading, MessageHeading, EndHeading, FilesHeading, ShowHeading, ShowPathHeading, role_word, words_of, sizes, are_sizes, heading_of, Place, Start, Edits, ToCommitter, ToMessage, ToEnd, Done, next}
 use Rattle.history_model.specs.TableRuns.{Progress, done, after_line, part_step, run_from, reached}
 use Rattle.history_model.proofs.PartLemmas.{both_true}
 use Rattle.history_model.proofs.TableLines.{and_true, if_some, map_some, then_some, heading_told, heading_reads}

@@ -15,56 +15,81 @@ is_command command = has_spelling command && is_offered command
 abbrev pub Spells : Bytes → Command → Type 0
 Spells text command = IsTrue (is_command command) × (text ≡ spelling command)
 
--- some command goes on with this part where these have come
-pub record GoesOn (parts : List Part) (next : Part) : Type 0 where
+-- ---- a grammar of some of the commands
+
+-- some known command goes on with this part where these have come
+pub record GoesOnOf (is_known : Command → Bool) (parts : List Part) (next : Part) : Type 0 where
   pub command : Command
-  pub known : IsTrue (is_command command)
+  pub known : IsTrue (is_known command)
   pub more : List Part
   pub is : parts_of command ≡ parts ++ next ∷ more
 
--- where these parts have come, a line stands, or a field of n bytes
-abbrev pub LineStands : List Part → Type 0
-LineStands parts = (words : List Bytes) × GoesOn parts (Line words)
+module _ (is_known : Command → Bool) where
+  -- where these parts have come, a line stands, or a field of n bytes
+  abbrev pub LineStandsOf : List Part → Type 0
+  LineStandsOf parts = (words : List Bytes) × GoesOnOf is_known parts (Line words)
 
-abbrev pub FieldStands : List Part → ℕ → Type 0
-FieldStands parts n = (bytes : Bytes) × (length bytes ≡ n) × GoesOn parts (Field bytes)
+  abbrev pub FieldStandsOf : List Part → ℕ → Type 0
+  FieldStandsOf parts n = (bytes : Bytes) × (length bytes ≡ n) × GoesOnOf is_known parts (Field bytes)
 
--- the whole line, without its line feed, is one that may stand here
-abbrev pub LineFits : List Part → Bytes → Type 0
-LineFits parts text = (words : List Bytes) × (line text ≡ part_text (Line words)) × GoesOn parts (Line words)
+  -- the whole line, without its line feed, is one that may stand here
+  abbrev pub LineFitsOf : List Part → Bytes → Type 0
+  LineFitsOf parts text = (words : List Bytes) × (line text ≡ part_text (Line words)) × GoesOnOf is_known parts (Line words)
 
--- What follows the parts that fit doesn't go on with a next one, for this cause.
-abbrev pub StopsBy : List Part → Bytes → Cause → Type 0
--- the input ends inside a line or a field
-StopsBy parts rest Truncated =
-    (LineStands parts × IsFalse (has_byte 10 rest) × (length rest ≤ max_line))
-    ⊎ ((n : ℕ) × FieldStands parts n × (length rest ≤ n))
--- more bytes than a line has come without a line feed
-StopsBy parts rest LineTooLong = LineStands parts × (max_line < length rest) × IsFalse (has_byte 10 (take (max_line + 1) rest))
--- a whole line that may not stand here, or a field without its line feed
-StopsBy parts rest Syntax =
-    ((text more : Bytes) × LineStands parts × (rest ≡ line text ++ more) × IsFalse (has_byte 10 text) × (length text ≤ max_line)
-    × ¬ (LineFits parts text))
-    ⊎ ((bytes more : Bytes) × (byte : ℕ) × FieldStands parts (length bytes) × (rest ≡ bytes ++ byte ∷ more) × (byte ≢ 10))
-StopsBy parts rest _ = ⊥
+  -- What follows the parts that fit doesn't go on with a next one, for this cause.
+  abbrev pub StopsByOf : List Part → Bytes → Cause → Type 0
+  -- the input ends inside a line or a field
+  StopsByOf parts rest Truncated =
+      (LineStandsOf parts × IsFalse (has_byte 10 rest) × (length rest ≤ max_line))
+      ⊎ ((n : ℕ) × FieldStandsOf parts n × (length rest ≤ n))
+  -- more bytes than a line has come without a line feed
+  StopsByOf parts rest LineTooLong = LineStandsOf parts × (max_line < length rest) × IsFalse (has_byte 10 (take (max_line + 1) rest))
+  -- a whole line that may not stand here, or a field without its line feed
+  StopsByOf parts rest Syntax =
+      ((text more : Bytes) × LineStandsOf parts × (rest ≡ line text ++ more) × IsFalse (has_byte 10 text) × (length text ≤ max_line)
+      × ¬ (LineFitsOf parts text))
+      ⊎ ((bytes more : Bytes) × (byte : ℕ) × FieldStandsOf parts (length bytes) × (rest ≡ bytes ++ byte ∷ more) × (byte ≢ 10))
+  StopsByOf parts rest _ = ⊥
 
--- the cause of a rest that is not empty and begins with no command
-pub record HasRestCause (rest : Bytes) (cause : Cause) : Type 0 where
+-- the cause of a rest that is not empty and begins with no known command
+pub record HasRestCauseOf (is_known : Command → Bool) (rest : Bytes) (cause : Cause) : Type 0 where
   pub some : rest ≢ []
   pub parts : List Part
   pub tail : Bytes
   pub split : rest ≡ parts_text parts ++ tail
-  pub stops : StopsBy parts tail cause
+  pub stops : StopsByOf is_known parts tail cause
+
+-- ---- that of the commands that are offered
+
+abbrev pub GoesOn : List Part → Part → Type 0
+GoesOn = GoesOnOf is_command
+
+abbrev pub LineStands : List Part → Type 0
+LineStands = LineStandsOf is_command
+
+abbrev pub FieldStands : List Part → ℕ → Type 0
+FieldStands = FieldStandsOf is_command
+
+abbrev pub LineFits : List Part → Bytes → Type 0
+LineFits = LineFitsOf is_command
+
+abbrev pub StopsBy : List Part → Bytes → Cause → Type 0
+StopsBy = StopsByOf is_command
+
+abbrev pub HasRestCause : Bytes → Cause → Type 0
+HasRestCause = HasRestCauseOf is_command
+
+-- ---- laws of each such grammar, that of all commands too
 
 -- no command's text begins another's
-abbrev pub IsPrefixFree : Type 0
-IsPrefixFree = (a b : Command) (x y : Bytes) → IsTrue (is_command a) → IsTrue (is_command b)
+abbrev pub IsPrefixFree : (Command → Bool) → Type 0
+IsPrefixFree is_known = (a b : Command) (x y : Bytes) → IsTrue (is_known a) → IsTrue (is_known b)
     → spelling a ++ x ≡ spelling b ++ y → (a ≡ b) × (x ≡ y)
 
 -- a rest has at most one cause, and none where it begins with a command
-abbrev pub HasOneRestCause : Type 0
-HasOneRestCause = (rest : Bytes) (x y : Cause) → HasRestCause rest x → HasRestCause rest y → x ≡ y
+abbrev pub HasOneRestCause : (Command → Bool) → Type 0
+HasOneRestCause is_known = (rest : Bytes) (x y : Cause) → HasRestCauseOf is_known rest x → HasRestCauseOf is_known rest y → x ≡ y
 
-abbrev pub RestBeginsWithNone : Type 0
-RestBeginsWithNone = (rest more : Bytes) (cause : Cause) (command : Command)
-    → HasRestCause rest cause → IsTrue (is_command command) → rest ≡ spelling command ++ more → ⊥
+abbrev pub RestBeginsWithNone : (Command → Bool) → Type 0
+RestBeginsWithNone is_known = (rest more : Bytes) (cause : Cause) (command : Command)
+    → HasRestCauseOf is_known rest cause → IsTrue (is_known command) → rest ≡ spelling command ++ more → ⊥

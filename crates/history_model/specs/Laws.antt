@@ -1,8 +1,9 @@
 -- What the laws say.
-use Rattle.std.specs.Prelude.{◌≡◌, ◌⊎◌, Bool, false, List, [], ◌∷◌, map, Some, None, option_map, IsTrue, IsFalse, ◌↔◌, bytes_eq, codes, if◌then◌else◌}
-use Rattle.std.specs.List.{list_all}
+use Rattle.std.specs.Prelude.{◌≡◌, ◌⊎◌, Bool, false, List, [], ◌∷◌, ◌++◌, map, Some, None, option_map, IsTrue, IsFalse, ◌↔◌, Contains, bytes_eq, codes, if◌then◌else◌}
+use Rattle.std.specs.List.{list_all, flat_map}
 use Rattle.std.specs.List.Sorted.{IsStrictlySortedBy}
 use Rattle.std.specs.FinMap.{get, empty, insert}
+use Rattle.gix_ref_file.specs.History.{History}
 use Rattle.gix_ref_file.specs.Tree.{Tree, file, folder}
 use Rattle.history_model.specs.Bytes.{Bytes, by_bytes}
 use Rattle.history_model.specs.FileMap.{FileMap, Edit, cut_to, IsFileMap, edited_by, edit_path, is_path}
@@ -10,7 +11,7 @@ use Rattle.history_model.specs.Objects.{StoredFolder, entry_at}
 use Rattle.gix_hash.specs.Id.{Id}
 use Rattle.history_model.specs.Repository.{Repository, IsWhole, id_at, moves_at, fresh}
 use Rattle.history_model.specs.Commands.{Command, Rename, Pack, Files, Log}
-use Rattle.history_model.specs.Replies.{Reply, FileLine, FilesAre}
+use Rattle.history_model.specs.Replies.{Reply, FileLine, FilesAre, LogIs, reply_text}
 use Rattle.history_model.specs.Causes.{first_cause}
 use Rattle.history_model.specs.Places.{Pair, file_at, head_place, is_log_place, is_object_folder, is_name_folder}
 use Rattle.history_model.specs.StandsFor.{StandsFor, StandsWhole, head_text}
@@ -19,8 +20,11 @@ use Rattle.history_model.specs.Recovery.{recovered, recovered_names, is_leftover
 use Rattle.history_model.specs.Logs.{whole_lines}
 use Rattle.history_model.specs.Stops.{LeftByStop}
 use Rattle.history_model.specs.Steps.{Step, goes_on, is_faulted, next}
-use Rattle.history_model.specs.Rounds.{Round, AreRounds, last_left, Outcomes}
+use Rattle.history_model.specs.Runs.{BeginsWith, Runs, EndsReading, EndsWriting}
+use Rattle.history_model.specs.Moments.{Moment, IsRunPair, Traces}
+use Rattle.history_model.specs.Rounds.{HasWritten, Round, IsRunOf, AreRounds, last_left, Outcomes}
 use Rattle.gix_hash.specs.declared.kind.Kind.{Kind}
+use Rattle.history_model.specs.declared.End.{End}
 
 -- ---- trees and files
 
@@ -34,10 +38,13 @@ abbrev pub TreesAreCanonical : Type 0
 TreesAreCanonical = (r : Repository) (a b : Id) (m n : FileMap) → IsWhole r
     → get r.objects a ≡ Some (StoredFolder m) → get r.objects b ≡ Some (StoredFolder n) → (a ≡ b) ↔ (m ≡ n)
 
--- The entries at a path of two stored trees, the mode and id of each, are equal exactly where the files at or below it are.
+-- the files are those of a stored tree, or there are none: the empty tree needn't be stored
+abbrev pub IsTreeIn : Repository → FileMap → Type 0
+IsTreeIn r files = (files ≡ empty) ⊎ ((id : Id) × (get r.objects id ≡ Some (StoredFolder files)))
+
+-- The entries at a path of two such trees, the mode and id of each, are equal exactly where the files at or below it are.
 abbrev pub EntriesTellFiles : Type 0
-EntriesTellFiles = (r : Repository) (a b : Id) (m n : FileMap) (path : Bytes) → IsWhole r → IsFileMap m → IsFileMap n
-    → get r.objects a ≡ Some (StoredFolder m) → get r.objects b ≡ Some (StoredFolder n)
+EntriesTellFiles = (r : Repository) (m n : FileMap) (path : Bytes) → IsWhole r → IsFileMap m → IsFileMap n → IsTreeIn r m → IsTreeIn r n
     → (entry_at r.kind m path ≡ entry_at r.kind n path) ↔ (cut_to (path ∷ []) m ≡ cut_to (path ∷ []) n)
 
 -- `files` prints paths strictly ascending by their bytes, so each once.
@@ -48,15 +55,23 @@ FilesAscend = (old new : Repository) (word : Bytes) (files : List FileLine)
 
 -- ---- steps
 
-abbrev pub is_log : Command → Bool
-is_log (Log c) = Bool.true
-is_log _ = false
+-- two lists of a log, of the same commits
+pub record ListsTheSame (x y : Reply) : Type 0 where
+  pub first : List Id
+  pub second : List Id
+  pub x_is : x ≡ LogIs first
+  pub y_is : y ≡ LogIs second
+  pub same : (id : Id) → Contains first id ↔ Contains second id
 
--- The reply that is no fault, and the state after it, are a function of state and command; a log may choose among equal times.
+-- one reply; a log may choose among equal times
+abbrev pub AreAlike : Command → Reply → Reply → Type 0
+AreAlike (Log c) x y = (x ≡ y) ⊎ ListsTheSame x y
+AreAlike _ x y = x ≡ y
+
+-- The reply that is no fault, and the state after it, are a function of state and command, but for the order of a log's commits.
 abbrev pub StepsAreDetermined : Type 0
-StepsAreDetermined = (old a b : Repository) (command : Command) (x y : Reply)
-    → IsFalse (is_log command) → IsFalse (is_faulted x) → IsFalse (is_faulted y)
-    → Step old command x a → Step old command y b → (x ≡ y) × (a ≡ b)
+StepsAreDetermined = (old a b : Repository) (command : Command) (x y : Reply) → IsFalse (is_faulted x) → IsFalse (is_faulted y)
+    → Step old command x a → Step old command y b → AreAlike command x y × (a ≡ b)
 
 -- The state after a step is told by the reply, where the run goes on.
 abbrev pub RepliesTellTheState : Type 0
@@ -92,10 +107,45 @@ PacksChangeNothing = (old x : Repository) → LeftByStop old Pack x → HoldsThe
 -- ---- rounds
 
 -- Where each round's run and recovery do what they promise, the pair that the last one left stands for a whole repository,
--- which the stops of the runs explain one after another.
+-- and steps and stops explain one after another what each round replied, wrote and left.
 abbrev pub RoundsJoin : Type 0
 RoundsJoin = (kind : Kind) (pair : Pair) (rounds : List Round) (old : Repository) → StandsWhole kind pair old → AreRounds kind pair rounds
     → (new : Repository) × StandsWhole kind (last_left pair rounds) new × Outcomes old rounds new
+
+-- A stop of a run over the input at a pair, where these replies were made and written.
+abbrev pub stopped_round : Kind → History → History → Moment → Bytes → List Reply → Pair → Round
+stopped_round kind objects names begin input replies pair = record {
+  objects = objects;
+  names = names;
+  begin = begin;
+  input = input;
+  replies = replies;
+  written = flat_map reply_text replies;
+  last = pair;
+  recoveries = Some [];
+  left = recovered kind pair;
+}
+
+-- Each pair of a run's trace is one at which it may be stopped, where the first of its replies were made.
+abbrev pub TracesStop : Type 0
+TracesStop = (objects names : History) (old new : Repository) (begin finish : Moment) (commands : List Command) (replies : List Reply) (input rest : Bytes)
+    → BeginsWith input commands rest → (traces : Traces objects names (Unit {0}) old begin commands replies finish new)
+    → (pair : Pair) → IsRunPair objects names begin traces.moments pair
+    → (made more : List Reply) × (replies ≡ made ++ more) × IsRunOf old (stopped_round old.kind objects names begin input made pair)
+
+-- What a run over the input writes is the replies to the commands that it acted on, at most the last of them in part.
+abbrev pub WritesReplies : Bytes → List Command → List Reply → Bytes → Type 0
+WritesReplies input commands replies output = (rest : Bytes) × BeginsWith input commands rest × HasWritten replies rest output
+
+-- So it is however a run ends.
+abbrev pub RunsHaveWritten : Type 0
+RunsHaveWritten =
+    ((old new : Repository) (commands : List Command) (replies : List Reply) (input output : Bytes) (end : End) (failed : Bool)
+    → Runs (Unit {0}) (Unit {0}) old commands replies input output end failed new → WritesReplies input commands replies output)
+    × ((old new : Repository) (commands : List Command) (replies : List Reply) (input output : Bytes) (failed : Bool)
+    → EndsReading (Unit {0}) (Unit {0}) old commands replies input output failed new → WritesReplies input commands replies output)
+    × ((old new : Repository) (commands : List Command) (replies : List Reply) (input output : Bytes) (failed : Bool)
+    → EndsWriting (Unit {0}) (Unit {0}) old commands replies input output failed new → WritesReplies input commands replies output)
 
 -- ---- recovery
 

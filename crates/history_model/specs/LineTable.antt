@@ -5,6 +5,7 @@ use Rattle.std.specs.Option.{option_and_then}
 use Rattle.history_model.specs.Bytes.{Bytes, is_decimal, digits_value}
 use Rattle.history_model.specs.Commands.{Expect, Any, New, At}
 use Rattle.history_model.specs.Spelling.{expect_words, kind_word}
+use Rattle.history_model.specs.Stage.{is_commit_name}
 use Rattle.history_model.specs.declared.FileKind.{FileKind}
 use Rattle.history_model.specs.declared.FileKind.TheVariants.{File, Exec, Link}
 
@@ -60,10 +61,6 @@ pub data Place : Type 0 where
   ToMessage : Place
   ToEnd : Place
   Done : Place
-
--- the names that a commit may move
-abbrev pub is_commit_name : Bytes → Bool
-is_commit_name name = bytes_eq name (codes "refs/heads/main") || bytes_eq name (codes "HEAD")
 
 -- the lines that may stand at a place, and the place of the line that follows
 abbrev pub next : Place → Heading → Option Place

@@ -74,6 +74,8 @@ pub record ActedOn (objects names : History) (ReadingMayFail : Type 0) (old : Re
     (command : Command) (reply : Reply) (finish : Moment) (new : Repository) : Type 0 where
   pub step : Step old command reply new
   pub later : (begin.objects ≤ finish.objects) × (begin.names ≤ finish.names)
+  -- the counts of failed calls never fall, so each call that failed is counted during one command
+  pub counts : (begin.object_failures ≤ finish.object_failures) × (begin.name_failures ≤ finish.name_failures)
   pub unchanged : IsTrue (leaves_files command reply) → IsUnchanged begin finish
   pub stands : StandsAt objects names finish (not (goes_on command reply)) new
   pub stops : (pair : Pair) → IsStepPair objects names begin finish pair → LeavesStopped old command pair

@@ -1,5 +1,6 @@
 -- What the two parts pass through while a command is acted on: each tree, once recovered.
-use Rattle.std.specs.Prelude.{◌≡◌, ◌≢◌, ◌⊎◌, ◌≤◌, ℕ, not, ◌||◌, bytes_eq, List, [], ◌∷◌, ◌++◌, take, Option, Some, None, unwrap_or, MatchOption, Contains, IsSome, IsTrue, IsFalse}
+use Rattle.std.specs.Prelude.{◌≡◌, ◌≢◌, ◌⊎◌, ◌≤◌, ◌<◌, ◌-◌, ◌^◌, ℕ, not, ◌||◌, bytes_eq, List, [], ◌∷◌, ◌++◌, take, Option, Some, None, unwrap_or, MatchOption, Contains, IsSome, IsTrue, IsFalse}
+use Rattle.std.specs.List.{AllByRecursion}
 use Rattle.std.specs.FinMap.{get}
 use Rattle.gix_ref_file.specs.Tree.{Tree, folder, bytes_at}
 use Rattle.history_model.specs.Bytes.{Bytes, line}
@@ -21,13 +22,14 @@ use Rattle.history_model.specs.TreeSteps.{move_entry}
 use Rattle.history_model.specs.Recovery.{recovered_objects, recovered_names}
 use Rattle.history_model.specs.Stops.{NameBetween, IsNotLost, deletes, is_changing}
 use Rattle.gix_ref_file.specs.History.{History, Adds, trees, moment}
-use Rattle.history_model.specs.Replies.{Reply}
+use Rattle.history_model.specs.Replies.{Reply, Faulted}
 use Rattle.history_model.specs.Steps.{some_failed}
 use Rattle.history_model.specs.Moments.{LeavesStopped, Moment, ActsOn, Traces, last_moment}
 use Rattle.history_model.specs.Offered.{IsOffered}
 use Rattle.history_model.specs.Stage.{is_offered}
 use Rattle.history_model.specs.Wholeness.{IsSound}
 use Rattle.gix_hash.specs.declared.kind.Kind.{Kind}
+use Rattle.history_model.specs.declared.Fault.TheVariants.{File}
 
 -- ---- values
 
@@ -135,6 +137,18 @@ abbrev pub TracesWeaken : Type 0 → Type 0
 TracesWeaken MayFail = (objects names : History) (old : Repository) (begin : Moment) (commands : List Command) (replies : List Reply) (finish : Moment) (new : Repository)
     → (traces : Traces objects names MayFail old begin commands replies finish new)
     → (weaker : Traces objects names (Unit {0}) old begin commands replies finish new) × (weaker.moments ≡ traces.moments)
+
+-- Both parts count as many failed calls as before, less than a count's last value.
+pub record IsUncounted (begin finish : Moment) : Type 0 where
+  pub objects : finish.object_failures ≡ begin.object_failures
+  pub names : finish.name_failures ≡ begin.name_failures
+  pub objects_last : finish.object_failures < 2 ^ 64 - 1
+  pub names_last : finish.name_failures < 2 ^ 64 - 1
+
+-- Over files of which no reading may fail and no call failed meanwhile, no command is answered by `fault File`.
+abbrev pub FaultsAreCounted : Type 0
+FaultsAreCounted = (objects names : History) (old : Repository) (begin : Moment) (commands : List Command) (replies : List Reply) (finish : Moment) (new : Repository)
+    → Traces objects names ⊥ old begin commands replies finish new → IsUncounted begin finish → AllByRecursion (λ reply. reply ≢ Faulted File) replies
 
 -- ---- in any order
 

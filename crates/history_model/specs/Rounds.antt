@@ -1,59 +1,104 @@
--- Rounds of a run that is stopped, its recovery, and the next run.
-use Rattle.std.specs.Prelude.{◌≡◌, List, [], ◌∷◌, ◌++◌, false}
+-- Rounds of a run, stopped or at its end, its recovery where it takes one, and the next run.
+use Rattle.std.specs.Prelude.{◌≡◌, ◌⊎◌, Bool, false, ◌||◌, List, [], ◌∷◌, ◌++◌, Option, Some, None, IsTrue}
+use Rattle.std.specs.List.{flat_map}
 use Rattle.gix_ref_file.specs.History.{History}
-use Rattle.history_model.specs.Bytes.{Bytes}
+use Rattle.history_model.specs.Bytes.{Bytes, begins}
 use Rattle.history_model.specs.Repository.{Repository}
 use Rattle.history_model.specs.Commands.{Command}
+use Rattle.history_model.specs.Spelling.{spelling}
+use Rattle.history_model.specs.Grammar.{is_command, HasRestCause}
 use Rattle.history_model.specs.Places.{Pair}
 use Rattle.history_model.specs.StandsFor.{StandsWhole}
 use Rattle.history_model.specs.Recovery.{recovered}
-use Rattle.history_model.specs.Replies.{Reply}
+use Rattle.history_model.specs.Replies.{Reply, RefusedFor, Faulted, reply_text}
 use Rattle.history_model.specs.Stops.{LeftByStop}
 use Rattle.history_model.specs.Steps.{Steps, some_failed}
 use Rattle.history_model.specs.Runs.{BeginsWith}
-use Rattle.history_model.specs.Moments.{Moment, IsPairAt, IsRunPair, Traces}
+use Rattle.history_model.specs.Moments.{Moment, IsPairAt, IsStepPair, ActedOn, Traces}
 use Rattle.gix_hash.specs.declared.kind.Kind.{Kind}
+use Rattle.history_model.specs.declared.Cause.{Cause}
+use Rattle.history_model.specs.declared.Fault.TheVariants.{Memory}
 
--- What a stop of a run over the input leaves, once recovered, where these replies were made before it: what their steps
--- leave, or what a stop in the next command leaves.
-pub data Stopped (old : Repository) (input : Bytes) (replies : List Reply) (x : Repository) : Type 0 where
-  between : (commands : List Command) (rest : Bytes) → BeginsWith input commands rest → Steps old commands replies x → Stopped old input replies x
-  during : (commands : List Command) (command : Command) (rest : Bytes) (mid : Repository) → BeginsWith input (commands ++ command ∷ []) rest
-      → Steps old commands replies mid → some_failed commands replies ≡ false → LeftByStop mid command x → Stopped old input replies x
+-- ---- what is written
 
--- A run from a pair over an input, stopped at another pair; the pairs at which recoveries of that were stopped; and what the
--- last recovery left.
+-- A beginning is written of one reply more; or, where all are whole, of the answer to a rest that is no command.
+abbrev pub IsCutOff : List Reply → Bytes → Bytes → Type 0
+IsCutOff [] rest part = (part ≡ [])
+    ⊎ ((cause : Cause) × HasRestCause rest cause × IsTrue (begins part (reply_text (RefusedFor cause)) || begins part (reply_text (Faulted Memory))))
+IsCutOff (reply ∷ []) rest part = IsTrue (begins part (reply_text reply))
+IsCutOff _ rest part = ⊥
+
+-- What is written where these replies were made, and this rest of the input follows their commands: all replies, at most the
+-- last of them in part.
+pub record HasWritten (replies : List Reply) (rest written : Bytes) : Type 0 where
+  pub whole : List Reply
+  pub cut : List Reply
+  pub part : Bytes
+  pub all : replies ≡ whole ++ cut
+  pub is : written ≡ flat_map reply_text whole ++ part
+  pub cut_off : IsCutOff cut rest part
+
+-- ---- rounds
+
+-- A run from a pair over an input: the replies that it made, what it wrote, and the last pair, at which it was stopped or ended.
+-- Then either the folder was recovered, and these are the pairs at which recoveries were stopped; or it stayed as it was.
 pub record Round : Type 0 where
   pub objects : History
   pub names : History
   pub begin : Moment
   pub input : Bytes
-  pub stopped : Pair
-  pub recoveries : List Pair
+  pub replies : List Reply
+  pub written : Bytes
+  pub last : Pair
+  pub recoveries : Option (List Pair)
   pub left : Pair
 
--- The run acts on the first commands of its input as its trace says, and is stopped at one of its pairs. That a reading may fail
--- is told of no round.
-pub record IsStoppedRun (old : Repository) (round : Round) : Type 0 where
-  pub commands : List Command
-  pub replies : List Reply
-  pub rest : Bytes
+-- While one command more is acted on, which the rest of the input begins with, the run is stopped at a pair.
+pub record IsStoppedIn (objects names : History) (mid : Repository) (at : Moment) (rest : Bytes) (pair : Pair) : Type 0 where
+  pub command : Command
+  pub more : Bytes
+  pub known : IsTrue (is_command command)
+  pub comes : rest ≡ spelling command ++ more
+  pub reply : Reply
   pub finish : Moment
   pub new : Repository
+  pub acted : ActedOn objects names (Unit {0}) mid at command reply finish new
+  pub stop : IsStepPair objects names at finish pair
+
+-- A run that isn't recovered has ended, without a fault in a changing command. Any other was stopped, after the commands that
+-- it acted on or while it acts on one more.
+abbrev pub IsLast : Option (List Pair) → Bool → History → History → Repository → Moment → Bytes → Pair → Type 0
+IsLast None failed objects names mid at rest pair = (failed ≡ false) × IsPairAt objects names at pair
+IsLast (Some recoveries) failed objects names mid at rest pair =
+    IsPairAt objects names at pair ⊎ ((failed ≡ false) × IsStoppedIn objects names mid at rest pair)
+
+-- The run acts on the first commands of its input, as its trace says, makes these replies and writes them, and is stopped or
+-- ends at the last pair. That a reading may fail is told of no round.
+pub record IsRunOf (old : Repository) (round : Round) : Type 0 where
+  pub commands : List Command
+  pub rest : Bytes
+  pub at : Moment
+  pub mid : Repository
   pub splits : BeginsWith round.input commands rest
-  pub traces : Traces round.objects round.names (Unit {0}) old round.begin commands replies finish new
-  pub stop : IsRunPair round.objects round.names round.begin traces.moments round.stopped
+  pub traces : Traces round.objects round.names (Unit {0}) old round.begin commands round.replies at mid
+  pub written : HasWritten round.replies rest round.written
+  pub last : IsLast round.recoveries (some_failed commands round.replies) round.objects round.names mid at rest round.last
 
 -- Each recovery begins where the one before it was stopped, and each pair on its way recovers to the same one.
 abbrev pub Recovers : Kind → Pair → List Pair → Pair → Type 0
 Recovers kind stopped [] left = left ≡ recovered kind stopped
 Recovers kind stopped (pair ∷ recoveries) left = (recovered kind pair ≡ recovered kind stopped) × Recovers kind pair recoveries left
 
+-- the pair that is left, by recovery or as it was
+abbrev pub IsLeft : Kind → Pair → Option (List Pair) → Pair → Type 0
+IsLeft kind last None left = left ≡ last
+IsLeft kind last (Some recoveries) left = Recovers kind last recoveries left
+
 -- what the contracts of a run and of its recovery say of a round that begins at a pair
 pub record IsRound (kind : Kind) (pair : Pair) (round : Round) : Type 0 where
   pub begins : IsPairAt round.objects round.names round.begin pair
-  pub runs : (old : Repository) → StandsWhole kind pair old → IsStoppedRun old round
-  pub recovers : Recovers kind round.stopped round.recoveries round.left
+  pub runs : (old : Repository) → StandsWhole kind pair old → IsRunOf old round
+  pub leaves : IsLeft kind round.last round.recoveries round.left
 
 -- Each round begins at the pair that the one before it left.
 abbrev pub AreRounds : Kind → Pair → List Round → Type 0
@@ -64,7 +109,32 @@ abbrev pub last_left : Pair → List Round → Pair
 last_left pair [] = pair
 last_left pair (round ∷ rounds) = last_left round.left rounds
 
--- Each round leaves what a stop of a run over its input leaves.
+-- ---- what rounds come to
+
+-- a stop in one command more, which the rest of the input begins with, leaves x
+pub record IsLeftIn (mid : Repository) (rest : Bytes) (x : Repository) : Type 0 where
+  pub command : Command
+  pub more : Bytes
+  pub known : IsTrue (is_command command)
+  pub comes : rest ≡ spelling command ++ more
+  pub left : LeftByStop mid command x
+
+-- What stands after the round, for mid after its steps: mid; or, where it was stopped, what a stop in one command more leaves.
+abbrev pub Leaves : Option (List Pair) → Bool → Repository → Bytes → Repository → Type 0
+Leaves None failed mid rest x = (failed ≡ false) × (x ≡ mid)
+Leaves (Some recoveries) failed mid rest x = (x ≡ mid) ⊎ ((failed ≡ false) × IsLeftIn mid rest x)
+
+-- The replies of a round are those of steps over the first commands of its input, what it wrote is these replies, and it leaves x.
+pub record IsOutcome (old : Repository) (round : Round) (x : Repository) : Type 0 where
+  pub commands : List Command
+  pub rest : Bytes
+  pub mid : Repository
+  pub splits : BeginsWith round.input commands rest
+  pub steps : Steps old commands round.replies mid
+  pub written : HasWritten round.replies rest round.written
+  pub leaves : Leaves round.recoveries (some_failed commands round.replies) mid rest x
+
+-- The rounds show and leave one after another what steps and stops of the plain repository do.
 abbrev pub Outcomes : Repository → List Round → Repository → Type 0
 Outcomes old [] new = new ≡ old
-Outcomes old (round ∷ rounds) new = (replies : List Reply) × (mid : Repository) × Stopped old round.input replies mid × Outcomes mid rounds new
+Outcomes old (round ∷ rounds) new = (mid : Repository) × IsOutcome old round mid × Outcomes mid rounds new

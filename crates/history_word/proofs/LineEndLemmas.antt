@@ -6,7 +6,7 @@ use Rattle.std.proofs.lemmas.List.{append-nil}
 use Rattle.history_model.specs.Bytes.{Bytes, line}
 use Rattle.history_model.specs.Commands as model
 use Rattle.history_model.specs.Spelling as spelling
-use Rattle.history_model.specs.Stage.{is_offered}
+use Rattle.history_model.specs.Stage.{is_offered, is_commit_name}
 use Rattle.history_model.specs.LineTable as table
 use Rattle.history_model.specs.TableRuns.{run_from}
 use Rattle.history_model.specs.declared.Cause.{Cause}
@@ -51,7 +51,7 @@ actor_said role m n seconds offset (table.ActorHeading r a b s o) e = (s, o, (λ
 actor_said role m n seconds offset h e = absurd e
 
 pub commit_said : (name : Word) (expect : Option Expect) (h : table.Heading) → IsHeading (heading.Commit name expect) h
-    → (n : Bytes) × (x : model.Expect) × (h ≡ table.CommitHeading n x) × IfSome name (λ w. w.items ≡ n) × IfSome expect (λ e. IsExpect e x) × IsTrue (table.is_commit_name n)
+    → (n : Bytes) × (x : model.Expect) × (h ≡ table.CommitHeading n x) × IfSome name (λ w. w.items ≡ n) × IfSome expect (λ e. IsExpect e x) × IsTrue (is_commit_name n)
 commit_said name expect (table.CommitHeading n x) e = (n, x, refl, e.0, e.1, e.2)
 commit_said name expect h e = absurd e
 
@@ -175,7 +175,7 @@ commit_parts p q name expect xs old new t f =
     let places = commit_place p q said.0 said.1 said.5 s.stands in
     let order : model.CommitCommand = record { name = said.0; expect = said.1; parents = []; edits = []; author = nobody; committer = nobody; message = [] } in
     takes_parts p q place.Start place.Edits old new h xs xs [] s refl places.0 places.1 (sym (append-nil xs))
-    (λ before come. (order, ap (λ x. x ++ parts_with h []) come, f order said.3 said.4 refl (both_true (table.is_commit_name said.0 && true) true (both_true (table.is_commit_name said.0) true said.5 refl) refl) refl))
+    (λ before come. (order, ap (λ x. x ++ parts_with h []) come, f order said.3 said.4 refl (both_true (is_commit_name said.0 && true) true (both_true (is_commit_name said.0) true said.5 refl) refl) refl))
 
 pub actor_parts : (p q : Place) (role : Role) (m n : ℕ) (seconds offset : Word) (xs ys zs : Bytes) (old new : Draft) → TakesLine p (heading.Actor role m n seconds offset) q xs
     → (a b : Bytes) → length a ≡ m → ys ≡ line a → length b ≡ n → zs ≡ line b → (A B : Bytes → Type 0)

@@ -1,11 +1,11 @@
 -- One call after another, on a source through a buffer.
-use Rattle.std.proofs.Common.{◌≡◌, ℕ, zero, suc, ◌+◌, ◌-◌, ◌^◌, ◌≤◌, ◌<◌, ltb, true, subst, take, drop, get_or, ◌∷◌, ◌⊎◌, inl, inr, MatchBool, Option, Some, None, List, [], ◌++◌, length, min, refl, sym, ap, ◌∙◌, append_assoc, arith}
+use Rattle.std.proofs.Common.{◌≡◌, ℕ, zero, suc, ◌+◌, ◌-◌, ◌*◌, ◌^◌, ◌≤◌, ◌<◌, ltb, true, subst, take, drop, get_or, ◌∷◌, ◌⊎◌, inl, inr, MatchBool, Option, Some, None, List, [], ◌++◌, length, min, refl, sym, ap, ◌∙◌, append_assoc, arith}
 use Rattle.std.proofs.lemmas.List.{append-nil, length-append, length-take, take-append-drop}
 use Rattle.std.proofs.lemmas.Bool.Decides.{nat_tests}
 use Rattle.std.specs.Io.KnownBytes.{Consumes, Keeps}
 use Rattle.history_word.specs.declared.buffer.Buffer.{Buffer}
 use Rattle.history_word.specs.Buffer.{unread, work, readings_made}
-use Rattle.history_word.specs.Taking.{Took, Came, AsksForMore}
+use Rattle.history_word.specs.Taking.{Gave, Took, Came, AsksForMore}
 
 pub consumes_none : (a b : Option (List ℕ)) → Keeps a b → Consumes a b []
 consumes_none None b h = tt
@@ -26,6 +26,19 @@ joined a m n x y b c e f = sym (append_assoc a m n) ∙ ap (λ zs. zs ++ n) e �
 counts_then : (r s t m n : ℕ) → min (r + m) (2 ^ 64 - 1) ≤ s → min (s + n) (2 ^ 64 - 1) ≤ t → min (r + (m + n)) (2 ^ 64 - 1) ≤ t
 counts_then r s t m n h k = omega arith
 
+-- what readings gave, in two pieces
+pub gave_then : (b c d : Buffer) (m n : ℕ) (xs ys : List ℕ) → readings_made c ≡ readings_made b + m → readings_made d ≡ readings_made c + n → Gave b c m xs → Gave c d n ys → Gave b d (m + n) (xs ++ ys)
+gave_then b c d m n xs ys through more (inl h) (inl k) = inl (omega (arith, h, k, length-append xs ys))
+gave_then b c d m n xs ys through more (inl h) (inr k) = inr (omega (arith, through, k.0), k.1, omega (arith, h, k.2, length-append xs ys))
+gave_then b c d m n xs ys through more (inr h) (inl k) = inr (h.0, omega (arith, more, h.1), omega (arith, h.2, k, length-append xs ys))
+gave_then b c d m n xs ys through more (inr h) (inr k) = absurd (omega (arith, h.1, k.0))
+
+-- how many readings a reading of n bytes counts
+pub reading_counts : (before after reading n : ℕ) → reading ≡ before + 1 → (0 < n → after ≡ reading) → (n ≡ 0 → after ≡ before) → n ≤ 8192
+    → (made : ℕ) × (after ≡ before + made) × (made ≤ n) × (made ≤ 1) × (n ≤ made * 8192)
+reading_counts before after reading zero next gave idle fits = (0, idle refl ∙ omega arith, omega arith, omega arith, omega arith)
+reading_counts before after reading (suc n) next gave idle fits = (1, gave (omega arith) ∙ next, omega arith, omega arith, omega (arith, fits))
+
 pub took_then : {S : Type 0} (left : S → Option (List ℕ)) (readings : S → ℕ) (s : S) (b : Buffer) (t : S) (c : Buffer) (u : S) (d : Buffer) (xs ys : List ℕ)
     → Took left readings s b t c xs → Took left readings t c u d ys → Took left readings s b u d (xs ++ ys)
 took_then left readings s b t c u d xs ys h k = record {
@@ -36,6 +49,7 @@ took_then left readings s b t c u d xs ys h k = record {
   made = h.made + k.made;
   made_through = omega (arith, h.made_through, k.made_through);
   counted = counts_then (readings s) (readings t) (readings u) h.made k.made h.counted k.counted;
+  gave = gave_then b c d h.made k.made h.more k.more h.made_through k.made_through h.gave k.gave;
 }
 
 pub came_then : {S : Type 0} (left : S → Option (List ℕ)) (readings : S → ℕ) (s : S) (b : Buffer) (t : S) (c : Buffer) (u : S) (d : Buffer) (xs ys : List ℕ)
@@ -47,12 +61,13 @@ came_then left readings s b t c u d xs ys h k = record {
   made = h.made + k.made;
   made_through = omega (arith, h.made_through, k.made_through);
   counted = counts_then (readings s) (readings t) (readings u) h.made k.made h.counted k.counted;
+  gave = gave_then b c d h.made k.made h.more k.more h.made_through k.made_through h.gave k.gave;
 }
 
 -- all that was taken, with what is still unread
 pub came_all : {S : Type 0} (left : S → Option (List ℕ)) (readings : S → ℕ) (s : S) (b : Buffer) (t : S) (c : Buffer) (xs : List ℕ)
     → Took left readings s b t c xs → Came left readings s b t c (xs ++ unread c)
-came_all left readings s b t c xs h = record { more = h.more; came = h.came; same = h.same; made = h.made; made_through = h.made_through; counted = h.counted }
+came_all left readings s b t c xs h = record { more = h.more; came = h.came; same = h.same; made = h.made; made_through = h.made_through; counted = h.counted; gave = h.gave }
 
 -- what a reading of n bytes says
 pub told : (n : ℕ) (old new given : List ℕ) (AtEnd : Type 0) → new ≡ old ++ take n given → n ≤ length given → (n ≡ 0 → AtEnd) → MatchBool (ltb 0 n) (length old < length new) (AtEnd × (new ≡ old))
@@ -86,6 +101,7 @@ skipped left readings s b c n h e r w = record {
   made = 0;
   made_through = omega (arith, r);
   counted = omega arith;
+  gave = inl (omega arith);
 }
 
 -- nothing happens but to a buffer that keeps its bytes
@@ -99,6 +115,7 @@ took_kept left readings s b c e r w = record {
   made = 0;
   made_through = omega (arith, r);
   counted = omega arith;
+  gave = inl (omega arith);
 }
 
 pub took_none : {S : Type 0} (left : S → Option (List ℕ)) (readings : S → ℕ) (s : S) (b : Buffer) → Took left readings s b s b []

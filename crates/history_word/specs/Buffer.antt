@@ -7,7 +7,7 @@ use Rattle.history_word.specs.declared.buffer.Buffer.{Buffer}
 abbrev pub unread : Buffer → List ℕ
 unread b = held b.start b.end b.bytes
 
--- how many readings were made through it
+-- how many readings through it gave a byte; and the last that a `u64` counts, whatever it gave
 abbrev pub readings_made : Buffer → ℕ
 readings_made b = b.readings
 

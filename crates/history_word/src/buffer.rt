@@ -1,6 +1,6 @@
 //! The bytes that were read from a source and not yet taken.
 
-ghost use Rattle.std.specs.Prelude.{◌≡◌, ◌-◌, ◌+◌, ◌<◌, ◌≤◌, ◌⊎◌, true, [], length, take, drop, IfOk, OnErr, IfSome, IfNone};
+ghost use Rattle.std.specs.Prelude.{◌≡◌, ◌≢◌, ◌-◌, ◌^◌, ◌+◌, ◌<◌, ◌≤◌, ◌⊎◌, true, [], length, take, drop, IfOk, OnErr, IfSome, IfNone};
 ghost use Rattle.std.specs.Bool.{MatchBool};
 ghost use Rattle.std.specs.Io.KnownBytes.{IsAtEnd};
 ghost use Rattle.history_word.specs.Held.{held, IsUnbroken, IsLineOf};
@@ -14,6 +14,20 @@ const ROOM: usize = 8_192;
 /// How many bytes a line may have, without its line feed.
 pub(crate) const MAX_LINE: usize = 4_096;
 
+/// The count of readings after this reading, which gave so many bytes. One that gave none isn't counted, since a run makes it
+/// last; but the last that a `u64` counts is, whatever it gave.
+fn counted(before: u64, reading: u64, count: usize) -> u64
+    ensures gave { 0 < count → result ≡ reading }
+    ensures idle { count ≡ 0 → reading ≢ 2 ^ 64 - 1 → result ≡ before }
+    ensures last { reading ≡ 2 ^ 64 - 1 → result ≡ reading }
+{
+    if count > 0 || reading == u64::MAX {
+        reading
+    } else {
+        before
+    }
+}
+
 /// Bytes that were read from a source and not taken yet.
 #[derive(Debug, Drop)]
 pub struct Buffer {
@@ -22,6 +36,7 @@ pub struct Buffer {
     end: usize,
     /// How many of the unread bytes were looked at and found to be no line feed.
     scanned: usize,
+    /// How many readings gave a byte; and the last that a `u64` counts, whatever it gave.
     readings: u64,
     ghost ordered: { start + scanned ≤ end },
     ghost within: { end ≤ 8192 },
@@ -116,10 +131,10 @@ impl Buffer {
             return Err(Broken);
         };
         self.make_room();
-        self.readings = readings;
         let end = self.end;
         let count = source.read(&mut self.bytes[end..])?;
         self.end += count;
+        self.readings = counted(self.readings, readings, count);
         if readings == u64::MAX {
             return Err(Broken);
         }

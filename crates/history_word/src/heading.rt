@@ -1,7 +1,8 @@
 //! What the first line of a part says.
 
 ghost use Rattle.std.specs.Prelude.{◌≡◌, ◌∷◌, ◌≤◌, length, IfSome, IfNone, OnSome, IsTrue};
-ghost use Rattle.history_model.specs.LineTable.{Place, heading_of, is_commit_name, expect_of, commit_of_words, put_of_words, actor_of_words, message_of_words, end_of_words, files_of_words, show_of_words};
+ghost use Rattle.history_model.specs.Stage.{is_commit_name};
+ghost use Rattle.history_model.specs.LineTable.{Place, heading_of, expect_of, commit_of_words, put_of_words, actor_of_words, message_of_words, end_of_words, files_of_words, show_of_words};
 ghost use Rattle.history_model.specs.TableRuns.{IsLineAt};
 ghost use Rattle.history_word.specs.Held.{IsUnbroken};
 ghost use Rattle.history_word.specs.Lines.{split_words};

@@ -1,6 +1,6 @@
 //! Laws on what the two parts pass through while a command is acted on, over the definitions alone.
 
-ghost use Rattle.history_model.specs.Passing.{PutsPass, CommitsStoreWhole, StoringStops, MovesPass, MovingStops, ActsLater, ActsThen, SomeStops, FirstAreSome, NamesPass, NamesBegin, TracesWeaken, StopsAreClosed};
+ghost use Rattle.history_model.specs.Passing.{PutsPass, CommitsStoreWhole, StoringStops, MovesPass, MovingStops, ActsLater, ActsThen, SomeStops, FirstAreSome, NamesPass, NamesBegin, TracesWeaken, FaultsAreCounted, StopsAreClosed};
 
 use gix_ref_file::Files;
 
@@ -42,6 +42,11 @@ pub fn acts_then()
 /// A run's trace over any files is one of which it isn't told whether a reading may fail, as the rounds take it.
 pub fn traces_weaken<F: Files>()
     ensures { TracesWeaken F.reading_may_fail }
+{}
+
+/// Over files of which no reading may fail and no call failed during a run, no command of it is answered by `fault File`.
+pub fn faults_are_counted()
+    ensures { FaultsAreCounted }
 {}
 
 /// Stopped while its values are stored in any order that leaves whole stores, a command leaves a repository before its names move.

@@ -4,7 +4,7 @@ use Rattle.std.specs.Prelude.{IfSome}
 use Rattle.history_word.specs.Commands.{AreEdits}
 use Rattle.history_model.specs.Commands as model
 use Rattle.history_model.specs.Bytes.{is_empty}
-use Rattle.history_model.specs.LineTable.{is_commit_name}
+use Rattle.history_model.specs.Stage.{is_commit_name}
 use Rattle.history_model.specs.Stage.{is_put, is_offered}
 use Rattle.history_word.specs.Drafts.{with_edit}
 use Rattle.history_word.proofs.draft.CommitDraft.add_edit.Goals as goal
