@@ -9,3 +9,4 @@ pub mod Ids
 pub mod RowLemmas
 pub mod Walked
 pub mod Told
+pub mod Simply

@@ -11,3 +11,4 @@ pub mod RowCommits
 pub mod Standing
 pub mod Told
 pub mod Fetching
+pub mod Simply

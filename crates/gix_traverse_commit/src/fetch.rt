@@ -17,8 +17,8 @@ use crate::{Graph, ParentIds, Parents};
 use gix_hash::ObjectId;
 use gix_object_commit::CommitRefIter;
 use gix_object_commit::commit::ref_iter::Token;
-use gix_object_find::find::{self as lookup, existing_iter};
 use gix_object_find::Find;
+use gix_object_find::find::{self as lookup, existing_iter};
 use gix_object_lines::{Kind, decode};
 use std::alloc::{AllocError, AllocFailed, Global};
 

@@ -9,6 +9,7 @@ pub mod laws;
 mod parents;
 mod rows;
 pub mod sample;
+pub mod simple;
 mod walk;
 
 pub use crate::accept::{Accept, All};
@@ -16,4 +17,5 @@ pub use crate::either::{Either, find};
 pub use crate::info::{Info, ParentIds};
 pub use crate::parents::Parents;
 pub use crate::rows::{GENERATION_LIMIT, Graph, Row, RowsError};
+pub use crate::simple::Simple;
 pub use crate::walk::{WalkError, breadth_first};

@@ -65,7 +65,7 @@ fn see(seen: &mut HashSet<ObjectId>, id: ObjectId) -> Result<(), AllocError>
 }
 
 /// Queues a commit that was not seen before.
-fn meet(
+pub(crate) fn meet(
     seen: &mut HashSet<ObjectId>,
     queue: &mut VecDeque<ObjectId>,
     id: ObjectId,
