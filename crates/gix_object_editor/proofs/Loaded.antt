@@ -1,18 +1,17 @@
 -- A node of entries in order, and trees that are no such.
-use Rattle.std.proofs.Common.{ℕ, zero, suc, ◌≡◌, ◌≢◌, ◌<◌, ◌≤◌, ◌+◌, ◌⊎◌, Bool, true, false, List, [], ◌∷◌, ◌++◌, Option, Some, None, refl, sym, ap, subst, ◌∙◌, inl, inr, arith, length, get_or, map, take, add-one, if◌then◌else◌}
+use Rattle.std.proofs.Common.{ℕ, zero, suc, ◌≡◌, ◌≢◌, ◌<◌, ◌+◌, Bool, true, false, List, [], ◌∷◌, ◌++◌, Option, Some, None, refl, sym, ap, subst, ◌∙◌, inl, inr, arith, length, get_or, map, take, add-one, if◌then◌else◌}
 use Rattle.std.specs.Prelude.{bytes_eq, is_some, IsTrue, ◌↔◌}
 use Rattle.std.proofs.lemmas.List.{get_or-map, take-map, map-append}
 use Rattle.std.proofs.Math.Seq.{take-suc}
 use Rattle.gix_object_entries.specs.Entry.{Item}
 use Rattle.gix_object_entries.specs.Order.{name_cmp, is_tree}
-use Rattle.std.specs.declared.cmp.Ordering.{Ordering}
-use Rattle.std.specs.declared.cmp.Ordering.TheVariants.{Less, Equal, Greater}
+use Rattle.std.specs.declared.cmp.Ordering.TheVariants.{Less}
 use Rattle.std.specs.Ordering.{is_lt}
 use Rattle.gix_hash.specs.Id.{Id, null_id}
 use Rattle.gix_hash.specs.OrderLaws.{id_eq-same}
 use Rattle.gix_object_editor.specs.declared.tree.editor.node.NodeId.{NodeId}
 use Rattle.gix_object_editor.specs.declared.tree.editor.node.Slot.{Slot}
-use Rattle.gix_object_editor.specs.Files.{Bytes, Path, Leaf, Trees, leaf_of, named, is_null, through, files_of_entry, files_of_tree}
+use Rattle.gix_object_editor.specs.Files.{Bytes, Path, Trees, leaf_of, named, is_null, through, files_of_entry, files_of_tree}
 use Rattle.gix_object_editor.specs.Nodes.{Slots, StandsFor, leaf_in, child_of, child_or, files_of_slot, files_of_node, IsForest}
 use Rattle.gix_object_editor.specs.WellFormed.{IsWellFormed, is_entry_name}
 use Rattle.gix_object_editor.proofs.Paths.{same_name, name_itself, by_test, not_both}

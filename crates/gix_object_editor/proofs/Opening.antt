@@ -1,5 +1,5 @@
 -- Opening a stored tree changes no file, and links make a forest.
-use Rattle.std.proofs.Common.{ℕ, zero, suc, ◌≡◌, ◌≢◌, ◌<◌, ◌≤◌, ◌⊎◌, Bool, true, false, List, [], ◌∷◌, Option, Some, None, refl, sym, ap, subst, ◌∙◌, inl, inr, arith, if◌then◌else◌}
+use Rattle.std.proofs.Common.{ℕ, suc, ◌≡◌, ◌<◌, ◌≤◌, ◌⊎◌, Bool, true, false, List, [], ◌∷◌, Option, Some, None, refl, sym, ap, subst, ◌∙◌, inl, inr, arith, if◌then◌else◌}
 use Rattle.std.specs.Prelude.{bytes_eq}
 use Rattle.std.proofs.lemmas.Bool.{cases_eq, cases_lt, cases_order}
 use Rattle.gix_object_find.specs.Table.{Table}
@@ -8,7 +8,7 @@ use Rattle.gix_object_entries.specs.Mode.{is_tree_value}
 use Rattle.gix_object_editor.specs.declared.tree.editor.node.NodeId.{NodeId}
 use Rattle.gix_object_editor.specs.declared.tree.editor.node.Slot.{Slot}
 use Rattle.gix_object_editor.specs.Files.{Bytes, Path, Leaf, Trees, through, named, leaf_of, is_null, tree_under, unless_tree, files_of_entry, HasStored}
-use Rattle.gix_object_editor.specs.Nodes.{Slots, child_or, child_of, leaf_in, files_of_slot, files_of_node, IsForest, StandsFor, IsOpened, IsFolderAt}
+use Rattle.gix_object_editor.specs.Nodes.{Slots, child_or, child_of, leaf_in, files_of_slot, files_of_node, IsForest, StandsFor, IsOpened}
 use Rattle.gix_object_editor.proofs.Paths.{same_name, name_itself, by_test}
 
 -- both the number and the name, or not

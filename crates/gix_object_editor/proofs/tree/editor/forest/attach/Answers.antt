@@ -1,6 +1,5 @@
-use Rattle.std.proofs.Common.{◌≡◌, ◌∙◌, ◌<◌, ◌++◌, ◌∷◌, [], ap, sym, arith, true, length, suc, rules, if◌then◌else◌, List, ℕ, ◌-◌, take}
+use Rattle.std.proofs.Common.{◌≡◌, ◌∙◌, ◌++◌, ◌∷◌, [], ap, arith, true, length, suc, rules, if◌then◌else◌, ℕ, ◌-◌, take}
 use Rattle.std.specs.Prelude.{is_ok}
-use Rattle.gix_object_editor.specs.declared.tree.editor.node.Node.{Node}
 use Rattle.gix_object_editor.specs.Files.{Bytes}
 use Rattle.gix_object_editor.specs.Nodes.{slots_of}
 use Rattle.gix_object_editor.proofs.Slots.{back, at_end, front_kept, without_last, all_slots, length_push}

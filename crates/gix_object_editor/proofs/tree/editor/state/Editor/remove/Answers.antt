@@ -1,7 +1,6 @@
-use Rattle.std.proofs.Common.{◌≡◌, ◌≢◌, ◌∙◌, ◌<◌, ◌+◌, ap, sym, subst, refl, arith, length, []}
+use Rattle.std.proofs.Common.{◌≡◌, ◌∙◌, ◌<◌, ◌+◌, ap, sym, subst, arith, length}
 use Rattle.std.proofs.lemmas.Result.{err_from_is_err_and}
 use Rattle.gix_object_editor.specs.declared.tree.editor.state.Editor.{Editor}
-use Rattle.gix_object_editor.specs.Files.{Path, Trees}
 use Rattle.gix_object_editor.specs.Editor.{files_of, names_of}
 use Rattle.gix_object_editor.specs.Nodes.{slots_of, files_of_node, child_of, IsForest}
 use Rattle.gix_object_editor.proofs.Slots.{back}
