@@ -1,8 +1,7 @@
 -- Edits below the root, after a walk down.
-use Rattle.std.proofs.Common.{ℕ, suc, ◌≡◌, ◌≢◌, ◌<◌, ◌+◌, List, [], ◌∷◌, Option, Some, None, refl, sym, ap, subst, ◌∙◌, arith, zero, inl, inr, length, get_or, map, drop, if◌then◌else◌, true, ◌==◌, eqb-true}
+use Rattle.std.proofs.Common.{ℕ, suc, ◌≡◌, ◌≢◌, ◌<◌, ◌+◌, List, [], ◌∷◌, Some, None, refl, sym, ap, ◌∙◌, arith, zero, inl, inr, length, get_or, drop, if◌then◌else◌, true, ◌==◌, eqb-true}
 use Rattle.std.specs.Prelude.{is_some}
 use Rattle.std.specs.Borrow.{Bor}
-use Rattle.std.specs.List.{All}
 use Rattle.std.proofs.lemmas.List.{get_or-map}
 use Rattle.std.proofs.lemmas.List.Elements.{All-map}
 use Rattle.gix_hash.specs.Id.{Id}
@@ -12,10 +11,10 @@ use Rattle.gix_object_editor.specs.declared.tree.editor.error.Error.TheVariants.
 use Rattle.gix_object_editor.specs.Editor.{EditFault}
 use Rattle.gix_object_editor.specs.Refusals.{OpeningFault}
 use Rattle.gix_object_editor.specs.Files.{Bytes, Path, Trees, HasStored, NamesAreFull, behind, removed}
-use Rattle.gix_object_editor.specs.Nodes.{Slots, child_of, files_of_node, Way, onto, LeadsTo, IsFolderAt, IsForest, IsOpened}
+use Rattle.gix_object_editor.specs.Nodes.{Slots, child_of, files_of_node, onto, LeadsTo, IsFolderAt, IsForest, IsOpened}
 use Rattle.gix_object_editor.proofs.Ways.{removes, removes_nothing}
 use Rattle.gix_object_editor.proofs.Opening.{fewer, at_or_off}
-use Rattle.gix_object_editor.proofs.Walked.{names, names_step}
+use Rattle.gix_object_editor.proofs.Walked.{names}
 
 -- ---- names
 

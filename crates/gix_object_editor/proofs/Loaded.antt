@@ -1,18 +1,17 @@
 -- A node of entries in order, and trees that are no such.
-use Rattle.std.proofs.Common.{ℕ, zero, suc, ◌≡◌, ◌≢◌, ◌<◌, ◌≤◌, ◌+◌, ◌⊎◌, Bool, true, false, List, [], ◌∷◌, ◌++◌, Option, Some, None, refl, sym, ap, subst, ◌∙◌, inl, inr, arith, length, get_or, map, take, add-one, if◌then◌else◌}
+use Rattle.std.proofs.Common.{ℕ, zero, suc, ◌≡◌, ◌≢◌, ◌<◌, ◌+◌, Bool, true, false, List, [], ◌∷◌, ◌++◌, Option, Some, None, refl, sym, ap, subst, ◌∙◌, inl, inr, arith, length, get_or, map, take, add-one, if◌then◌else◌}
 use Rattle.std.specs.Prelude.{bytes_eq, is_some, IsTrue, ◌↔◌}
 use Rattle.std.proofs.lemmas.List.{get_or-map, take-map, map-append}
 use Rattle.std.proofs.Math.Seq.{take-suc}
 use Rattle.gix_object_entries.specs.Entry.{Item}
 use Rattle.gix_object_entries.specs.Order.{name_cmp, is_tree}
-use Rattle.std.specs.declared.cmp.Ordering.{Ordering}
-use Rattle.std.specs.declared.cmp.Ordering.TheVariants.{Less, Equal, Greater}
+use Rattle.std.specs.declared.cmp.Ordering.TheVariants.{Less}
 use Rattle.std.specs.Ordering.{is_lt}
 use Rattle.gix_hash.specs.Id.{Id, null_id}
 use Rattle.gix_hash.specs.OrderLaws.{id_eq-same}
 use Rattle.gix_object_editor.specs.declared.tree.editor.node.NodeId.{NodeId}
 use Rattle.gix_object_editor.specs.declared.tree.editor.node.Slot.{Slot}
-use Rattle.gix_object_editor.specs.Files.{Bytes, Path, Leaf, Trees, leaf_of, named, is_null, through, files_of_entry, files_of_tree}
+use Rattle.gix_object_editor.specs.Files.{Bytes, Path, Trees, leaf_of, named, is_null, through, files_of_entry, files_of_tree}
 use Rattle.gix_object_editor.specs.Nodes.{Slots, StandsFor, leaf_in, child_of, child_or, files_of_slot, files_of_node, IsForest}
 use Rattle.gix_object_editor.specs.WellFormed.{IsWellFormed, is_entry_name}
 use Rattle.gix_object_editor.proofs.Paths.{same_name, name_itself, by_test, not_both}
@@ -22,8 +21,8 @@ named-more [] x m none is = ap (λ b. if b then Some x else None) is
 named-more (y ∷ xs) x m none is = elim (by_test (bytes_eq m y.name)) [
   | inl t ↦ let found : Some y ≡ None = ap (λ b. if b then Some y else named m xs) (sym t) ∙ none in absurd (cc found)
   | inr f ↦
-    let later : named m xs ≡ None = ap (λ b. if b then Some y else named m xs) (sym f) ∙ none in
-    ap (λ b. if b then Some y else named m (xs ++ x ∷ [])) f ∙ named-more xs x m later is
+      let later : named m xs ≡ None = ap (λ b. if b then Some y else named m xs) (sym f) ∙ none in
+      ap (λ b. if b then Some y else named m (xs ++ x ∷ [])) f ∙ named-more xs x m later is
 ]
 
 named-kept : (xs : List Item) (x : Item) (m : Bytes) → bytes_eq m x.name ≡ false → named m (xs ++ x ∷ []) ≡ named m xs
@@ -52,16 +51,16 @@ module _ {E : Type 0} (item_of : E → Item) where
   stands_more entries i e old new s lt is before absent stands leaf closed others m =
       subst (λ xs. StandsFor (new m) (named m xs)) (sym (take_one entries i e lt is)) (elim (by_test (bytes_eq m (item_of e).name)) [
         | inl t ↦
-          let same : m ≡ (item_of e).name = same_name m (item_of e).name t in
-          let none : named m (map item_of (take i entries)) ≡ None =
+            let same : m ≡ (item_of e).name = same_name m (item_of e).name t in
+            let none : named m (map item_of (take i entries)) ≡ None =
             none_for_none (named m (map item_of (take i entries))) (subst (λ o. StandsFor o (named m (map item_of (take i entries)))) (ap old same ∙ absent) (before m)) in
-          let here : new m ≡ Some s = ap new same ∙ stands in
-          let both : StandsFor (Some s) (Some (item_of e)) = (leaf, closed) in
-          subst (λ o. StandsFor o (named m (map item_of (take i entries) ++ item_of e ∷ []))) (sym here)
+            let here : new m ≡ Some s = ap new same ∙ stands in
+            let both : StandsFor (Some s) (Some (item_of e)) = (leaf, closed) in
+            subst (λ o. StandsFor o (named m (map item_of (take i entries) ++ item_of e ∷ []))) (sym here)
             (subst (λ p. StandsFor (Some s) p) (sym (named-more (map item_of (take i entries)) (item_of e) m none t)) both)
         | inr f ↦
-          let apart : m ≢ (item_of e).name = λ same. let yes : bytes_eq m (item_of e).name ≡ true = ap (bytes_eq m) (sym same) ∙ name_itself m in cc in
-          subst (λ o. StandsFor o (named m (map item_of (take i entries) ++ item_of e ∷ []))) (sym (others m apart))
+            let apart : m ≢ (item_of e).name = λ same. let yes : bytes_eq m (item_of e).name ≡ true = ap (bytes_eq m) (sym same) ∙ name_itself m in cc in
+            subst (λ o. StandsFor o (named m (map item_of (take i entries) ++ item_of e ∷ []))) (sym (others m apart))
             (subst (λ p. StandsFor (old m) p) (sym (named-kept (map item_of (take i entries)) (item_of e) m f)) (before m))
       ])
 
@@ -78,7 +77,7 @@ module _ {E : Type 0} (item_of : E → Item) where
       let more : i < length (map item_of entries) = omega (arith, length-of entries) in
       let at : get_or (map item_of entries) i (item_of e) ≡ item_of e = get_or-map item_of entries i e (item_of e) lt ∙ ap item_of (sym is) in
       let none : named (item_of e).name (map item_of (take i entries)) ≡ None =
-        ap (named (item_of e).name) (sym (take-map item_of i entries)) ∙ ap (λ x. named x.name (take i (map item_of entries))) (sym at) ∙ whole.once i (item_of e) more in
+      ap (named (item_of e).name) (sym (take-map item_of i entries)) ∙ ap (λ x. named x.name (take i (map item_of entries))) (sym at) ∙ whole.once i (item_of e) more in
       subst (λ p. StandsFor (Some s) p) none stands
 
   pub name_isnt_one : (entries : List E) (i : ℕ) (e : E) → i < length entries → e ≡ get_or entries i e → is_entry_name (item_of e).name ≡ false → IsWellFormed (map item_of entries) → ⊥
@@ -96,11 +95,11 @@ module _ {E : Type 0} (item_of : E → Item) where
       let more : suc k < length (map item_of entries) = omega (arith, length-of entries) in
       let first : get_or (map item_of entries) k (item_of a) ≡ item_of a = get_or-map item_of entries k a (item_of a) below ∙ ap item_of (sym is_a) in
       let second : get_or (map item_of entries) (suc k) (item_of a) ≡ item_of b =
-        get_or-map item_of entries (suc k) b (item_of a) here ∙ ap (λ n. item_of (get_or entries n b)) (sym next) ∙ ap item_of (sym is_b) in
+      get_or-map item_of entries (suc k) b (item_of a) here ∙ ap (λ n. item_of (get_or entries n b)) (sym next) ∙ ap item_of (sym is_b) in
       let good : name_cmp (item_of a).name (is_tree (item_of a)) (item_of b).name (is_tree (item_of b)) ≡ Less =
-        ap (λ x. name_cmp x.name (is_tree x) (item_of b).name (is_tree (item_of b))) (sym first)
-        ∙ ap (λ y. name_cmp (get_or (map item_of entries) k (item_of a)).name (is_tree (get_or (map item_of entries) k (item_of a))) y.name (is_tree y)) (sym second)
-        ∙ whole.ascending k (item_of a) more in
+      ap (λ x. name_cmp x.name (is_tree x) (item_of b).name (is_tree (item_of b))) (sym first)
+      ∙ ap (λ y. name_cmp (get_or (map item_of entries) k (item_of a)).name (is_tree (get_or (map item_of entries) k (item_of a))) y.name (is_tree y)) (sym second)
+      ∙ whole.ascending k (item_of a) more in
       let yes : is_lt (name_cmp (item_of a).name (is_tree (item_of a)) (item_of b).name (is_tree (item_of b))) ≡ true = ap is_lt good in
       cc
 

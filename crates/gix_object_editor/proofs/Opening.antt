@@ -1,5 +1,5 @@
 -- Opening a stored tree changes no file, and links make a forest.
-use Rattle.std.proofs.Common.{ℕ, zero, suc, ◌≡◌, ◌≢◌, ◌<◌, ◌≤◌, ◌⊎◌, Bool, true, false, List, [], ◌∷◌, Option, Some, None, refl, sym, ap, subst, ◌∙◌, inl, inr, arith, if◌then◌else◌}
+use Rattle.std.proofs.Common.{ℕ, suc, ◌≡◌, ◌<◌, ◌≤◌, ◌⊎◌, Bool, true, false, List, [], ◌∷◌, Option, Some, None, refl, sym, ap, subst, ◌∙◌, inl, inr, arith, if◌then◌else◌}
 use Rattle.std.specs.Prelude.{bytes_eq}
 use Rattle.std.proofs.lemmas.Bool.{cases_eq, cases_lt, cases_order}
 use Rattle.gix_object_find.specs.Table.{Table}
@@ -8,7 +8,7 @@ use Rattle.gix_object_entries.specs.Mode.{is_tree_value}
 use Rattle.gix_object_editor.specs.declared.tree.editor.node.NodeId.{NodeId}
 use Rattle.gix_object_editor.specs.declared.tree.editor.node.Slot.{Slot}
 use Rattle.gix_object_editor.specs.Files.{Bytes, Path, Leaf, Trees, through, named, leaf_of, is_null, tree_under, unless_tree, files_of_entry, HasStored}
-use Rattle.gix_object_editor.specs.Nodes.{Slots, child_or, child_of, leaf_in, files_of_slot, files_of_node, IsForest, StandsFor, IsOpened, IsFolderAt}
+use Rattle.gix_object_editor.specs.Nodes.{Slots, child_or, child_of, leaf_in, files_of_slot, files_of_node, IsForest, StandsFor, IsOpened}
 use Rattle.gix_object_editor.proofs.Paths.{same_name, name_itself, by_test}
 
 -- both the number and the name, or not
@@ -43,7 +43,6 @@ module _ (trees : Trees) (slots new : Slots) (bound : ℕ) (ok : IsForest slots 
     (stands : new j name ≡ Some t) (linked : child_of (Some t) ≡ Some bound)
     (opened : (m : Bytes) → StandsFor (new bound m) (named m items))
     (agree : (i : ℕ) (m : Bytes) → i < bound → ((i ≡ j) → (m ≡ name) → ⊥) → new i m ≡ slots i m) where
-
   leads : tree_under trees (leaf_in s) ≡ Some items
   leads = ap (λ b. if b then trees (leaf_in s).id else None) folder.is_tree ∙ stored
 
@@ -66,14 +65,14 @@ module _ (trees : Trees) (slots new : Slots) (bound : ℕ) (ok : IsForest slots 
   at_slot [] =
       below_slot t.child (files_of_entry trees [] (leaf_in t)) None (λ c. None) linked refl
       ∙ sym (ap (λ o. child_or o (λ c. None) (files_of_entry trees [] (leaf_in s))) closed
-        ∙ ap (λ b. if b then None else unless_tree (tree_under trees (leaf_in s)) (leaf_in s)) folder.isnt_null
-        ∙ ap (λ o. unless_tree o (leaf_in s)) leads)
+      ∙ ap (λ b. if b then None else unless_tree (tree_under trees (leaf_in s)) (leaf_in s)) folder.isnt_null
+      ∙ ap (λ o. unless_tree o (leaf_in s)) leads)
   at_slot (m ∷ more) =
       below_slot t.child (files_of_entry trees (m ∷ more) (leaf_in t)) (files_of_node trees new bound (m ∷ more)) (λ c. files_of_node trees new c (m ∷ more)) linked refl
       ∙ entries more (new bound m) (named m items) (opened m)
       ∙ sym (ap (λ o. child_or o (λ c. files_of_node trees slots c (m ∷ more)) (files_of_entry trees (m ∷ more) (leaf_in s))) closed
-        ∙ ap (λ b. if b then None else through (tree_under trees (leaf_in s)) (λ tree. through (named m tree) (λ item. files_of_entry trees more (leaf_of item)))) folder.isnt_null
-        ∙ ap (λ o. through o (λ tree. through (named m tree) (λ item. files_of_entry trees more (leaf_of item)))) leads)
+      ∙ ap (λ b. if b then None else through (tree_under trees (leaf_in s)) (λ tree. through (named m tree) (λ item. files_of_entry trees more (leaf_of item)))) folder.isnt_null
+      ∙ ap (λ o. through o (λ tree. through (named m tree) (λ item. files_of_entry trees more (leaf_of item)))) leads)
 
   same_child : (child : Option NodeId) (m : Bytes) (more : Path) (x : Option Leaf) → ((c : ℕ) → child_or child (λ c. Some c) None ≡ Some c → files_of_node trees new c (m ∷ more) ≡ files_of_node trees slots c (m ∷ more))
       → child_or child (λ c. files_of_node trees new c (m ∷ more)) x ≡ child_or child (λ c. files_of_node trees slots c (m ∷ more)) x
@@ -91,12 +90,12 @@ module _ (trees : Trees) (slots new : Slots) (bound : ℕ) (ok : IsForest slots 
   opens [] i lt = refl
   opens (n ∷ rest) i lt = elim (at_or_off i j n name) [
     | inl e ↦
-      ap (λ k. through (new k n) (files_of_slot trees new rest)) e.0 ∙ ap (λ k. through (new j k) (files_of_slot trees new rest)) e.1
-      ∙ ap (λ o. through o (files_of_slot trees new rest)) stands ∙ at_slot rest ∙ sym (ap (λ o. through o (files_of_slot trees slots rest)) stood)
-      ∙ sym (ap (λ k. through (slots k n) (files_of_slot trees slots rest)) e.0 ∙ ap (λ k. through (slots j k) (files_of_slot trees slots rest)) e.1)
+        ap (λ k. through (new k n) (files_of_slot trees new rest)) e.0 ∙ ap (λ k. through (new j k) (files_of_slot trees new rest)) e.1
+        ∙ ap (λ o. through o (files_of_slot trees new rest)) stands ∙ at_slot rest ∙ sym (ap (λ o. through o (files_of_slot trees slots rest)) stood)
+        ∙ sym (ap (λ k. through (slots k n) (files_of_slot trees slots rest)) e.0 ∙ ap (λ k. through (slots j k) (files_of_slot trees slots rest)) e.1)
     | inr off ↦
-      ap (λ o. through o (files_of_slot trees new rest)) (agree i n lt off)
-      ∙ same_through rest (slots i n) (λ c is. opens rest c (ok.within i n c is))
+        ap (λ o. through o (files_of_slot trees new rest)) (agree i n lt off)
+        ∙ same_through rest (slots i n) (λ c is. opens rest c (ok.within i n c is))
   ]
 
 -- ---- forests
@@ -117,8 +116,8 @@ pub linked_more : (slots new : Slots) (bound : ℕ) → IsForest slots bound →
     → IsForest new bound
 linked_more slots new bound ok j name c above below free h = record {
   rooted = ok.rooted;
-  forward = λ i n d e. elim (h i n d e) [ | inl x ↦ let a = x.0 in let b = x.2 in omega arith | inr o ↦ ok.forward i n d o ];
-  within = λ i n d e. elim (h i n d e) [ | inl x ↦ let b = x.2 in omega arith | inr o ↦ ok.within i n d o ];
+  forward = λ i n d e. elim (h i n d e) [ inl x ↦ let a = x.0 in let b = x.2 in omega arith | inr o ↦ ok.forward i n d o ];
+  within = λ i n d e. elim (h i n d e) [ inl x ↦ let b = x.2 in omega arith | inr o ↦ ok.within i n d o ];
   one = λ i k d n m e f. elim (h i n d e) [
     | inl x ↦ elim (h k m d f) [
       | inl y ↦ (x.0 ∙ sym y.0, x.1 ∙ sym y.1)
@@ -170,8 +169,8 @@ opened_one honest table slots new bound more ok next j name s t lt stood closed 
   forest = subst (IsForest new) (sym next) (linked_more slots new (suc bound) wider j name bound lt (omega arith) free split);
   links = kept;
   files = λ h trees has q i less.
-    let tree = loaded h in
-    opens trees slots new bound ok j name s t tree.0 stood closed folder (tree.2 trees has) stands linked tree.1 agree q i less;
+      let tree = loaded h in
+      opens trees slots new bound ok j name s t tree.0 stood closed folder (tree.2 trees has) stands linked tree.1 agree q i less;
 }
   where
     wider : IsForest slots (suc bound)
@@ -192,8 +191,8 @@ opened_one honest table slots new bound more ok next j name s t lt stood closed 
     kept : (i : ℕ) (m : Bytes) (c : ℕ) → child_of (slots i m) ≡ Some c → child_of (new i m) ≡ Some c
     kept i m c e = elim (at_or_off i j m name) [
       | inl x ↦
-        let here : child_of (slots i m) ≡ None = ap (λ k. child_of (slots k m)) x.0 ∙ ap (λ k. child_of (slots j k)) x.1 ∙ closed_child in
-        absurd (cc (sym here ∙ e))
+          let here : child_of (slots i m) ≡ None = ap (λ k. child_of (slots k m)) x.0 ∙ ap (λ k. child_of (slots j k)) x.1 ∙ closed_child in
+          absurd (cc (sym here ∙ e))
       | inr off ↦ let less : i < bound = inside i m c e in ap child_of (agree i m less off) ∙ e
     ]
 
@@ -201,15 +200,15 @@ opened_one honest table slots new bound more ok next j name s t lt stood closed 
     split i n d e = elim (cases_order i bound) [
       | inr (inl less) ↦ elim (at_or_off i j n name) [
         | inl x ↦
-          let here : child_of (new i n) ≡ Some bound = ap (λ k. child_of (new k n)) x.0 ∙ ap (λ k. child_of (new j k)) x.1 ∙ ap child_of stands ∙ linked in
-          let same : d ≡ bound = cc in
-          inl (x.0, x.1, same)
+            let here : child_of (new i n) ≡ Some bound = ap (λ k. child_of (new k n)) x.0 ∙ ap (λ k. child_of (new j k)) x.1 ∙ ap child_of stands ∙ linked in
+            let same : d ≡ bound = cc in
+            inl (x.0, x.1, same)
         | inr off ↦ inr (ap child_of (sym (agree i n less off)) ∙ e)
       ]
       | inl same ↦
-        let none : child_of (new i n) ≡ None = ap (λ k. child_of (new k n)) same ∙ fresh n in
-        absurd (cc (sym none ∙ e))
+          let none : child_of (new i n) ≡ None = ap (λ k. child_of (new k n)) same ∙ fresh n in
+          absurd (cc (sym none ∙ e))
       | inr (inr above) ↦
-        let none : child_of (new i n) ≡ None = ap child_of (past i n above) in
-        absurd (cc (sym none ∙ e))
+          let none : child_of (new i n) ≡ None = ap child_of (past i n above) in
+          absurd (cc (sym none ∙ e))
     ]

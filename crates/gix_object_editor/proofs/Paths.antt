@@ -1,5 +1,5 @@
 -- Paths that begin one another.
-use Rattle.std.proofs.Common.{ℕ, ◌≡◌, ◌≢◌, ◌⊎◌, Bool, true, false, List, [], ◌∷◌, ◌++◌, Option, Some, None, refl, sym, ap, subst, ◌∙◌, inl, inr, if◌then◌else◌}
+use Rattle.std.proofs.Common.{◌≡◌, ◌⊎◌, Bool, true, false, [], ◌∷◌, ◌++◌, Some, None, refl, sym, ap, ◌∙◌, inl, inr, if◌then◌else◌}
 use Rattle.std.specs.Prelude.{bytes_eq}
 use Rattle.std.proofs.lemmas.Slice.Eq.{bytes_eq-Decides}
 use Rattle.gix_object_editor.specs.Files.{Bytes, Path, behind}
@@ -27,9 +27,9 @@ behind_is [] q rest e = cc
 behind_is (n ∷ p) [] rest e = absurd (cc e)
 behind_is (n ∷ p) (m ∷ q) rest e = elim (by_test (bytes_eq n m)) [
   | inl t ↦
-    let same : n ≡ m = same_name n m t in
-    let later : behind p q ≡ Some rest = ap (λ b. if b then behind p q else None) (sym t) ∙ e in
-    ap (λ k. k ∷ q) (sym same) ∙ ap (λ k. n ∷ k) (behind_is p q rest later)
+      let same : n ≡ m = same_name n m t in
+      let later : behind p q ≡ Some rest = ap (λ b. if b then behind p q else None) (sym t) ∙ e in
+      ap (λ k. k ∷ q) (sym same) ∙ ap (λ k. n ∷ k) (behind_is p q rest later)
   | inr f ↦ let none : None ≡ Some rest = ap (λ b. if b then behind p q else None) (sym f) ∙ e in absurd (cc none)
 ]
 
@@ -52,8 +52,8 @@ behind-longer [] r q e = absurd (cc e)
 behind-longer (n ∷ p) r [] e = refl
 behind-longer (n ∷ p) r (m ∷ q) e = elim (by_test (bytes_eq n m)) [
   | inl is ↦
-    let later : behind p q ≡ None = ap (λ b. if b then behind p q else None) (sym is) ∙ e in
-    ap (λ b. if b then behind (p ++ r) q else None) is ∙ behind-longer p r q later
+      let later : behind p q ≡ None = ap (λ b. if b then behind p q else None) (sym is) ∙ e in
+      ap (λ b. if b then behind (p ++ r) q else None) is ∙ behind-longer p r q later
   | inr isnt ↦ ap (λ b. if b then behind (p ++ r) q else None) isnt
 ]
 

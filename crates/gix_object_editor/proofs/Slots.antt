@@ -1,5 +1,5 @@
 -- The slots of nodes after a change.
-use Rattle.std.proofs.Common.{ℕ, zero, suc, ◌≡◌, ◌≢◌, ◌<◌, ◌≤◌, ◌⊎◌, ◌+◌, Bool, true, false, List, [], ◌∷◌, ◌++◌, Option, Some, None, refl, sym, ap, subst, ◌∙◌, inl, inr, arith, length, get_or, slice_set, take}
+use Rattle.std.proofs.Common.{ℕ, zero, suc, ◌≡◌, ◌≢◌, ◌<◌, ◌≤◌, ◌+◌, Bool, true, List, [], ◌∷◌, ◌++◌, None, refl, sym, ap, ◌∙◌, inl, inr, arith, length, get_or, slice_set, take}
 use Rattle.std.specs.Prelude.{bytes_eq}
 use Rattle.std.specs.Map.{lookup, KeepsOthers, IsKeyTest, AreApart}
 use Rattle.std.specs.BTreeMap.{is_at}
@@ -62,8 +62,8 @@ pub set_others : (nodes : List Node) (j : ℕ) (d new : Node) (name : Bytes) →
     → (i : ℕ) (m : Bytes) → ((i ≡ j) → (m ≡ name) → ⊥) → slots_of (slice_set nodes j new) i m ≡ slots_of nodes i m
 set_others nodes j d new name lt same i m off = elim (cases_eq i j) [
   | inl e ↦
-    ap (λ k. slots_of (slice_set nodes j new) k m) e ∙ set_here nodes j new m lt ∙ same m (off e)
-    ∙ sym (node_at nodes j d m lt) ∙ ap (λ k. slots_of nodes k m) (sym e)
+      ap (λ k. slots_of (slice_set nodes j new) k m) e ∙ set_here nodes j new m lt ∙ same m (off e)
+      ∙ sym (node_at nodes j d m lt) ∙ ap (λ k. slots_of nodes k m) (sym e)
   | inr ne ↦ set_other nodes j i new m ne
 ]
 
@@ -95,11 +95,11 @@ pub without_last : (old now : List Node) (n : Node) (k : ℕ) → k ≡ length o
     → (i : ℕ) (m : Bytes) → slots_of (take k now) i m ≡ slots_of old i m
 without_last old now n k e len same i m = elim (cases_lt i (length old)) [
   | inl lt ↦
-    let less : i < k = omega arith in
-    taken now k i m less ∙ same i m ∙ front_kept old (n ∷ []) i m lt
+      let less : i < k = omega arith in
+      taken now k i m less ∙ same i m ∙ front_kept old (n ∷ []) i m lt
   | inr le ↦
-    let past : length (take k now) ≤ i = taken_length now k i (omega arith) in
-    none_past (take k now) i m past ∙ sym (none_past old i m le)
+      let past : length (take k now) ≤ i = taken_length now k i (omega arith) in
+      none_past (take k now) i m past ∙ sym (none_past old i m le)
 ]
   where
     taken : (ns : List Node) (k i : ℕ) (m : Bytes) → i < k → slots_of (take k ns) i m ≡ slots_of ns i m
@@ -118,8 +118,8 @@ pub all_slots : (old new : List Node) (at : ℕ) (name : Bytes) → slots_of new
 all_slots old new at name here others i m = elim (cases_eq i at) [
   | inl e ↦ elim (by_test (bytes_eq m name)) [
     | inl t ↦
-      let same : m ≡ name = same_name m name t in
-      ap (λ k. slots_of new k m) e ∙ ap (slots_of new at) same ∙ here ∙ ap (slots_of old at) (sym same) ∙ ap (λ k. slots_of old k m) (sym e)
+        let same : m ≡ name = same_name m name t in
+        ap (λ k. slots_of new k m) e ∙ ap (slots_of new at) same ∙ here ∙ ap (slots_of old at) (sym same) ∙ ap (λ k. slots_of old k m) (sym e)
     | inr f ↦ others i m (λ _ same. let yes : bytes_eq m name ≡ true = ap (bytes_eq m) (sym same) ∙ name_itself m in not_both (bytes_eq m name) yes f)
   ]
   | inr ne ↦ others i m (λ e _. ne e)

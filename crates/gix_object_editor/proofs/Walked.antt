@@ -1,9 +1,9 @@
 -- One step further down.
-use Rattle.std.proofs.Common.{ℕ, suc, ◌≡◌, ◌<◌, ◌+◌, List, [], ◌∷◌, Option, Some, None, refl, sym, ap, subst, ◌∙◌, arith, length, get_or, map, drop, add-one, drop-cons}
+use Rattle.std.proofs.Common.{ℕ, ◌≡◌, ◌<◌, ◌+◌, List, ◌∷◌, Option, Some, sym, ap, subst, ◌∙◌, length, get_or, map, drop, add-one, drop-cons}
 use Rattle.std.specs.Borrow.{Bor}
 use Rattle.gix_object_editor.specs.declared.tree.editor.node.NodeId.{NodeId}
 use Rattle.gix_object_editor.specs.Files.{Bytes, Path}
-use Rattle.gix_object_editor.specs.Nodes.{Slots, child_of, Way, onto, LeadsTo, IsFolderAt}
+use Rattle.gix_object_editor.specs.Nodes.{Slots, child_of, onto, LeadsTo, IsFolderAt}
 use Rattle.gix_object_editor.proofs.Ways.{way_kept}
 
 abbrev pub names : List (Bor (List ℕ)) → Path

@@ -1,7 +1,6 @@
 -- Ways down from the root, and what a change of one slot does to the files.
-use Rattle.std.proofs.Common.{ℕ, zero, suc, ◌≡◌, ◌≢◌, ◌<◌, ◌≤◌, ◌⊎◌, Bool, true, false, List, [], ◌∷◌, ◌++◌, Option, Some, None, refl, sym, ap, subst, ◌∙◌, inl, inr, arith, if◌then◌else◌}
+use Rattle.std.proofs.Common.{ℕ, ◌≡◌, ◌<◌, ◌≤◌, ◌⊎◌, Bool, true, false, [], ◌∷◌, ◌++◌, Option, Some, None, refl, sym, ap, subst, ◌∙◌, inl, inr, arith, if◌then◌else◌}
 use Rattle.std.specs.Prelude.{bytes_eq, is_some}
-use Rattle.std.proofs.lemmas.Bool.{cases_eq}
 use Rattle.gix_object_editor.specs.declared.tree.editor.node.NodeId.{NodeId}
 use Rattle.gix_object_editor.specs.declared.tree.editor.node.Slot.{Slot}
 use Rattle.gix_object_editor.specs.Files.{Bytes, Path, Leaf, Trees, behind, through, files_of_entry, put, put_at, removed}
@@ -79,7 +78,6 @@ above trees slots (n ∷ way) i tail q t w e = elim (above trees slots way w.0 (
 
 module _ (trees : Trees) (slots new : Slots) (bound : ℕ) (ok : IsForest slots bound) (j : ℕ) (name : Bytes) (way : Path) (reached : Way slots way j)
     (agree : (i : ℕ) (m : Bytes) → ((i ≡ j) → (m ≡ name) → ⊥) → new i m ≡ slots i m) where
-
   -- the way to the changed node stays
   pub way_stays_to : (r : Path) (i : ℕ) → i ≤ j → Way slots r i → Way new r i
   way_stays_to [] i le w = w
@@ -112,8 +110,8 @@ module _ (trees : Trees) (slots new : Slots) (bound : ℕ) (ok : IsForest slots 
   elsewhere [] i r w apart = refl
   elsewhere (n ∷ rest) i r w apart =
       let off : (i ≡ j) → (n ≡ name) → ⊥ = λ at same.
-        let here : Way slots r j = subst (λ k. Way slots r k) at w in
-        apart [] rest (ap (λ k. k ∷ rest) same) (unique slots bound ok r way j here reached) in
+      let here : Way slots r j = subst (λ k. Way slots r k) at w in
+      apart [] rest (ap (λ k. k ∷ rest) same) (unique slots bound ok r way j here reached) in
       same_through rest (slots i n) (new i n) (agree i n off)
       (λ c is. elsewhere rest c (n ∷ r) (i, w, is) (λ a b e at. apart (n ∷ a) b (ap (λ l. n ∷ l) e) at))
 
@@ -148,10 +146,10 @@ module _ (trees : Trees) (slots new : Slots) (bound : ℕ) (ok : IsForest slots 
       by_case (Some t) e = elim (above trees slots way j (name ∷ more) q t reached e) [
         | inl gone ↦ sym gone
         | inr one ↦
-          let same : one.0 ≡ name = same_first one.0 name one.1 more t one.3 in
-          let found : behind (onto way (name ∷ [])) q ≡ Some one.1 =
+            let same : one.0 ≡ name = same_first one.0 name one.1 more t one.3 in
+            let found : behind (onto way (name ∷ [])) q ≡ Some one.1 =
             ap (behind (onto way (name ∷ []))) (one.2 ∙ ap (λ n. onto way (n ∷ one.1)) same) ∙ behind-onto way (name ∷ []) (name ∷ one.1) ∙ behind_one name one.1 in
-          absurd (cc (sym none ∙ found))
+            absurd (cc (sym none ∙ found))
       ]
 
   elsewhere_put : (leaf : Leaf) (more q : Path) → behind (onto way (name ∷ [])) q ≡ None → files_of_node trees new 0 q ≡ put trees (onto way (name ∷ more)) leaf (files_of_node trees slots 0) q

@@ -1,5 +1,3 @@
 //! Trees that are edited.
 
 pub mod editor;
-
-

@@ -15,14 +15,13 @@ mod node;
 mod root;
 mod state;
 
-pub use error::Error;
-pub use state::Editor;
-
 use crate::tree::editor::forest::walk;
 use crate::tree::editor::node::take_at;
 use crate::tree::editor::root::opened_root;
+pub use error::Error;
 use gix_object_entries::Tree;
 use gix_object_find::Find;
+pub use state::Editor;
 use std::alloc::{AllocError, Global};
 
 impl<S: Find> Editor<S> {
@@ -77,13 +76,7 @@ impl<S: Find> Editor<S> {
         ensures store { self.new.store ≡ self.old.store }
     {
         check_names(path)?;
-        let (at, depth) = walk(
-            &self.store,
-            &mut self.nodes,
-            &mut self.lookups,
-            alloc,
-            path,
-        )?;
+        let (at, depth) = walk(&self.store, &mut self.nodes, &mut self.lookups, alloc, path)?;
         if depth + 1 == path.len() {
             take_at(self.nodes.as_mut_slice(), at, path[depth]);
         }

@@ -1,4 +1,4 @@
-use Rattle.std.proofs.Common.{◌≡◌, ◌≢◌, ◌∙◌, ◌<◌, sym, refl, arith, length, eq-eqb, false, true}
+use Rattle.std.proofs.Common.{◌≢◌, ◌∙◌, ◌<◌, sym, refl, arith, length, eq-eqb}
 use Rattle.gix_object_editor.proofs.Edits.{empty_name, empty_of, full_names}
 use Rattle.gix_object_editor.proofs.Paths.{not_both}
 use Rattle.gix_object_editor.proofs.tree.editor.check_names.Goals as goal

@@ -1,6 +1,5 @@
-use Rattle.std.proofs.Common.{◌≡◌, ◌∙◌, ◌<◌, ◌++◌, ◌∷◌, [], ap, sym, arith, true, length, suc, rules, if◌then◌else◌, List, ℕ, ◌-◌, take}
+use Rattle.std.proofs.Common.{◌≡◌, ◌∙◌, ◌++◌, ◌∷◌, [], ap, arith, true, length, suc, rules, if◌then◌else◌, ℕ, ◌-◌, take}
 use Rattle.std.specs.Prelude.{is_ok}
-use Rattle.gix_object_editor.specs.declared.tree.editor.node.Node.{Node}
 use Rattle.gix_object_editor.specs.Files.{Bytes}
 use Rattle.gix_object_editor.specs.Nodes.{slots_of}
 use Rattle.gix_object_editor.proofs.Slots.{back, at_end, front_kept, without_last, all_slots, length_push}
@@ -33,8 +32,8 @@ returns-in-Err-clause-err c = λ i m.
     let len : length c.put_at.new.nodes ≡ suc (length old) = omega (arith, c.push.new.self.ok.0) in
     let front : c.push.new.self.len - 1 ≡ length old = omega arith in
     let same : (k : ℕ) (name : Bytes) → slots_of c.put_at.new.nodes k name ≡ slots_of (old ++ c.args.tree ∷ []) k name = λ k name.
-      all_slots c.as_mut_slice.result.now c.put_at.new.nodes c.args.at.0 c.args.name.now c.in-Err.ensures.err c.in-Err.ensures.others k name
-      ∙ ap (λ ns. slots_of ns k name) (c.as_mut_slice.ensures.value ∙ pushed) in
+    all_slots c.as_mut_slice.result.now c.put_at.new.nodes c.args.at.0 c.args.name.now c.in-Err.ensures.err c.in-Err.ensures.others k name
+    ∙ ap (λ ns. slots_of ns k name) (c.as_mut_slice.ensures.value ∙ pushed) in
     ap (λ ns. slots_of ns i m) (c.pop.ensures.rest ∙ ap (take (c.push.new.self.len - 1)) (back c.push.new.self.len c.put_at.new.nodes _ n))
     ∙ without_last old c.put_at.new.nodes c.args.tree (c.push.new.self.len - 1) front len same i m
 

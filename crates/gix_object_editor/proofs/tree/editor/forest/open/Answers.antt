@@ -1,13 +1,13 @@
-use Rattle.std.proofs.Common.{◌≡◌, ◌∙◌, ◌<◌, ◌≤◌, ap, sym, subst, arith, true, false, length, suc, rules, None, Some, ℕ}
-use Rattle.std.specs.Prelude.{is_ok, is_some}
+use Rattle.std.proofs.Common.{◌≡◌, ◌∙◌, ◌≤◌, ap, sym, subst, arith, true, length, suc, rules, None, Some}
+use Rattle.std.specs.Prelude.{is_ok}
 use Rattle.std.proofs.lemmas.Result.{err_from_is_err_and}
 use Rattle.gix_hash.specs.Id.{id_of}
 use Rattle.gix_object_entries.specs.Mode.{is_tree_value}
 use Rattle.gix_object_editor.specs.declared.tree.editor.node.Slot.{Slot}
-use Rattle.gix_object_editor.specs.Files.{Bytes, named, is_null}
+use Rattle.gix_object_editor.specs.Files.{Bytes, named}
 use Rattle.gix_object_editor.specs.Nodes.{slots_of, slot_in, leaf_in, child_of, StandsFor}
 use Rattle.gix_object_editor.proofs.Loaded.{not_null, no_child}
-use Rattle.gix_object_editor.proofs.Opening.{IsFolder, opened_one, opened_none, opened_same, plain_below}
+use Rattle.gix_object_editor.proofs.Opening.{IsFolder, opened_one}
 use Rattle.gix_object_editor.proofs.Slots.{none_past}
 use Rattle.gix_object_editor.proofs.tree.editor.forest.open.Goals as goal
 

@@ -1,5 +1,5 @@
-use Rattle.std.proofs.Common.{◌≡◌, ◌∙◌, ◌<◌, arith, length, suc, Some, ◌+◌, get_or, drop}
-use Rattle.gix_object_editor.specs.Nodes.{slots_of, child_of}
+use Rattle.std.proofs.Common.{◌<◌, arith, length, drop}
+use Rattle.gix_object_editor.specs.Nodes.{slots_of}
 use Rattle.gix_object_editor.proofs.Opening.{opened_then}
 use Rattle.gix_object_editor.proofs.Walked.{names, leads_kept, leads_on, folder_found}
 use Rattle.gix_object_editor.proofs.tree.editor.forest.walk.Goals as goal

@@ -9,7 +9,7 @@ invariant-names g l = record {
   left : l.depth < length l.path;
   opened : IsOpened (g.S.Lookup.is_honest l.store) (g.S.Lookup.table l.store) (slots_of l.initial.nodes.items) (slots_of l.nodes.items) (length l.initial.nodes.items) (length l.nodes.items);
   leads : LeadsTo (slots_of l.nodes.items) (map (λ n. n.now) l.path) l.at.0 (map (λ n. n.now) (drop l.depth l.path));
-  counted : l.lookups ≤ l.initial.lookups + l.depth
+  counted : l.lookups ≤ l.initial.lookups + l.depth;
 }
 
 abbrev pub decreases-names : goal.decreases-names

@@ -1,4 +1,4 @@
-use Rattle.std.proofs.Common.{◌≡◌, ◌∙◌, ◌<◌, ◌-◌, ap, sym, suc, arith, false, length, rules}
+use Rattle.std.proofs.Common.{◌≡◌, ◌-◌, suc, arith, false, rules}
 use Rattle.std.specs.Ordering.{is_lt}
 use Rattle.gix_object_entries.specs.Entry.{item_of}
 use Rattle.gix_object_entries.specs.Order.{name_cmp, is_tree}

@@ -1,10 +1,10 @@
-use Rattle.std.proofs.Common.{◌≡◌, ◌∙◌, ◌<◌, ap, sym, refl, arith, rules, true, false, length, None, Option}
+use Rattle.std.proofs.Common.{◌≡◌, ◌∙◌, ◌<◌, ap, sym, refl, arith, true, length, None}
 use Rattle.std.specs.Prelude.{is_some}
 use Rattle.gix_object_entries.specs.Entry.{item_of}
-use Rattle.gix_object_entries.specs.ModeText.{Mode, mode_of}
+use Rattle.gix_object_entries.specs.ModeText.{mode_of}
 use Rattle.gix_hash.specs.Id.{Id}
 use Rattle.gix_object_editor.specs.declared.tree.editor.node.Slot.{Slot}
-use Rattle.gix_object_editor.specs.Files.{Bytes, Leaf, leaf_of}
+use Rattle.gix_object_editor.specs.Files.{Leaf, leaf_of}
 use Rattle.gix_object_editor.specs.Nodes.{slot_in, leaf_in}
 use Rattle.gix_object_editor.proofs.Loaded.{name_twice, stands_more, none_by_test}
 use Rattle.gix_object_editor.proofs.tree.editor.load.node_of.Goals as goal

@@ -12,8 +12,8 @@ returns-in_err-put-clause-err c =
     let p = err_from_is_err_and c.from_residual.result c.from_residual.ensures.1 in
     let same : slot_in c.put.new.self c.args.name.now ≡ slot_in (get_or c.args.nodes.now c.args.at.0 c.index-nodes-at.result) c.args.name.now = c.in_err-put.ensures.err in
     rw p.1 (
-      set_here c.args.nodes.now c.args.at.0 c.put.new.self c.args.name.now c.requires ∙ same
-      ∙ sym (node_at c.args.nodes.now c.args.at.0 c.index-nodes-at.result c.args.name.now c.requires))
+    set_here c.args.nodes.now c.args.at.0 c.put.new.self c.args.name.now c.requires ∙ same
+    ∙ sym (node_at c.args.nodes.now c.args.at.0 c.index-nodes-at.result c.args.name.now c.requires))
 
 pub returns-clause-here : goal.returns-clause-here
 returns-clause-here c = set_here c.args.nodes.now c.args.at.0 c.put.new.self c.args.name.now c.requires ∙ c.in_ok-put.ensures.here

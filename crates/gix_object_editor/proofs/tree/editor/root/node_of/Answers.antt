@@ -1,4 +1,4 @@
-use Rattle.std.proofs.Common.{◌≡◌, ◌∙◌, ◌<◌, ap, sym, refl, arith, length, None, subst}
+use Rattle.std.proofs.Common.{◌∙◌, ◌<◌, ap, sym, refl, arith, length, None, subst}
 use Rattle.gix_object_entries.specs.Entry.{own_item}
 use Rattle.gix_object_entries.specs.declared.tree.entry.Entry.{Entry}
 use Rattle.std.proofs.Common.{List, map}

@@ -1,4 +1,4 @@
-use Rattle.std.proofs.Common.{◌≡◌, ◌≢◌, ◌∙◌, sym, rules}
+use Rattle.std.proofs.Common.{◌≡◌, ◌∙◌, rules}
 use Rattle.gix_object_editor.proofs.Slots.{others_kept}
 use Rattle.gix_object_editor.proofs.tree.editor.node.Node.put.Goals as goal
 
