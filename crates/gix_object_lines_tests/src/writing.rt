@@ -3,8 +3,7 @@
 ghost use Rattle.std.specs.Prelude.{length};
 ghost use Rattle.gix_object_lines.specs.declared.kind.Kind.TheVariants as kinds;
 
-use gix_object::WriteToError as Error;
-use gix_object::{Kind, WriteTo};
+use gix_object::{Kind, WriteTo, WriteToError as Error};
 use gix_object_lines::write::write_bytes;
 use std::io;
 
