@@ -16,7 +16,6 @@ fn write_of_commit<'a>(
 ) {
     match operation {
         "read" => whole::read(&commit, page),
-        "lent" => whole::lent(&commit, case, page),
         "write" => page.object(alloc, case.kind, &commit),
         "own" => whole::own(alloc, case.kind, commit, page),
         "message" => messages::parts(alloc, &commit, page),
@@ -50,6 +49,7 @@ fn write_of_edited<'a>(
 
 fn write_answer(alloc: Global, operation: &str, case: &Case, page: &mut Page) {
     match operation {
+        "lent" => whole::lent(alloc, case, page),
         "tokens" => tokens::in_order(case, page),
         "ids" => tokens::ids(case, page),
         "ahead" => tokens::ahead(case, page),

@@ -38,8 +38,13 @@ fn show_time(commit: &CommitRef<'_>, page: &mut Page) {
 }
 
 /// What a commit's calls lend of it.
-pub fn lent(commit: &CommitRef<'_>, case: &Case, page: &mut Page) {
-    ids_read_are_ids(case.text(0), case.kind);
+pub fn lent(alloc: Global, case: &Case, page: &mut Page) {
+    let content = case.text(0);
+    let commit = match CommitRef::from_bytes(alloc, content, case.kind) {
+        Ok(commit) => commit,
+        Err(error) => return page.refused(error),
+    };
+    ids_read_are_ids(content, case.kind);
     page.value("", commit.kind(), " ");
     page.put(commit.tree());
     for parent in commit.parents() {
@@ -47,7 +52,7 @@ pub fn lent(commit: &CommitRef<'_>, case: &Case, page: &mut Page) {
     }
     page.actor("; author ", commit.author(), "; ");
     page.actor("committer ", commit.committer(), "");
-    show_time(commit, page);
+    show_time(&commit, page);
 }
 
 /// The length and the id of what is written of a commit that owns its parts, and whether one that was given is the same as one
