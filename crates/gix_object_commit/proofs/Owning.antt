@@ -66,10 +66,6 @@ module _ (parts : Parts) (tree : ObjectId) (is : IsOwnId parts.tree tree) (error
   owning_parents (inl memory) = owning_memory memory
   owning_parents (inr none) = subst (OwningFault parts) (sym none.0) (inr none.1)
 
-  pub owning_author : (ids : List ObjectId) → AllZip IsOwnId parts.parents ids → (error ≡ Memory) ⊎ ((error ≡ InvalidTime) × ¬ TellsTime parts.author.time) → OwningFault parts error
-  owning_author ids all (inl memory) = owning_memory memory
-  owning_author ids all (inr none) = subst (OwningFault parts) (sym none.0) ((told_id parts.tree tree is, told_ids parts.parents ids all), inl none.1)
-
-  pub owning_committer : (ids : List ObjectId) → AllZip IsOwnId parts.parents ids → (error ≡ Memory) ⊎ ((error ≡ InvalidTime) × ¬ TellsTime parts.committer.time) → OwningFault parts error
-  owning_committer ids all (inl memory) = owning_memory memory
-  owning_committer ids all (inr none) = subst (OwningFault parts) (sym none.0) ((told_id parts.tree tree is, told_ids parts.parents ids all), inr none.1)
+  pub owning_actors : (ids : List ObjectId) → AllZip IsOwnId parts.parents ids → (error ≡ Memory) ⊎ ((error ≡ InvalidTime) × ((¬ TellsTime parts.author.time) ⊎ (¬ TellsTime parts.committer.time))) → OwningFault parts error
+  owning_actors ids all (inl memory) = owning_memory memory
+  owning_actors ids all (inr none) = subst (OwningFault parts) (sym none.0) ((told_id parts.tree tree is, told_ids parts.parents ids all), none.1)

@@ -10,7 +10,7 @@ use std::alloc::Global;
 
 fn show_both(alloc: Global, commit: CommitRef<'_>, page: &mut Page) {
     page.written(alloc, &commit);
-    match commit.into_owned(alloc) {
+    match commit.into_owned() {
         Ok(own) => {
             page.word("; own ");
             page.written(alloc, &own);
@@ -76,7 +76,7 @@ pub fn time(alloc: Global, commit: CommitRef<'_>, case: &Case, page: &mut Page) 
     let Some(time) = time_of(case.text(1), case.text(2)) else {
         return page.word("no time");
     };
-    match commit.into_owned(alloc) {
+    match commit.into_owned() {
         Ok(mut own) => {
             own.author.time = time;
             page.written(alloc, &own);

@@ -21,9 +21,9 @@ fn show_found(headers: ExtraHeaders<'_, '_>, name: &[u8], page: &mut Page) {
 }
 
 /// The headers of a name: of the commit as it was read, and of one that owns its parts.
-pub fn find(alloc: Global, commit: &CommitRef<'_>, name: &[u8], page: &mut Page) {
+pub fn find(commit: &CommitRef<'_>, name: &[u8], page: &mut Page) {
     show_found(commit.extra_headers(), name, page);
-    match commit.to_owned(alloc) {
+    match commit.to_owned() {
         Ok(own) => {
             page.word("own ");
             show_found(own.extra_headers(), name, page);
@@ -64,7 +64,7 @@ fn show_own(own: &Commit, page: &mut Page) {
 /// owns its parts.
 pub fn all(alloc: Global, commit: &CommitRef<'_>, page: &mut Page) {
     show_unfolded(alloc, commit, page);
-    match commit.to_owned(alloc) {
+    match commit.to_owned() {
         Ok(own) => show_own(&own, page),
         Err(_) => page.word("not owned"),
     }

@@ -3,14 +3,13 @@
 use crate::page::Page;
 use gix_object_commit::CommitRef;
 use gix_object_message::{SelectedTrailers, TrailerRef};
-use std::alloc::Global;
 
 /// The title, the body and the summary.
-pub fn parts(alloc: Global, commit: &CommitRef<'_>, page: &mut Page) {
+pub fn parts(commit: &CommitRef<'_>, page: &mut Page) {
     let message = commit.message();
     page.text("title ", message.title.as_bytes(), "; ");
     page.told("body ", message.body, "; ");
-    match commit.message_summary(alloc) {
+    match commit.message_summary() {
         Ok(summary) => page.text("summary ", summary.as_slice(), ""),
         Err(error) => page.name(error),
     }

@@ -52,7 +52,6 @@ fn sign_own(
 ) {
     page.word("; own ");
     match own.sign(
-        alloc,
         options,
         &mut |words: &[Word<'_>], input: &[u8]| { program.answer(words, input) },
     ) {
@@ -74,7 +73,6 @@ fn sign_lent(
     page: &mut Page,
 ) {
     match commit.sign(
-        alloc,
         options,
         &mut |words: &[Word<'_>], input: &[u8]| { program.answer(words, input) },
     ) {
@@ -91,7 +89,7 @@ fn sign_lent(
 pub fn sign(alloc: Global, commit: CommitRef<'_>, case: &Case, page: &mut Page) {
     let options = options(case.text(1));
     let mut program = Program::new(alloc, case.behind(2));
-    let copy = commit.to_owned(alloc);
+    let copy = commit.to_owned();
     sign_lent(alloc, commit, &options, &mut program, page);
     match copy {
         Ok(own) => sign_own(alloc, own, &options, &mut program, page),

@@ -58,7 +58,7 @@ pub fn lent(alloc: Global, case: &Case, page: &mut Page) {
 /// The length and the id of what is written of a commit that owns its parts, and whether one that was given is the same as one
 /// that was lent.
 pub fn own(alloc: Global, kind: gix_hash::Kind, commit: CommitRef<'_>, page: &mut Page) {
-    let (Ok(lent), Ok(given)) = (commit.to_owned(alloc), commit.into_owned(alloc)) else {
+    let (Ok(lent), Ok(given)) = (commit.to_owned(), commit.into_owned()) else {
         return page.word("not owned");
     };
     page.object(alloc, kind, &given);

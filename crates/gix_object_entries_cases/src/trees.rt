@@ -49,7 +49,7 @@ pub fn tree(alloc: Global, case: &Case, page: &mut Page) {
 
 fn read_owned(alloc: Global, case: &Case) -> Option<Tree> {
     let tree = TreeRef::from_bytes(alloc, case.text(0), case.kind).ok()?;
-    tree.into_owned(alloc).ok()
+    tree.into_owned().ok()
 }
 
 /// The tree that owns the entries of a content: the same, and whether a copy that is lent is like it.
@@ -62,7 +62,7 @@ pub fn owned(alloc: Global, case: &Case, page: &mut Page) {
     page.test("; empty", tree == Tree::empty(alloc));
     show_written(alloc, case.kind, &tree, page);
     if let Ok(borrowed) = TreeRef::from_bytes(alloc, case.text(0), case.kind) {
-        match borrowed.to_owned(alloc) {
+        match borrowed.to_owned() {
             Ok(other) => page.test("; alike", tree == other),
             Err(AllocError) => page.word("; not owned"),
         }

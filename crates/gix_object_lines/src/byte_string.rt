@@ -58,6 +58,11 @@ impl ByteString {
         BStr::new(self.as_bytes())
     }
 
+    /// The allocator that the string keeps, of which a copy of it takes memory.
+    pub fn allocator(&self) -> Global {
+        *self.bytes.allocator()
+    }
+
     /// Gives the bytes back, without memory.
     pub fn into_vec(self) -> Vec<u8>
         ensures { result.items ≡ self }

@@ -51,7 +51,6 @@ fn sign_own(
     };
     page.word("own ");
     match own.sign(
-        alloc,
         options,
         &mut |words: &[Word<'_>], input: &[u8]| { program.answer(words, input) },
     ) {

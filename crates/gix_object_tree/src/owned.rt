@@ -174,11 +174,11 @@ impl<'a> ObjectRef<'a> {
                 Ok(blob) => Ok(Object::Blob(blob)),
                 Err(_) => Err(Error::Memory),
             },
-            ObjectRef::Tree(tree) => match tree.to_owned(alloc) {
+            ObjectRef::Tree(tree) => match tree.to_owned() {
                 Ok(tree) => Ok(Object::Tree(tree)),
                 Err(_) => Err(Error::Memory),
             },
-            ObjectRef::Commit(commit) => Ok(Object::Commit(commit.to_owned(alloc)?)),
+            ObjectRef::Commit(commit) => Ok(Object::Commit(commit.to_owned()?)),
             ObjectRef::Tag(tag) => Ok(Object::Tag(tag.into_owned(alloc)?)),
         }
     }

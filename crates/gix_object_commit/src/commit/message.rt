@@ -16,7 +16,7 @@ ghost use Rattle.gix_object_commit.specs.Messages.{trailers_of};
 use crate::commit::CommitRef;
 use bstr::BStr;
 use gix_object_message::{BodyRef, MessageRef, SelectedTrailers, Trailers};
-use std::alloc::{AllocError, Global};
+use std::alloc::AllocError;
 use std::borrow::CowSlice;
 
 impl<'a> CommitRef<'a> {
@@ -30,10 +30,11 @@ impl<'a> CommitRef<'a> {
 
     /// The message's title in one line, as `MessageRef::summary` gives it: a title of one line is borrowed, and else the
     /// bytes take memory, and it is an error where none is left.
-    pub fn message_summary(&self, alloc: Global) -> Result<CowSlice<'a, u8>, AllocError>
+    pub fn message_summary(&self) -> Result<CowSlice<'a, u8>, AllocError>
         ensures line { IfOk result (λ summary. cow_slice_items summary ≡ summary_of (title_of (bstr_bytes self.now.message))) }
         ensures borrowed { Lacks 10 (trim (title_of (bstr_bytes self.now.message))) → IsOkAnd result IsBorrowed }
     {
+        let alloc = *self.extra_headers.allocator();
         self.message().summary(alloc)
     }
 

@@ -58,27 +58,25 @@ impl Commit {
 
 impl<'a> CommitRef<'a> {
     /// The commit with copies of its parts: see `to_owned`.
-    pub fn into_owned(self, alloc: Global) -> Result<Commit, Error>
+    pub fn into_owned(self) -> Result<Commit, Error>
         ensures own { IfOk result (IsCommitOf (parts_of self.entry)) }
         ensures refused { IfErr result (OwningFault (parts_of self.entry)) }
     {
-        self.to_owned(alloc)
+        self.to_owned()
     }
 
     /// A commit with copies of the parts. It is `HexDigits` where the tree or a parent is no id's digits, and else
     /// `InvalidTime` where an actor tells no time, neither of which a commit that was read is; and `Memory` where no memory
     /// is left, which a tree that is no id's digits never comes to.
-    pub fn to_owned(&self, alloc: Global) -> Result<Commit, Error>
+    pub fn to_owned(&self) -> Result<Commit, Error>
         ensures own { IfOk result (IsCommitOf (parts_of self.now)) }
         ensures refused { IfErr result (OwningFault (parts_of self.now)) }
     {
+        let alloc = *self.extra_headers.allocator();
         let tree = own_id(self.tree)?;
         let parents = own_ids(alloc, self.parents.as_slice())?;
-        let author = own_actor(alloc, self.author)?;
-        let committer = own_actor(alloc, self.committer)?;
-        let encoding = own_encoding(alloc, self.encoding)?;
-        let message = own_text(alloc, self.message)?;
-        let extra_headers = own_headers(alloc, self.extra_headers.as_slice())?;
+        let (author, committer) = own_actors(alloc, self.author, self.committer)?;
+        let (encoding, message, extra_headers) = own_texts(alloc, self)?;
         Ok(Commit {
             tree,
             parents,
@@ -89,6 +87,36 @@ impl<'a> CommitRef<'a> {
             extra_headers,
         })
     }
+}
+
+// The encoding, the message and the further headers.
+fn own_texts(
+    alloc: Global,
+    commit: &CommitRef<'_>,
+) -> Result<(Option<ByteString>, ByteString, Vec<ExtraHeader>), Error>
+    ensures encoding { IfOk result (λ texts. texts.0 ≡ (parts_of commit.now).encoding) }
+    ensures message { IfOk result (λ texts. texts.1 ≡ (parts_of commit.now).message) }
+    ensures headers { IfOk result (λ texts. AllZip IsHeaderOf (parts_of commit.now).headers texts.2.items) }
+    ensures refused { IfErr result (λ error. error ≡ Memory) }
+{
+    let encoding = own_encoding(alloc, commit.encoding)?;
+    let message = own_text(alloc, commit.message)?;
+    let extra_headers = own_headers(alloc, commit.extra_headers.as_slice())?;
+    Ok((encoding, message, extra_headers))
+}
+
+fn own_actors(
+    alloc: Global,
+    author: ActorRef<'_>,
+    committer: ActorRef<'_>,
+) -> Result<(Actor, Actor), Error>
+    ensures author { IfOk result (λ actors. IsActorOf (person_of author.entry) actors.0) }
+    ensures committer { IfOk result (λ actors. IsActorOf (person_of committer.entry) actors.1) }
+    ensures refused { IfErr result (λ error. (error ≡ Memory) ⊎ ((error ≡ InvalidTime) × ((¬ TellsTime (bstr_bytes author.entry.time)) ⊎ (¬ TellsTime (bstr_bytes committer.entry.time))))) }
+{
+    let author = own_actor(alloc, author)?;
+    let committer = own_actor(alloc, committer)?;
+    Ok((author, committer))
 }
 
 fn own_id(digits: BStr<'_>) -> Result<ObjectId, Error>

@@ -33,7 +33,6 @@ impl Commit {
     /// The commit is as it was after each error.
     pub fn sign<F: FnMut(&[Word<'_>], &[u8]) -> Result<Answer, RunError>>(
         &mut self,
-        alloc: Global,
         options: &Options<'_>,
         runner: &mut F,
     ) -> Result<(), Error>
@@ -41,6 +40,7 @@ impl Commit {
         ensures signed { SignsCommit (Answers F.FnMut) runner.old self.old options.now result runner.new self.new }
         ensures callable { F.IsAlwaysCallable runner.new }
     {
+        let alloc = *self.extra_headers.allocator();
         let text = unsigned_text(alloc, self)?;
         let signature = sign(alloc, text.as_slice(), options, runner)?;
         let header = signature_header(alloc, self.tree.kind(), signature)?;
@@ -56,7 +56,6 @@ impl<'a> CommitRef<'a> {
     /// `Memory` where no memory is left.
     pub fn sign<F: FnMut(&[Word<'_>], &[u8]) -> Result<Answer, RunError>>(
         self,
-        alloc: Global,
         options: &Options<'_>,
         runner: &mut F,
     ) -> Result<Commit, Error>
@@ -64,8 +63,8 @@ impl<'a> CommitRef<'a> {
         ensures signed { SignsParts (Answers F.FnMut) runner.old (parts_of self.entry) options.now result runner.new }
         ensures callable { F.IsAlwaysCallable runner.new }
     {
-        let mut commit = self.into_owned(alloc)?;
-        commit.sign(alloc, options, runner)?;
+        let mut commit = self.into_owned()?;
+        commit.sign(options, runner)?;
         Ok(commit)
     }
 }

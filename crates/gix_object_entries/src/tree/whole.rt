@@ -54,9 +54,10 @@ impl<'a> TreeRef<'a> {
     }
 
     /// The tree with copies of its names.
-    pub fn to_owned(&self, alloc: Global) -> Result<Tree, AllocError>
+    pub fn to_owned(&self) -> Result<Tree, AllocError>
         ensures { IfOk result (λ tree. map own_item tree.entries.items ≡ map item_of self.now.entries.items) }
     {
+        let alloc = *self.entries.allocator();
         let mut entries = Vec::with_capacity(alloc, self.entries.len())?;
         for entry in &self.entries {
             entries.push(entry.to_owned(alloc)?)?;
@@ -65,10 +66,10 @@ impl<'a> TreeRef<'a> {
     }
 
     /// The tree with copies of its names: see `to_owned`.
-    pub fn into_owned(self, alloc: Global) -> Result<Tree, AllocError>
+    pub fn into_owned(self) -> Result<Tree, AllocError>
         ensures { IfOk result (λ tree. map own_item tree.entries.items ≡ map item_of self.entry.entries.items) }
     {
-        self.to_owned(alloc)
+        self.to_owned()
     }
 }
 

@@ -5,7 +5,7 @@ ghost use Rattle.bstr.specs.BStr.{bstr_bytes};
 ghost use Rattle.gix_object_lines.specs.declared.write.Error as write;
 ghost use Rattle.gix_object_signature.specs.Run.{Answers};
 ghost use Rattle.gix_object_signature.specs.declared.sign.Error.TheVariants.{Encode, Memory};
-ghost use Rattle.gix_object_tag.specs.Signing.{IsTextToSign, SignsParts, SignsTag, left_of, parted, write_fault};
+ghost use Rattle.gix_object_tag.specs.Signing.{IsTextToSign, SignsParts, SignsTag, left_of, parted, signed_with, write_fault};
 ghost use Rattle.gix_object_tag.specs.Views.{parts_of};
 
 use crate::tag::{Tag, TagRef};
@@ -28,7 +28,6 @@ impl Tag {
     /// `gix_object_signature::sign::sign`; and `Memory` where no memory is left. The tag is as it was after each error.
     pub fn sign<F: FnMut(&[Word<'_>], &[u8]) -> Result<Answer, RunError>>(
         &mut self,
-        alloc: Global,
         options: &Options<'_>,
         runner: &mut F,
     ) -> Result<(), Error>
@@ -37,11 +36,9 @@ impl Tag {
         ensures callable { F.IsAlwaysCallable runner.new }
         ensures kept { OnErr result (self.new ≡ self.old) }
     {
-        let message = message_to_sign(alloc, self)?;
-        let text = text_to_sign(alloc, self, message.as_bstr())?;
-        let signature = sign(alloc, text.as_slice(), options, runner)?;
-        self.message = message;
-        self.pgp_signature = Some(signature);
+        let message = message_to_sign(self)?;
+        let signature = signature_over(self, message.as_bstr(), options, runner)?;
+        put_signature(self, message, signature);
         Ok(())
     }
 }
@@ -62,29 +59,52 @@ impl<'a> TagRef<'a> {
         ensures callable { F.IsAlwaysCallable runner.new }
     {
         let mut tag = self.into_owned(alloc)?;
-        tag.sign(alloc, options, runner)?;
+        tag.sign(options, runner)?;
         Ok(tag)
     }
 }
 
 // The message as it stands before a signature.
-fn message_to_sign(alloc: Global, tag: &Tag) -> Result<ByteString, AllocError>
+fn message_to_sign(tag: &Tag) -> Result<ByteString, AllocError>
     ensures { IfOk result (λ message. message ≡ parted tag.now.pgp_signature tag.now.message) }
 {
-    let message = ByteString::from_slice(alloc, tag.message.as_bytes())?;
+    let message = tag.message.try_clone()?;
     match &tag.pgp_signature {
         Some(_) => Ok(message),
         None => Ok(message.without_last_feed()),
     }
 }
 
+// The signature of the tag whose message stands so before it.
+fn signature_over<F: FnMut(&[Word<'_>], &[u8]) -> Result<Answer, RunError>>(
+    tag: &Tag,
+    message: BStr<'_>,
+    options: &Options<'_>,
+    runner: &mut F,
+) -> Result<ByteString, Error>
+    requires { F.IsAlwaysCallable runner.old }
+    ensures signed { bstr_bytes message.entry ≡ parted tag.now.pgp_signature tag.now.message
+        → SignsTag (Answers F.FnMut) runner.old tag.now options.now (signed_with tag.now result) runner.new }
+    ensures callable { F.IsAlwaysCallable runner.new }
+{
+    let text = text_to_sign(tag, message)?;
+    sign(tag.message.allocator(), text.as_slice(), options, runner)
+}
+
+fn put_signature(tag: &mut Tag, message: ByteString, signature: ByteString)
+    ensures { tag.new ≡ record tag.old { message = message; pgp_signature = Some signature } }
+{
+    tag.message = message;
+    tag.pgp_signature = Some(signature);
+}
+
 // All that is written of the tag with this message before its signature.
-fn text_to_sign(alloc: Global, tag: &Tag, message: BStr<'_>) -> Result<Vec<u8>, Error>
+fn text_to_sign(tag: &Tag, message: BStr<'_>) -> Result<Vec<u8>, Error>
     ensures text { bstr_bytes message.entry ≡ parted tag.now.pgp_signature tag.now.message
         → IfOk result (λ text. (write_fault tag.now ≡ None) × IsTextToSign tag.now text.items) }
     ensures refused { IfErr result (λ error. (error ≡ Memory) ⊎ ((fault : write.Error) × (write_fault tag.now ≡ Some fault) × (error ≡ Encode fault))) }
 {
-    let mut text = Vec::new(alloc);
+    let mut text = Vec::new(tag.message.allocator());
     match tag.write_with(message, Some(BStr::new(b"")), true, &mut text) {
         Ok(()) => Ok(text),
         Err(write::Error::Writer(_)) => Err(Error::Memory),
