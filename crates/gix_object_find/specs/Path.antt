@@ -1,7 +1,7 @@
 -- Entries by their paths: from tree to tree, each under the id that an entry of the one before names.
-use Rattle.std.specs.Prelude.{ℕ, ◌≡◌, ◌≢◌, ⊤, List, [], ◌∷◌, ◌++◌, Option, None, Some}
+use Rattle.std.specs.Prelude.{ℕ, ◌≡◌, ◌≢◌, ◌==◌, ⊤, not, List, [], ◌∷◌, ◌++◌, length, filter, Option, None, Some}
 use Rattle.std.specs.Bool.{MatchBool}
-use Rattle.std.specs.List.{All}
+use Rattle.std.specs.List.{All, slice_split}
 use Rattle.gix_hash.specs.Id.{Id}
 use Rattle.gix_hash.specs.declared.kind.Kind as hash
 use Rattle.gix_object_lines.specs.declared.kind.Kind.TheVariants as kinds
@@ -34,6 +34,10 @@ Follows table (Some item) (name ∷ path) answer = (next : Option Item) × IsBel
 abbrev pub LooksUp : Table → List Item → List (List ℕ) → Option Item → Type 0
 LooksUp table items [] answer = answer ≡ None
 LooksUp table items (name ∷ path) answer = (found : Option Item) × IsFirstNamed name items found × Follows table found path answer
+
+-- the names of a path in one text: what stands between slashes, but nothing
+abbrev pub names_in : List ℕ → List (List ℕ)
+names_in path = filter (λ name. not (length name == 0)) (slice_split (λ byte. byte == 47) path)
 
 -- a tree isn't given, an entry of one isn't spelled, or memory was refused
 abbrev pub PathFault : Type 0 → Type 0 → Table → Error → Type 0

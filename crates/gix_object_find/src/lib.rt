@@ -7,5 +7,5 @@ pub mod lookup;
 mod traits;
 
 pub use crate::ext::{FindExt, FindObjectOrHeader, HeaderExt};
-pub use crate::lookup::lookup_entry;
+pub use crate::lookup::{lookup_entry, lookup_entry_by_path};
 pub use crate::traits::{Exists, Find, FindHeader, Lookup};

@@ -3,7 +3,7 @@
 ghost use Rattle.std.specs.Prelude.{◌≡◌, ◌↔◌, IsTrue, List, Some, map, IfOk, IfErr, MatchResult, option_map};
 ghost use Rattle.gix_object_entries.specs.Entry.{Item, item_of, own_item, SpellsTree, FaultBehind};
 ghost use Rattle.gix_object_entries.specs.Reading.{place_of};
-ghost use Rattle.gix_object_find.specs.Path.{IsFirstNamed, IsBelow, Follows, LooksUp, PathFault, ReadFault};
+ghost use Rattle.gix_object_find.specs.Path.{IsFirstNamed, IsBelow, Follows, LooksUp, PathFault, ReadFault, names_in};
 ghost use Rattle.gix_object_find.specs.declared.lookup.Error.TheVariants as fault;
 
 use crate::find::existing_iter;
@@ -72,6 +72,32 @@ pub fn lookup_entry<T: Find>(
         Some(entry) => follow(entry, objects, rest, buffer, alloc),
         None => Ok(None),
     }
+}
+
+/// The entry of this path in one text, whose names stand between slashes, as `lookup_entry` gives it: empty names, as before a
+/// slash that begins the path or behind one that ends it, are passed over.
+pub fn lookup_entry_by_path<T: Find>(
+    tree: TreeRefIter<'_>,
+    objects: &T,
+    path: &[u8],
+    buffer: &mut Vec<u8>,
+    alloc: Global,
+) -> Result<Option<Entry>, Error>
+    ensures found { T.is_honest objects.now → IfOk result (λ found. (items : List Item) → SpellsTree (place_of tree.entry).kind (place_of tree.entry).input items
+        → LooksUp (T.table objects.now) items (names_in path.now) (option_map own_item found)) }
+    ensures refused { IfErr result (PathFault (T.is_honest objects.now) (T.may_fail objects.now) (T.table objects.now)) }
+{
+    let names = names_of(path, alloc)?;
+    lookup_entry(tree, objects, names.as_slice(), buffer, alloc)
+}
+
+// The names between slashes that aren't empty.
+fn names_of(path: &[u8], alloc: Global) -> Result<Vec<&[u8]>, AllocError>
+    ensures { IfOk result (λ names. map (λ name. name.now) names.items ≡ names_in path.now) }
+{
+    path.split(|byte| *byte == b'/')
+        .filter(|name| !name.is_empty())
+        .collect(alloc)
 }
 
 // From an entry on by the names of the path.

@@ -1,9 +1,10 @@
 //! Contents that are read from streams.
 
-ghost use Rattle.std.specs.Prelude.{◌≡◌, length, IfOk, IfErr};
+ghost use Rattle.std.specs.Prelude.{◌≡◌, ◌<◌, ◌≤◌, [], length, take, IfOk, IfErr};
 ghost use Rattle.std.specs.Io.{ReadsAtMost};
-ghost use Rattle.std.specs.Io.KnownBytes.{ReadConsumes};
+ghost use Rattle.std.specs.Io.KnownBytes.{Consumes, ReadConsumes};
 ghost use Rattle.gix_object_write.specs.Streams.{IsNext, UnreadFault};
+ghost use Rattle.gix_object_write.specs.declared.write.Error.TheVariants.{Read};
 
 use crate::write::Error;
 use std::alloc::Global;
@@ -32,4 +33,33 @@ pub(crate) fn read_content<R: io::Read>(
         left -= count as u64;
     }
     Ok(content)
+}
+
+// Some of the stream's next bytes, at least one.
+fn read_piece<R: io::Read>(from: &mut R, piece: &mut [u8]) -> Result<usize, Error>
+    ensures some { IfOk result (λ count. (0 < count) × (count ≤ length piece.new) × Consumes (R.remaining from.old) (R.remaining from.new) (take count piece.new)) }
+    ensures none { IfErr result (λ error. (error ≡ Read) × Consumes (R.remaining from.old) (R.remaining from.new) []) }
+{
+    match read_some(from, piece) {
+        Ok(0) | Err(_) => Err(Error::Read),
+        Ok(count) => Ok(count),
+    }
+}
+
+// One read, which is tried again where a signal interrupted it.
+fn read_some<R: io::Read>(from: &mut R, buffer: &mut [u8]) -> io::Result<usize>
+    ensures bound { ReadsAtMost result buffer.new }
+    ensures bytes { ReadConsumes (R.remaining from.old) (R.remaining from.new) result buffer.new }
+{
+    'tries: for _ in 0..u64::MAX {
+        match from.read(buffer) {
+            Ok(count) => return Ok(count),
+            Err(error) => {
+                if error.kind() != io::ErrorKind::Interrupted {
+                    return Err(error);
+                }
+            }
+        }
+    }
+    Err(io::Error::from(io::ErrorKind::Interrupted))
 }
