@@ -1,9 +1,10 @@
 //! Signing commits.
 
-ghost use Rattle.std.specs.Prelude.{◌≡◌, ◌⊎◌, None, Some, [], ◌∷◌, ◌++◌, IfOk, IfErr, OnOk, OnErr};
+ghost use Rattle.std.specs.Prelude.{◌≡◌, ◌⊎◌, None, Some, Ok, Err, [], ◌∷◌, ◌++◌, IfOk, IfErr, OnOk, OnErr};
 ghost use Rattle.gix_object_lines.specs.Bytes.{without_last_feed};
 ghost use Rattle.gix_object_lines.specs.declared.write.Error as write;
 ghost use Rattle.gix_object_signature.specs.Run.{Answers};
+ghost use Rattle.gix_object_signature.specs.Signing.{Signs};
 ghost use Rattle.gix_object_signature.specs.declared.sign.Error.TheVariants.{Encode, Memory};
 ghost use Rattle.gix_object_commit.specs.Signature.{signature_name};
 ghost use Rattle.gix_object_commit.specs.Signing as spec;
@@ -41,8 +42,7 @@ impl Commit {
         ensures callable { F.IsAlwaysCallable runner.new }
     {
         let alloc = *self.extra_headers.allocator();
-        let text = unsigned_text(alloc, self)?;
-        let signature = sign(alloc, text.as_slice(), options, runner)?;
+        let signature = signature_over(alloc, self, options, runner)?;
         let header = signature_header(alloc, self.tree.kind(), signature)?;
         put_signature(self, header)?;
         Ok(())
@@ -67,6 +67,23 @@ impl<'a> CommitRef<'a> {
         commit.sign(options, runner)?;
         Ok(commit)
     }
+}
+
+// The signature of what is written of the commit without its signatures.
+fn signature_over<F: FnMut(&[Word<'_>], &[u8]) -> Result<Answer, RunError>>(
+    alloc: Global,
+    commit: &Commit,
+    options: &Options<'_>,
+    runner: &mut F,
+) -> Result<ByteString, Error>
+    requires { F.IsAlwaysCallable runner.old }
+    ensures made { IfOk result (λ signature. (unsigned_fault commit.now ≡ None)
+        × Signs (Answers F.FnMut) runner.old (spec.unsigned_text commit.now) options.now (Ok signature) runner.new) }
+    ensures refused { IfErr result (λ error. SignsCommit (Answers F.FnMut) runner.old commit.now options.now (Err error) runner.new commit.now) }
+    ensures callable { F.IsAlwaysCallable runner.new }
+{
+    let text = unsigned_text(alloc, commit)?;
+    sign(alloc, text.as_slice(), options, runner)
 }
 
 // What is written of the commit without its signatures.
