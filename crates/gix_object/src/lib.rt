@@ -75,13 +75,13 @@ pub mod find {
 
 /// Looking entries of trees up by their paths.
 pub mod lookup {
-    pub use gix_object_find::lookup::{Error, lookup_entry};
+    pub use gix_object_find::lookup::{Error, lookup_entry, lookup_entry_by_path};
 }
 
 /// Actors, times and the names of references.
 pub mod lines {
     pub use gix_object_lines::lines::{
-        Actor, ActorRef, Time, is_partial_name, read_actor, read_time, write_actor,
+        Actor, ActorRef, Time, is_full_name, is_partial_name, read_actor, read_time, write_actor,
         write_actor_parts, write_time,
     };
 }
@@ -134,6 +134,11 @@ pub mod tree {
     pub use gix_object_entries::tree::{Entry, EntryKind, EntryMode, EntryRef, name_order};
 }
 
+/// Keeping objects, and why one isn't kept.
+pub mod write {
+    pub use gix_object_write::write::Error;
+}
+
 pub use gix_object_commit::{
     Blob, BlobRef, Commit, CommitRef, CommitRefIter, compute_hash, compute_stream_hash,
 };
@@ -145,3 +150,4 @@ pub use gix_object_lines::write::Error as WriteToError;
 pub use gix_object_lines::{ByteString, Header, Kind, WriteTo};
 pub use gix_object_tag::{Tag, TagRef, TagRefIter};
 pub use gix_object_tree::{Data, Object, ObjectRef};
+pub use gix_object_write::Write;
