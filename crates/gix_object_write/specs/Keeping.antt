@@ -3,6 +3,8 @@ use Rattle.std.specs.Prelude.{ℕ, ◌≡◌, ◌≢◌, ◌⊎◌, List, Some, 
 use Rattle.gix_hash.specs.Id.{Id, id_of}
 use Rattle.gix_hash.specs.declared.object_id.ObjectId.{ObjectId}
 use Rattle.gix_object_find.specs.Table.{Object, Table}
+use Rattle.gix_object_lines.specs.declared.write.Error as write
+use Rattle.gix_object_lines.specs.declared.write.Error.TheVariants.{Writer, Header, TagName, Filename}
 use Rattle.gix_object_write.specs.declared.write.Error.{Error}
 use Rattle.gix_object_write.specs.declared.write.Error.TheVariants.{Failed, Read, Memory}
 
@@ -21,6 +23,13 @@ abbrev pub KeepFault : Type 0 → Type 0 → Type 0 → Table → Table → Id �
 KeepFault unread honest may_refuse old new id object Failed = may_refuse × (honest → IsAsBefore old new ⊎ Puts old new id object)
 KeepFault unread honest may_refuse old new id object Read = unread × (honest → IsAsBefore old new)
 KeepFault unread honest may_refuse old new id object Memory = honest → IsAsBefore old new
+
+-- a writer into memory fails for want of it; what it is written for is refused else
+abbrev pub told_as : write.Error → Error
+told_as (Writer error) = Memory
+told_as (Header error) = Read
+told_as (TagName error) = Read
+told_as (Filename error) = Read
 
 -- the object is kept under the id, which is told; or it isn't
 abbrev pub Keeps : Type 0 → Type 0 → Type 0 → Table → Table → Id → Object → Result ObjectId Error → Type 0

@@ -1,6 +1,6 @@
 //! Contents that are read from streams.
 
-ghost use Rattle.std.specs.Prelude.{◌≡◌, ◌<◌, ◌≤◌, [], length, take, IfOk, IfErr};
+ghost use Rattle.std.specs.Prelude.{◌≡◌, ◌<◌, ◌≤◌, [], length, IfOk, IfErr};
 ghost use Rattle.std.specs.Io.{ReadsAtMost};
 ghost use Rattle.std.specs.Io.KnownBytes.{Consumes, ReadConsumes};
 ghost use Rattle.gix_object_write.specs.Streams.{IsNext, UnreadFault};
@@ -24,25 +24,33 @@ pub(crate) fn read_content<R: io::Read>(
     ensures refused { IfErr result (UnreadFault (R.remaining from.old) (R.remaining from.new) size) }
 {
     let mut content = Vec::new(alloc);
-    let mut piece = [0; 4_096];
+    let mut piece = [0u8; 4_096];
     let mut left = size;
     'pieces: while left > 0 {
         let wanted = left.min(PIECE_LEN) as usize;
-        let count = read_piece(from, &mut piece[..wanted])?;
-        content.extend_from_slice(&piece[..count])?;
-        left -= count as u64;
+        let bytes = read_piece(from, &mut piece, wanted)?;
+        content.extend_from_slice(bytes)?;
+        left -= bytes.len() as u64;
     }
     Ok(content)
 }
 
-// Some of the stream's next bytes, at least one.
-fn read_piece<R: io::Read>(from: &mut R, piece: &mut [u8]) -> Result<usize, Error>
-    ensures some { IfOk result (λ count. (0 < count) × (count ≤ length piece.new) × Consumes (R.remaining from.old) (R.remaining from.new) (take count piece.new)) }
+// Some of the stream's next bytes, at least one, and at most so many.
+fn read_piece<'p, R: io::Read>(
+    from: &mut R,
+    piece: &'p mut [u8],
+    wanted: usize,
+) -> Result<&'p [u8], Error>
+    requires { wanted ≤ length piece.old }
+    ensures some { IfOk result (λ bytes. (0 < length bytes.now) × (length bytes.now ≤ wanted)
+        × Consumes (R.remaining from.old) (R.remaining from.new) bytes.now) }
     ensures none { IfErr result (λ error. (error ≡ Read) × Consumes (R.remaining from.old) (R.remaining from.new) []) }
 {
+    let piece = &mut piece[..wanted];
     match read_some(from, piece) {
-        Ok(0) | Err(_) => Err(Error::Read),
-        Ok(count) => Ok(count),
+        Ok(0) => Err(Error::Read),
+        Ok(count) => Ok(&piece[..count]),
+        Err(_) => Err(Error::Read),
     }
 }
 

@@ -7,7 +7,7 @@ ghost use Rattle.gix_hash.specs.declared.kind.Kind.TheVariants as hashes;
 ghost use Rattle.gix_hash.specs.declared.kind.Kind as hash;
 ghost use Rattle.gix_object_lines.specs.Writes.{cause_of};
 ghost use Rattle.gix_object_tree.specs.Loose.{loose_text};
-ghost use Rattle.gix_object_write.specs.Keeping.{Keeps};
+ghost use Rattle.gix_object_write.specs.Keeping.{Keeps, told_as};
 ghost use Rattle.gix_object_write.specs.Streams.{KeepsNext};
 
 use crate::stream::read_content;
@@ -70,8 +70,7 @@ pub trait Write: Lookup {
         let mut content = Vec::new(alloc);
         match object.write_to(&mut content) {
             Ok(()) => self.write_buf(object.kind(), content.as_slice()),
-            Err(WriteToError::Writer(_)) => Err(Error::Memory),
-            Err(_) => Err(Error::Read),
+            Err(error) => Err(unwritten(error)),
         }
     }
 
@@ -110,6 +109,17 @@ pub trait Write: Lookup {
     {
         let content = read_content(alloc, from, size)?;
         self.write_buf_with_known_id(kind, content.as_slice(), id)
+    }
+}
+
+// Why an object isn't kept whose content wasn't written into memory.
+fn unwritten(error: WriteToError) -> Error
+    ensures { result ≡ told_as error }
+{
+    match error {
+        WriteToError::Writer(_) => Error::Memory,
+        WriteToError::Header(_) | WriteToError::TagName(_) | WriteToError::Filename(_) =>
+            Error::Read,
     }
 }
 
