@@ -1,6 +1,7 @@
 //! A store of the objects that a line gives.
 
-ghost use Rattle.std.specs.Prelude.{◌≡◌, true, find, map};
+ghost use Rattle.std.specs.Prelude.{◌≡◌, true, false, find};
+ghost use Rattle.std.specs.Option.{option_copied};
 ghost use Rattle.gix_hash.specs.Id.{id_of};
 ghost use Rattle.gix_hash.specs.Order.{id_eq};
 ghost use Rattle.gix_hash.specs.Views.{viewed_id};
@@ -48,7 +49,7 @@ impl Store {
     }
 
     fn at(&self, id: oid<'_>) -> Option<&Stored>
-        ensures { option_of result ≡ find (λ stored. id_eq (id_of stored.id) (viewed_id id.entry)) self.now.objects.items }
+        ensures { option_copied result ≡ find (λ stored. id_eq (id_of stored.id) (viewed_id id.entry)) self.now.objects.items }
     {
         self.objects.iter().find(|stored| stored.id.as_oid() == id)
     }

@@ -1,5 +1,5 @@
 -- The tokens of a tag tell the parts that they are read from.
-use Rattle.std.proofs.Common.{◌≡◌, ◌∙◌, ap, refl, sym, subst, ℕ, Bool, true, false, List, [], ◌∷◌, ◌++◌, Option, Some, None, Result, Ok}
+use Rattle.std.proofs.Common.{◌≡◌, ◌∙◌, ap, refl, sym, subst, ℕ, true, false, List, [], ◌∷◌, ◌++◌, Option, Some, None, Ok}
 use Rattle.std.specs.Prelude.{codes}
 use Rattle.bstr.specs.BStr.{bstr_bytes}
 use Rattle.bstr.specs.declared.bstr.BStr.{BStr}
@@ -11,7 +11,7 @@ use Rattle.gix_object_tag.specs.Tokens.{Place, Stands, Steps, start}
 use Rattle.gix_object_tag.specs.Views.{tagger_of, text_of}
 use Rattle.gix_object_tag.specs.Whole.{IsFromTarget, IsFrom, Reads, TellsBody, NoBody, ABody, TellsTagger, NoTagger, ATagger, TellsParts, is_named}
 use Rattle.gix_object_tag.specs.declared.tag.ref_iter.Token.{Token}
-use Rattle.gix_object_tag.specs.declared.tag.ref_iter.Token.TheVariants.{Target, TargetKind, Name, Tagger, Body}
+use Rattle.gix_object_tag.specs.declared.tag.ref_iter.Token.TheVariants.{Target, TargetKind, Name}
 use Rattle.gix_object_tag.specs.declared.tag.ref_iter.Stage.{Stage}
 use Rattle.gix_object_tag.specs.declared.tag.ref_iter.Stage.TheVariants.{BeforeTarget, BeforeKind, BeforeName, BeforeTagger, BeforeBody}
 use Rattle.gix_object_tag.proofs.WholeLemmas.{step_on, end_named}

@@ -1,4 +1,4 @@
-use Rattle.std.proofs.Common.{◌≡◌, refl, sym, subst, inl, inr, List, ℕ, Option}
+use Rattle.std.proofs.Common.{◌≡◌, sym, subst, inl, inr, List, ℕ, Option}
 use Rattle.std.specs.Prelude.{◌⊎◌}
 use Rattle.std.proofs.lemmas.Result.{err_from_is_err_and}
 use Rattle.hex.specs.Hex.{hex_digit_value}

@@ -1,4 +1,4 @@
-use Rattle.std.proofs.Common.{◌≡◌, ◌∙◌, ap, sym, subst, Ok, Some}
+use Rattle.std.proofs.Common.{◌∙◌, ap, sym, subst, Ok, Some}
 use Rattle.std.proofs.lemmas.Result.{err_from_is_err_and}
 use Rattle.gix_object_signature.specs.Run.{Answers}
 use Rattle.gix_object_tag.specs.Signing.{SignsTag}
