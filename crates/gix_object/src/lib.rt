@@ -134,6 +134,11 @@ pub mod tree {
     pub use gix_object_entries::tree::{Entry, EntryKind, EntryMode, EntryRef, name_order};
 }
 
+/// Keeping objects, and why one isn't kept.
+pub mod write {
+    pub use gix_object_write::write::Error;
+}
+
 pub use gix_object_commit::{
     Blob, BlobRef, Commit, CommitRef, CommitRefIter, compute_hash, compute_stream_hash,
 };
@@ -145,3 +150,4 @@ pub use gix_object_lines::write::Error as WriteToError;
 pub use gix_object_lines::{ByteString, Header, Kind, WriteTo};
 pub use gix_object_tag::{Tag, TagRef, TagRefIter};
 pub use gix_object_tree::{Data, Object, ObjectRef};
+pub use gix_object_write::Write;
