@@ -19,7 +19,7 @@ module _ (id : Id) where
   listed (first ∷ rest) found is =
       let step : (b : Bool) → has first ≡ b → cond b (Some first) (find has rest) ≡ Some found → Contains (ids_of (first ∷ rest)) id = λ b told given.
       elim b as (λ v. has first ≡ v → cond v (Some first) (find has rest) ≡ Some found → Contains (ids_of (first ∷ rest)) id) [
-        | true ↦ λ told given. (zero, omega arith, id_eq-same (id_of first.id) id (subst IsTrue (sym told) tt))
+        | true ↦ λ told given. (zero, omega arith, id_eq-same (id_of first.id) id told)
         | false ↦ λ told given. later (ids_of rest) (id_of first.id) id (listed rest found given)
       ] told given in
       step (has first) refl is

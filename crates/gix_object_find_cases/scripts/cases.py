@@ -102,6 +102,15 @@ def paths(git, tree, given, found, asked, missing={}):
         row("names", git, tree, path.replace(b"/", b"\n"), given, told, FAILED, absent(tree))
 
 
+def keep(git, oid):
+    kind, content = git.objects[oid]
+    null = "0" * len(oid)
+    kept = f"{oid}; {oid}; {null}; {oid}; {null}; refused Read; refused Read; " + f"{kind} {len(content)} " * 5
+    failed, early = f"{FAILED}; " * 5, "refused Read; " * 2
+    words = [b"", b"", git.loose(oid)]
+    rows.append((" ".join(["keep", git.kind] + [word.hex() or "-" for word in words]), f"{kept}| {failed}{early}| {failed}{early}"))
+
+
 def cases(kind):
     git = Git(kind)
     blobs = [git.blob(content) for content in (b"", b"hello", b"a\nb\\\x00\xff", b"x" * 40)]
@@ -141,6 +150,8 @@ def cases(kind):
             told = f"{content.split(bytes([10]))[2][4:].decode()}; 5 read"
         of_kind(git, oid, all_, told)
         of_kind(git, oid, [], "")
+    for oid in all_:
+        keep(git, oid)
     for oid in unread:
         of_kind(git, oid, [oid], f"refused Decode {oid} FieldName; 1 read")
     asked = [b"a", b"a.b", b"a/b", b"a/b/c", b"a/b/run", b"a/l", b"a/\xff", b"file", b"none", b"none/x", b"file/x", b"a/l/x", b"a/b/c/d", b"a/x", b"x", b"x/a", b"b", b"", b"/", b"/a/b", b"a//b", b"a/b/", b"//a", b"A"]

@@ -4,6 +4,7 @@
 mod asked;
 mod case;
 mod errors;
+mod keeping;
 mod kinds;
 mod operations;
 mod page;

@@ -2,6 +2,7 @@
 
 use crate::asked::ask;
 use crate::case::{Case, read_case};
+use crate::keeping;
 use crate::page::Page;
 use crate::store::Store;
 use gix_object_find::find::Never;
@@ -35,6 +36,7 @@ pub fn answer(alloc: Global, line: &str) -> Result<String, AllocError> {
     let mut page = Page::new(alloc);
     match line.split_once(' ') {
         Some((operation, words)) => match read_case(alloc, words) {
+            Some(case) if operation == "keep" => keeping::keep(alloc, &case, &mut page),
             Some(case) => ask_all(alloc, operation, &case, &mut page),
             None => page.word("no bytes"),
         },

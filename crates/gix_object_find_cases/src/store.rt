@@ -29,6 +29,8 @@ pub struct Stored {
 /// Objects, the first of an id before others.
 #[derive(Drop)]
 pub struct Store {
+    /// The hash function of their ids.
+    pub kind: HashKind,
     /// The objects.
     pub objects: Vec<Stored>,
     /// Whether each lookup fails.
@@ -43,6 +45,7 @@ impl Store {
             objects.push(read(alloc, kind, object.as_slice())?).ok()?;
         }
         Some(Store {
+            kind,
             objects,
             is_broken: false,
         })
