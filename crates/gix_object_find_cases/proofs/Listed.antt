@@ -1,6 +1,7 @@
 -- What a store finds is among its objects.
-use Rattle.std.proofs.Common.{◌≡◌, ◌∙◌, ap, sym, subst, refl, ℕ, zero, suc, ◌<◌, ◌+◌, Bool, true, false, cond, List, [], ◌∷◌, length, map, Option, Some, None, arith}
-use Rattle.std.specs.Prelude.{IsTrue, find, Contains}
+use Rattle.std.proofs.Common.{◌≡◌, sym, refl, Bor, ℕ, zero, suc, ◌<◌, ◌+◌, Bool, true, false, cond, List, [], ◌∷◌, length, map, Option, Some, None, arith}
+use Rattle.std.specs.Prelude.{find, is_some, Contains}
+use Rattle.std.specs.Option.{option_copied}
 use Rattle.gix_hash.specs.Id.{Id, id_of}
 use Rattle.gix_hash.specs.Order.{id_eq}
 use Rattle.gix_hash.specs.OrderLaws.{id_eq-same}
@@ -23,3 +24,7 @@ module _ (id : Id) where
         | false ↦ λ told given. later (ids_of rest) (id_of first.id) id (listed rest found given)
       ] told given in
       step (has first) refl is
+
+  pub listed_by : (objects : List Stored) (found : Option (Bor Stored)) → option_copied found ≡ find has objects → is_some found ≡ true → Contains (ids_of objects) id
+  listed_by objects None is some = cc
+  listed_by objects (Some found) is some = listed objects found.now (sym is)

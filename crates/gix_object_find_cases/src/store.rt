@@ -54,8 +54,14 @@ impl Store {
     fn at(&self, id: oid<'_>) -> Option<&Stored>
         ensures { option_copied result ≡ find (λ stored. id_eq (id_of stored.id) (viewed_id id.entry)) self.now.objects.items }
     {
-        self.objects.iter().find(|stored| stored.id.as_oid() == id)
+        self.objects.iter().find(|stored| has_id(stored, id))
     }
+}
+
+fn has_id(stored: &Stored, id: oid<'_>) -> bool
+    ensures { result ≡ id_eq (id_of stored.now.id) (viewed_id id.entry) }
+{
+    stored.id.as_oid() == id
 }
 
 fn read(alloc: Global, hash_kind: HashKind, loose: &[u8]) -> Option<Stored> {
