@@ -1,5 +1,5 @@
 -- A store with one object more before the others.
-use Rattle.std.proofs.Common.{◌≡◌, ap, refl, sym, ℕ, Bool, true, false, cond, List, ◌∷◌, Option, Some, option_map}
+use Rattle.std.proofs.Common.{◌≡◌, ap, refl, sym, subst, ℕ, Bool, true, false, cond, List, ◌∷◌, Option, Some, option_map}
 use Rattle.std.specs.Prelude.{◌≢◌, find}
 use Rattle.gix_hash.specs.Id.{Id, id_of}
 use Rattle.gix_hash.specs.Order.{id_eq}
@@ -23,3 +23,9 @@ module _ (stored : Stored) (objects : List Stored) where
     stands = ap (λ b. option_map object_of (cond b (Some stored) (find (λ (s : Stored). id_eq (id_of s.id) (id_of stored.id)) objects))) (id_eq-itself (id_of stored.id));
     others = λ other differs. unlike other (id_eq (id_of stored.id) other) refl differs;
   }
+
+  pub kept : (all : List Stored) (content : List ℕ) → all ≡ stored ∷ objects → stored.content.items ≡ content
+      → Puts (table_of objects) (table_of all) (id_of stored.id) (record { kind = stored.kind; content = content })
+  kept all content is same =
+      subst (λ xs. Puts (table_of objects) (table_of xs) (id_of stored.id) (record { kind = stored.kind; content = content })) (sym is)
+      (subst (λ bytes. Puts (table_of objects) (table_of (stored ∷ objects)) (id_of stored.id) (record { kind = stored.kind; content = bytes })) same puts_first)

@@ -1,12 +1,21 @@
 -- What a store finds is among its objects.
-use Rattle.std.proofs.Common.{◌≡◌, sym, refl, Bor, ℕ, zero, suc, ◌<◌, ◌+◌, Bool, true, false, cond, List, [], ◌∷◌, length, map, Option, Some, None, arith}
+use Rattle.std.proofs.Common.{◌≡◌, sym, subst, refl, Bor, ℕ, zero, suc, ◌<◌, ◌+◌, Bool, true, false, cond, List, [], ◌∷◌, length, map, Option, Some, None, arith}
 use Rattle.std.specs.Prelude.{find, is_some, Contains}
 use Rattle.std.specs.Option.{option_copied}
 use Rattle.gix_hash.specs.Id.{Id, id_of}
 use Rattle.gix_hash.specs.Order.{id_eq}
-use Rattle.gix_hash.specs.OrderLaws.{id_eq-same}
+use Rattle.gix_hash.specs.OrderLaws.{id_eq-same, id_eq-itself}
 use Rattle.gix_object_find_cases.specs.Store.{ids_of}
 use Rattle.gix_object_find_cases.specs.declared.store.Stored.{Stored}
+
+not_same : (x y : Id) (v : Bool) → id_eq x y ≡ v → (x ≡ y → false ≡ true) → false ≡ v
+not_same x y true told back = back (id_eq-same x y told)
+not_same x y false told back = refl
+
+-- a test of equality is the one of ids
+pub same_test : (b : Bool) (x y : Id) → (b ≡ true → x ≡ y) → (x ≡ y → b ≡ true) → b ≡ id_eq x y
+same_test true x y same back = sym (subst (λ z. id_eq x z ≡ true) (same refl) (id_eq-itself x))
+same_test false x y same back = not_same x y (id_eq x y) refl back
 
 later : (xs : List Id) (x id : Id) → Contains xs id → Contains (x ∷ xs) id
 later xs x id is = (suc is.0, omega (arith, is.1), is.2)

@@ -61,7 +61,7 @@ impl Store {
 fn has_id(stored: &Stored, id: oid<'_>) -> bool
     ensures { result ≡ id_eq (id_of stored.now.id) (viewed_id id.entry) }
 {
-    stored.id.as_oid() == id
+    stored.id.as_oid().eq_oid(id)
 }
 
 fn read(alloc: Global, hash_kind: HashKind, loose: &[u8]) -> Option<Stored> {
