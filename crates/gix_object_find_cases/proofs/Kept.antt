@@ -1,5 +1,5 @@
 -- A store with one object more before the others.
-use Rattle.std.proofs.Common.{◌≡◌, ap, refl, sym, subst, ℕ, Bool, true, false, cond, List, ◌∷◌, Option, Some, option_map}
+use Rattle.std.proofs.Common.{◌≡◌, ap, refl, sym, subst, ℕ, Bool, true, false, cond, List, ◌∷◌, Some, option_map}
 use Rattle.std.specs.Prelude.{◌≢◌, find}
 use Rattle.gix_hash.specs.Id.{Id, id_of}
 use Rattle.gix_hash.specs.Order.{id_eq}

@@ -1,5 +1,5 @@
 -- What a store finds is among its objects.
-use Rattle.std.proofs.Common.{◌≡◌, sym, subst, refl, Bor, ℕ, zero, suc, ◌<◌, ◌+◌, Bool, true, false, cond, List, [], ◌∷◌, length, map, Option, Some, None, arith}
+use Rattle.std.proofs.Common.{◌≡◌, sym, subst, refl, Bor, zero, suc, Bool, true, false, cond, List, [], ◌∷◌, Option, Some, None, arith}
 use Rattle.std.specs.Prelude.{find, is_some, Contains}
 use Rattle.std.specs.Option.{option_copied}
 use Rattle.gix_hash.specs.Id.{Id, id_of}
