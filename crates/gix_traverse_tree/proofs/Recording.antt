@@ -1,11 +1,11 @@
 -- Recorders along the calls of a walk.
-use Rattle.std.proofs.Common.{◌≡◌, ◌≢◌, ◌∙◌, sym, ap, subst, ℕ, zero, suc, ◌+◌, ◌-◌, ◌<◌, ◌≤◌, Bool, true, false, List, [], ◌∷◌, ◌++◌, length, take, drop, Option, Some, None, map, refl, append_assoc, arith, length-append, IsFalse, slice_index_or, if◌then◌else◌, ◌==◌, ◌&&◌}
+use Rattle.std.proofs.Common.{◌≡◌, ◌≢◌, ◌∙◌, sym, ap, subst, ℕ, ◌+◌, ◌-◌, Bool, true, false, List, [], ◌∷◌, ◌++◌, length, take, drop, Option, Some, None, map, refl, append_assoc, arith, length-append, slice_index_or, if◌then◌else◌, ◌==◌, ◌&&◌}
 use Rattle.std.specs.Prelude.{⊤}
 use Rattle.std.proofs.lemmas.Bool.{cond-true, cond-false, or_right, or_parts, and_parts}
 use Rattle.std.proofs.lemmas.List.Folds.{list_any-append}
 use Rattle.std.proofs.lemmas.List.{append-nil, get_or_at, map-append}
 use Rattle.std.specs.List.{AllByRecursion, list_any}
-use Rattle.std.specs.declared.ops.ControlFlow.TheVariants.{Continue, Break}
+use Rattle.std.specs.declared.ops.ControlFlow.TheVariants.{Continue}
 use Rattle.gix_hash.specs.Id.{Id}
 use Rattle.gix_hash.specs.declared.kind.Kind.{Kind}
 use Rattle.gix_object_lines.specs.Bytes.{Lacks}
@@ -21,7 +21,7 @@ use Rattle.gix_traverse_tree.specs.Depth as depth
 use Rattle.gix_traverse_tree.specs.Depth.{InDepth, before, inside, entering}
 use Rattle.gix_traverse_tree.specs.Orders as orders
 use Rattle.gix_traverse_tree.specs.Orders.{IsFresh, RecordsInDepth, RecordsInBreadth, IsName, TellsName, HasNames, InOrder, Listed, LevelByLevel, Folder, recorded_in, folder_in, folders_in, tracked}
-use Rattle.gix_traverse_tree.specs.Recorder.{Bytes, Recorded, Recording, joined, parent, path_with, recording_of, after_call, with_entry, Records, GoesOn}
+use Rattle.gix_traverse_tree.specs.Recorder.{Bytes, Recorded, Recording, joined, parent, recording_of, after_call, with_entry, Records, GoesOn}
 use Rattle.gix_traverse_tree.specs.Trees.{whole}
 use Rattle.gix_traverse_tree.specs.declared.recorder.Recorder.{Recorder}
 use Rattle.gix_traverse_tree.specs.declared.recorder.Location.{Location}
