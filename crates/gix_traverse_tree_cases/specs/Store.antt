@@ -1,5 +1,5 @@
 -- The objects of a store, the first of an id before others.
-use Rattle.std.specs.Prelude.{List, Option, find, map, option_map}
+use Rattle.std.specs.Prelude.{List, find, map, option_map}
 use Rattle.gix_hash.specs.Id.{Id, id_of}
 use Rattle.gix_hash.specs.Order.{id_eq}
 use Rattle.gix_object_find.specs.Table.{Table}

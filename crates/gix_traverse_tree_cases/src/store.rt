@@ -1,6 +1,6 @@
 //! A store of the trees that a line gives, each under its id.
 
-ghost use Rattle.std.specs.Prelude.{◌≡◌, ⊤, ⊥, find};
+ghost use Rattle.std.specs.Prelude.{◌≡◌, ⊤, find};
 ghost use Rattle.std.specs.Option.{option_copied};
 ghost use Rattle.gix_hash.specs.Id.{id_of};
 ghost use Rattle.gix_hash.specs.Order.{id_eq};
@@ -52,8 +52,14 @@ impl Store {
     fn at(&self, id: oid<'_>) -> Option<&Stored>
         ensures { option_copied result ≡ find (λ stored. id_eq (id_of stored.id) (viewed_id id.entry)) self.now.objects.items }
     {
-        self.objects.iter().find(|stored| stored.id.as_oid() == id)
+        self.objects.iter().find(|stored| has_id(stored, id))
     }
+}
+
+fn has_id(stored: &Stored, id: oid<'_>) -> bool
+    ensures { result ≡ id_eq (id_of stored.now.id) (viewed_id id.entry) }
+{
+    stored.id.as_oid().eq_oid(id)
 }
 
 impl Lookup for Store {
