@@ -1,5 +1,5 @@
 -- Calls joined.
-use Rattle.std.proofs.Common.{◌≡◌, ◌∙◌, sym, subst, List, [], ◌∷◌, ◌++◌, refl, ap, Result, Ok, Err, inl, inr}
+use Rattle.std.proofs.Common.{◌≡◌, subst, List, [], ◌∷◌, ◌++◌, refl, ap, Result, Ok, Err, inl, inr}
 use Rattle.std.specs.Prelude.{OnOk, IfErr}
 use Rattle.gix_traverse_tree.specs.Calls.{Call, Runs}
 use Rattle.gix_traverse_tree.specs.Nodes.{MemoryOr}

@@ -1,18 +1,17 @@
 -- How far the trees of a level are read, and how far the levels.
-use Rattle.std.proofs.Common.{◌≡◌, ◌∙◌, sym, ap, subst, ℕ, zero, suc, ◌+◌, ◌-◌, ◌<◌, ◌≤◌, true, List, [], ◌∷◌, ◌++◌, length, Option, Some, None, slice_get, map, refl, append_assoc, arith, length-append}
+use Rattle.std.proofs.Common.{◌≡◌, ◌∙◌, sym, ap, subst, ℕ, suc, ◌+◌, ◌<◌, ◌≤◌, true, List, [], ◌∷◌, ◌++◌, length, Some, map, refl, append_assoc, arith, length-append}
 use Rattle.std.proofs.lemmas.List.{length-map}
 use Rattle.gix_hash.specs.Id.{Id, id_of}
-use Rattle.gix_hash.specs.declared.kind.Kind.{Kind}
 use Rattle.gix_object_find.specs.Table.{Table}
 use Rattle.gix_traverse_tree.specs.Breadth as breadth
 use Rattle.gix_traverse_tree.specs.Breadth.{Tree, under, under_root, Listing, Level, Levels, InBreadth}
 use Rattle.gix_traverse_tree.specs.Calls.{Call, Runs, pop_front}
-use Rattle.gix_traverse_tree.specs.Nodes.{IsLinked, IsWayUp, StandsAt, StandFrom, AreAllFrom, node_under, Queues, IsUnderSome, AreUnderSome, ShowsTree, ShowsLevel, ShowsListing, StopsListing, StopsLevel, MemoryOr, Walks}
+use Rattle.gix_traverse_tree.specs.Nodes.{IsWayUp, StandsAt, StandFrom, AreAllFrom, node_under, AreUnderSome, ShowsTree, ShowsLevel, ShowsListing, StopsListing, StopsLevel, MemoryOr}
 use Rattle.gix_traverse_tree.specs.Trees.{End, whole, failed, is_among, IsRead, TreeFault}
 use Rattle.gix_traverse_tree.specs.declared.breadthfirst.Node.{Node}
 use Rattle.gix_traverse_tree.specs.declared.error.Error.{Error}
 use Rattle.gix_traverse_tree.proofs.Called.{runs_more, append_nil, memory_or}
-use Rattle.gix_traverse_tree.proofs.Ways.{stand_more, stand_append, stand_added, stand_first, stands_more, all_under, under_append, deep_within, way_step}
+use Rattle.gix_traverse_tree.proofs.Ways.{stand_more, stand_append, stand_added, all_under, under_append}
 
 -- what was read of a level's trees, where `left` are to come
 pub record Levelled {S : Type 0} (G : S → Call → S → Type 0) (H M : Type 0) (table : Table) (ids : List Id) (trees : List Tree) (number end : ℕ) (before : S) (nodes : List Node) (after : S) (queued : List Node) : Type 0 where

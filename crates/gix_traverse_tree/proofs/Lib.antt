@@ -5,3 +5,4 @@ pub mod Levelled
 pub mod Walked
 pub mod Opening
 pub mod Walking
+pub mod Recording

@@ -1,10 +1,9 @@
 -- How far the entries of a tree are shown, in breadth order.
-use Rattle.std.proofs.Common.{◌≡◌, ◌≢◌, ◌∙◌, sym, ap, subst, ℕ, Bool, List, [], ◌∷◌, ◌++◌, Option, None, Some, Result, Ok, Err, map, refl, append_assoc}
+use Rattle.std.proofs.Common.{◌≡◌, ◌≢◌, ◌∙◌, sym, ap, subst, ℕ, Bool, List, [], ◌++◌, Option, Some, Ok, Err, map, refl, append_assoc}
 use Rattle.std.specs.declared.ops.ControlFlow.TheVariants.{Continue, Break}
 use Rattle.std.proofs.lemmas.List.{map-append}
 use Rattle.gix_hash.specs.Id.{Id, id_of}
 use Rattle.gix_hash.specs.declared.kind.Kind.{Kind}
-use Rattle.gix_hash.specs.declared.object_id.ObjectId.{ObjectId}
 use Rattle.gix_object_lines.specs.declared.decode.Error as decode
 use Rattle.gix_object_entries.specs.Entry.{Item, item_of, SpellsEntry, SpellsNoEntry, EntryFault}
 use Rattle.gix_object_entries.specs.Reading.{Place, Steps}

@@ -1,7 +1,7 @@
 -- Steps of a walk in depth order.
-use Rattle.std.proofs.Common.{◌≡◌, ◌≢◌, ◌∙◌, sym, ap, subst, ℕ, zero, suc, ◌+◌, ◌-◌, ◌*◌, ◌^◌, ◌<◌, ◌≤◌, ◌⊎◌, ◌||◌, inl, inr, Bool, true, false, take, drop, List, [], ◌∷◌, ◌++◌, length, map, refl, append_assoc, arith, length-append}
+use Rattle.std.proofs.Common.{◌≡◌, ◌≢◌, ◌∙◌, sym, ap, subst, ℕ, suc, ◌+◌, ◌-◌, ◌*◌, ◌^◌, ◌<◌, ◌≤◌, ◌||◌, inl, inr, Bool, true, false, take, drop, List, [], ◌∷◌, ◌++◌, length, refl, append_assoc, arith, length-append}
 use Rattle.std.specs.Prelude.{reverse}
-use Rattle.std.specs.List.{list_any, IsDistinct, AllByRecursion}
+use Rattle.std.specs.List.{list_any, IsDistinct}
 use Rattle.std.specs.declared.ops.ControlFlow.TheVariants.{Continue, Break}
 use Rattle.std.proofs.Math.Nat.{pow-succ', mul-le-mul_right, one-le-pow}
 use Rattle.std.proofs.lemmas.List.{length-map, take-append-drop, reverse-append}
@@ -10,10 +10,9 @@ use Rattle.std.proofs.lemmas.Map.Keys.{IsDistinct-cons, IsDistinct-tail}
 use Rattle.std.proofs.lemmas.Map.Made.{length-le_from_is_member, IsDistinct-from_count}
 use Rattle.gix_hash.specs.Id.{Id, id_of}
 use Rattle.gix_hash.specs.Order.{id_eq}
-use Rattle.gix_hash.specs.OrderLaws.{id_equivalence, id_eq-same}
-use Rattle.gix_object_entries.specs.Entry.{Item, SpellsEntry, SpellsNoEntry, EntryFault}
+use Rattle.gix_hash.specs.OrderLaws.{id_equivalence}
+use Rattle.gix_object_entries.specs.Entry.{Item, SpellsEntry}
 use Rattle.gix_object_find.specs.Table.{Table}
-use Rattle.gix_object_lines.specs.declared.decode.Error as decode
 use Rattle.gix_traverse_tree.specs.Calls.{Call, Runs, pop_back, pop, shown, descends}
 use Rattle.gix_traverse_tree.specs.Depth as depth
 use Rattle.gix_traverse_tree.specs.Depth.{InDepth, before, inside, entering, behind_last}
@@ -24,7 +23,7 @@ use Rattle.gix_traverse_tree.specs.declared.depthfirst.Step.{Step}
 use Rattle.gix_traverse_tree.specs.declared.depthfirst.Step.TheVariants.{Left, Past, Below, Ended}
 use Rattle.gix_traverse_tree.specs.declared.error.Error.{Error}
 use Rattle.gix_traverse_tree.specs.declared.error.Error.TheVariants as errors
-use Rattle.gix_traverse_tree.proofs.Called.{runs_more, append_nil}
+use Rattle.gix_traverse_tree.proofs.Called.{runs_more}
 use Rattle.gix_traverse_tree.proofs.Ways.{none_equal, stored_more}
 
 not_whole : (error : Error) → failed error ≢ whole

@@ -1,7 +1,6 @@
 -- How far the levels are read, and how many can come.
-use Rattle.std.proofs.Common.{◌≡◌, ◌∙◌, sym, ap, subst, ℕ, zero, suc, ◌+◌, ◌-◌, ◌<◌, ◌≤◌, true, List, [], ◌∷◌, ◌++◌, length, Option, Some, None, slice_get, map, refl, append_assoc, arith, length-append}
+use Rattle.std.proofs.Common.{◌≡◌, ◌∙◌, sym, ap, subst, ℕ, zero, suc, ◌-◌, ◌<◌, ◌≤◌, List, [], ◌∷◌, ◌++◌, length, Option, Some, None, slice_get, map, refl, append_assoc, arith}
 use Rattle.std.proofs.lemmas.List.{length-map}
-use Rattle.std.proofs.lemmas.Option.{slice_get_within}
 use Rattle.std.proofs.lemmas.Map.Made.{IsDistinct-from_count}
 use Rattle.gix_hash.specs.Id.{Id, id_of}
 use Rattle.gix_hash.specs.OrderLaws.{id_equivalence}
@@ -10,12 +9,12 @@ use Rattle.gix_object_find.specs.Table.{Table}
 use Rattle.gix_traverse_tree.specs.Breadth as breadth
 use Rattle.gix_traverse_tree.specs.Breadth.{Tree, under_root, Listing, Level, Levels, InBreadth}
 use Rattle.gix_traverse_tree.specs.Calls.{Call, Runs}
-use Rattle.gix_traverse_tree.specs.Nodes.{IsWayUp, StandFrom, AreAllFrom, node_under, IsUnderSome, AreUnderSome, ShowsLevel, ShowsListing, StopsListing, StopsLevel, Walks}
+use Rattle.gix_traverse_tree.specs.Nodes.{IsWayUp, StandFrom, AreAllFrom, node_under, AreUnderSome, ShowsLevel, ShowsListing, StopsListing, StopsLevel, Walks}
 use Rattle.gix_traverse_tree.specs.Trees.{End, whole, failed}
 use Rattle.gix_traverse_tree.specs.declared.breadthfirst.Node.{Node}
 use Rattle.gix_traverse_tree.specs.declared.error.Error.{Error}
 use Rattle.gix_traverse_tree.proofs.Called.{runs_more, append_nil}
-use Rattle.gix_traverse_tree.proofs.Ways.{stand_first, deep_within, way_step}
+use Rattle.gix_traverse_tree.proofs.Ways.{stand_first, deep_within}
 
 abbrev above_of : Option Node → Option ℕ
 above_of (Some node) = node.above

@@ -1,9 +1,8 @@
 -- The way up from a queued tree.
-use Rattle.std.proofs.Common.{◌≡◌, ◌∙◌, sym, ap, subst, ℕ, zero, suc, ◌+◌, ◌-◌, ◌<◌, ◌≤◌, Bool, true, false, List, [], ◌∷◌, ◌++◌, length, Option, Some, None, slice_get, map, refl, arith}
+use Rattle.std.proofs.Common.{◌≡◌, ◌∙◌, sym, ap, subst, ℕ, zero, suc, ◌+◌, ◌<◌, ◌≤◌, Bool, true, false, List, [], ◌∷◌, ◌++◌, length, Option, Some, None, slice_get, map, refl, arith}
 use Rattle.std.specs.Prelude.{IfSome, Contains, ◌||◌}
-use Rattle.std.specs.List.{list_any, IsDistinct, AllByRecursion}
-use Rattle.std.specs.Set.{is_member}
-use Rattle.std.proofs.lemmas.Option.{slice_get_within, slice_get-get_or}
+use Rattle.std.specs.List.{list_any, AllByRecursion}
+use Rattle.std.proofs.lemmas.Option.{slice_get-get_or}
 use Rattle.std.proofs.lemmas.Map.Keys.{IsDistinct-cons}
 use Rattle.std.proofs.lemmas.Map.Made.{length-le_from_is_member}
 use Rattle.gix_hash.specs.Id.{Id, id_of}
@@ -11,7 +10,7 @@ use Rattle.gix_hash.specs.Order.{id_eq}
 use Rattle.gix_hash.specs.OrderLaws.{id_equivalence, id_eq-itself, id_eq-same}
 use Rattle.gix_hash.specs.declared.object_id.ObjectId.{ObjectId}
 use Rattle.gix_traverse_tree.specs.Breadth.{Tree, under}
-use Rattle.gix_traverse_tree.specs.Nodes.{IsLinked, IsWayUp, StandsAt, StandFrom, node_under, Queues, IsUnderSome, AreUnderSome}
+use Rattle.gix_traverse_tree.specs.Nodes.{IsLinked, IsWayUp, StandsAt, StandFrom, node_under, IsUnderSome, AreUnderSome}
 use Rattle.gix_traverse_tree.specs.Trees.{is_among}
 use Rattle.gix_traverse_tree.specs.declared.breadthfirst.Node.{Node}
 

@@ -1,12 +1,12 @@
 -- The walk in breadth order: the entries of the root, then of the trees that lie in it, then of those that lie in these.
-use Rattle.std.specs.Prelude.{ℕ, ◌≡◌, ◌≢◌, Bool, List, [], ◌∷◌, ◌++◌, map, if◌then◌else◌}
+use Rattle.std.specs.Prelude.{ℕ, ◌≢◌, Bool, List, [], ◌∷◌, ◌++◌, map, if◌then◌else◌}
 use Rattle.std.specs.declared.ops.ControlFlow.TheVariants.{Continue, Break}
 use Rattle.gix_hash.specs.Id.{Id}
 use Rattle.gix_hash.specs.declared.kind.Kind.{Kind}
 use Rattle.gix_object_lines.specs.declared.decode.Error as decode
 use Rattle.gix_object_entries.specs.Entry.{Item, SpellsEntry, SpellsNoEntry, EntryFault}
 use Rattle.gix_object_find.specs.Table.{Table}
-use Rattle.gix_traverse_tree.specs.Calls.{Answer, Call, pop_front, push_back, pop, shown, descends}
+use Rattle.gix_traverse_tree.specs.Calls.{Call, pop_front, push_back, pop, shown, descends}
 use Rattle.gix_traverse_tree.specs.Trees.{End, whole, failed, IsRead, TreeFault}
 use Rattle.gix_traverse_tree.specs.declared.error.Error.{Error}
 use Rattle.gix_traverse_tree.specs.declared.error.Error.TheVariants.{Cancelled, ObjectDecode}

@@ -4,3 +4,5 @@ pub mod Breadth
 pub mod Depth
 pub mod Nodes
 pub mod Opened
+pub mod Recorder
+pub mod Orders

@@ -6,7 +6,7 @@ use Rattle.gix_hash.specs.Order.{id_eq}
 use Rattle.gix_hash.specs.declared.kind.Kind.{Kind}
 use Rattle.gix_hash.specs.declared.object_id.ObjectId.{ObjectId}
 use Rattle.gix_object_find.specs.Table.{Table}
-use Rattle.gix_traverse_tree.specs.Breadth.{Tree, Listing, Level, Levels, InBreadth}
+use Rattle.gix_traverse_tree.specs.Breadth.{Tree, Listing, Level, InBreadth}
 use Rattle.gix_traverse_tree.specs.Calls.{Call, Runs, pop_front}
 use Rattle.gix_traverse_tree.specs.Trees.{End, whole, failed, IsRead, is_among}
 use Rattle.gix_traverse_tree.specs.declared.breadthfirst.Node.{Node}

@@ -6,7 +6,10 @@ mod delegate;
 pub mod depthfirst;
 mod entry;
 mod error;
+pub mod laws;
 mod lookup;
+pub mod recorder;
 pub mod visit;
 
 pub use crate::delegate::Visit;
+pub use crate::recorder::Recorder;

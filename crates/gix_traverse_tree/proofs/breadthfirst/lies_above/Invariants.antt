@@ -1,4 +1,4 @@
-use Rattle.std.proofs.Common.{◌≡◌, ◌<◌, ℕ, suc, List, Option, Some, None, length, true}
+use Rattle.std.proofs.Common.{◌≡◌, ◌<◌, ℕ, suc, List, Option, Some, None, length}
 use Rattle.std.specs.Prelude.{IfSome}
 use Rattle.gix_hash.specs.Id.{Id, id_of}
 use Rattle.gix_traverse_tree.specs.Nodes.{IsWayUp}

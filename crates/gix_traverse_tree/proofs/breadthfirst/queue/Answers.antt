@@ -1,4 +1,4 @@
-use Rattle.std.proofs.Common.{◌≡◌, [], ◌∷◌, ap}
+use Rattle.std.proofs.Common.{[], ◌∷◌, ap}
 use Rattle.gix_hash.specs.Id.{Id}
 use Rattle.gix_traverse_tree.proofs.breadthfirst.queue.Goals as goal
 

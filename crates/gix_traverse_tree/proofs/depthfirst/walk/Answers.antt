@@ -1,12 +1,12 @@
-use Rattle.std.proofs.Common.{◌≡◌, ◌∙◌, sym, ap, subst, refl, inl, inr, ℕ, suc, ◌<◌, ◌≤◌, Bool, true, false, List, [], arith}
+use Rattle.std.proofs.Common.{◌≡◌, sym, ap, subst, Bool, List}
 use Rattle.std.specs.Prelude.{reverse}
 use Rattle.std.proofs.lemmas.Result.{err_from_is_err_and}
 use Rattle.gix_hash.specs.Id.{id_of}
-use Rattle.gix_traverse_tree.specs.Opened.{GoesOn, IsAtEnd, IsGood, WalksIn, WhereTrue, ids_of, weight}
+use Rattle.gix_traverse_tree.specs.Opened.{IsAtEnd, IsGood, WalksIn, WhereTrue, ids_of}
 use Rattle.gix_traverse_tree.specs.Trees.{failed, TreeFault}
 use Rattle.gix_traverse_tree.specs.declared.depthfirst.Open.{Open}
 use Rattle.gix_traverse_tree.proofs.Called.{memory_or}
-use Rattle.gix_traverse_tree.proofs.Walking.{Walking, steps_left, walking_start, walking_end, walking_unfound, walking_next, walking_less}
+use Rattle.gix_traverse_tree.proofs.Walking.{Walking, walking_start, walking_end, walking_unfound, walking_next, walking_less}
 use Rattle.gix_traverse_tree.proofs.depthfirst.walk.Goals as goal
 
 pub returns-in_err-enter-clause-stopped : goal.returns-in_err-enter-clause-stopped

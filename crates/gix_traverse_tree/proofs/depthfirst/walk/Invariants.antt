@@ -1,4 +1,3 @@
-use Rattle.std.proofs.Common.{ℕ}
 use Rattle.std.specs.Prelude.{reverse}
 use Rattle.gix_hash.specs.Id.{id_of}
 use Rattle.gix_traverse_tree.specs.Opened.{weight, IsGood, WalksIn, WhereTrue}

@@ -1,15 +1,13 @@
-use Rattle.std.proofs.Common.{◌≡◌, ◌∙◌, sym, ap, subst, ℕ, ◌<◌, ◌≤◌, List, ◌∷◌, Option, Some, length, slice_get, inl, inr, arith, false, map, length-append, ◌++◌}
-use Rattle.std.specs.Prelude.{IfSome, OnOk, IfErr}
+use Rattle.std.proofs.Common.{◌≡◌, ◌∙◌, sym, ap, subst, ◌<◌, ◌≤◌, List, ◌∷◌, Some, length, inr, arith, map, length-append}
+use Rattle.std.specs.Prelude.{IfSome}
 use Rattle.std.proofs.lemmas.Option.{slice_get-get_or}
 use Rattle.std.proofs.lemmas.Result.{err_from_is_err_and}
 use Rattle.gix_hash.specs.Id.{Id, id_of}
-use Rattle.gix_hash.specs.declared.kind.Kind.{Kind}
 use Rattle.gix_object_lines.specs.declared.kind.Kind.TheVariants as kinds
 use Rattle.gix_object_entries.specs.Reading.{Place, place_of, start}
 use Rattle.gix_object_find.specs.Existing.{Stands, KindFault}
-use Rattle.gix_traverse_tree.specs.Breadth.{Tree}
-use Rattle.gix_traverse_tree.specs.Nodes.{node_under, IsLinked, IsWayUp, MemoryOr, ShowsListing, StopsListing, ShowsTree, StopsLevel}
-use Rattle.gix_traverse_tree.specs.Trees.{is_among, IsRead}
+use Rattle.gix_traverse_tree.specs.Nodes.{node_under, IsLinked, IsWayUp, MemoryOr, ShowsListing, StopsListing, StopsLevel}
+use Rattle.gix_traverse_tree.specs.Trees.{is_among}
 use Rattle.gix_traverse_tree.specs.declared.breadthfirst.Node.{Node}
 use Rattle.gix_traverse_tree.proofs.Called.{on_ok, on_err, memory_or}
 use Rattle.gix_traverse_tree.proofs.Levelled.{tree_unread, tree_shown, tree_stopped}

@@ -1,4 +1,4 @@
-use Rattle.std.proofs.Common.{◌≡◌, ◌∙◌, ℕ, ◌<◌, ◌≤◌, List, length, arith}
+use Rattle.std.proofs.Common.{arith}
 use Rattle.std.proofs.lemmas.Result.{err_from_is_err_and}
 use Rattle.gix_traverse_tree.proofs.Levelled.{levelled_start, levelled_tree, levelled_done, levelled_stopped}
 use Rattle.gix_traverse_tree.proofs.breadthfirst.State.read_level.Goals as goal

@@ -1,7 +1,6 @@
-use Rattle.std.proofs.Common.{◌≡◌, ◌∙◌, sym, ap, subst, ℕ, ◌<◌, ◌≤◌, List, [], ◌++◌, length, Option, Some, None, slice_get, map, arith}
+use Rattle.std.proofs.Common.{◌≡◌, ◌∙◌, sym, ap, subst, ℕ, ◌<◌, ◌≤◌, List, [], ◌++◌, length, None, map, arith}
 use Rattle.std.proofs.lemmas.Result.{err_from_is_err_and}
-use Rattle.gix_object_entries.specs.Reading.{place_of}
-use Rattle.gix_traverse_tree.specs.Nodes.{IsLinked, node_under, MemoryOr, StopsListing, StopsLevel, Walks}
+use Rattle.gix_traverse_tree.specs.Nodes.{IsLinked, node_under, StopsListing, StopsLevel, Walks}
 use Rattle.gix_traverse_tree.specs.Trees.{failed}
 use Rattle.gix_traverse_tree.specs.declared.breadthfirst.Node.{Node}
 use Rattle.gix_traverse_tree.proofs.Called.{memory_or}

@@ -1,0 +1,5 @@
+use Rattle.gix_traverse_tree.proofs.Recording.{records_in_breadth}
+use Rattle.gix_traverse_tree.proofs.laws.records_in_breadth.Goals as goal
+
+pub returns : goal.returns
+returns g c = records_in_breadth _ _ _

@@ -1,0 +1,124 @@
+//! One line to one answer.
+
+use crate::case::{Case, read_case};
+use crate::page::Page;
+use crate::stopping::Stopping;
+use crate::store::Store;
+use gix_hash::ObjectId;
+use gix_object_entries::TreeRefIter;
+use gix_object_find::FindExt;
+use gix_traverse_tree::recorder::{Entry, Location, Recorder};
+use gix_traverse_tree::{Visit, breadthfirst, depthfirst};
+use std::alloc::{AllocError, Global};
+
+/// The two orders.
+#[derive(Clone, Copy)]
+enum Order {
+    Breadth,
+    Depth,
+}
+
+// The entries, one after another, each as its mode, its path and its id.
+fn records(page: &mut Page, entries: &[Entry]) {
+    for entry in entries {
+        page.value(" ", entry.mode.as_str(), " ");
+        page.bytes(entry.filepath.as_bytes());
+        page.value(" ", entry.oid, "");
+    }
+}
+
+// A walk from the root in this order, and how it ended.
+fn walk<V: Visit>(
+    alloc: Global,
+    order: Order,
+    root: &ObjectId,
+    store: &Store,
+    delegate: &mut V,
+    page: &mut Page,
+) {
+    let mut content = Vec::new(alloc);
+    let ended = match order {
+        Order::Depth => {
+            let mut state = depthfirst::State::new(alloc);
+            depthfirst::depthfirst(*root, &mut state, store, delegate)
+        }
+        Order::Breadth => match store.find_tree_iter(root.as_oid(), &mut content) {
+            Ok(entries) => from_entries(alloc, entries, store, delegate),
+            Err(error) => return page.refused(error),
+        },
+    };
+    match ended {
+        Ok(()) => page.word("whole"),
+        Err(error) => page.refused(error),
+    }
+}
+
+fn from_entries<V: Visit>(
+    alloc: Global,
+    entries: TreeRefIter<'_>,
+    store: &Store,
+    delegate: &mut V,
+) -> Result<(), breadthfirst::Error> {
+    let mut state = breadthfirst::State::new(alloc);
+    breadthfirst::breadthfirst(entries, &mut state, store, delegate)
+}
+
+// What a recorder that tracks so much has after a walk.
+fn record(
+    alloc: Global,
+    order: Order,
+    location: Option<Location>,
+    root: &ObjectId,
+    store: &Store,
+    page: &mut Page,
+) {
+    let mut recorder = Recorder::new(alloc).track_location(location);
+    walk(alloc, order, root, store, &mut recorder, page);
+    records(page, recorder.records.as_slice());
+}
+
+// What a delegate has that ends the walk at its third entry.
+fn stop(alloc: Global, order: Order, root: &ObjectId, store: &Store, page: &mut Page) {
+    let mut delegate = Stopping {
+        recorder: Recorder::new(alloc),
+        left: 2,
+    };
+    walk(alloc, order, root, store, &mut delegate, page);
+    records(page, delegate.recorder.records.as_slice());
+}
+
+fn perform(alloc: Global, operation: &str, case: &Case, page: &mut Page) {
+    let trees = case.texts.get(1..).unwrap_or(&[]);
+    let Some(store) = Store::new(alloc, case.kind.len_in_bytes(), trees) else {
+        return page.word("no trees");
+    };
+    let Ok(root) = ObjectId::try_from(case.text(0)) else {
+        return page.word("no root");
+    };
+    let whole = Some(Location::Path);
+    let name = Some(Location::FileName);
+    match operation {
+        "breadth" => record(alloc, Order::Breadth, whole, &root, &store, page),
+        "depth" => record(alloc, Order::Depth, whole, &root, &store, page),
+        "breadth-names" => record(alloc, Order::Breadth, name, &root, &store, page),
+        "depth-names" => record(alloc, Order::Depth, name, &root, &store, page),
+        "breadth-untracked" => record(alloc, Order::Breadth, None, &root, &store, page),
+        "depth-untracked" => record(alloc, Order::Depth, None, &root, &store, page),
+        "breadth-stopped" => stop(alloc, Order::Breadth, &root, &store, page),
+        "depth-stopped" => stop(alloc, Order::Depth, &root, &store, page),
+        _ => page.word("no operation"),
+    }
+}
+
+/// What the operation of the line gives.
+pub fn answer(alloc: Global, line: &str) -> Result<String, AllocError> {
+    let mut page = Page::new(alloc);
+    match line.split_once(' ') {
+        Some((operation, words)) => match read_case(alloc, words) {
+            Some(case) => perform(alloc, operation, &case, &mut page),
+            None => page.word("no bytes"),
+        },
+        None => page.word("no case"),
+    }
+    page.finish()
+}
