@@ -1,15 +1,14 @@
 -- Nodes and their numbers.
-use Rattle.std.proofs.Common.{◌≡◌, ℕ, zero, suc, ◌+◌, ◌<◌, ◌⊎◌, inl, inr, List, [], ◌∷◌, ◌++◌, length, refl, sym, ◌∙◌, ap, subst, arith, Some, None, Option, Bool, true, false, cond, set, get_or}
-use Rattle.std.specs.Prelude.{find, slice_get}
+use Rattle.std.proofs.Common.{◌≡◌, ℕ, zero, suc, ◌<◌, ◌⊎◌, inl, inr, List, [], ◌∷◌, ◌++◌, length, refl, sym, ◌∙◌, ap, subst, arith, Some, None, Option, Bool, true, false, cond, set}
+use Rattle.std.specs.Prelude.{find}
 use Rattle.std.specs.HashMap.{get}
 use Rattle.gix_hash.specs.declared.object_id.ObjectId.{ObjectId}
 use Rattle.gix_traverse_commit.specs.Order.{At}
 use Rattle.gix_traverse_commit.specs.Numbered.{same_id}
 use Rattle.gix_traverse_commit.specs.Nodes.{NodeMap, AreNumbered, marks_in, marks_of, no_marks}
-use Rattle.gix_traverse_commit.specs.declared.nodes.Marks.{Marks}
 use Rattle.gix_traverse_commit.specs.declared.nodes.Node.{Node}
 use Rattle.gix_traverse_commit.specs.declared.nodes.Number.{Number}
-use Rattle.gix_traverse_commit.proofs.Ids.{same_from_test, test_from_same, same_id_apart}
+use Rattle.gix_traverse_commit.proofs.Ids.{same_from_test, test_from_same}
 use Rattle.gix_traverse_commit.proofs.Lists.{at_one, at_push, at_from_push, at_append, none_at_nil, three}
 
 abbrev number_in : Option Number → ℕ

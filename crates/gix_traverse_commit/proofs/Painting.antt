@@ -1,20 +1,20 @@
 -- Painting: a list of painted commits, each once.
-use Rattle.std.proofs.Common.{◌≡◌, ℕ, suc, get_or, ◌+◌, ◌-◌, ◌<◌, ◌≤◌, ◌⊎◌, zero, List, [], ◌∷◌, ◌++◌, length, map, take, refl, sym, ◌∙◌, ap, subst, arith, Bool, true, false, cond, add-one, length-append, inl, inr, ◌||◌}
-use Rattle.std.specs.Prelude.{Contains, IsTrue, ⊤, ◌↔◌}
+use Rattle.std.proofs.Common.{◌≡◌, ℕ, suc, get_or, ◌+◌, ◌-◌, ◌<◌, ◌≤◌, zero, List, [], ◌∷◌, ◌++◌, length, map, take, refl, sym, ◌∙◌, ap, subst, arith, Bool, true, false, cond, length-append, inl, inr, ◌||◌}
+use Rattle.std.specs.Prelude.{Contains, IsTrue}
 use Rattle.std.specs.List.{list_any}
 use Rattle.std.proofs.lemmas.List.Folds.{list_any-append}
 use Rattle.std.proofs.lemmas.Map.Made.{length-le_from_is_member}
-use Rattle.std.proofs.lemmas.Option.{slice_get_within, slice_get-get_or}
+use Rattle.std.proofs.lemmas.Option.{slice_get-get_or}
 use Rattle.gix_hash.specs.declared.object_id.ObjectId.{ObjectId}
 use Rattle.gix_hash.specs.Id.{Id, id_of}
 use Rattle.gix_hash.specs.OrderLaws.{equivalence}
 use Rattle.gix_hash.specs.Packed.{object_id_of, object_id_of-id_of}
 use Rattle.gix_traverse_commit.specs.Commits.{Commits, Reached, tip, parent}
-use Rattle.gix_traverse_commit.specs.Keeping.{IsMetBy, Kept, KeptAll}
+use Rattle.gix_traverse_commit.specs.Keeping.{KeptAll}
 use Rattle.gix_traverse_commit.specs.Nodes.{is_hidden}
 use Rattle.gix_traverse_commit.specs.Numbered.{same_id}
 use Rattle.gix_traverse_commit.specs.Order.{At}
-use Rattle.gix_traverse_commit.specs.Painting.{IsPainted, IsUnpainted, PaintFault, Paints, ReachedFrom, every}
+use Rattle.gix_traverse_commit.specs.Painting.{IsPainted, PaintFault, Paints, ReachedFrom, every}
 use Rattle.gix_traverse_commit.specs.Rows.{AllHeld, Holds}
 use Rattle.gix_object_find.specs.Table.{Table}
 use Rattle.gix_traverse_commit.specs.Fetching.{FetchFault}
@@ -25,9 +25,9 @@ use Rattle.gix_traverse_commit.specs.declared.fetch.FetchError.TheVariants as fa
 use Rattle.gix_traverse_commit.specs.declared.nodes.Node.{Node}
 use Rattle.gix_traverse_commit.specs.declared.rows.Row.{Row}
 use Rattle.gix_traverse_commit.proofs.Frontier.{read_all}
-use Rattle.gix_traverse_commit.proofs.Ids.{same_from_test, test_from_same, same_id_apart}
+use Rattle.gix_traverse_commit.proofs.Ids.{test_from_same, same_id_apart}
 use Rattle.gix_traverse_commit.proofs.Keeping.{Meets, Queues}
-use Rattle.gix_traverse_commit.proofs.Lists.{at_one, at_from_contains, contains_from_at, at_push, at_from_push, at_take, at_from_take, none_at_nil, three}
+use Rattle.gix_traverse_commit.proofs.Lists.{at_one, at_from_contains, contains_from_at, at_push, at_from_push, at_from_take, none_at_nil, three}
 use Rattle.gix_traverse_commit.proofs.Slow.{any_from_contains, contains_from_any}
 use Rattle.gix_traverse_commit.proofs.Walked.{distinct_from_once}
 

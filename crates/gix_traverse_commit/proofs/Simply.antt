@@ -1,14 +1,13 @@
 -- Where a walk over rows and objects stands.
-use Rattle.std.proofs.Common.{◌≡◌, ℕ, suc, ◌+◌, ◌<◌, ◌≤◌, ◌∙◌, ◌⊎◌, zero, sym, ap, refl, subst, arith, inl, inr, List, [], ◌∷◌, ◌++◌, length, append-nil, length-append, take, Bool, true, false, cond, add-one}
-use Rattle.std.specs.Prelude.{Contains, ⊤, IsTrue, not, ◌&&◌, ◌↔◌}
-use Rattle.std.proofs.lemmas.Option.{slice_get_within}
+use Rattle.std.proofs.Common.{◌≡◌, ℕ, suc, ◌+◌, ◌<◌, ◌∙◌, ◌⊎◌, zero, sym, ap, refl, subst, arith, inl, inr, List, [], ◌∷◌, ◌++◌, length, length-append, take, Bool, true, false, cond, add-one}
+use Rattle.std.specs.Prelude.{Contains, IsTrue, not, ◌&&◌, ◌↔◌}
 use Rattle.gix_hash.specs.Id.{Id, id_of}
 use Rattle.gix_hash.specs.declared.object_id.ObjectId.{ObjectId}
-use Rattle.gix_traverse_commit.specs.Commits.{Commits, asked_parents, Reached, tip, parent, Passes, Hides, Listed}
-use Rattle.gix_traverse_commit.specs.Keeping.{IsMetBy, Kept, KeptAll}
+use Rattle.gix_traverse_commit.specs.Commits.{Commits, asked_parents, Reached, tip, parent, Passes, Listed}
+use Rattle.gix_traverse_commit.specs.Keeping.{Kept, KeptAll}
 use Rattle.gix_traverse_commit.specs.Nodes.{is_asked, is_hidden, is_met, marks_of}
 use Rattle.gix_traverse_commit.specs.Numbered.{same_id}
-use Rattle.gix_traverse_commit.specs.Order.{At, IsBreadthFirst}
+use Rattle.gix_traverse_commit.specs.Order.{At}
 use Rattle.gix_traverse_commit.specs.Painting.{ReachedFrom}
 use Rattle.gix_traverse_commit.specs.Rows.{AllHeld, Holds}
 use Rattle.gix_traverse_commit.specs.Simply.{Asked, AreAsked, IsKnown, IsTurn, keep_of, request_of}
@@ -17,15 +16,13 @@ use Rattle.gix_traverse_commit.specs.Simply.{SimpleFault, StopsFetch}
 use Rattle.gix_traverse_commit.specs.declared.simple.Error.{Error}
 use Rattle.gix_traverse_commit.specs.declared.simple.Error.TheVariants as fault
 use Rattle.gix_traverse_commit.specs.declared.simple.HiddenGraphError.TheVariants as hidden_fault
-use Rattle.gix_traverse_commit.specs.Standing.{Reads}
 use Rattle.gix_traverse_commit.specs.Walks.{InBreadth}
 use Rattle.gix_traverse_commit.specs.declared.nodes.Marks.{Marks}
 use Rattle.gix_traverse_commit.specs.declared.nodes.Node.{Node}
-use Rattle.gix_traverse_commit.specs.declared.parents.Parents.{Parents}
 use Rattle.gix_traverse_commit.specs.declared.rows.Row.{Row}
 use Rattle.gix_traverse_commit.proofs.Ids.{same_from_test, test_from_same}
 use Rattle.gix_traverse_commit.proofs.Keeping.{kept_end}
-use Rattle.gix_traverse_commit.proofs.Lists.{at_one, at_from_contains, contains_from_at, at_from_push, at_push, at_take, none_at_nil}
+use Rattle.gix_traverse_commit.proofs.Lists.{at_from_contains, contains_from_at, at_from_push, none_at_nil}
 use Rattle.gix_traverse_commit.proofs.Listing.{listed_reached, reached_more}
 use Rattle.gix_traverse_commit.proofs.Painting.{known_fit}
 use Rattle.gix_traverse_commit.proofs.Turn.{at_first, next_first}

@@ -1,9 +1,8 @@
 -- Which commit comes next in breadth order.
-use Rattle.std.proofs.Common.{◌≡◌, ℕ, zero, suc, ◌<◌, ◌≤◌, ◌⊎◌, inl, inr, List, [], ◌∷◌, ◌++◌, length, refl, sym, ◌∙◌, subst, arith}
+use Rattle.std.proofs.Common.{◌≡◌, ℕ, zero, suc, ◌<◌, ◌≤◌, inl, inr, List, [], ◌∷◌, ◌++◌, length, refl, subst, arith}
 use Rattle.std.specs.Prelude.{Contains}
 use Rattle.std.proofs.lemmas.Option.{slice_get_within}
 use Rattle.gix_traverse_commit.specs.Order.{At, Before, IsKey, Named}
-use Rattle.gix_traverse_commit.specs.Commits.{Reached}
 use Rattle.gix_traverse_commit.specs.Reading.{Read}
 use Rattle.gix_traverse_commit.specs.Turns.{IsNextInBreadth}
 use Rattle.gix_traverse_commit.proofs.Lists.{at_one, at_from_contains, contains_from_at, none_at_nil, three}

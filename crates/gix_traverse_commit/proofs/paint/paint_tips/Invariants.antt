@@ -1,11 +1,9 @@
-use Rattle.std.proofs.Common.{◌≡◌, ℕ, List}
+use Rattle.std.proofs.Common.{◌≡◌, List}
 use Rattle.gix_hash.specs.declared.object_id.ObjectId.{ObjectId}
 use Rattle.gix_traverse_commit.specs.Keeping.{Kept}
 use Rattle.gix_traverse_commit.specs.Nodes.{is_hidden, is_met}
-use Rattle.gix_traverse_commit.specs.Order.{At}
 use Rattle.gix_traverse_commit.specs.Painting.{IsPainted, every}
 use Rattle.gix_traverse_commit.specs.Rows.{AllHeld}
-use Rattle.gix_traverse_commit.specs.Standing.{Reads}
 use Rattle.gix_traverse_commit.specs.declared.rows.Row.{Row}
 use Rattle.gix_traverse_commit.proofs.paint.paint_tips.Given as goal
 

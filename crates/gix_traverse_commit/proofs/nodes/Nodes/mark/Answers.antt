@@ -1,11 +1,9 @@
-use Rattle.std.proofs.Common.{◌≡◌, List, ◌∷◌, ◌++◌, [], length, Some, None, sym, ◌∙◌, ap, refl, subst, cond, Bool}
+use Rattle.std.proofs.Common.{◌≡◌, List, ◌∷◌, ◌++◌, [], length, Some, None, sym, ◌∙◌, ap, refl, subst, cond}
 use Rattle.std.specs.HashMap.{get}
 use Rattle.std.proofs.lemmas.Option.{slice_get_within}
-use Rattle.gix_hash.specs.declared.object_id.ObjectId.{ObjectId}
 use Rattle.gix_traverse_commit.specs.Nodes.{AreNumbered, marks_of}
 use Rattle.gix_traverse_commit.specs.Numbered.{same_id}
 use Rattle.gix_traverse_commit.specs.Order.{At}
-use Rattle.gix_traverse_commit.specs.declared.nodes.Marks.{Marks}
 use Rattle.gix_traverse_commit.specs.declared.nodes.Node.{Node}
 use Rattle.gix_traverse_commit.proofs.NodeLemmas.{numbered_set, marks_set, numbered_push, marks_push}
 use Rattle.gix_traverse_commit.proofs.RowLemmas.{at_item}

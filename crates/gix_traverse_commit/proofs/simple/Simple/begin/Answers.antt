@@ -1,6 +1,5 @@
-use Rattle.std.proofs.Common.{◌≡◌, sym, ◌∙◌, ap, refl, subst, List, [], Option, Bool, true, false}
-use Rattle.std.specs.Prelude.{Contains, not, ◌&&◌}
-use Rattle.gix_hash.specs.Id.{Id, id_of}
+use Rattle.std.proofs.Common.{◌≡◌, sym, ◌∙◌, refl, subst, List, [], Option}
+use Rattle.std.specs.Prelude.{Contains}
 use Rattle.gix_hash.specs.declared.object_id.ObjectId.{ObjectId}
 use Rattle.gix_traverse_commit.specs.Commits.{asked_parents}
 use Rattle.gix_traverse_commit.specs.Keeping.{KeptAll}

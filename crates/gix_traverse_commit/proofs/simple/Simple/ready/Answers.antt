@@ -1,5 +1,5 @@
-use Rattle.std.proofs.Common.{◌≡◌, sym, subst, refl, inl, inr, List, true, false}
-use Rattle.std.specs.Prelude.{OnOk, IfErr}
+use Rattle.std.proofs.Common.{sym, subst, inl, inr, List}
+use Rattle.std.specs.Prelude.{OnOk}
 use Rattle.gix_hash.specs.declared.object_id.ObjectId.{ObjectId}
 use Rattle.gix_traverse_commit.specs.Simply.{IsGoing}
 use Rattle.gix_traverse_commit.proofs.simple.Simple.ready.Goals as goal

@@ -1,6 +1,6 @@
-use Rattle.std.proofs.Common.{◌≡◌, ◌<◌, ◌≤◌, ◌+◌, ◌∙◌, sym, ap, refl, subst, arith, ℕ, List, [], ◌∷◌, ◌++◌, length, Option, Bool, true, false}
+use Rattle.std.proofs.Common.{◌≡◌, ◌∙◌, sym, refl, subst, arith, List, [], ◌∷◌, ◌++◌, length, Option, true, false}
 use Rattle.std.specs.Prelude.{Contains}
-use Rattle.gix_hash.specs.Id.{Id, id_of}
+use Rattle.gix_hash.specs.Id.{id_of}
 use Rattle.gix_hash.specs.declared.object_id.ObjectId.{ObjectId}
 use Rattle.gix_traverse_commit.specs.Commits.{asked_parents}
 use Rattle.gix_traverse_commit.specs.Nodes.{is_met}
@@ -75,8 +75,8 @@ returns-in-Ok-clause-steps g c =
       failed = tt;
       ended = (λ o. let e = (c.in_default.ensures.same o.begun).0 in let f = c.in_ok-id.ensures.first in let h = o.empty in let z : ⊥ = cc in absurd z);
       content = subst (λ (x : ObjectId). IsContentOf (g.F.Lookup.is_honest c.args.self.now.source.objects) rows (g.F.Lookup.table c.args.self.now.source.objects) x c.enter.new.self.source.buffer.items × (c.enter.new.self.kind ≡ (id_of x).kind)) (sym c.in-Ok.ensures.id)
-        (subst (λ (o : g.row.F.Denot). IsContentOf (g.F.Lookup.is_honest o) rows (g.F.Lookup.table o) id c.enter.new.self.source.buffer.items × (c.enter.new.self.kind ≡ (id_of id).kind)) c.ready.ensures.objects
-        (subst (λ (r : Option (List Row)). IsContentOf (g.F.Lookup.is_honest c.ready.new.self.source.objects) (rows_of r) (g.F.Lookup.table c.ready.new.self.source.objects) id c.enter.new.self.source.buffer.items × (c.enter.new.self.kind ≡ (id_of id).kind)) c.ready.ensures.rows c.in-Ok.ensures.content));
+          (subst (λ (o : g.row.F.Denot). IsContentOf (g.F.Lookup.is_honest o) rows (g.F.Lookup.table o) id c.enter.new.self.source.buffer.items × (c.enter.new.self.kind ≡ (id_of id).kind)) c.ready.ensures.objects
+          (subst (λ (r : Option (List Row)). IsContentOf (g.F.Lookup.is_honest c.ready.new.self.source.objects) (rows_of r) (g.F.Lookup.table c.ready.new.self.source.objects) id c.enter.new.self.source.buffer.items × (c.enter.new.self.kind ≡ (id_of id).kind)) c.ready.ensures.rows c.in-Ok.ensures.content));
       counted = (λ b. let s = (c.in_default.ensures.same b).1 in let e : c.ready.new.self.source.lookups ≡ c.args.self.now.source.lookups = cc in omega (arith, c.in-Ok.ensures.counted));
       rowed = (λ r.
           let (r', e) = c.in_default.ensures.rowed r in
@@ -92,7 +92,7 @@ returns-in-Err-enter-clause-steps g c =
     let queue' : List ObjectId = c.pop.new.queue.items in
     let error = c.in-Err-enter.error in
     let fault = subst (λ (o : g.row.F.Denot). StopsFetch (g.F.Lookup.is_honest o) (g.F.Lookup.may_fail o) (rows_of c.args.self.now.source.rows) (g.F.Lookup.table o) id error) c.ready.ensures.objects
-      (subst (λ (r : Option (List Row)). StopsFetch (g.F.Lookup.is_honest c.ready.new.self.source.objects) (g.F.Lookup.may_fail c.ready.new.self.source.objects) (rows_of r) (g.F.Lookup.table c.ready.new.self.source.objects) id error) c.ready.ensures.rows c.in-Err-enter.ensures.refused) in
+    (subst (λ (r : Option (List Row)). StopsFetch (g.F.Lookup.is_honest c.ready.new.self.source.objects) (g.F.Lookup.may_fail c.ready.new.self.source.objects) (rows_of r) (g.F.Lookup.table c.ready.new.self.source.objects) id error) c.ready.ensures.rows c.in-Err-enter.ensures.refused) in
     record {
       objects = c.stop-in-Err-enter.ensures.objects ∙ (c.enter.ensures.objects ∙ c.ready.ensures.objects);
       rows = c.stop-in-Err-enter.ensures.rows ∙ (c.enter.ensures.rows ∙ c.ready.ensures.rows);

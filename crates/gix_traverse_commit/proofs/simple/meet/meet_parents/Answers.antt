@@ -1,4 +1,4 @@
-use Rattle.std.proofs.Common.{refl, List, [], ◌++◌, get_or, true, ◌∙◌, ◌≡◌, ◌≤◌, length, subst, Some, slice_get, sym, ap, Bool}
+use Rattle.std.proofs.Common.{List, [], ◌++◌, get_or, ◌∙◌, ◌≡◌, ◌≤◌, length, subst, Some, slice_get, sym, ap, Bool}
 use Rattle.std.specs.Prelude.{not, ◌&&◌}
 use Rattle.std.proofs.lemmas.Option.{slice_get-get_or}
 use Rattle.gix_hash.specs.Id.{Id, id_of}

@@ -1,4 +1,4 @@
-use Rattle.std.proofs.Common.{refl, List, [], get_or, ◌∙◌, ◌≡◌, Bool, true, false, sym, ap}
+use Rattle.std.proofs.Common.{refl, List, [], get_or, ◌∙◌, sym, ap}
 use Rattle.std.specs.Prelude.{not}
 use Rattle.std.proofs.lemmas.Option.{slice_get-get_or}
 use Rattle.gix_hash.specs.declared.object_id.ObjectId.{ObjectId}
