@@ -95,4 +95,13 @@ impl Nodes {
         self.nodes.push(Node { id, marks })?;
         Ok(())
     }
+
+    /// The ids of the commits that have nodes, in the order in which they were met first.
+    pub fn ids(&self, alloc: Global) -> Result<Vec<ObjectId>, AllocError> {
+        let mut ids = Vec::new(alloc);
+        for node in &self.nodes {
+            ids.push(node.id)?;
+        }
+        Ok(ids)
+    }
 }

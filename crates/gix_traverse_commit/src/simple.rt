@@ -11,11 +11,13 @@ ghost use Rattle.gix_traverse_commit.specs.Told.{AreTold, rows_of};
 ghost use Rattle.gix_traverse_commit.specs.declared.parents.Parents.TheVariants.{All as AllParents};
 ghost use Rattle.gix_traverse_commit.specs.declared.simple.Error.TheVariants.{Find as FindFault, ObjectDecode as DecodeFault, HiddenGraph as HiddenFault, Memory};
 
+mod anew;
 mod meet;
 
 use crate::fetch::{FetchError, Source};
 use crate::nodes::Nodes;
 use crate::paint::paint;
+use crate::simple::anew::{take_all, unpaint};
 use crate::simple::meet::{ask_tips, meet_parents, pop, queue_tips};
 use crate::{Accept, All, Graph, Info, Parents};
 use gix_hash::{Kind, ObjectId};
@@ -199,6 +201,9 @@ impl<F: Find + Drop, P: Accept + Drop> Simple<F, P> {
             → IfOk result (IsMade P.accepts (record a { hidden = tips.items })) }
         ensures refused { IfErr result (λ error. error ≡ Memory) }
     {
+        if self.begun {
+            self.begin_anew()?;
+        }
         self.hidden = tips;
         Ok(self)
     }
@@ -237,6 +242,17 @@ impl<F: Find + Drop, P: Accept + Drop> Simple<F, P> {
 }
 
 impl<F: Find + Drop, P: Accept + Drop> Simple<F, P> {
+    // Makes the rest a walk from what is queued, in its order, without anything hidden.
+    fn begin_anew(&mut self) -> Result<(), AllocError>
+        ensures { self.new.source ≡ self.old.source }
+    {
+        let alloc: Global = *self.tips.allocator();
+        unpaint(alloc, &mut self.nodes)?;
+        self.tips = take_all(alloc, &mut self.nodes, &mut self.queue)?;
+        self.begun = false;
+        Ok(())
+    }
+
     // Paints what is hidden, and queues the tips.
     fn begin(&mut self) -> Result<(), Error>
         ensures objects { self.new.source.objects ≡ self.old.source.objects }
