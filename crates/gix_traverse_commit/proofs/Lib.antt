@@ -6,7 +6,11 @@ pub mod Listing
 pub mod Check
 pub mod SampleRows
 pub mod Ids
+pub mod NodeLemmas
 pub mod RowLemmas
 pub mod Walked
+pub mod Keeping
+pub mod Painting
 pub mod Told
+pub mod Turn
 pub mod Simply

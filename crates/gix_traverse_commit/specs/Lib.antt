@@ -12,3 +12,7 @@ pub mod Standing
 pub mod Told
 pub mod Fetching
 pub mod Simply
+pub mod Nodes
+pub mod Keeping
+pub mod Painting
+pub mod Turns

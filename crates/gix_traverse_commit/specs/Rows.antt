@@ -10,6 +10,10 @@ use Rattle.gix_traverse_commit.specs.declared.rows.RowsError.TheVariants.{Twice,
 abbrev pub Holds : List Row → ObjectId → Type 0
 Holds rows id = (row : Row) × Contains rows row × (row.id ≡ id)
 
+-- each of these commits has a row
+abbrev pub AllHeld : List Row → List ObjectId → Type 0
+AllHeld rows xs = (x : ObjectId) → Contains xs x → Holds rows x
+
 -- no commit has two rows
 abbrev pub IsOnce : List Row → Type 0
 IsOnce rows = (j k : ℕ) (r s : Row) → At rows j r → At rows k s → r.id ≡ s.id → j ≡ k

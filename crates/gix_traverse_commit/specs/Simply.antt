@@ -1,61 +1,168 @@
 -- Where a walk stands, and what it gives.
-use Rattle.std.specs.Prelude.{◌≡◌, ◌≤◌, ◌+◌, ℕ, List, [], ◌∷◌, ◌++◌, length, Option, None, ⊤}
-use Rattle.std.specs.HashSet.{contains}
+use Rattle.std.specs.Prelude.{◌≡◌, ◌⊎◌, ◌↔◌, ◌<◌, ◌≤◌, ◌+◌, ℕ, IfOk, IfErr, IfSome, IfNone, IsNone, OnErr, Bool, true, false, not, ◌&&◌, List, [], ◌∷◌, ◌++◌, length, Option, None, Result, Contains, ⊤}
+use Rattle.gix_hash.specs.Id.{Id, id_of}
 use Rattle.gix_hash.specs.declared.object_id.ObjectId.{ObjectId}
+use Rattle.gix_object_find.specs.Existing as object
 use Rattle.gix_object_find.specs.Table.{Table}
-use Rattle.gix_traverse_commit.specs.Commits.{Commits, asked_parents}
+use Rattle.gix_object_lines.specs.declared.kind.Kind.TheVariants as kinds
+use Rattle.gix_traverse_commit.specs.Commits.{Commits, WalkRequest, Listed, asked_parents}
 use Rattle.gix_traverse_commit.specs.Fetching.{FetchFault, HasRowsGeneration}
-use Rattle.gix_traverse_commit.specs.Numbered.{same_id}
-use Rattle.gix_traverse_commit.specs.Rows.{Holds}
-use Rattle.gix_traverse_commit.specs.Standing.{Walked, WalkedAll, Reads}
+use Rattle.gix_traverse_commit.specs.Keeping.{Kept, KeptAll}
+use Rattle.gix_traverse_commit.specs.Nodes.{is_asked, is_hidden, is_met}
+use Rattle.gix_traverse_commit.specs.Painting.{IsUnpainted, ReachedFrom, StopsPainting}
+use Rattle.gix_traverse_commit.specs.Rows.{AllHeld, Holds}
+use Rattle.gix_traverse_commit.specs.Told.{AreTold, rows_of}
+use Rattle.gix_traverse_commit.specs.Standing.{Reads}
+use Rattle.gix_traverse_commit.specs.Turns.{IsNextInBreadth}
+use Rattle.gix_traverse_commit.specs.Walks.{InBreadth}
 use Rattle.gix_traverse_commit.specs.declared.fetch.FetchError.{FetchError}
 use Rattle.gix_traverse_commit.specs.declared.fetch.FetchError.TheVariants as fetch
 use Rattle.gix_traverse_commit.specs.declared.info.Info.{Info}
+use Rattle.gix_traverse_commit.specs.declared.nodes.Node.{Node}
 use Rattle.gix_traverse_commit.specs.declared.parents.Parents.{Parents}
 use Rattle.gix_traverse_commit.specs.declared.rows.Row.{Row}
 use Rattle.gix_traverse_commit.specs.declared.simple.Error.{Error}
 use Rattle.gix_traverse_commit.specs.declared.simple.Error.TheVariants as fault
+use Rattle.gix_traverse_commit.specs.declared.simple.HiddenGraphError.TheVariants as hidden_fault
 use Rattle.gix_traverse_commit.specs.declared.simple.Simple.{Simple}
 
--- it was made of these tips and has given nothing: whatever parents it goes along, its queue is where they begin
-abbrev pub IsMade : {F : Type 0} → List ObjectId → Simple F → Type 0
-IsMade tips walk = (along : ObjectId → List ObjectId) → WalkedAll along tips [] (λ q. contains same_id walk.seen q) walk.queue.items 0
+-- what a walk is asked for
+pub record Asked : Type 0 where
+  pub tips : List ObjectId
+  pub hidden : List ObjectId
+  pub parents : Parents
+  pub accepts : Id → Bool
 
--- it has given this list, and the list with its queue has all that the list's parents name
-abbrev pub Stands : {F : Type 0} → Commits ObjectId → List ObjectId → List ObjectId → Simple F → Type 0
-Stands g tips listed walk =
-    WalkedAll (asked_parents walk.parents g) tips [] (λ q. contains same_id walk.seen q) (listed ++ walk.queue.items) (length listed)
+-- the same in the words of all walks
+abbrev pub request_of : Asked → WalkRequest ObjectId
+request_of a = record { tips = a.tips; hidden = a.hidden; parents = a.parents; since = None; accepts = λ x. a.accepts (id_of x) }
 
--- it comes to the parents of this commit, which it gives last
-abbrev pub EntersNext : {F : Type 0} → Commits ObjectId → List ObjectId → List ObjectId → ObjectId → Simple F → Type 0
-EntersNext g tips listed id walk =
-    Walked (asked_parents walk.parents g) tips [] (λ q. contains same_id walk.seen q) (listed ++ walk.queue.items) (length listed) 0
-    × Reads (listed ++ walk.queue.items) (length listed) id
+-- the tips that the predicate refuses are marked, and no others
+pub record AreAsked (accepts : Id → Bool) (tips : List ObjectId) (nodes : List Node) : Type 0 where
+  pub refused : (x : ObjectId) → is_met nodes x ≡ true → accepts (id_of x) ≡ false
+  pub accepted : (x : ObjectId) → Contains tips x → is_met nodes x ≡ false → accepts (id_of x) ≡ true
+  pub asked : (x : ObjectId) → is_asked nodes x ≡ true → is_met nodes x ≡ false → accepts (id_of x) ≡ true
+  pub unpainted : IsUnpainted nodes
+
+-- the commit has a row, or is among these ids
+abbrev pub IsKnown : List Row → List Id → ObjectId → Type 0
+IsKnown rows ids x = Holds rows x ⊎ Contains ids (id_of x)
+
+-- a walk that was asked for this, and has not begun
+pub record IsMade {F P : Type 0} (accepts : P → Id → Bool) (a : Asked) (walk : Simple F P) : Type 0 where
+  pub begun : walk.begun ≡ false
+  pub tips : walk.tips.items ≡ a.tips
+  pub hidden : walk.hidden.items ≡ a.hidden
+  pub parents : walk.parents ≡ a.parents
+  pub accepts_same : accepts walk.predicate ≡ a.accepts
+  pub asked : AreAsked a.accepts a.tips walk.nodes
+  pub empty : walk.queue.items ≡ []
+
+-- accepted, and not hidden
+abbrev pub keep_of : (ObjectId → Bool) → (Id → Bool) → ObjectId → Bool
+keep_of hides accepts x = not (hides x) && accepts (id_of x)
+
+-- a walk that has begun and given this list, of commits that have a row or are among these ids: the list with its queue has
+-- all that the list's parents name
+pub record IsGoing {F P : Type 0} (accepts : P → Id → Bool) (ids : List Id) (g : Commits ObjectId) (a : Asked) (listed : List ObjectId) (walk : Simple F P) : Type 0 where
+  pub begun : walk.begun ≡ true
+  pub parents : walk.parents ≡ a.parents
+  pub accepts_same : accepts walk.predicate ≡ a.accepts
+  pub hides : ObjectId → Bool
+  pub hidden : (x : ObjectId) → is_hidden walk.nodes x ≡ hides x
+  pub painted : (x : ObjectId) → (hides x ≡ true) ↔ ReachedFrom g a.hidden x
+  pub known : (x : ObjectId) → Contains listed x → IsKnown (rows_of walk.source.rows) ids x
+  pub walked : KeptAll (asked_parents a.parents g) a.tips (keep_of hides a.accepts) (is_met walk.nodes) (listed ++ walk.queue.items) (length listed)
+
+-- a walk that was asked for this and has given this list
+abbrev pub Stands : {F P : Type 0} → (P → Id → Bool) → List Id → Commits ObjectId → Asked → List ObjectId → Simple F P → Type 0
+Stands accepts ids g a listed walk = ((listed ≡ []) × IsMade accepts a walk) ⊎ IsGoing accepts ids g a listed walk
+
+-- it comes to the parents of this commit, which it gives next
+pub record Enters {F P : Type 0} (accepts : P → Id → Bool) (ids : List Id) (g : Commits ObjectId) (a : Asked) (listed : List ObjectId) (id : ObjectId) (walk : Simple F P) : Type 0 where
+  pub begun : walk.begun ≡ true
+  pub parents : walk.parents ≡ a.parents
+  pub accepts_same : accepts walk.predicate ≡ a.accepts
+  pub hides : ObjectId → Bool
+  pub hidden : (x : ObjectId) → is_hidden walk.nodes x ≡ hides x
+  pub painted : (x : ObjectId) → (hides x ≡ true) ↔ ReachedFrom g a.hidden x
+  pub known : (x : ObjectId) → Contains listed x → IsKnown (rows_of walk.source.rows) ids x
+  pub walked : Kept (asked_parents a.parents g) a.tips (keep_of hides a.accepts) (is_met walk.nodes) ((listed ++ id ∷ []) ++ walk.queue.items) (length (listed ++ id ∷ [])) 0
+  pub reads : Reads ((listed ++ id ∷ []) ++ walk.queue.items) (length (listed ++ id ∷ [])) id
+
+-- it gives nothing more
+pub record IsOver {F P : Type 0} (walk : Simple F P) : Type 0 where
+  pub begun : walk.begun ≡ true
+  pub empty : walk.queue.items ≡ []
 
 -- what is given of a commit in breadth order
-pub record IsInfo (g : Commits ObjectId) (rows : List Row) (parents : Parents) (id : ObjectId) (info : Info) : Type 0 where
-  pub of : info.id ≡ id
-  pub parents_asked : info.parent_ids.items ≡ asked_parents parents g id
-  pub by_row : HasRowsGeneration rows id info.generation
+pub record IsInfo (g : Commits ObjectId) (rows : List Row) (parents : Parents) (info : Info) : Type 0 where
+  pub parents_asked : info.parent_ids.items ≡ asked_parents parents g info.id
+  pub by_row : HasRowsGeneration rows info.id info.generation
   pub untimed : info.commit_time ≡ None
-
--- at most one object is asked for, and none where the commit has a row
-pub record Counts (rows : List Row) (id : ObjectId) (before after : ℕ) : Type 0 where
-  pub at_most_one : after ≤ before + 1
-  pub none_of_row : Holds rows id → after ≡ before
 
 abbrev pub error_of : FetchError → Error
 error_of (fetch.Find error) = fault.Find error
 error_of (fetch.ObjectDecode error) = fault.ObjectDecode error
 error_of fetch.Memory = fault.Memory
 
--- why the walk ends at this commit
-abbrev pub SimpleFault : Type 0 → Type 0 → List Row → Table → ObjectId → Error → Type 0
-SimpleFault honest may_fail rows table id (fault.Find error) = FetchFault honest may_fail rows table id (fetch.Find error)
-SimpleFault honest may_fail rows table id (fault.ObjectDecode error) = FetchFault honest may_fail rows table id (fetch.ObjectDecode error)
-SimpleFault honest may_fail rows table id fault.Memory = ⊤
+abbrev pub hidden_error : FetchError → Error
+hidden_error (fetch.Find error) = fault.HiddenGraph (hidden_fault.Find error)
+hidden_error (fetch.ObjectDecode error) = fault.HiddenGraph (hidden_fault.ObjectDecode error)
+hidden_error fetch.Memory = fault.Memory
 
--- why the walk ends at the commit that is queued first
-abbrev pub IsFaultOfNext : Type 0 → Type 0 → List Row → Table → List ObjectId → Error → Type 0
-IsFaultOfNext honest may_fail rows table queue error =
-    (id : ObjectId) × (rest : List ObjectId) × (queue ≡ id ∷ rest) × SimpleFault honest may_fail rows table id error
+-- a commit whose turn it is isn't read, for this cause
+abbrev pub StopsAt : (ObjectId → Type 0) → Type 0 → Type 0 → List Row → Table → FetchError → Type 0
+StopsAt Turn honest may_fail rows table error = (id : ObjectId) × Turn id × FetchFault honest may_fail rows table id error
+
+-- this commit isn't read, for this cause
+abbrev pub StopsFetch : Type 0 → Type 0 → List Row → Table → ObjectId → Error → Type 0
+StopsFetch honest may_fail rows table id (fault.Find error) = FetchFault honest may_fail rows table id (fetch.Find error)
+StopsFetch honest may_fail rows table id (fault.ObjectDecode error) = FetchFault honest may_fail rows table id (fetch.ObjectDecode error)
+StopsFetch honest may_fail rows table id (fault.HiddenGraph error) = ⊥
+StopsFetch honest may_fail rows table id fault.Memory = ⊤
+
+-- why the walk ends: a commit whose turn it is, or one that the hidden commits reach, isn't read
+abbrev pub SimpleFault : (ObjectId → Type 0) → Type 0 → Type 0 → List Row → Table → List ObjectId → Error → Type 0
+SimpleFault Turn honest may_fail rows table hidden (fault.Find error) = StopsAt Turn honest may_fail rows table (fetch.Find error)
+SimpleFault Turn honest may_fail rows table hidden (fault.ObjectDecode error) = StopsAt Turn honest may_fail rows table (fetch.ObjectDecode error)
+SimpleFault Turn honest may_fail rows table hidden (fault.HiddenGraph (hidden_fault.Find error)) = StopsPainting honest may_fail rows table hidden (fetch.Find error)
+SimpleFault Turn honest may_fail rows table hidden (fault.HiddenGraph (hidden_fault.ObjectDecode error)) = StopsPainting honest may_fail rows table hidden (fetch.ObjectDecode error)
+SimpleFault Turn honest may_fail rows table hidden fault.Memory = ⊤
+
+-- its turn is next
+abbrev pub IsTurn : Commits ObjectId → Asked → List ObjectId → ObjectId → Type 0
+IsTurn g a listed id = IsNextInBreadth (asked_parents a.parents g) a.tips (Listed g (request_of a)) listed id
+
+-- all that the walk begins from, hides and has queued has rows
+pub record InRows {F P : Type 0} (walk : Simple F P) : Type 0 where
+  pub tips : AllHeld (rows_of walk.source.rows) walk.tips.items
+  pub hidden : AllHeld (rows_of walk.source.rows) walk.hidden.items
+  pub queue : AllHeld (rows_of walk.source.rows) walk.queue.items
+
+-- the content is the commit's where its object told it, and else nothing
+pub record IsContentOf (honest : Type 0) (rows : List Row) (table : Table) (id : ObjectId) (content : List ℕ) : Type 0 where
+  pub rowed : Holds rows id → content ≡ []
+  pub stored : honest → ¬ Holds rows id → object.Stands table (id_of id) kinds.Commit content
+
+-- what the next commit is, after this list
+pub record IsNext {F P : Type 0} (accepts : P → Id → Bool) (ids : List Id) (g : Commits ObjectId) (a : Asked) (listed : List ObjectId) (rows : List Row) (info : Info) (after : Simple F P) : Type 0 where
+  pub told : IsInfo g rows a.parents info
+  pub fewer : length listed < length rows + length ids
+  pub stands : IsGoing accepts ids g a (listed ++ info.id ∷ []) after
+
+-- the answer to one that asks a walk for its next commit, of a store that is honest, may fail, has this table and finds none but these ids
+pub record GivesNext {F P : Type 0} (accepts : P → Id → Bool) (honest may_fail : Type 0) (table : Table) (ids : List Id) (before : Simple F P) (item : Option (Result Info Error)) (after : Simple F P) : Type 0 where
+  pub objects : after.source.objects ≡ before.source.objects
+  pub rows : after.source.rows ≡ before.source.rows
+  pub given : honest → (g : Commits ObjectId) → AreTold (rows_of before.source.rows) table g → (a : Asked) (listed : List ObjectId) → Stands accepts ids g a listed before
+      → IfSome item (λ answer. IfOk answer (λ info. IsNext accepts ids g a listed (rows_of before.source.rows) info after))
+  pub end : honest → (g : Commits ObjectId) → AreTold (rows_of before.source.rows) table g → (a : Asked) (listed : List ObjectId) → Stands accepts ids g a listed before
+      → IfNone item (InBreadth g (request_of a) listed)
+  pub refused : honest → (g : Commits ObjectId) → AreTold (rows_of before.source.rows) table g → (a : Asked) (listed : List ObjectId) → Stands accepts ids g a listed before
+      → IfSome item (λ answer. IfErr answer (SimpleFault (IsTurn g a listed) honest may_fail (rows_of before.source.rows) table a.hidden))
+  pub failed : IfSome item (λ answer. OnErr answer (IsOver after))
+  pub ended : IsOver before → IsNone item
+  pub content : IfSome item (λ answer. IfOk answer (λ info. IsContentOf honest (rows_of before.source.rows) table info.id after.source.buffer.items × (after.kind ≡ (id_of info.id).kind)))
+  pub counted : before.begun ≡ true → after.source.lookups ≤ before.source.lookups + 1
+  pub rowed : InRows before → IfSome item (λ answer. IfOk answer (λ _. InRows after × (after.source.lookups ≡ before.source.lookups)))

@@ -1,5 +1,5 @@
 -- What rows and objects tell of commits: a row all, where a commit has one; else its object, by the lines that begin it.
-use Rattle.std.specs.Prelude.{ℕ, ◌≡◌, ◌⊎◌, ℤ, pos, List, [], ◌∷◌, Contains, Option, Some, None, Result, Ok, Err, map, take, filter_map}
+use Rattle.std.specs.Prelude.{ℕ, ◌≡◌, ◌⊎◌, ℤ, pos, List, [], ◌∷◌, Contains, Option, Some, None, Result, Ok, map, take, filter_map}
 use Rattle.gix_hash.specs.Id.{Id, id_of}
 use Rattle.gix_hash.specs.declared.kind.Kind as hash
 use Rattle.gix_hash.specs.declared.object_id.ObjectId.{ObjectId}
@@ -9,8 +9,7 @@ use Rattle.gix_object_lines.specs.declared.kind.Kind.TheVariants as kinds
 use Rattle.gix_object_lines.specs.declared.lines.time.Time.{Time}
 use Rattle.gix_object_commit.specs.Commit.{Person}
 use Rattle.gix_object_commit.specs.ReadingOn.{Reads, TellsFirst, TellsNone, TakesTree, parent_told, committer_told}
-use Rattle.gix_object_commit.specs.Tokens.{Part, Tree, Parent, Author, Committer, Encoding, Header, Message, Place, IsNext, place_of, start}
-use Rattle.gix_object_commit.specs.declared.commit.ref_iter.CommitRefIter.{CommitRefIter}
+use Rattle.gix_object_commit.specs.Tokens.{Part, Tree, Parent, Place, IsNext, place_of, start}
 use Rattle.gix_object_find.specs.Existing.{Stands}
 use Rattle.gix_object_find.specs.Table.{Table}
 use Rattle.gix_traverse_commit.specs.Commits.{Commit, Commits}

@@ -7,7 +7,7 @@ ghost use Rattle.gix_object_commit.specs.ReadingOn.{TellsNone, committer_told};
 ghost use Rattle.gix_object_commit.specs.Tokens.{place_of};
 ghost use Rattle.gix_object_find.specs.Existing.{KindFault};
 ghost use Rattle.gix_object_lines.specs.declared.kind.Kind.TheVariants as kinds;
-ghost use Rattle.gix_traverse_commit.specs.Rows.{Holds, IsOnce};
+ghost use Rattle.gix_traverse_commit.specs.Rows.{Holds, AreRows};
 ghost use Rattle.gix_traverse_commit.specs.Told.{IsFound, TakesTreeOf, TellsTime, TellsSeconds, LacksTime, rows_of};
 
 use crate::{Graph, Row};
@@ -85,7 +85,7 @@ pub(crate) fn row_in<'cache>(cache: Option<&'cache Graph>, id: &ObjectId) -> Opt
     ensures found { IfSome result (λ row. Contains (rows_of (option_copied cache.entry)) row.now
         × (row.now.id ≡ id.now)) }
     ensures none { IfNone result (¬ Holds (rows_of (option_copied cache.entry)) id.now) }
-    ensures rows { IsOnce (rows_of (option_copied cache.entry)) }
+    ensures rows { AreRows (rows_of (option_copied cache.entry)) }
 {
     cache?.commit_by_id(id)
 }

@@ -8,7 +8,7 @@ ghost use Rattle.gix_object_find.specs.Existing.{KindFault, Stands};
 ghost use Rattle.gix_object_lines.specs.declared.kind.Kind.TheVariants as kinds;
 ghost use Rattle.gix_traverse_commit.specs.Commits.{Commits, asked_parents, asked};
 ghost use Rattle.gix_traverse_commit.specs.Fetching.{ReadsParents, HasRowsGeneration, ParentsFault, FetchFault, find_error};
-ghost use Rattle.gix_traverse_commit.specs.Rows.{Holds};
+ghost use Rattle.gix_traverse_commit.specs.Rows.{AllHeld, Holds};
 ghost use Rattle.gix_traverse_commit.specs.Told.{AreTold, rows_of};
 ghost use Rattle.gix_traverse_commit.specs.declared.fetch.FetchError.TheVariants.{ObjectDecode, Memory};
 
@@ -24,7 +24,7 @@ use std::alloc::{AllocError, AllocFailed, Global};
 
 /// Why a commit isn't read.
 #[derive(Debug, Clone, Copy, PartialEq, Eq)]
-pub(crate) enum FetchError {
+pub enum FetchError {
     /// It isn't found.
     Find(existing_iter::Error),
     /// Its object's lines aren't those of a commit.
@@ -70,7 +70,7 @@ impl<T: Drop> From<AllocFailed<T>> for FetchError {
 
 /// What a walk reads of a commit.
 #[derive(Drop)]
-pub(crate) struct Fetched {
+pub struct Fetched {
     /// The ids of the parents that were asked for.
     pub parents: ParentIds,
     /// The committer's seconds, where the commit tells them.
@@ -146,7 +146,7 @@ fn load<F: Find>(
 
 /// Where a walk reads commits from: rows first, else objects. It counts the objects that it asks for.
 #[derive(Drop)]
-pub(crate) struct Source<F> {
+pub struct Source<F> {
     pub objects: F,
     pub rows: Option<Graph>,
     /// The content of the object that was read last, and nothing where a row was.
@@ -171,6 +171,8 @@ impl<F: Find> Source<F> {
             ⊎ Contains (F.ids self.old.objects) (id_of id.now)) }
         ensures rowed { Holds (rows_of self.old.rows) id.now
             → (self.new.lookups ≡ self.old.lookups) × (self.new.buffer.items ≡ []) }
+        ensures closed { Holds (rows_of self.old.rows) id.now
+            → IfOk result (λ commit. AllHeld (rows_of self.old.rows) commit.parents.items) }
         ensures counted { self.new.lookups ≤ self.old.lookups + 1 }
         ensures content { F.is_honest self.old.objects → ¬ Holds (rows_of self.old.rows) id.now
             → OnOk result (Stands (F.table self.old.objects) (id_of id.now) kinds.Commit self.new.buffer.items) }

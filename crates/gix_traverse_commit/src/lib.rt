@@ -3,9 +3,11 @@
 
 mod accept;
 mod either;
-mod fetch;
+pub mod fetch;
 mod info;
 pub mod laws;
+pub mod nodes;
+pub mod paint;
 mod parents;
 mod rows;
 pub mod sample;

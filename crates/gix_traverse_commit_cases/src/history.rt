@@ -1,5 +1,6 @@
 //! Rows that the lines give, the graph that they make, and what is asked of it.
 
+use crate::walks::{Asked, given};
 use gix_hash::ObjectId;
 use gix_traverse_commit::{Graph, ParentIds, Parents, Row, RowsError, WalkError, breadth_first};
 use std::alloc::Global;
@@ -30,6 +31,7 @@ impl History {
             2 => self.found(alloc, *word.get(1)?),
             4 => self.walked(alloc, *word.get(1)?, *word.get(2)?, *word.get(3)?),
             5 => self.added(alloc, word),
+            6 => self.given(alloc, word),
             _ => None,
         }
     }
@@ -92,6 +94,34 @@ impl History {
             Err(WalkError::Memory) => None,
         }
     }
+
+    // A walk of `Simple`: along which parents, the tips, the hidden commits, the one that is refused, and whether its order is
+    // shown.
+    fn given(&self, alloc: Global, word: &[&str]) -> Option<String> {
+        let parents = if *word.get(1)? == "first" {
+            Parents::First
+        } else {
+            Parents::All
+        };
+        let asked = Asked {
+            tips: ids(alloc, *word.get(2)?)?,
+            hidden: ids(alloc, *word.get(3)?)?,
+            parents,
+            refused: ids(alloc, *word.get(4)?)?.as_slice().first().copied(),
+        };
+        let found = given(alloc, self.graph.as_ref()?, asked)?;
+        if *word.get(5)? == "set" {
+            shown(alloc, sorted(found)?.as_slice())
+        } else {
+            shown(alloc, found.as_slice())
+        }
+    }
+}
+
+// The ids in ascending order.
+fn sorted(mut ids: Vec<ObjectId>) -> Option<Vec<ObjectId>> {
+    ids.sort().ok()?;
+    Some(ids)
 }
 
 // The words between spaces.

@@ -2,6 +2,7 @@
 #![tactic(auto)]
 
 mod history;
+mod walks;
 
 use crate::history::History;
 use std::io;

@@ -1,5 +1,5 @@
 use Rattle.std.proofs.lemmas.Result.{err_from_is_err_and}
-use Rattle.std.proofs.Common.{◌≡◌, ◌∙◌, ap, sym, subst, List, ℕ, Option}
+use Rattle.std.proofs.Common.{◌≡◌, ◌∙◌, ap, subst, List, ℕ, Option}
 use Rattle.gix_hash.specs.Id.{id_of}
 use Rattle.gix_hash.specs.declared.kind.Kind as hash
 use Rattle.gix_object_commit.specs.Tokens.{Place, place_of, start}
@@ -7,6 +7,14 @@ use Rattle.gix_traverse_commit.specs.Rows.{Holds}
 use Rattle.gix_traverse_commit.specs.Told.{rows_of}
 use Rattle.gix_traverse_commit.specs.declared.rows.Row.{Row}
 use Rattle.gix_traverse_commit.proofs.Told.{object_parents, object_time, find_fault}
+use Rattle.std.proofs.Common.{take}
+use Rattle.std.specs.Prelude.{Contains}
+use Rattle.gix_hash.specs.declared.object_id.ObjectId.{ObjectId}
+use Rattle.gix_traverse_commit.specs.Commits.{asked}
+use Rattle.gix_traverse_commit.specs.Rows.{AllHeld}
+use Rattle.gix_traverse_commit.specs.declared.parents.Parents.{Parents}
+use Rattle.gix_traverse_commit.specs.declared.parents.Parents.TheVariants.{All, First}
+use Rattle.gix_traverse_commit.proofs.Lists.{at_from_contains, at_from_take, contains_from_at}
 use Rattle.gix_traverse_commit.proofs.fetch.Source.fetch.Goals as goal
 
 begun : (place : Place) (kind known : hash.Kind) (bytes content : List ℕ) → place ≡ start kind bytes → kind ≡ known → bytes ≡ content → place ≡ start known content
@@ -27,3 +35,15 @@ pub returns-clause-time : goal.returns-clause-time
 returns-clause-time g c = λ honest commits told.
     object_time (rows_of c.args.self.now.rows) (g.F.Lookup.table c.args.self.now.objects) commits told c.args.id.now c.load.new.buffer.items (place_of c.from_bytes-reader.result) c.seconds.result c.ok.result
     (subst (λ (o : Option (List Row)). Holds (rows_of o) c.args.id.now → ⊥) c.as_ref.ensures.value c.in_default.ensures.none) (c.in_ok-load.ensures.stood honest) (begun (place_of c.from_bytes-reader.result) c.kind.result (id_of c.args.id.now).kind c.as_slice-2.result.now c.load.new.buffer.items c.from_bytes-reader.ensures c.kind.ensures c.as_slice-2.ensures.value) c.seconds.ensures.told c.seconds.ensures.every c.ok.ensures.value
+
+-- the parents that are asked for are parents
+asked_in : (along : Parents) (ps : List ObjectId) (x : ObjectId) → Contains (asked along ps) x → Contains ps x
+asked_in All ps x c = c
+asked_in First ps x c =
+    let (k, a) = at_from_contains (take 1 ps) x c in
+    contains_from_at ps k x (at_from_take ps 1 k x a).1
+
+pub returns-in-Some-clause-closed : goal.returns-in-Some-clause-closed
+returns-in-Some-clause-closed g c = λ held.
+    subst (λ (o : Option (List Row)). AllHeld (rows_of o) c.in_ok-from_slice.field-0.items) c.as_ref.ensures.value (λ x k. c.in-Some.ensures.rows.parents c.in-Some.row.now c.in-Some.ensures.found.0 x
+    (asked_in c.args.along c.in-Some.row.now.parents.items x (subst (λ (xs : List ObjectId). Contains xs x) (c.in_ok-from_slice.ensures.ok ∙ c.asked_of.ensures ∙ ap (asked c.args.along) c.as_slice.ensures) k)))

@@ -1,0 +1,111 @@
+use Rattle.std.proofs.lemmas.Result.{err_from_is_err_and}
+use Rattle.std.proofs.lemmas.Option.{slice_get_within}
+use Rattle.std.proofs.Common.{refl, sym, suc, List, ◌∙◌, ◌≡◌, ◌<◌, ◌≤◌, ◌+◌, ℕ, length, arith, subst}
+use Rattle.gix_hash.specs.declared.object_id.ObjectId.{ObjectId}
+use Rattle.gix_traverse_commit.specs.Nodes.{is_hidden}
+use Rattle.gix_traverse_commit.specs.Order.{At}
+use Rattle.gix_traverse_commit.specs.Painting.{every}
+use Rattle.gix_traverse_commit.specs.Keeping.{Kept}
+use Rattle.gix_traverse_commit.specs.Rows.{AllHeld}
+use Rattle.gix_traverse_commit.specs.Told.{rows_of}
+use Rattle.gix_traverse_commit.proofs.Keeping.{kept_next}
+use Rattle.gix_traverse_commit.proofs.Lists.{contains_from_at}
+use Rattle.gix_traverse_commit.proofs.Painting.{painted_all, painted_reached, known_longer, read_fit, paint_fault, shorter}
+use Rattle.gix_traverse_commit.proofs.RowLemmas.{at_item}
+use Rattle.gix_traverse_commit.proofs.paint.paint.Goals as goal
+
+pub returns-in_err-commit-clause-refused : goal.returns-in_err-commit-clause-refused
+returns-in_err-commit-clause-refused g c = λ unpainted.
+    let p = err_from_is_err_and c.from_residual-in_err-commit.result c.from_residual-in_err-commit.ensures.1 in
+    let items : List ObjectId = c.painted.painted.items in
+    let l : c.painted.read < length items = omega arith in
+    let here : At items c.painted.read c.index.result.now = at_item items c.painted.read c.index.result.now l c.index.ensures in
+    let f = rw (c.painted.invariant.rows, c.painted.invariant.objects) at c.in_err-commit.ensures.refused in
+    rw (p.1, p.2) (paint_fault (g.F.Lookup.is_honest c.args.source.now.objects) (g.F.Lookup.may_fail c.args.source.now.objects) (rows_of c.args.source.now.rows) (g.F.Lookup.table c.args.source.now.objects) c.args.hidden.now c.index.result.now c.in_err-commit.field-0.0 f
+    (λ honest commits told. painted_reached commits c.args.hidden.now c.painted.nodes items c.painted.read c.painted.read c.index.result.now (c.painted.invariant.walked unpainted honest commits told) here))
+
+pub painted-preserved-in_ok-paint_parents : goal.painted-preserved-in_ok-paint_parents
+painted-preserved-in_ok-paint_parents g c =
+    let items : List ObjectId = c.painted.painted.items in
+    let id : ObjectId = c.index.result.now in
+    let l : c.painted.read < length items = omega arith in
+    let here : At items c.painted.read id = at_item items c.painted.read id l c.index.ensures in
+    let listed = rw (c.painted.invariant.rows, c.painted.invariant.objects) at c.in_ok-commit.ensures.listed in
+    let parents = rw (c.painted.invariant.rows, c.painted.invariant.objects) at c.in_ok-commit.ensures.parents in
+    let closed = rw c.painted.invariant.rows at c.in_ok-commit.ensures.closed in
+    let counted = rw c.painted.invariant.rows at c.in_ok-commit.ensures.rowed in
+    let rows = rows_of c.args.source.now.rows in
+    let ids = g.F.Lookup.ids c.args.source.now.objects in
+    record {
+      objects = c.fetch.ensures.objects ∙ c.painted.invariant.objects;
+      rows = c.fetch.ensures.rows ∙ c.painted.invariant.rows;
+      met = λ q. c.in_ok-paint_parents.ensures.met q ∙ c.painted.invariant.met q;
+      within = (let k = slice_get_within c.paint_parents.new.painted.items c.painted.read id (c.in_ok-paint_parents.ensures.longer c.painted.read id here) in omega arith);
+      painted = c.in_ok-paint_parents.ensures.painted c.painted.invariant.painted;
+      known = known_longer rows ids items c.paint_parents.new.painted.items c.painted.read id l c.in_ok-paint_parents.ensures.longer c.painted.invariant.known here listed;
+      rowed = (λ h. let r = c.painted.invariant.rowed h in let held = r.0 id (contains_from_at items c.painted.read id here) in (c.in_ok-paint_parents.ensures.rowed rows r.0 (subst (λ (xs : List ObjectId). AllHeld rows xs) (sym c.as_slice.ensures) (closed held)), (counted held).0 ∙ r.1));
+      walked = (λ unpainted honest commits told.
+          let w = c.painted.invariant.walked unpainted honest commits told in
+          let e : c.painted.read + 1 ≡ suc c.painted.read = omega arith in
+          c.in_ok-paint_parents.ensures.walked (λ y. (commits y).parents) c.args.hidden.now id (c.painted.read + 1) (c.as_slice.ensures ∙ parents honest commits told)
+          (subst (λ (n : ℕ). Kept (λ y. (commits y).parents) c.args.hidden.now every (is_hidden c.painted.nodes) items n 0) (sym e) (kept_next (λ y. (commits y).parents) c.args.hidden.now every (is_hidden c.painted.nodes) items c.painted.read w (omega arith)))
+          (c.painted.read, e, here));
+    }
+
+pub painted-smaller-in_ok-paint_parents : goal.painted-smaller-in_ok-paint_parents
+painted-smaller-in_ok-paint_parents g c =
+    let items : List ObjectId = c.painted.painted.items in
+    let id : ObjectId = c.index.result.now in
+    let l : c.painted.read < length items = omega arith in
+    let here : At items c.painted.read id = at_item items c.painted.read id l c.index.ensures in
+    let listed = rw (c.painted.invariant.rows, c.painted.invariant.objects) at c.in_ok-commit.ensures.listed in
+    let rows = rows_of c.args.source.now.rows in
+    let ids = g.F.Lookup.ids c.args.source.now.objects in
+    let within : c.painted.read + 1 ≤ length c.paint_parents.new.painted.items = let k = slice_get_within c.paint_parents.new.painted.items c.painted.read id (c.in_ok-paint_parents.ensures.longer c.painted.read id here) in omega arith in
+    let fit = read_fit rows ids c.paint_parents.new.painted.items (c.painted.read + 1) (c.in_ok-paint_parents.ensures.painted c.painted.invariant.painted).once (known_longer rows ids items c.paint_parents.new.painted.items c.painted.read id l c.in_ok-paint_parents.ensures.longer c.painted.invariant.known here listed) within in
+    shorter (length rows + length ids) c.painted.read (c.painted.read + 1) fit refl
+
+pub painted-smaller : goal.painted-smaller
+painted-smaller g c =
+    let items : List ObjectId = c.painted.painted.items in
+    let id : ObjectId = c.index.result.now in
+    let l : c.painted.read < length items = omega arith in
+    let here : At items c.painted.read id = at_item items c.painted.read id l c.index.ensures in
+    let listed = rw (c.painted.invariant.rows, c.painted.invariant.objects) at c.in_ok-commit.ensures.listed in
+    let rows = rows_of c.args.source.now.rows in
+    let ids = g.F.Lookup.ids c.args.source.now.objects in
+    let within : c.painted.read + 1 ≤ length c.paint_parents.new.painted.items = let k = slice_get_within c.paint_parents.new.painted.items c.painted.read id (c.in_ok-paint_parents.ensures.longer c.painted.read id here) in omega arith in
+    let fit = read_fit rows ids c.paint_parents.new.painted.items (c.painted.read + 1) (c.in_ok-paint_parents.ensures.painted c.painted.invariant.painted).once (known_longer rows ids items c.paint_parents.new.painted.items c.painted.read id l c.in_ok-paint_parents.ensures.longer c.painted.invariant.known here listed) within in
+    shorter (length rows + length ids) c.painted.read (c.painted.read + 1) fit refl
+
+pub painted-preserved : goal.painted-preserved
+painted-preserved g c =
+    let items : List ObjectId = c.painted.painted.items in
+    let id : ObjectId = c.index.result.now in
+    let l : c.painted.read < length items = omega arith in
+    let here : At items c.painted.read id = at_item items c.painted.read id l c.index.ensures in
+    let listed = rw (c.painted.invariant.rows, c.painted.invariant.objects) at c.in_ok-commit.ensures.listed in
+    let parents = rw (c.painted.invariant.rows, c.painted.invariant.objects) at c.in_ok-commit.ensures.parents in
+    let closed = rw c.painted.invariant.rows at c.in_ok-commit.ensures.closed in
+    let counted = rw c.painted.invariant.rows at c.in_ok-commit.ensures.rowed in
+    let rows = rows_of c.args.source.now.rows in
+    let ids = g.F.Lookup.ids c.args.source.now.objects in
+    record {
+      objects = c.fetch.ensures.objects ∙ c.painted.invariant.objects;
+      rows = c.fetch.ensures.rows ∙ c.painted.invariant.rows;
+      met = λ q. c.in_ok-paint_parents.ensures.met q ∙ c.painted.invariant.met q;
+      within = (let k = slice_get_within c.paint_parents.new.painted.items c.painted.read id (c.in_ok-paint_parents.ensures.longer c.painted.read id here) in omega arith);
+      painted = c.in_ok-paint_parents.ensures.painted c.painted.invariant.painted;
+      known = known_longer rows ids items c.paint_parents.new.painted.items c.painted.read id l c.in_ok-paint_parents.ensures.longer c.painted.invariant.known here listed;
+      rowed = (λ h. let r = c.painted.invariant.rowed h in let held = r.0 id (contains_from_at items c.painted.read id here) in (c.in_ok-paint_parents.ensures.rowed rows r.0 (subst (λ (xs : List ObjectId). AllHeld rows xs) (sym c.as_slice.ensures) (closed held)), (counted held).0 ∙ r.1));
+      walked = (λ unpainted honest commits told.
+          let w = c.painted.invariant.walked unpainted honest commits told in
+          let e : c.painted.read + 1 ≡ suc c.painted.read = omega arith in
+          c.in_ok-paint_parents.ensures.walked (λ y. (commits y).parents) c.args.hidden.now id (c.painted.read + 1) (c.as_slice.ensures ∙ parents honest commits told)
+          (subst (λ (n : ℕ). Kept (λ y. (commits y).parents) c.args.hidden.now every (is_hidden c.painted.nodes) items n 0) (sym e) (kept_next (λ y. (commits y).parents) c.args.hidden.now every (is_hidden c.painted.nodes) items c.painted.read w (omega arith)))
+          (c.painted.read, e, here));
+    }
+
+pub returns-clause-painted : goal.returns-clause-painted
+returns-clause-painted g c = λ unpainted honest commits told.
+    painted_all commits c.args.hidden.now c.painted.nodes c.painted.painted.items c.painted.read (c.painted.invariant.walked unpainted honest commits told) (omega arith)

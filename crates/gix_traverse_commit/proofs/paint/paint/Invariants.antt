@@ -1,0 +1,28 @@
+use Rattle.std.proofs.Common.{◌≡◌, ℕ, ◌<◌, ◌≤◌, ◌+◌, ◌-◌, length}
+use Rattle.gix_hash.specs.declared.object_id.ObjectId.{ObjectId}
+use Rattle.gix_traverse_commit.specs.Commits.{Commits}
+use Rattle.gix_traverse_commit.specs.Keeping.{KeptAll}
+use Rattle.gix_traverse_commit.specs.Nodes.{is_hidden, is_met}
+use Rattle.gix_traverse_commit.specs.Order.{At}
+use Rattle.gix_traverse_commit.specs.Painting.{IsPainted, IsUnpainted, every}
+use Rattle.gix_traverse_commit.specs.Rows.{AllHeld}
+use Rattle.gix_traverse_commit.specs.Simply.{IsKnown}
+use Rattle.gix_traverse_commit.specs.Told.{AreTold, rows_of}
+use Rattle.gix_traverse_commit.proofs.paint.paint.Given as goal
+
+abbrev pub invariant-painted : goal.invariant-painted
+invariant-painted g l = record {
+  objects : l.source.objects ≡ l.fn.source.objects;
+  rows : l.source.rows ≡ l.fn.source.rows;
+  met : (q : ObjectId) → is_met l.nodes q ≡ is_met l.fn.nodes q;
+  within : l.read ≤ length l.painted.items;
+  painted : IsPainted l.nodes l.painted.items;
+  known : (k : ℕ) (x : ObjectId) → k < l.read → At l.painted.items k x → IsKnown (rows_of l.fn.source.rows) (g.F.Lookup.ids l.fn.source.objects) x;
+  rowed : AllHeld (rows_of l.fn.source.rows) l.hidden → AllHeld (rows_of l.fn.source.rows) l.painted.items × (l.source.lookups ≡ l.fn.source.lookups);
+  walked : IsUnpainted l.fn.nodes → g.F.Lookup.is_honest l.fn.source.objects → (commits : Commits ObjectId)
+      → AreTold (rows_of l.fn.source.rows) (g.F.Lookup.table l.fn.source.objects) commits
+      → KeptAll (λ y. (commits y).parents) l.hidden every (is_hidden l.nodes) l.painted.items l.read;
+}
+
+abbrev pub decreases-painted : goal.decreases-painted
+decreases-painted g l = (length (rows_of l.fn.source.rows) + length (g.F.Lookup.ids l.fn.source.objects)) - l.read

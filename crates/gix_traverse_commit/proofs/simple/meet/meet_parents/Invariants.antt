@@ -1,0 +1,23 @@
+use Rattle.std.proofs.Common.{◌≡◌, List, ◌++◌, length, Bool}
+use Rattle.std.specs.Prelude.{not, ◌&&◌}
+use Rattle.gix_hash.specs.Id.{id_of}
+use Rattle.gix_hash.specs.declared.object_id.ObjectId.{ObjectId}
+use Rattle.gix_traverse_commit.specs.Keeping.{Kept}
+use Rattle.gix_traverse_commit.specs.Nodes.{is_hidden, is_met}
+use Rattle.gix_traverse_commit.specs.Standing.{Reads}
+use Rattle.gix_traverse_commit.specs.Rows.{AllHeld}
+use Rattle.gix_traverse_commit.specs.declared.rows.Row.{Row}
+use Rattle.gix_traverse_commit.proofs.simple.meet.meet_parents.Given as goal
+
+abbrev pub invariant-parents : goal.invariant-parents
+invariant-parents g l = record {
+  accepts : g.P.Accept.accepts l.predicate ≡ g.P.Accept.accepts l.fn.predicate;
+  hidden : (q : ObjectId) → is_hidden l.nodes q ≡ is_hidden l.fn.nodes q;
+  rowed : (rows : List Row) → AllHeld rows l.fn.queue.items → AllHeld rows l.parents → AllHeld rows l.queue.items;
+  walked : (along : ObjectId → List ObjectId) (keep : ObjectId → Bool) (tips listed : List ObjectId) (id : ObjectId)
+      → ((x : ObjectId) → keep x ≡ (not (is_hidden l.fn.nodes x) && g.P.Accept.accepts l.fn.predicate (id_of x)))
+      → l.parents ≡ along id
+      → Kept along tips keep (is_met l.fn.nodes) (listed ++ l.fn.queue.items) (length listed) 0
+      → Reads (listed ++ l.fn.queue.items) (length listed) id
+      → Kept along tips keep (is_met l.nodes) (listed ++ l.queue.items) (length listed) l.parent-index × Reads (listed ++ l.queue.items) (length listed) id;
+}

@@ -1,0 +1,26 @@
+use Rattle.std.proofs.Common.{refl, List, [], get_or, ◌∙◌, sym, ap}
+use Rattle.std.specs.Prelude.{not}
+use Rattle.std.proofs.lemmas.Option.{slice_get-get_or}
+use Rattle.gix_hash.specs.declared.object_id.ObjectId.{ObjectId}
+use Rattle.gix_hash.specs.declared.object_id.ObjectId.TheVariants.{Sha1}
+use Rattle.gix_traverse_commit.specs.Nodes.{is_hidden, is_met}
+use Rattle.gix_traverse_commit.proofs.Keeping.{kept_meet, kept_start, met_more, unmet_before}
+use Rattle.gix_traverse_commit.proofs.Lists.{contains_from_at}
+use Rattle.gix_traverse_commit.proofs.Painting.{queues_held}
+use Rattle.gix_traverse_commit.proofs.simple.meet.queue_tips.Goals as goal
+
+pub tips-preserved : goal.tips-preserved
+tips-preserved c =
+    let ids : List ObjectId = c.args.tips.now in
+    let id : ObjectId = get_or ids c.tips.tip-index (Sha1 []) in
+    let here = slice_get-get_or ids c.tips.tip-index (Sha1 []) c.tips-test.true in
+    record {
+      hidden = λ q. c.in_ok-queue_tip.ensures.hidden q ∙ c.tips.invariant.hidden q;
+      grown = λ q h. met_more (is_met c.tips.nodes) (is_met c.queue_tip.new.nodes) id q c.in_ok-queue_tip.ensures.met (c.tips.invariant.grown q h);
+      rowed = λ rows a b. queues_held rows (is_met c.tips.nodes id) (not (is_hidden c.tips.nodes id)) c.tips.queue.items c.queue_tip.new.queue.items id c.in_ok-queue_tip.ensures.queued (c.tips.invariant.rowed rows a b) (b id (contains_from_at ids c.tips.tip-index id here));
+      walked = λ along keep which w. kept_meet along ids keep (is_met c.tips.nodes) (is_met c.queue_tip.new.nodes) (not (is_hidden c.tips.nodes id)) [] c.tips.queue.items c.queue_tip.new.queue.items 0 c.tips.tip-index id (c.tips.invariant.walked along keep which w) here c.in_ok-queue_tip.ensures.queued c.in_ok-queue_tip.ensures.met
+          (λ f. which id (contains_from_at ids c.tips.tip-index id here) (unmet_before (is_met c.args.nodes.now) (is_met c.tips.nodes) id (c.tips.invariant.grown id) f) ∙ ap not (sym (c.tips.invariant.hidden id)));
+    }
+
+pub returns-clause-walked : goal.returns-clause-walked
+returns-clause-walked c = λ along keep which w. kept_start along c.args.tips.now keep (is_met c.tips.nodes) [] c.tips.queue.items c.tips.tip-index refl (c.tips.invariant.walked along keep which w) c.tips-test.false

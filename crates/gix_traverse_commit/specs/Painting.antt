@@ -1,0 +1,44 @@
+-- Which commits are painted as hidden.
+use Rattle.std.specs.Prelude.{◌≡◌, ◌↔◌, ℕ, Bool, true, false, List, Contains, ⊤}
+use Rattle.gix_hash.specs.declared.object_id.ObjectId.{ObjectId}
+use Rattle.gix_object_find.specs.Table.{Table}
+use Rattle.gix_traverse_commit.specs.Commits.{Commits, Reached}
+use Rattle.gix_traverse_commit.specs.Fetching.{FetchFault}
+use Rattle.gix_traverse_commit.specs.Nodes.{is_hidden}
+use Rattle.gix_traverse_commit.specs.Order.{At}
+use Rattle.gix_traverse_commit.specs.Told.{AreTold}
+use Rattle.gix_traverse_commit.specs.declared.fetch.FetchError.{FetchError}
+use Rattle.gix_traverse_commit.specs.declared.fetch.FetchError.TheVariants as fault
+use Rattle.gix_traverse_commit.specs.declared.nodes.Node.{Node}
+use Rattle.gix_traverse_commit.specs.declared.rows.Row.{Row}
+
+-- all are kept
+abbrev pub every : ObjectId → Bool
+every x = true
+
+-- reached from these commits by all parents
+abbrev pub ReachedFrom : Commits ObjectId → List ObjectId → ObjectId → Type 0
+ReachedFrom g hidden x = Reached (λ y. (g y).parents) (λ _. ⊤) hidden x
+
+-- nothing is painted
+abbrev pub IsUnpainted : List Node → Type 0
+IsUnpainted nodes = (x : ObjectId) → is_hidden nodes x ≡ false
+
+-- painted is exactly what these commits reach
+abbrev pub Paints : Commits ObjectId → List ObjectId → List Node → Type 0
+Paints g hidden nodes = (x : ObjectId) → (is_hidden nodes x ≡ true) ↔ ReachedFrom g hidden x
+
+-- a list of painted commits, each once
+pub record IsPainted (nodes : List Node) (xs : List ObjectId) : Type 0 where
+  pub marked : (x : ObjectId) → Contains xs x → is_hidden nodes x ≡ true
+  pub once : (j k : ℕ) (x : ObjectId) → At xs j x → At xs k x → j ≡ k
+
+-- a commit that the hidden ones reach isn't read, for this cause
+abbrev pub StopsPainting : Type 0 → Type 0 → List Row → Table → List ObjectId → FetchError → Type 0
+StopsPainting honest may_fail rows table hidden error =
+    (id : ObjectId) × FetchFault honest may_fail rows table id error × (honest → (g : Commits ObjectId) → AreTold rows table g → ReachedFrom g hidden id)
+
+abbrev pub PaintFault : Type 0 → Type 0 → List Row → Table → List ObjectId → FetchError → Type 0
+PaintFault honest may_fail rows table hidden (fault.Find error) = StopsPainting honest may_fail rows table hidden (fault.Find error)
+PaintFault honest may_fail rows table hidden (fault.ObjectDecode error) = StopsPainting honest may_fail rows table hidden (fault.ObjectDecode error)
+PaintFault honest may_fail rows table hidden fault.Memory = ⊤
