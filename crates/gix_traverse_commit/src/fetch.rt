@@ -24,7 +24,7 @@ use std::alloc::{AllocError, AllocFailed, Global};
 
 /// Why a commit isn't read.
 #[derive(Debug, Clone, Copy, PartialEq, Eq)]
-pub(crate) enum FetchError {
+pub enum FetchError {
     /// It isn't found.
     Find(existing_iter::Error),
     /// Its object's lines aren't those of a commit.
@@ -70,7 +70,7 @@ impl<T: Drop> From<AllocFailed<T>> for FetchError {
 
 /// What a walk reads of a commit.
 #[derive(Drop)]
-pub(crate) struct Fetched {
+pub struct Fetched {
     /// The ids of the parents that were asked for.
     pub parents: ParentIds,
     /// The committer's seconds, where the commit tells them.
@@ -79,8 +79,8 @@ pub(crate) struct Fetched {
     pub generation: Option<u32>,
 }
 
-// The parents that a walk goes along, of all.
-fn asked_of(parents: &[ObjectId], along: Parents) -> &[ObjectId]
+/// The parents that a walk goes along, of all.
+pub fn asked_of(parents: &[ObjectId], along: Parents) -> &[ObjectId]
     ensures { result.now ≡ asked along parents.now }
 {
     match along {
@@ -146,11 +146,14 @@ fn load<F: Find>(
 
 /// Where a walk reads commits from: rows first, else objects. It counts the objects that it asks for.
 #[derive(Drop)]
-pub(crate) struct Source<F> {
+pub struct Source<F> {
+    /// The objects, asked where there is no row.
     pub objects: F,
+    /// The rows, asked first.
     pub rows: Option<Graph>,
     /// The content of the object that was read last, and nothing where a row was.
     pub buffer: Vec<u8>,
+    /// How many objects were asked for.
     pub lookups: usize,
 }
 

@@ -3,7 +3,7 @@
 
 mod accept;
 mod either;
-mod fetch;
+pub mod fetch;
 mod info;
 pub mod laws;
 mod parents;
