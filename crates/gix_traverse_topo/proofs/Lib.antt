@@ -7,3 +7,4 @@ pub mod Freeing
 pub mod Meeting
 pub mod Counting
 pub mod Stepping
+pub mod Updates
