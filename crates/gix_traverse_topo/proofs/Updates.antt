@@ -1,9 +1,13 @@
 -- What a change of one commit's count leaves.
 use Rattle.std.proofs.Common.{◌≡◌, ℕ, zero, suc, ◌+◌, ◌-◌, ◌<◌, ◌≤◌, ◌⊎◌, inl, inr, List, [], ◌∷◌, ◌++◌, length, map, take, refl, sym, ◌∙◌, ap, subst, arith, Some, None, slice_get, Option, Bool, true, false, cond, get_or, set, Result, Ok, Err, length-append}
-use Rattle.std.specs.Prelude.{Contains, IsPermutation, OnOk, IfOk}
+use Rattle.std.specs.Prelude.{Contains, IsPermutation, OnOk, IfOk, IfSome, is_some, SomeIff}
+use Rattle.std.specs.Option.{option_copied}
+use Rattle.std.specs.Borrow.{Bor}
+use Rattle.std.proofs.lemmas.Bool.Decides.{nat_tests}
+use Rattle.gix_traverse_topo.specs.declared.known.Number.{Number}
 use Rattle.std.specs.BinaryHeap.{heap_items, IsHeap}
 use Rattle.std.specs.declared.collections.BinaryHeap.{BinaryHeap}
-use Rattle.std.proofs.Common.{Global, ltb}
+use Rattle.std.proofs.Common.{Global, ltb, eqb, ◌^◌}
 use Rattle.std.proofs.lemmas.Bool.{ltb-true}
 use Rattle.std.proofs.lemmas.List.{map-set}
 use Rattle.std.proofs.lemmas.List.Elements.{Contains-push_cases, Contains-append_left, Contains-push}
@@ -17,7 +21,7 @@ use Rattle.gix_traverse_commit.specs.Order.{At}
 use Rattle.gix_traverse_commit.specs.declared.parents.Parents.{Parents}
 use Rattle.gix_traverse_commit.proofs.Lists.{at_one, at_from_contains, contains_from_at, none_at_nil, at_from_push, three}
 use Rattle.gix_traverse_topo.specs.Nodes.{readings, counts, EachCount, NamesOne, IsOnce, ParentsFrom}
-use Rattle.gix_traverse_topo.specs.Standing.{weight, CountsOff}
+use Rattle.gix_traverse_topo.specs.Standing.{weight, CountsOff, passed, counted, freed}
 use Rattle.gix_traverse_topo.specs.Turns.{total, times, names_of, named_so_far}
 use Rattle.gix_traverse_topo.specs.Waiting.{waiting, Joined, Popped, IsFree, pending_cmp}
 use Rattle.gix_traverse_topo.specs.declared.known.Known.{Known}
@@ -26,10 +30,10 @@ use Rattle.gix_traverse_topo.specs.declared.known.Reading.{Reading}
 use Rattle.gix_traverse_topo.specs.declared.ready.Pending.{Pending}
 use Rattle.gix_traverse_topo.specs.declared.ready.Ready.{Ready}
 use Rattle.gix_traverse_topo.specs.declared.ready.Ready.TheVariants.{ByDate, Topological}
-use Rattle.gix_traverse_topo.proofs.Counting.{at_set_other, each_kept}
+use Rattle.gix_traverse_topo.proofs.Counting.{at_set_other, each_kept, total_set}
 use Rattle.gix_traverse_topo.proofs.Degree.{total_push}
 use Rattle.gix_traverse_topo.proofs.Freeing.{take_at}
-use Rattle.gix_traverse_topo.proofs.Meeting.{at_map, from_map, asked_same, at_length_append}
+use Rattle.gix_traverse_topo.proofs.Meeting.{at_map, from_map, asked_same, at_length_append, length_map}
 
 -- a changed count leaves what was read
 pub set_readings : (nodes : List Node) (n k : ℕ) (node : Node) → node ≡ get_or nodes n node → readings (set nodes n (record { reading = node.reading; names = k })) ≡ readings nodes
@@ -170,3 +174,76 @@ module _ (low : ℕ) (told : List Reading) (cs : List ℕ) where
     every = λ n r m a b. let w = slice_get_within told n r b in f.every n r m (omega arith) a b;
     ascending = f.ascending;
   }
+
+-- ---- what a call found
+
+pub le_self : (n : ℕ) → n ≤ n
+le_self n = omega arith
+
+pub smaller : (a b : ℕ) → b ≡ a + 1 → a < 2 ^ 64 → 2 ^ 64 - b < 2 ^ 64 - a
+smaller a b e l = omega arith
+
+pub index_smaller : (a : ℕ) → a + 1 < 2 ^ 64 → 2 ^ 64 - (a + 1) < 2 ^ 64 - a
+index_smaller a l = omega arith
+
+pub at_within : {A : Type 0} (xs : List A) (n : ℕ) → n < length xs → (x : A) × At xs n x
+at_within [] n l = absurd (omega arith)
+at_within (x ∷ xs) zero l = (x, refl)
+at_within (x ∷ xs) (suc n) l = at_within xs n (omega arith)
+
+-- the node that a look-up by number gave
+pub got : (items zs : List Node) (n : ℕ) (o : Option (Bor Node)) (b : Bor Node) → zs ≡ items → o ≡ Some b → is_some o ≡ ltb n (length zs) → IfSome o (λ x. x.now ≡ get_or zs n x.now) → (n < length items) × (b.now ≡ get_or items n b.now)
+got items zs n o b e f l m =
+    let l' : true ≡ ltb n (length zs) = subst (λ (p : Option (Bor Node)). is_some p ≡ ltb n (length zs)) f l in
+    let m' : b.now ≡ get_or zs n b.now = subst (λ (p : Option (Bor Node)). IfSome p (λ x. x.now ≡ get_or zs n x.now)) f m in
+    (subst (λ (ys : List Node). n < length ys) e (within_true n zs l'), subst (λ (ys : List Node). b.now ≡ get_or ys n b.now) e m')
+
+pub some_value : (o : Option ℕ) (v w : ℕ) (P : Type 0) → o ≡ Some v → SomeIff o P w → P × (v ≡ w)
+some_value o v w P e s = subst (λ (p : Option ℕ). SomeIff p P w) e s
+
+pub copied : (o : Option (Bor ObjectId)) (b : Bor ObjectId) (s : Option ObjectId) → o ≡ Some b → option_copied o ≡ s → s ≡ Some b.now
+copied o b s e f = sym f ∙ ap option_copied e
+
+pub zero_found : (cs : List ℕ) (n : ℕ) (free : Bool) → n < length cs → ((count : ℕ) → At cs n count → free ≡ eqb count 0) → free ≡ true → At cs n 0
+zero_found cs n free l f e =
+    let (count, a) = at_within cs n l in
+    let z : count ≡ 0 = eqb_zero count (sym (f count a) ∙ e) in
+    subst (λ (k : ℕ). At cs n k) z a
+  where
+    eqb_zero : (k : ℕ) → eqb k 0 ≡ true → k ≡ 0
+    eqb_zero k e = grind (arith, nat_tests)
+
+pub not_zero : (cs : List ℕ) (n : ℕ) (free : Bool) → ((count : ℕ) → At cs n count → free ≡ eqb count 0) → free ≡ false → At cs n 0 → ⊥
+not_zero cs n free f e a = let z : free ≡ true = f 0 a in let w : ⊥ = cc in w
+
+-- ---- a name is counted off
+
+pub off_freed : (low : ℕ) (keys : List ObjectId) (told told' : List Reading) (cs cs' : List ℕ) (ready ready' : Ready) (id : ObjectId) (number : Number) (count : ℕ) (last : Bool) (o : Option Pending) (pending : Pending) → last ≡ true → low ≤ number.0 → At keys number.0 id → At cs number.0 (count + 1) → cs' ≡ set cs number.0 count → last ≡ eqb count 0 → told' ≡ told → o ≡ Some pending → IfSome o (λ p. (p.number ≡ number) × ((r : Reading) × At told' number.0 r × (p.time ≡ r.time))) → Joined ready (pending ∷ []) ready' → CountsOff low keys told cs ready id cs' ready'
+off_freed low keys told told' cs cs' ready ready' id number count last o pending t l a b e f s g p j =
+    let z : count ≡ 0 = eqb_zero count (sym f ∙ t) in
+    let found : (pending.number ≡ number) × ((r : Reading) × At told' number.0 r × (pending.time ≡ r.time)) = subst (λ (q : Option Pending). IfSome q (λ p. (p.number ≡ number) × ((r : Reading) × At told' number.0 r × (p.time ≡ r.time)))) g p in
+    let (r, c, d) = found.1 in
+    freed {n = number.0} {pending = pending} {reading = r} l a (subst (λ (k : ℕ). At cs number.0 (k + 1)) z b) (e ∙ ap (set cs number.0) z) (ap (λ (n : Number). n.0) found.0) (subst (λ (zs : List Reading). At zs number.0 r) s c) d j
+  where
+    eqb_zero : (k : ℕ) → eqb k 0 ≡ true → k ≡ 0
+    eqb_zero k e = grind (arith, nat_tests)
+
+pub off_counted : (low : ℕ) (keys : List ObjectId) (told : List Reading) (cs cs' : List ℕ) (ready : Ready) (id : ObjectId) (number : Number) (count : ℕ) (last : Bool) → last ≡ false → low ≤ number.0 → At keys number.0 id → At cs number.0 (count + 1) → cs' ≡ set cs number.0 count → last ≡ eqb count 0 → CountsOff low keys told cs ready id cs' ready
+off_counted low keys told cs cs' ready id number count last t l a b e f =
+    counted {n = number.0} {count = count} l a b (λ z. let g : eqb 0 0 ≡ false = ap (λ (k : ℕ). eqb k 0) (sym z) ∙ sym f ∙ t in let w : ⊥ = cc in w) e refl
+
+pub off_falls : (cs cs' : List ℕ) (n count : ℕ) → At cs n (count + 1) → cs' ≡ set cs n count → total (λ c. c) cs' + 1 ≡ total (λ c. c) cs
+off_falls cs cs' n count a e = ap (λ (zs : List ℕ). total (λ c. c) zs + 1) e ∙ total_set cs n count a
+
+pub many_counts : (a b : List Node) → readings a ≡ readings b → length (counts a) ≡ length b
+many_counts a b e = length_map (λ (v : Node). v.names) a ∙ sym (length_map (λ (v : Node). v.reading) a) ∙ ap length e ∙ length_map (λ (v : Node). v.reading) b
+
+pub names_none : (way : ObjectId → List ObjectId) (y : ObjectId) (n : ℕ) (xs : List ObjectId) → names_of same_id way y (take (n - n) xs) ≡ 0
+names_none way y n xs = let e : n - n ≡ 0 = omega arith in ap (λ (k : ℕ). names_of same_id way y (take k xs)) e ∙ go xs
+  where
+    go : (xs : List ObjectId) → names_of same_id way y (take 0 xs) ≡ 0
+    go [] = refl
+    go (x ∷ xs) = refl
+
+pub names_all : (way : ObjectId → List ObjectId) (y : ObjectId) (hs xs : List ObjectId) (low n len : ℕ) → low ≡ length hs → len ≤ n → len ≡ length (hs ++ xs) → names_of same_id way y (take (n - low) xs) ≡ names_of same_id way y xs
+names_all way y hs xs low n len e l f = let long : length xs ≤ n - low = omega (arith, length-append hs xs) in ap (names_of same_id way y) (whole xs (n - low) long)

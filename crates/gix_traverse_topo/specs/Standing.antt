@@ -112,6 +112,7 @@ pub record Gives (number : ℕ) (along : Parents) (old : Known) (ready : Ready) 
   pub time : info.commit_time ≡ Some reading.time
   pub off : (way : ObjectId → List ObjectId) (h : Commits ObjectId) (before hs xs : List ObjectId) → GoesOff way h before (asked along reading.parents.items) hs xs old → IsOnce xs → (m : ℕ) × (length (asked along reading.parents.items) ≤ m) × RowOff old.hidden old.ids.keys way h before (asked along reading.parents.items) xs ready m (counts new.nodes.items) ready'
   pub others : (k : ℕ) (other : Reading) → (k ≡ number → ⊥) → At (readings new.nodes.items) k other → At (readings old.nodes.items) k other
+  pub as_many : length new.nodes.items ≡ length old.nodes.items
 
 -- it gives the commit whose turn it is, which was read
 pub record Steps (sorting : Sorting) (rows : List Row) (h : Commits ObjectId) (tips : List ObjectId) (parents : Parents) (hs xs finished : List ObjectId) (old : Known) (ready : Ready) (new : Known) (ready' : Ready) (info : Info) : Type 0 where

@@ -171,7 +171,8 @@ impl Known {
 
     // The first commit that isn't read.
     fn unread(&self) -> Option<ObjectId>
-        ensures { result ≡ slice_get self.now.ids.keys (length self.now.nodes.items) }
+        ensures unread { result ≡ slice_get self.now.ids.keys (length self.now.nodes.items) }
+        ensures room { length self.now.nodes.items < 2 ^ 64 }
     {
         self.ids.get_index(self.nodes.as_slice().len()).copied()
     }

@@ -1,4 +1,4 @@
-use Rattle.std.proofs.Common.{◌≡◌, ℕ, zero, suc, ◌+◌, ◌-◌, ◌^◌, ◌<◌, ◌≤◌, ◌⊎◌, inl, inr, List, [], ◌∷◌, ◌++◌, length, map, take, refl, sym, ◌∙◌, ap, subst, arith, rules, Some, None, slice_get, Option, Bool, true, false, cond, get_or, set}
+use Rattle.std.proofs.Common.{◌≡◌, ℕ, zero, suc, ◌+◌, ◌-◌, ◌^◌, ◌<◌, ◌≤◌, ◌⊎◌, inl, inr, List, [], ◌∷◌, ◌++◌, length, map, take, refl, sym, ◌∙◌, ap, subst, arith, rules, Some, None, slice_get, Option, Bool, true, false, cond, get_or, set, length-append}
 use Rattle.std.specs.Prelude.{Contains}
 use Rattle.std.proofs.lemmas.Int.{ints}
 use Rattle.std.proofs.lemmas.Option.{slice_get_within, slice_get-get_or}
@@ -16,20 +16,24 @@ use Rattle.gix_traverse_topo.specs.Meeting.{IsRow, Met, Walks}
 use Rattle.gix_traverse_topo.specs.Nodes.{readings, counts, IsReading, ParentsFrom, EachCount, NamesOne, IsOnce}
 use Rattle.gix_traverse_topo.specs.Standing.{weight, CountsOff, passed, counted, freed, GoesOff, RowOff}
 use Rattle.gix_traverse_topo.specs.Walking.{Visits, Walking}
-use Rattle.gix_traverse_topo.specs.Turns.{names_of, named_so_far, times}
+use Rattle.gix_traverse_topo.specs.Turns.{total, names_of, named_so_far, times}
 use Rattle.gix_traverse_topo.specs.Waiting.{IsFree, waiting, Joined, pending_cmp}
+use Rattle.gix_traverse_topo.specs.declared.known.Known.{Known}
 use Rattle.gix_traverse_topo.specs.declared.known.Node.{Node}
 use Rattle.gix_traverse_topo.specs.declared.known.Reading.{Reading}
 use Rattle.gix_traverse_topo.specs.declared.ready.Pending.{Pending}
-use Rattle.gix_traverse_topo.proofs.Updates.{set_readings, set_counts, count_at, within_true}
+use Rattle.gix_traverse_topo.specs.declared.ready.Ready.{Ready}
+use Rattle.gix_traverse_topo.proofs.Updates.{set_readings, set_counts, count_at, got, some_value}
 use Rattle.gix_traverse_topo.proofs.known.add_name.Goals as goal
 
 pub returns-clause-readings : goal.returns-clause-readings
 returns-clause-readings c = set_readings c.args.nodes.now.items c.args.number.0 c.in_ok-nodes.field-0 c.index_mut.result.now c.index_mut.ensures.value
 
 pub returns-clause-added : goal.returns-clause-added
-returns-clause-added c = (
-    c.in_ok-names.field-0.now.names,
-    ?,
-    set_counts c.args.nodes.now.items c.args.number.0 c.in_ok-nodes.field-0 c.index_mut.result.now.reading ∙ ap (set (counts c.args.nodes.now.items) c.args.number.0) ?
-  )
+returns-clause-added c =
+    let found = got c.args.nodes.now.items c.deref.result.now c.args.number.0 c.get.result c.in_ok-names.field-0 c.deref.ensures.value c.in_ok-names.ensures.ok_part c.get.ensures.lookup.0 c.get.ensures.lookup.1 in
+    let more = some_value c.checked_add.result c.in_ok-nodes.field-0 (c.in_ok-names.field-0.now.names + 1) (c.in_ok-names.field-0.now.names + 1 < 2 ^ 64) c.in_ok-nodes.ensures.ok_part c.checked_add.ensures in (
+      c.in_ok-names.field-0.now.names,
+      count_at c.args.nodes.now.items c.args.number.0 c.in_ok-names.field-0.now found.0 found.1,
+      set_counts c.args.nodes.now.items c.args.number.0 c.in_ok-nodes.field-0 c.index_mut.result.now.reading ∙ ap (set (counts c.args.nodes.now.items) c.args.number.0) more.1,
+    )

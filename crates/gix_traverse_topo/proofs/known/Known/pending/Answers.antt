@@ -1,4 +1,4 @@
-use Rattle.std.proofs.Common.{◌≡◌, ℕ, zero, suc, ◌+◌, ◌-◌, ◌^◌, ◌<◌, ◌≤◌, ◌⊎◌, inl, inr, List, [], ◌∷◌, ◌++◌, length, map, take, refl, sym, ◌∙◌, ap, subst, arith, rules, Some, None, slice_get, Option, Bool, true, false, cond, get_or, set}
+use Rattle.std.proofs.Common.{◌≡◌, ℕ, zero, suc, ◌+◌, ◌-◌, ◌^◌, ◌<◌, ◌≤◌, ◌⊎◌, inl, inr, List, [], ◌∷◌, ◌++◌, length, map, take, refl, sym, ◌∙◌, ap, subst, arith, rules, Some, None, slice_get, Option, Bool, true, false, cond, get_or, set, length-append}
 use Rattle.std.specs.Prelude.{Contains}
 use Rattle.std.proofs.lemmas.Int.{ints}
 use Rattle.std.proofs.lemmas.Option.{slice_get_within, slice_get-get_or}
@@ -16,16 +16,19 @@ use Rattle.gix_traverse_topo.specs.Meeting.{IsRow, Met, Walks}
 use Rattle.gix_traverse_topo.specs.Nodes.{readings, counts, IsReading, ParentsFrom, EachCount, NamesOne, IsOnce}
 use Rattle.gix_traverse_topo.specs.Standing.{weight, CountsOff, passed, counted, freed, GoesOff, RowOff}
 use Rattle.gix_traverse_topo.specs.Walking.{Visits, Walking}
-use Rattle.gix_traverse_topo.specs.Turns.{names_of, named_so_far, times}
+use Rattle.gix_traverse_topo.specs.Turns.{total, names_of, named_so_far, times}
 use Rattle.gix_traverse_topo.specs.Waiting.{IsFree, waiting, Joined, pending_cmp}
+use Rattle.gix_traverse_topo.specs.declared.known.Known.{Known}
 use Rattle.gix_traverse_topo.specs.declared.known.Node.{Node}
 use Rattle.gix_traverse_topo.specs.declared.known.Reading.{Reading}
 use Rattle.gix_traverse_topo.specs.declared.ready.Pending.{Pending}
-use Rattle.gix_traverse_topo.proofs.Updates.{reading_at, within_true}
+use Rattle.gix_traverse_topo.specs.declared.ready.Ready.{Ready}
+use Rattle.gix_traverse_topo.proofs.Updates.{reading_at, got}
 use Rattle.gix_traverse_topo.proofs.known.Known.pending.Goals as goal
 
 pub returns-clause-pending : goal.returns-clause-pending
-returns-clause-pending c = (
-    refl,
-    (c.in_ok-node.node.now.reading, ?, omega (arith, ints))
-  )
+returns-clause-pending c =
+    let found = got c.args.self.now.nodes.items c.deref.result.now c.args.number.0 c.get.result c.in_ok-node.node c.deref.ensures.value c.in_ok-node.was c.get.ensures.lookup.0 c.get.ensures.lookup.1 in (
+      refl,
+      (c.in_ok-node.node.now.reading, reading_at c.args.self.now.nodes.items c.args.number.0 c.in_ok-node.node.now found.0 found.1, omega (arith, ints)),
+    )

@@ -1,4 +1,4 @@
-use Rattle.std.proofs.Common.{◌≡◌, ℕ, zero, suc, ◌+◌, ◌-◌, ◌^◌, ◌<◌, ◌≤◌, ◌⊎◌, inl, inr, List, [], ◌∷◌, ◌++◌, length, map, take, refl, sym, ◌∙◌, ap, subst, arith, rules, Some, None, slice_get, Option, Bool, true, false, cond, get_or, set}
+use Rattle.std.proofs.Common.{◌≡◌, ℕ, zero, suc, ◌+◌, ◌-◌, ◌^◌, ◌<◌, ◌≤◌, ◌⊎◌, inl, inr, List, [], ◌∷◌, ◌++◌, length, map, take, refl, sym, ◌∙◌, ap, subst, arith, rules, Some, None, slice_get, Option, Bool, true, false, cond, get_or, set, length-append}
 use Rattle.std.specs.Prelude.{Contains}
 use Rattle.std.proofs.lemmas.Int.{ints}
 use Rattle.std.proofs.lemmas.Option.{slice_get_within, slice_get-get_or}
@@ -16,19 +16,37 @@ use Rattle.gix_traverse_topo.specs.Meeting.{IsRow, Met, Walks}
 use Rattle.gix_traverse_topo.specs.Nodes.{readings, counts, IsReading, ParentsFrom, EachCount, NamesOne, IsOnce}
 use Rattle.gix_traverse_topo.specs.Standing.{weight, CountsOff, passed, counted, freed, GoesOff, RowOff}
 use Rattle.gix_traverse_topo.specs.Walking.{Visits, Walking}
-use Rattle.gix_traverse_topo.specs.Turns.{names_of, named_so_far, times}
+use Rattle.gix_traverse_topo.specs.Turns.{total, names_of, named_so_far, times}
 use Rattle.gix_traverse_topo.specs.Waiting.{IsFree, waiting, Joined, pending_cmp}
+use Rattle.gix_traverse_topo.specs.declared.known.Known.{Known}
 use Rattle.gix_traverse_topo.specs.declared.known.Node.{Node}
 use Rattle.gix_traverse_topo.specs.declared.known.Reading.{Reading}
 use Rattle.gix_traverse_topo.specs.declared.ready.Pending.{Pending}
-use Rattle.gix_traverse_topo.proofs.Updates.{same_counts, other_readings, reading_at, within_true}
+use Rattle.gix_traverse_topo.specs.declared.ready.Ready.{Ready}
+use Rattle.gix_traverse_commit.proofs.Lists.{at_one}
+use Rattle.gix_traverse_topo.proofs.Updates.{same_counts, other_readings, reading_at, node_at, got, copied}
 use Rattle.gix_traverse_topo.proofs.known.Known.take.Goals as goal
 
 pub returns-clause-counts : goal.returns-clause-counts
-returns-clause-counts c = ?
+returns-clause-counts c = same_counts c.args.self.now.nodes.items c.args.number.0 c.take_parents-parent_ids.new.reading c.index_mut.result.now c.index_mut.ensures.value
 
 pub returns-clause-others : goal.returns-clause-others
-returns-clause-others c = ?
+returns-clause-others c = λ k reading apart a.
+    other_readings c.args.self.now.nodes.items c.args.number.0 (record { reading = c.take_parents-parent_ids.new.reading; names = c.index_mut.result.now.names }) k reading apart a
 
 pub returns-clause-taken : goal.returns-clause-taken
-returns-clause-taken c = ?
+returns-clause-taken c =
+    let items : List Node = c.args.self.now.nodes.items in
+    let n : ℕ = c.args.number.0 in
+    let node : Node = c.in_ok-node.node.now in
+    let found = got items c.deref.result.now n c.get.result c.in_ok-node.node c.deref.ensures.value c.in_ok-node.ensures.ok_part c.get.ensures.lookup.0 c.get.ensures.lookup.1 in
+    let same : node ≡ c.index_mut.result.now = at_one items n node c.index_mut.result.now (node_at items n node found.0 found.1) (node_at items n c.index_mut.result.now found.0 c.index_mut.ensures.value) in (
+      copied c.get_index.result c.in_ok-id.field-0 (slice_get c.args.self.now.ids.keys n) c.in_ok-id.ensures.ok_part c.get_index.ensures.key,
+      (
+        node.reading,
+        reading_at items n node found.0 found.1,
+        c.take_parents-parent_ids.ensures ∙ ap (λ (v : Node). v.reading.parents.items) (sym same),
+        refl,
+        ap Some (omega (arith, ints)),
+      ),
+    )
