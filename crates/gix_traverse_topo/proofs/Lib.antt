@@ -8,3 +8,4 @@ pub mod Meeting
 pub mod Counting
 pub mod Stepping
 pub mod Updates
+pub mod Turning

@@ -146,16 +146,16 @@ module _ (sorting : Sorting) (rows : List Row) (h : Commits ObjectId) (tips : Li
     low : known.hidden ≤ p.number.0
     low = x_of.1
 
-    x_is : id_at known.ids.keys p.number.0 ≡ x
+    pub x_is : id_at known.ids.keys p.number.0 ≡ x
     x_is = at_id known.ids.keys p.number.0 x here
 
-    bag : SameBag same_id (ids_of known.ids.keys (waiting ready)) (x ∷ ids_of known.ids.keys (waiting ready'))
+    pub bag : SameBag same_id (ids_of known.ids.keys (waiting ready)) (x ∷ ids_of known.ids.keys (waiting ready'))
     bag = subst (λ (z : ObjectId). SameBag same_id (ids_of known.ids.keys (waiting ready)) (z ∷ ids_of known.ids.keys (waiting ready'))) x_is (popped_bag known.ids.keys ready ready' p popped)
 
     pub top : Contains xs x × (Contains finished x → ⊥) × IsReady (asked_parents parents h) (Contains xs) finished x
     top = turns.top same_id same_id_apart (asked_parents parents h) (Contains xs) (Comes sorting (asked_parents parents h) tips (λ y. (h y).time)) finished (ids_of known.ids.keys (waiting ready)) (ids_of known.ids.keys (waiting ready')) x st.waits bag
 
-    xs_once : IsOnce xs
+    pub xs_once : IsOnce xs
     xs_once j k y a b =
         let at' : (i : ℕ) → At xs i y → At known.ids.keys (length hs + i) y = λ i c. subst (λ (zs : List ObjectId). At zs (length hs + i) y) (sym st.keys_are) (behind hs i c) in
         let e = st.keys_once (length hs + j) (length hs + k) y (at' j a) (at' k b) in

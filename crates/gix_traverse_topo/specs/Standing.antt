@@ -120,6 +120,7 @@ pub record Steps (sorting : Sorting) (rows : List Row) (h : Commits ObjectId) (t
   pub is_info : IsInfo rows h info
   pub number : ℕ
   pub reading : Reading
+  pub new_one : Contains finished info.id → ⊥
   pub behind : old.hidden ≤ number
   pub id : At old.ids.keys number info.id
   pub at : At (readings old.nodes.items) number reading
@@ -152,6 +153,7 @@ pub record Stands (sorting : Sorting) (rows : List Row) (g : Commits ObjectId) (
   pub lists : (x : ObjectId) → Contains xs x ↔ Listed h (topo_request tips ends parents all_accepted) x
   pub hides : (x : ObjectId) → Hides h (topo_request tips ends parents all_accepted) x ↔ Hides g (topo_request tips ends parents all_accepted) x
   pub agrees : (n : ℕ) (x : ObjectId) (reading : Reading) → known.hidden ≤ n → At known.ids.keys n x → At (readings known.nodes.items) n reading → (Contains finished x → ⊥) → reading.fault ≡ None → h x ≡ g x
+  pub edges : (x y : ObjectId) → Contains xs x → Contains (h x).parents y → h x ≡ g x
   pub finished_agree : (x : ObjectId) → Contains finished x → h x ≡ g x
   pub given_are : given ≡ filter accepts finished
 

@@ -1,6 +1,6 @@
 //! The walk.
 
-ghost use Rattle.std.specs.Prelude.{◌≡◌, ◌+◌, ◌<◌, ◌≤◌, ◌++◌, ◌∷◌, [], ℕ, List, OnOk, IfOk, IfErr, OnErr, IfSome, IfNone, IsNone, ◌⊎◌, length};
+ghost use Rattle.std.specs.Prelude.{true, false, ◌≡◌, ◌+◌, ◌<◌, ◌≤◌, ◌++◌, ◌∷◌, [], ℕ, List, OnOk, IfOk, IfErr, OnErr, IfSome, IfNone, IsNone, ◌⊎◌, length};
 ghost use Rattle.gix_hash.specs.declared.object_id.ObjectId.{ObjectId};
 ghost use Rattle.gix_traverse_commit.specs.Commits.{Commits, asked};
 ghost use Rattle.gix_traverse_commit.specs.Order.{At};
@@ -35,6 +35,7 @@ pub struct Topo<P> {
 fn count_off(known: &mut Known, ready: &mut Ready, id: &ObjectId) -> Result<(), Error>
     ensures ids { known.new.ids ≡ known.old.ids }
     ensures hidden { known.new.hidden ≡ known.old.hidden }
+    ensures as_many { length known.new.nodes.items ≡ length known.old.nodes.items }
     ensures readings { readings known.new.nodes.items ≡ readings known.old.nodes.items }
     ensures counted { OnOk result (CountsOff known.old.hidden known.old.ids.keys (readings known.old.nodes.items)
         (counts known.old.nodes.items) ready.old id.now (counts known.new.nodes.items) ready.new) }
@@ -61,6 +62,7 @@ fn count_row_off(
 ) -> Result<(), Error>
     ensures ids { known.new.ids ≡ known.old.ids }
     ensures hidden { known.new.hidden ≡ known.old.hidden }
+    ensures as_many { length known.new.nodes.items ≡ length known.old.nodes.items }
     ensures readings { readings known.new.nodes.items ≡ readings known.old.nodes.items }
     ensures off { (way : ObjectId → List ObjectId) (h : Commits ObjectId) (before hs xs : List ObjectId) (reading : Reading)
         → At (readings known.old.nodes.items) number.0 reading
@@ -82,15 +84,32 @@ fn count_row_off(
 }
 
 // Gives the commit of this number.
-fn give(
-    known: &mut Known,
-    ready: &mut Ready,
-    number: Number,
-    along: Parents,
-) -> Result<Info, Error> {
+fn give(known: &mut Known, ready: &mut Ready, number: Number, along: Parents) -> Result<Info, Error>
+    ensures ids { known.new.ids ≡ known.old.ids }
+    ensures hidden { known.new.hidden ≡ known.old.hidden }
+    ensures gives { IfOk result (Gives number.0 along known.old ready.old known.new ready.new) }
+    ensures refused { IfErr result (λ error. (way : ObjectId → List ObjectId) (h : Commits ObjectId)
+        (before hs xs : List ObjectId) (reading : Reading) → At (readings known.old.nodes.items) number.0 reading
+        → GoesOff way h before (asked along reading.parents.items) hs xs known.old → IsOnce xs
+        → (error ≡ Memory) ⊎ (reading.fault ≡ Some error)) }
+    ensures falls { OnOk result (weight known.new ready.new ≤ weight known.old ready.old) }
+{
     known.check(number)?;
     count_row_off(known, ready, number, along)?;
     known.take(number)
+}
+
+// This commit, where the predicate accepts it.
+fn accepted<P: Accept>(predicate: &mut P, info: Info) -> Option<Info>
+    ensures kept { IfSome result (λ given. (given ≡ info) × (P.accepts predicate.old (id_of info.id) ≡ true)) }
+    ensures passed { IfNone result (P.accepts predicate.old (id_of info.id) ≡ false) }
+    ensures accepts { P.accepts predicate.new ≡ P.accepts predicate.old }
+{
+    if predicate.accept(info.id.as_oid()) {
+        Some(info)
+    } else {
+        None
+    }
 }
 
 impl<P: Accept + Drop> Topo<P> {
@@ -160,13 +179,12 @@ impl<P: Accept + Drop> Topo<P> {
         ensures ended { waiting self.old.ready ≡ [] → IsNone result }
     {
         'turns: while let Some(given) = self.turn() {
-            match given {
-                Ok(info) => {
-                    if self.predicate.accept(info.id.as_oid()) {
-                        return Some(Ok(info));
-                    }
-                }
+            let info = match given {
+                Ok(info) => info,
                 Err(error) => return Some(Err(error)),
+            };
+            if let Some(info) = accepted(&mut self.predicate, info) {
+                return Some(Ok(info));
             }
         }
         None

@@ -131,6 +131,7 @@ fn add_name(nodes: &mut Vec<Node>, number: Number) -> Result<(), Error>
 
 /// Counts a name of a commit off, and tells whether it was the last.
 pub(crate) fn take_name(nodes: &mut Vec<Node>, number: Number) -> Result<bool, Error>
+    ensures as_many { length nodes.new.items ≡ length nodes.old.items }
     ensures readings { readings nodes.new.items ≡ readings nodes.old.items }
     ensures taken { IfOk result (λ last. (count : ℕ) × At (counts nodes.old.items) number.0 (count + 1)
         × (counts nodes.new.items ≡ slice_set (counts nodes.old.items) number.0 count)
@@ -377,6 +378,7 @@ impl Known {
 
     /// What is given of a commit, whose parents are handed out.
     pub fn take(&mut self, number: Number) -> Result<Info, Error>
+        ensures as_many { length self.new.nodes.items ≡ length self.old.nodes.items }
         ensures ids { self.new.ids ≡ self.old.ids }
         ensures hidden { self.new.hidden ≡ self.old.hidden }
         ensures counts { counts self.new.nodes.items ≡ counts self.old.nodes.items }

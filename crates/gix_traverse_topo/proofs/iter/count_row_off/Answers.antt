@@ -32,9 +32,10 @@ pub row-init : goal.row-init
 row-init c = record {
   ids = refl;
   hidden = refl;
+  as_many = refl;
   told = refl;
   off = λ way h before hs xs reading at goes once. row_none way h before (asked c.args.along reading.parents.items) hs xs c.args.known.now c.args.ready.now goes once;
-  falls = le_self (weight c.args.known.now c.args.ready.now)
+  falls = le_self (weight c.args.known.now c.args.ready.now);
 }
 
 pub row-preserved : goal.row-preserved
@@ -45,17 +46,18 @@ row-preserved c =
     let cs' : List ℕ = counts c.count_off.new.known.nodes.items in
     let y : ObjectId = c.in-Some.parent in
     let step : CountsOff old.hidden old.ids.keys (readings old.nodes.items) cs c.row.ready y cs' c.count_off.new.ready =
-        subst (λ (lo : ℕ). CountsOff lo old.ids.keys (readings old.nodes.items) cs c.row.ready y cs' c.count_off.new.ready) inv.hidden
-        (subst (λ (ks : List ObjectId). CountsOff c.row.known.hidden ks (readings old.nodes.items) cs c.row.ready y cs' c.count_off.new.ready) (ap (λ (i : _). i.keys) inv.ids)
-        (subst (λ (rs : List Reading). CountsOff c.row.known.hidden c.row.known.ids.keys rs cs c.row.ready y cs' c.count_off.new.ready) inv.told c.in_ok-count_off.ensures.counted)) in
+    subst (λ (lo : ℕ). CountsOff lo old.ids.keys (readings old.nodes.items) cs c.row.ready y cs' c.count_off.new.ready) inv.hidden
+    (subst (λ (ks : List ObjectId). CountsOff c.row.known.hidden ks (readings old.nodes.items) cs c.row.ready y cs' c.count_off.new.ready) (ap (λ (i : _). i.keys) inv.ids)
+    (subst (λ (rs : List Reading). CountsOff c.row.known.hidden c.row.known.ids.keys rs cs c.row.ready y cs' c.count_off.new.ready) inv.told c.in_ok-count_off.ensures.counted)) in
     record {
       ids = c.in_ok-count_off.ensures.ids ∙ inv.ids;
       hidden = c.in_ok-count_off.ensures.hidden ∙ inv.hidden;
+      as_many = c.in_ok-count_off.ensures.as_many ∙ inv.as_many;
       told = c.in_ok-count_off.ensures.readings ∙ inv.told;
       off = λ way h before hs xs reading at goes once.
-        let here = sym (c.in-Some.ensures.parent reading (subst (λ (zs : List Reading). At zs c.args.number.0 reading) (sym inv.told) at)) in
-        row_more way h before (asked c.args.along reading.parents.items) hs xs old c.args.ready.now goes once c.row.index y cs cs' c.row.ready c.count_off.new.ready here (many_counts c.row.known.nodes.items old.nodes.items inv.told ∙ goes.all_read) (inv.off way h before hs xs reading at goes once) step;
-      falls = omega (arith, c.in_ok-count_off.ensures.falls, inv.falls)
+          let here = sym (c.in-Some.ensures.parent reading (subst (λ (zs : List Reading). At zs c.args.number.0 reading) (sym inv.told) at)) in
+          row_more way h before (asked c.args.along reading.parents.items) hs xs old c.args.ready.now goes once c.row.index y cs cs' c.row.ready c.count_off.new.ready here (many_counts c.row.known.nodes.items old.nodes.items inv.told ∙ goes.all_read) (inv.off way h before hs xs reading at goes once) step;
+      falls = omega (arith, c.in_ok-count_off.ensures.falls, inv.falls);
     }
 
 pub returns-clause-off : goal.returns-clause-off
@@ -75,5 +77,5 @@ returns-in_err-count_off-clause-refused c =
       | inr none ↦ absurd (
           let here = sym (c.in-Some.ensures.parent reading (subst (λ (zs : List Reading). At zs c.args.number.0 reading) (sym inv.told) at)) in
           still_counted way h before (asked c.args.along reading.parents.items) hs xs old c.args.ready.now goes once c.row.index y cs c.row.ready here (many_counts c.row.known.nodes.items old.nodes.items inv.told ∙ goes.all_read) (inv.off way h before hs xs reading at goes once)
-            (subst (λ (lo : ℕ). NotCounted lo old.ids.keys cs y) inv.hidden (subst (λ (ks : List ObjectId). NotCounted c.row.known.hidden ks cs y) (ap (λ (i : _). i.keys) inv.ids) none)))
+          (subst (λ (lo : ℕ). NotCounted lo old.ids.keys cs y) inv.hidden (subst (λ (ks : List ObjectId). NotCounted c.row.known.hidden ks cs y) (ap (λ (i : _). i.keys) inv.ids) none)))
     ])

@@ -27,9 +27,10 @@ abbrev pub invariant-row : goal.invariant-row
 invariant-row l = record {
   ids : l.known.ids ≡ l.fn.known.ids;
   hidden : l.known.hidden ≡ l.fn.known.hidden;
+  as_many : length l.known.nodes.items ≡ length l.fn.known.nodes.items;
   told : readings l.known.nodes.items ≡ readings l.fn.known.nodes.items;
   off : (way : ObjectId → List ObjectId) (h : Commits ObjectId) (before hs xs : List ObjectId) (reading : Reading) → At (readings l.fn.known.nodes.items) l.number.0 reading → GoesOff way h before (asked l.along reading.parents.items) hs xs l.fn.known → IsOnce xs → RowOff l.fn.known.hidden l.fn.known.ids.keys way h before (asked l.along reading.parents.items) xs l.fn.ready l.index (counts l.known.nodes.items) l.ready;
-  falls : weight l.known l.ready ≤ weight l.fn.known l.fn.ready
+  falls : weight l.known l.ready ≤ weight l.fn.known l.fn.ready;
 }
 
 abbrev pub decreases-row : goal.decreases-row

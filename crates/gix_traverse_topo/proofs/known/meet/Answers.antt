@@ -33,7 +33,7 @@ met-preserved c =
     let here : At names c.met.id-index y = slice_get-get_or names c.met.id-index (Sha1 []) c.met-test.true in
     record {
       met = λ way tips hs xs p e r row. meet_more way tips hs c.met.ids.keys c.insert.new.self.keys p c.met.id-index names y (c.met.invariant.met way tips hs xs p e r row) here c.in_ok-insert.ensures.keys;
-      kept = λ k x a. keys_more c.met.ids.keys c.insert.new.self.keys y c.in_ok-insert.ensures.keys k x (c.met.invariant.kept k x a)
+      kept = λ k x a. keys_more c.met.ids.keys c.insert.new.self.keys y c.in_ok-insert.ensures.keys k x (c.met.invariant.kept k x a);
     }
 
 pub returns-clause-met : goal.returns-clause-met

@@ -28,5 +28,5 @@ invariant-commits l = record {
   ids : l.self.ids ≡ l.fn.self.ids;
   hidden : l.self.hidden ≡ l.fn.self.hidden;
   told : readings l.self.nodes.items ≡ readings l.fn.self.nodes.items;
-  counted : (h : Commits ObjectId) (hs xs : List ObjectId) → l.fn.self.ids.keys ≡ hs ++ xs → l.fn.self.hidden ≡ length hs → IsOnce l.fn.self.ids.keys → length l.fn.self.nodes.items ≡ length l.fn.self.ids.keys → ParentsFrom l.fn.self.hidden h l.fn.self.ids.keys (readings l.fn.self.nodes.items) → EachCount l.fn.self.hidden l.fn.self.ids.keys (counts l.fn.self.nodes.items) (λ _ count. count ≡ 0) → EachCount l.fn.self.hidden l.fn.self.ids.keys (counts l.self.nodes.items) (λ y count. count ≡ names_of same_id (asked_parents l.along h) y (take (l.place - l.fn.self.hidden) xs))
+  counted : (h : Commits ObjectId) (hs xs : List ObjectId) → l.fn.self.ids.keys ≡ hs ++ xs → l.fn.self.hidden ≡ length hs → IsOnce l.fn.self.ids.keys → length l.fn.self.nodes.items ≡ length l.fn.self.ids.keys → ParentsFrom l.fn.self.hidden h l.fn.self.ids.keys (readings l.fn.self.nodes.items) → EachCount l.fn.self.hidden l.fn.self.ids.keys (counts l.fn.self.nodes.items) (λ _ count. count ≡ 0) → EachCount l.fn.self.hidden l.fn.self.ids.keys (counts l.self.nodes.items) (λ y count. count ≡ names_of same_id (asked_parents l.along h) y (take (l.place - l.fn.self.hidden) xs));
 }

@@ -32,7 +32,7 @@ row-init c = record {
   ids = refl;
   hidden = refl;
   told = refl;
-  counted = λ way before reading once at each. each_kept c.args.self.now.hidden c.args.self.now.ids.keys (counts c.args.self.now.nodes.items) (λ y count. count ≡ names_of same_id way y before) (λ y count. count ≡ named_so_far same_id way before (asked c.args.along reading.parents.items) 0 y) each (λ n y k l a p. p ∙ sym (none_so_far way before (asked c.args.along reading.parents.items) y))
+  counted = λ way before reading once at each. each_kept c.args.self.now.hidden c.args.self.now.ids.keys (counts c.args.self.now.nodes.items) (λ y count. count ≡ names_of same_id way y before) (λ y count. count ≡ named_so_far same_id way before (asked c.args.along reading.parents.items) 0 y) each (λ n y k l a p. p ∙ sym (none_so_far way before (asked c.args.along reading.parents.items) y));
 }
 
 pub row-preserved : goal.row-preserved
@@ -49,8 +49,8 @@ row-preserved c =
       hidden = c.in_ok-count_name.ensures.hidden ∙ inv.hidden;
       told = c.in_ok-count_name.ensures.readings ∙ inv.told;
       counted = λ way before reading once at each.
-        let here = sym (c.in-Some.ensures.parent reading (subst (λ (zs : List Reading). At zs c.args.number.0 reading) (sym inv.told) at)) in
-        count_more low keys once way before (asked c.args.along reading.parents.items) c.row.index y here cs cs' one (inv.counted way before reading once at each)
+          let here = sym (c.in-Some.ensures.parent reading (subst (λ (zs : List Reading). At zs c.args.number.0 reading) (sym inv.told) at)) in
+          count_more low keys once way before (asked c.args.along reading.parents.items) c.row.index y here cs cs' one (inv.counted way before reading once at each);
     }
 
 pub returns-clause-counted : goal.returns-clause-counted

@@ -28,7 +28,7 @@ invariant-row l = record {
   ids : l.self.ids ≡ l.fn.self.ids;
   hidden : l.self.hidden ≡ l.fn.self.hidden;
   told : readings l.self.nodes.items ≡ readings l.fn.self.nodes.items;
-  counted : (way : ObjectId → List ObjectId) (before : List ObjectId) (reading : Reading) → IsOnce l.fn.self.ids.keys → At (readings l.fn.self.nodes.items) l.number.0 reading → EachCount l.fn.self.hidden l.fn.self.ids.keys (counts l.fn.self.nodes.items) (λ y count. count ≡ names_of same_id way y before) → EachCount l.fn.self.hidden l.fn.self.ids.keys (counts l.self.nodes.items) (λ y count. count ≡ named_so_far same_id way before (asked l.along reading.parents.items) l.index y)
+  counted : (way : ObjectId → List ObjectId) (before : List ObjectId) (reading : Reading) → IsOnce l.fn.self.ids.keys → At (readings l.fn.self.nodes.items) l.number.0 reading → EachCount l.fn.self.hidden l.fn.self.ids.keys (counts l.fn.self.nodes.items) (λ y count. count ≡ names_of same_id way y before) → EachCount l.fn.self.hidden l.fn.self.ids.keys (counts l.self.nodes.items) (λ y count. count ≡ named_so_far same_id way before (asked l.along reading.parents.items) l.index y);
 }
 
 abbrev pub decreases-row : goal.decreases-row

@@ -20,6 +20,7 @@ use Rattle.gix_traverse_topo.specs.Turns.{total, names_of, named_so_far, times}
 use Rattle.gix_traverse_topo.specs.Waiting.{IsFree, waiting, Joined, pending_cmp}
 use Rattle.gix_traverse_topo.specs.declared.known.Known.{Known}
 use Rattle.gix_traverse_topo.specs.declared.known.Node.{Node}
+use Rattle.gix_traverse_topo.specs.declared.known.Number.{Number}
 use Rattle.gix_traverse_topo.specs.declared.known.Reading.{Reading}
 use Rattle.gix_traverse_topo.specs.declared.ready.Pending.{Pending}
 use Rattle.gix_traverse_topo.specs.declared.ready.Ready.{Ready}
@@ -41,8 +42,8 @@ commits-preserved c =
     elim c.if-is_free.branch [
       | then-is_free+in-Some+in_ok-push w ↦ (
           let zero : At cs c.commits.place 0 = zero_found cs c.commits.place c.is_free.result within c.is_free.ensures w.if-is_free.true in
-          let (number, reading, at, timed) = (ap (λ (n : _). n.0) w.in-Some.ensures.pending.0, w.in-Some.ensures.pending.1.0, w.in-Some.ensures.pending.1.1, w.in-Some.ensures.pending.1.2) in
-          subst (λ (zs : List Pending). FreeTo low (c.commits.place + 1) told cs zs) (sym (ap (λ (v : _). v.items) w.first-is ∙ w.in_ok-push.ensures.items)) (free_push low told cs c.commits.place c.commits.first.items w.in-Some.pending reading c.commits.invariant c.commits.auto.place number zero at timed))
+          let (same, (reading, at, timed)) = w.in-Some.ensures.pending in
+          subst (λ (zs : List Pending). FreeTo low (c.commits.place + 1) told cs zs) (sym (ap (λ (v : _). v.items) w.first-is ∙ w.in_ok-push.ensures.items)) (free_push low told cs c.commits.place c.commits.first.items w.in-Some.pending reading c.commits.invariant c.commits.auto.place (ap (λ (n : Number). n.0) same) zero at timed))
       | then-is_free+in_default w ↦ absurd (omega (arith, room, w.in_default.ensures.none))
       | else-is_free w ↦ subst (λ (zs : List Pending). FreeTo low (c.commits.place + 1) told cs zs) (sym (ap (λ (v : _). v.items) w.first-is)) (free_skip low told cs c.commits.place c.commits.first.items c.commits.invariant (not_zero cs c.commits.place c.is_free.result c.is_free.ensures w.if-is_free.false))
     ]
@@ -51,4 +52,4 @@ pub returns-clause-free : goal.returns-clause-free
 returns-clause-free c =
     let told : List Reading = readings c.args.self.now.nodes.items in
     free_all c.args.self.now.hidden told (counts c.args.self.now.nodes.items) c.commits.place c.commits.first.items c.commits.invariant
-      (omega (arith, c.commits-test.false, ap length c.as_slice-place-end.ensures.value, length_map (λ (v : Node). v.reading) c.args.self.now.nodes.items))
+    (omega (arith, c.commits-test.false, ap length c.as_slice-place-end.ensures.value, length_map (λ (v : Node). v.reading) c.args.self.now.nodes.items))

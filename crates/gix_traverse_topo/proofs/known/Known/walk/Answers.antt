@@ -33,7 +33,7 @@ walk-init g c = record {
   objects = refl;
   rows = refl;
   walking = walking_none (g.F.Lookup.is_honest c.args.source.now.objects) (g.F.Lookup.may_fail c.args.source.now.objects) (rows_of c.args.source.now.rows) (g.F.Lookup.table c.args.source.now.objects) c.args.along c.args.tips.now c.args.self.now.ids.keys c.args.self.now.nodes.items c.meet.new.ids.keys c.in_ok-meet.ensures.kept c.in_ok-meet.ensures.met;
-  counted = le_self (c.args.source.now.lookups + length c.args.self.now.nodes.items)
+  counted = le_self (c.args.source.now.lookups + length c.args.self.now.nodes.items);
 }
 
 pub walk-preserved : goal.walk-preserved
@@ -41,15 +41,15 @@ walk-preserved g c =
     let inv = c.walk.invariant in
     let id : ObjectId = c.in-Some.id in
     let visits = subst (λ ob. Visits (g.F.Lookup.is_honest ob) (g.F.Lookup.may_fail ob) (rows_of c.args.source.now.rows) (g.F.Lookup.table ob) c.args.along id c.walk.self.ids.keys c.walk.self.nodes.items c.visit.new.self.ids.keys c.visit.new.self.nodes.items) inv.objects
-        (subst (λ ro. Visits (g.F.Lookup.is_honest c.walk.source.objects) (g.F.Lookup.may_fail c.walk.source.objects) (rows_of ro) (g.F.Lookup.table c.walk.source.objects) c.args.along id c.walk.self.ids.keys c.walk.self.nodes.items c.visit.new.self.ids.keys c.visit.new.self.nodes.items) inv.rows c.in_ok-visit.ensures.visited) in
+    (subst (λ ro. Visits (g.F.Lookup.is_honest c.walk.source.objects) (g.F.Lookup.may_fail c.walk.source.objects) (rows_of ro) (g.F.Lookup.table c.walk.source.objects) c.args.along id c.walk.self.ids.keys c.walk.self.nodes.items c.visit.new.self.ids.keys c.visit.new.self.nodes.items) inv.rows c.in_ok-visit.ensures.visited) in
     record {
       hidden = c.in_ok-visit.ensures.hidden ∙ inv.hidden;
       objects = c.in_ok-visit.ensures.objects ∙ inv.objects;
       rows = c.in_ok-visit.ensures.rows ∙ inv.rows;
       walking = walking_step (g.F.Lookup.is_honest c.args.source.now.objects) (g.F.Lookup.may_fail c.args.source.now.objects) (rows_of c.args.source.now.rows) (g.F.Lookup.table c.args.source.now.objects) c.args.along c.args.tips.now c.args.self.now.ids.keys c.args.self.now.nodes.items c.walk.self.ids.keys c.walk.self.nodes.items c.visit.new.self.ids.keys c.visit.new.self.nodes.items id inv.walking (sym c.in-Some.ensures.unread) visits;
       counted =
-        let long : length c.visit.new.self.nodes.items ≡ length c.walk.self.nodes.items + 1 = ap length c.in_ok-visit.ensures.visited.pushed ∙ length-append c.walk.self.nodes.items (record { reading = c.in_ok-visit.ensures.visited.reading; names = 0 } ∷ []) in
-        omega (arith, c.in_ok-visit.ensures.counted, inv.counted, long)
+          let long : length c.visit.new.self.nodes.items ≡ length c.walk.self.nodes.items + 1 = ap length c.in_ok-visit.ensures.visited.pushed ∙ length-append c.walk.self.nodes.items (record { reading = c.in_ok-visit.ensures.visited.reading; names = 0 } ∷ []) in
+          omega (arith, c.in_ok-visit.ensures.counted, inv.counted, long);
     }
 
 pub walk-smaller : goal.walk-smaller

@@ -29,7 +29,7 @@ invariant-walk g l = record {
   objects : l.source.objects ≡ l.fn.source.objects;
   rows : l.source.rows ≡ l.fn.source.rows;
   walking : Walking (g.F.Lookup.is_honest l.fn.source.objects) (g.F.Lookup.may_fail l.fn.source.objects) (rows_of l.fn.source.rows) (g.F.Lookup.table l.fn.source.objects) l.along l.fn.tips l.fn.self.ids.keys l.fn.self.nodes.items l.self.ids.keys l.self.nodes.items;
-  counted : l.source.lookups + length l.fn.self.nodes.items ≤ l.fn.source.lookups + length l.self.nodes.items
+  counted : l.source.lookups + length l.fn.self.nodes.items ≤ l.fn.source.lookups + length l.self.nodes.items;
 }
 
 abbrev pub decreases-walk : goal.decreases-walk
