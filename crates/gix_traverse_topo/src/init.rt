@@ -1,6 +1,8 @@
 //! What a walk is asked for.
 
-ghost use Rattle.std.specs.Prelude.{◌≡◌, ◌++◌, IfOk};
+ghost use Rattle.std.specs.Prelude.{◌≡◌, ◌++◌, [], IfOk, None};
+ghost use Rattle.gix_traverse_commit.specs.declared.parents.Parents.TheVariants.{All as AllParents};
+ghost use Rattle.gix_traverse_topo.specs.declared.init.Sorting.TheVariants.{DateOrder};
 
 use crate::known::Known;
 use crate::ready::Ready;
@@ -42,7 +44,14 @@ fn with_more(mut ids: Vec<ObjectId>, more: &[ObjectId]) -> Result<Vec<ObjectId>,
 
 impl<F: Find + Drop> Builder<F, All> {
     /// A walk over the objects of this store, without tips or ends, by date and along all parents.
-    pub fn new(alloc: Global, find: F) -> Builder<F, All> {
+    pub fn new(alloc: Global, find: F) -> Builder<F, All>
+        ensures objects { result.find ≡ find }
+        ensures tips { result.tips.items ≡ [] }
+        ensures ends { result.ends.items ≡ [] }
+        ensures sorting { result.sorting ≡ DateOrder }
+        ensures parents { result.parents ≡ AllParents }
+        ensures rows { result.rows ≡ None }
+    {
         Builder {
             find,
             predicate: All,
@@ -84,7 +93,12 @@ impl<F: Find + Drop, P: Accept + Drop> Builder<F, P> {
     }
 
     /// The same walk with further tips.
-    pub fn with_tips(self, tips: &[ObjectId]) -> Result<Builder<F, P>, Error> {
+    pub fn with_tips(self, tips: &[ObjectId]) -> Result<Builder<F, P>, Error>
+        ensures tips { IfOk result (λ builder. builder.tips.items ≡ self.tips.items ++ tips.now) }
+        ensures ends { IfOk result (λ builder. builder.ends ≡ self.ends) }
+        ensures sorting { IfOk result (λ builder. builder.sorting ≡ self.sorting) }
+        ensures parents { IfOk result (λ builder. builder.parents ≡ self.parents) }
+    {
         Ok(Builder {
             tips: with_more(self.tips, tips)?,
             ..self
@@ -92,7 +106,12 @@ impl<F: Find + Drop, P: Accept + Drop> Builder<F, P> {
     }
 
     /// The same walk with further ends.
-    pub fn with_ends(self, ends: &[ObjectId]) -> Result<Builder<F, P>, Error> {
+    pub fn with_ends(self, ends: &[ObjectId]) -> Result<Builder<F, P>, Error>
+        ensures ends { IfOk result (λ builder. builder.ends.items ≡ self.ends.items ++ ends.now) }
+        ensures tips { IfOk result (λ builder. builder.tips ≡ self.tips) }
+        ensures sorting { IfOk result (λ builder. builder.sorting ≡ self.sorting) }
+        ensures parents { IfOk result (λ builder. builder.parents ≡ self.parents) }
+    {
         Ok(Builder {
             ends: with_more(self.ends, ends)?,
             ..self
@@ -100,22 +119,41 @@ impl<F: Find + Drop, P: Accept + Drop> Builder<F, P> {
     }
 
     /// The same walk in this order.
-    pub fn sorting(self, sorting: Sorting) -> Builder<F, P> {
+    pub fn sorting(self, sorting: Sorting) -> Builder<F, P>
+        ensures sorting { result.sorting ≡ sorting }
+        ensures tips { result.tips ≡ self.tips }
+        ensures ends { result.ends ≡ self.ends }
+        ensures parents { result.parents ≡ self.parents }
+    {
         Builder { sorting, ..self }
     }
 
     /// The same walk along these parents.
-    pub fn parents(self, parents: Parents) -> Builder<F, P> {
+    pub fn parents(self, parents: Parents) -> Builder<F, P>
+        ensures parents { result.parents ≡ parents }
+        ensures tips { result.tips ≡ self.tips }
+        ensures ends { result.ends ≡ self.ends }
+        ensures sorting { result.sorting ≡ self.sorting }
+    {
         Builder { parents, ..self }
     }
 
     /// The same walk, which takes commits from these rows where they have one.
-    pub fn with_commit_graph(self, rows: Option<Graph>) -> Builder<F, P> {
+    pub fn with_commit_graph(self, rows: Option<Graph>) -> Builder<F, P>
+        ensures rows { result.rows ≡ rows }
+        ensures tips { result.tips ≡ self.tips }
+        ensures ends { result.ends ≡ self.ends }
+        ensures sorting { result.sorting ≡ self.sorting }
+        ensures parents { result.parents ≡ self.parents }
+    {
         Builder { rows, ..self }
     }
 
     /// The walk, which has read all its commits.
-    pub fn build(self) -> Result<Topo<P>, Error> {
+    pub fn build(self) -> Result<Topo<P>, Error>
+        ensures predicate { IfOk result (λ walk. walk.predicate ≡ self.predicate) }
+        ensures parents { IfOk result (λ walk. walk.parents ≡ self.parents) }
+    {
         let alloc: Global = *self.tips.allocator();
         let mut source = Source {
             objects: self.find,

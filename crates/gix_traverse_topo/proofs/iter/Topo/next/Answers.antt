@@ -25,8 +25,8 @@ turns-preserved g c =
       predicate = c.in_default-accepted.ensures.accepts ∙ same;
       lookups = c.in-Some.ensures.lookups ∙ inv.lookups;
       stands = λ sorting rows h tips ends listed sd.
-        stands_no sorting rows h tips ends c.args.self.now.parents c.turns.self.parents inv.parents (λ x. g.P.Accept.accepts c.args.self.now.predicate (id_of x)) listed c.turns.self.known c.turn.new.self.known c.turns.self.ready c.turn.new.self.ready c.in-Ok.info c.in-Some.ensures.ids (inv.stands sorting rows h tips ends listed sd) stood none;
-      ended = λ e. let z : true ≡ false = c.in-Some.ensures.ended (inv.ended e) in absurd (let w : ⊥ = cc in w)
+          stands_no sorting rows h tips ends c.args.self.now.parents c.turns.self.parents inv.parents (λ x. g.P.Accept.accepts c.args.self.now.predicate (id_of x)) listed c.turns.self.known c.turn.new.self.known c.turns.self.ready c.turn.new.self.ready c.in-Ok.info c.in-Some.ensures.ids (inv.stands sorting rows h tips ends listed sd) stood none;
+      ended = λ e. let z : true ≡ false = c.in-Some.ensures.ended (inv.ended e) in absurd (let w : ⊥ = cc in w);
     }
 
 pub turns-smaller : goal.turns-smaller
@@ -41,7 +41,7 @@ returns-in-Some-accepted-clause-more g c = λ sorting rows h tips ends listed sd
     let kept = c.in-Some-accepted.ensures.kept in
     let yes : g.P.Accept.accepts c.args.self.now.predicate (id_of c.in-Ok.info.id) ≡ true = sym (ap (λ f. f (id_of c.in-Ok.info.id)) same) ∙ kept.1 in
     subst (λ (i : Info). Stands sorting rows h tips ends c.args.self.now.parents accepts (listed ++ i.id ∷ []) c.turn.new.self.known c.turn.new.self.ready × IsInfo rows h i) (sym kept.0)
-      (stands_yes sorting rows h tips ends c.args.self.now.parents c.turns.self.parents inv.parents accepts listed c.turns.self.known c.turn.new.self.known c.turns.self.ready c.turn.new.self.ready c.in-Ok.info c.in-Some.ensures.ids (inv.stands sorting rows h tips ends listed sd) stood yes)
+    (stands_yes sorting rows h tips ends c.args.self.now.parents c.turns.self.parents inv.parents accepts listed c.turns.self.known c.turn.new.self.known c.turns.self.ready c.turn.new.self.ready c.in-Ok.info c.in-Some.ensures.ids (inv.stands sorting rows h tips ends listed sd) stood yes)
 
 pub returns-clause-end : goal.returns-clause-end
 returns-clause-end g c = λ sorting rows h tips ends listed sd acyclic.
