@@ -1,8 +1,8 @@
 -- Where a walk begins: those that wait at first.
-use Rattle.std.proofs.Common.{◌≡◌, ℕ, zero, suc, ◌+◌, ◌<◌, ◌≤◌, ◌⊎◌, inl, inr, List, [], ◌∷◌, ◌++◌, take, refl, sym, ◌∙◌, ap, subst, arith, Some, Bool}
-use Rattle.std.specs.Prelude.{Contains, ◌↔◌, ℤ, ◌<ℤ◌}
-use Rattle.gix_traverse_commit.specs.Order.{At, Before, IsBreadthFirst, IsKey, Named, IsReady, IsFirstAt, HasNoChild, Outranks, newer, given_later}
-use Rattle.gix_traverse_topo.specs.Turns.{times, names_of, Waits, Ranked}
+use Rattle.std.proofs.Common.{◌≡◌, ℕ, zero, suc, ◌<◌, ◌≤◌, ◌⊎◌, inl, inr, List, [], refl, arith, Bool}
+use Rattle.std.specs.Prelude.{Contains, ℤ, ◌<ℤ◌}
+use Rattle.gix_traverse_commit.specs.Order.{At, IsBreadthFirst, IsKey, IsReady, IsFirstAt, HasNoChild, Outranks, newer, given_later}
+use Rattle.gix_traverse_topo.specs.Turns.{times, names_of, Waits}
 use Rattle.gix_traverse_commit.proofs.Lists.{at_from_contains, contains_from_at, none_at_nil}
 use Rattle.gix_traverse_commit.proofs.Slow.{TellsApart}
 use Rattle.gix_traverse_topo.proofs.Degree.{ready_from_names, names_from_ready}

@@ -1,8 +1,8 @@
 -- Names are counted, and counted off.
-use Rattle.std.proofs.Common.{◌≡◌, ℕ, zero, suc, ◌+◌, ◌<◌, ◌≤◌, ◌⊎◌, inl, inr, List, [], ◌∷◌, ◌++◌, length, map, take, refl, sym, ◌∙◌, ap, subst, arith, Some, None, slice_get, Option, Bool, true, false, cond, get_or, set, length-append, append_assoc, append-nil}
+use Rattle.std.proofs.Common.{◌≡◌, ℕ, zero, suc, ◌+◌, ◌<◌, ◌≤◌, inl, inr, List, [], ◌∷◌, ◌++◌, length, refl, sym, ◌∙◌, ap, subst, arith, set, append_assoc, append-nil}
 use Rattle.std.specs.Prelude.{Contains, IsPermutation}
 use Rattle.std.specs.BinaryHeap.{heap_items}
-use Rattle.std.proofs.lemmas.Option.{slice_get_within, slice_get-get_or, get_or_from_slice_get}
+use Rattle.std.proofs.lemmas.Option.{slice_get_within, get_or_from_slice_get}
 use Rattle.std.proofs.lemmas.List.Elements.{Contains-push_cases}
 use Rattle.std.proofs.lemmas.List.Sorted.{IsPermutation-refl, IsPermutation-trans, IsPermutation-append_left}
 use Rattle.gix_hash.specs.declared.object_id.ObjectId.{ObjectId}
@@ -14,16 +14,14 @@ use Rattle.gix_traverse_commit.proofs.Ids.{same_id_apart}
 use Rattle.gix_traverse_commit.proofs.Lists.{at_one, at_from_contains, contains_from_at, none_at_nil, three}
 use Rattle.gix_traverse_topo.specs.Nodes.{readings, counts, EachCount, NamesOne, IsOnce}
 use Rattle.gix_traverse_topo.specs.Standing.{id_at, ids_of, CountsOff, passed, counted, freed, NotCounted, GoesOff, RowOff}
-use Rattle.gix_traverse_topo.specs.Turns.{total, times, names_of, named_so_far, Freed}
-use Rattle.gix_traverse_topo.specs.Waiting.{waiting, Joined}
+use Rattle.gix_traverse_topo.specs.Turns.{total, names_of, named_so_far, Freed}
+use Rattle.gix_traverse_topo.specs.Waiting.{Joined}
 use Rattle.gix_traverse_topo.specs.declared.known.Known.{Known}
-use Rattle.gix_traverse_topo.specs.declared.known.Node.{Node}
-use Rattle.gix_traverse_topo.specs.declared.known.Reading.{Reading}
 use Rattle.gix_traverse_topo.specs.declared.ready.Pending.{Pending}
 use Rattle.gix_traverse_topo.specs.declared.ready.Ready.{Ready}
 use Rattle.gix_traverse_topo.specs.declared.ready.Ready.TheVariants.{ByDate, Topological}
 use Rattle.gix_traverse_topo.proofs.Freeing as freeing
-use Rattle.gix_traverse_topo.proofs.Meeting.{length_map, map_push, at_length_append}
+use Rattle.gix_traverse_topo.proofs.Meeting.{map_push}
 
 pub at_set_here : {A : Type 0} (xs : List A) (n : ℕ) (v : A) → n < length xs → At (set xs n v) n v
 at_set_here [] n v l = absurd (omega arith)

@@ -1,13 +1,13 @@
 -- The names of a row are counted off one after another.
-use Rattle.std.proofs.Common.{◌≡◌, ℕ, zero, suc, ◌+◌, ◌<◌, ◌≤◌, ◌⊎◌, inl, inr, List, [], ◌∷◌, ◌++◌, length, take, refl, sym, ◌∙◌, ap, subst, arith, Some, None, slice_get, Option, Bool, true, false, cond}
+use Rattle.std.proofs.Common.{◌≡◌, ℕ, zero, suc, ◌+◌, ◌<◌, ◌≤◌, ◌⊎◌, inl, inr, List, [], ◌∷◌, ◌++◌, length, take, refl, sym, ◌∙◌, ap, subst, arith, Bool, true, false, cond}
 use Rattle.std.specs.Prelude.{Contains}
 use Rattle.std.proofs.lemmas.Option.{slice_get_within}
-use Rattle.std.proofs.lemmas.List.Elements.{Contains-append_left, Contains-append_right, Contains-append_cases, Contains-push, Contains-push_cases}
+use Rattle.std.proofs.lemmas.List.Elements.{Contains-append_left, Contains-append_right, Contains-push_cases}
 use Rattle.gix_traverse_commit.specs.Order.{At, IsReady}
 use Rattle.gix_traverse_topo.specs.Turns.{times, names_of, named_so_far, Freed, Fresh, IsLastAt, Rising}
-use Rattle.gix_traverse_commit.proofs.Lists.{at_one, at_from_contains, contains_from_at, at_take, at_from_take, at_from_push, at_push, none_at_nil}
+use Rattle.gix_traverse_commit.proofs.Lists.{at_from_contains, contains_from_at, at_take, at_from_take, at_from_push, at_push, none_at_nil}
 use Rattle.gix_traverse_commit.proofs.Slow.{TellsApart}
-use Rattle.gix_traverse_topo.proofs.Turns.{times_append, times_contains, contains_times, is_in, contains_take, take_whole}
+use Rattle.gix_traverse_topo.proofs.Turns.{times_append, contains_times, is_in, contains_take}
 use Rattle.gix_traverse_topo.proofs.Degree.{room_for, ready_from_names, names_from_ready, total_push}
 
 pub take_at : {I : Type 0} (xs : List I) (m : ℕ) (y : I) → At xs m y → take (m + 1) xs ≡ take m xs ++ y ∷ []

@@ -1,5 +1,5 @@
 -- How far a walk has numbered and read the commits that it comes to.
-use Rattle.std.proofs.Common.{◌≡◌, ℕ, zero, suc, ◌+◌, ◌<◌, ◌≤◌, ◌⊎◌, inl, inr, List, [], ◌∷◌, ◌++◌, length, map, refl, sym, ◌∙◌, ap, subst, arith, Some, None, slice_get, Option, Bool, true, false, cond, length-append, append_assoc, append-nil}
+use Rattle.std.proofs.Common.{◌≡◌, ℕ, zero, suc, ◌+◌, ◌<◌, ◌≤◌, inl, inr, List, [], ◌∷◌, ◌++◌, length, map, refl, sym, ◌∙◌, ap, subst, arith, Some, Bool, true, false, cond, length-append, append_assoc, append-nil}
 use Rattle.std.specs.Prelude.{Contains}
 use Rattle.std.specs.List.{list_any, find}
 use Rattle.std.proofs.lemmas.Option.{slice_get_within, slice_get-get_or}
@@ -8,7 +8,7 @@ use Rattle.gix_hash.specs.declared.object_id.ObjectId.{ObjectId}
 use Rattle.gix_object_find.specs.Table.{Table}
 use Rattle.gix_traverse_commit.specs.Commits.{Commits, asked, asked_parents, Reached}
 use Rattle.gix_traverse_commit.specs.Numbered.{same_id}
-use Rattle.gix_traverse_commit.specs.Order.{At, Named, IsBreadthFirst}
+use Rattle.gix_traverse_commit.specs.Order.{At, Named}
 use Rattle.gix_traverse_commit.specs.Reading.{Read}
 use Rattle.gix_traverse_commit.specs.Standing.{NotIn}
 use Rattle.gix_traverse_commit.specs.declared.parents.Parents.{Parents}
@@ -16,14 +16,13 @@ use Rattle.gix_traverse_commit.specs.declared.parents.Parents.TheVariants.{All, 
 use Rattle.gix_traverse_commit.specs.declared.rows.Row.{Row}
 use Rattle.gix_traverse_commit.proofs.Frontier.{read_none, read_skip, read_push, read_next, read_all}
 use Rattle.gix_traverse_commit.proofs.Ids.{same_id_apart}
-use Rattle.gix_traverse_commit.proofs.Lists.{at_one, at_from_contains, contains_from_at, at_push, at_from_push}
+use Rattle.gix_traverse_commit.proofs.Lists.{at_one, contains_from_at, at_push, at_from_push}
 use Rattle.gix_traverse_commit.proofs.Slow.{contains_from_any, any_from_contains}
 use Rattle.gix_traverse_topo.specs.Meeting.{IsRow, Met, Walks}
 use Rattle.gix_traverse_topo.specs.Nodes.{readings, counts, IsReading, ParentsFrom}
 use Rattle.gix_traverse_topo.specs.Walking.{Visits, Walking}
 use Rattle.gix_traverse_topo.specs.declared.known.Node.{Node}
 use Rattle.gix_traverse_topo.specs.declared.known.Reading.{Reading}
-use Rattle.gix_traverse_topo.proofs.Turns.{at_append_cases}
 
 -- the first m names of a row are met
 pub record MetSo (way : ObjectId → List ObjectId) (tips hs keys : List ObjectId) (p m : ℕ) (names : List ObjectId) : Type 0 where

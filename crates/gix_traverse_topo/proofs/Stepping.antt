@@ -1,9 +1,9 @@
 -- A walk gives the commit whose turn it is.
-use Rattle.std.proofs.Common.{◌≡◌, ℕ, zero, suc, ◌+◌, ◌<◌, ◌≤◌, ◌⊎◌, inl, inr, List, [], ◌∷◌, ◌++◌, length, map, take, refl, sym, ◌∙◌, ap, subst, arith, Some, None, slice_get, Option, Bool, true, false, cond, get_or, length-append}
+use Rattle.std.proofs.Common.{◌≡◌, ℕ, zero, suc, ◌+◌, ◌≤◌, ◌⊎◌, inl, inr, List, [], ◌∷◌, ◌++◌, length, take, refl, sym, ◌∙◌, ap, subst, arith, Bool, cond}
 use Rattle.std.specs.Prelude.{Contains, IsPermutation, ℤ, ◌≤ℤ◌}
-use Rattle.std.specs.BinaryHeap.{heap_items, IsHeap}
-use Rattle.std.proofs.lemmas.Option.{slice_get_within, slice_get-get_or}
-use Rattle.std.proofs.lemmas.List.Elements.{Contains-append_left, Contains-append_right, Contains-append_cases, Contains-push, Contains-push_cases}
+use Rattle.std.specs.BinaryHeap.{heap_items}
+use Rattle.std.proofs.lemmas.Option.{slice_get_within}
+use Rattle.std.proofs.lemmas.List.Elements.{Contains-append_left, Contains-append_right, Contains-append_cases, Contains-push}
 use Rattle.std.proofs.lemmas.List.Sorted.{IsPermutation-map, sum_by-IsPermutation, Contains-permutation, IsPermutation-sym}
 use Rattle.std.proofs.lemmas.List.Recursion.{is_sum_by}
 use Rattle.gix_hash.specs.declared.object_id.ObjectId.{ObjectId}
@@ -14,10 +14,10 @@ use Rattle.gix_traverse_commit.specs.declared.parents.Parents.{Parents}
 use Rattle.gix_traverse_commit.specs.declared.rows.Row.{Row}
 use Rattle.gix_traverse_commit.proofs.Ids.{same_id_apart}
 use Rattle.gix_traverse_commit.proofs.Lists.{at_one, at_from_contains, contains_from_at, none_at_nil, at_append}
-use Rattle.gix_traverse_topo.specs.Nodes.{readings, counts, EachCount, IsOnce, Tells}
+use Rattle.gix_traverse_topo.specs.Nodes.{readings, counts, IsOnce}
 use Rattle.gix_traverse_topo.specs.Standing.{id_at, ids_of, Comes, Ranks, GoesOff, RowOff, Standing}
-use Rattle.gix_traverse_topo.specs.Turns.{total, times, names_of, named_so_far, SameBag, Fresh, Rising, Waits, Ranked}
-use Rattle.gix_traverse_topo.specs.Waiting.{pending_cmp, waiting, Joined, Popped}
+use Rattle.gix_traverse_topo.specs.Turns.{times, names_of, named_so_far, SameBag, Fresh, Rising, Waits, Ranked}
+use Rattle.gix_traverse_topo.specs.Waiting.{waiting, Joined, Popped}
 use Rattle.gix_traverse_topo.specs.declared.init.Sorting.{Sorting}
 use Rattle.gix_traverse_topo.specs.declared.init.Sorting.TheVariants.{DateOrder, TopoOrder}
 use Rattle.gix_traverse_topo.specs.declared.known.Known.{Known}
@@ -25,10 +25,9 @@ use Rattle.gix_traverse_topo.specs.declared.known.Reading.{Reading}
 use Rattle.gix_traverse_topo.specs.declared.ready.Pending.{Pending}
 use Rattle.gix_traverse_topo.specs.declared.ready.Ready.{Ready}
 use Rattle.gix_traverse_topo.specs.declared.ready.Ready.TheVariants.{ByDate, Topological}
-use Rattle.gix_traverse_topo.proofs.Counting.{at_id, in_set, number_in}
+use Rattle.gix_traverse_topo.proofs.Counting.{at_id}
 use Rattle.gix_traverse_topo.proofs.Degree.{total_push}
 use Rattle.gix_traverse_topo.proofs.Freeing as freeing
-use Rattle.gix_traverse_topo.proofs.Meeting.{map_push}
 use Rattle.gix_traverse_topo.proofs.Turns as turns
 
 pub times_permuted : (p : ObjectId → Bool) (xs ys : List ObjectId) → IsPermutation xs ys → times p xs ≡ times p ys

@@ -1,10 +1,10 @@
 -- A walk gives one commit after another, up to its end.
-use Rattle.std.proofs.Common.{◌≡◌, ℕ, zero, suc, ◌+◌, ◌<◌, ◌≤◌, ◌⊎◌, inl, inr, List, [], ◌∷◌, ◌++◌, length, map, refl, sym, ◌∙◌, ap, subst, arith, Some, None, Option, Bool, true, false, cond, append-nil}
-use Rattle.std.specs.Prelude.{Contains, ℤ, ⊤, filter, ◌↔◌, IfOk, IfErr, OnOk, Result, Ok, Err}
+use Rattle.std.proofs.Common.{◌≡◌, ℕ, ◌<◌, ◌≤◌, ◌⊎◌, inl, inr, List, [], ◌∷◌, ◌++◌, length, refl, sym, ◌∙◌, ap, subst, arith, Some, None, Option, Bool, true, false, append-nil}
+use Rattle.std.specs.Prelude.{Contains, ⊤, filter, ◌↔◌, IfOk, IfErr, OnOk, Result, Ok, Err}
 use Rattle.std.proofs.lemmas.Option.{slice_get_within}
 use Rattle.std.proofs.lemmas.List.Elements.{Contains-append_left, Contains-push, Contains-push_cases}
 use Rattle.gix_hash.specs.declared.object_id.ObjectId.{ObjectId}
-use Rattle.gix_traverse_commit.specs.Commits.{Commit, Commits, WalkRequest, asked, asked_parents, Reached, tip, parent, Passes, Hides, Listed}
+use Rattle.gix_traverse_commit.specs.Commits.{Commit, Commits, asked, asked_parents, Reached, tip, parent, Passes, Hides, Listed}
 use Rattle.gix_traverse_commit.specs.Fetching.{HasRowsGeneration}
 use Rattle.gix_traverse_commit.specs.Numbered.{same_id}
 use Rattle.gix_traverse_commit.specs.Order.{At, IsReady, IsChosen}
@@ -12,11 +12,11 @@ use Rattle.gix_traverse_commit.specs.declared.info.Info.{Info}
 use Rattle.gix_traverse_commit.specs.declared.parents.Parents.{Parents}
 use Rattle.gix_traverse_commit.specs.declared.rows.Row.{Row}
 use Rattle.gix_traverse_commit.proofs.Ids.{same_id_apart}
-use Rattle.gix_traverse_commit.proofs.Lists.{at_one, at_from_contains, contains_from_at, none_at_nil}
+use Rattle.gix_traverse_commit.proofs.Lists.{at_one, at_from_contains, none_at_nil}
 use Rattle.gix_traverse_commit.proofs.Listing.{asked_parent, listed_reached, listed_from_reached}
 use Rattle.gix_traverse_topo.specs.Nodes.{readings, counts, Tells, IsOnce}
-use Rattle.gix_traverse_topo.specs.Standing.{id_at, ids_of, Comes, Gives, GoesOff, RowOff, Standing, Steps, IsInfo, IsNext, IsTurnOf, Stands, topo_request, all_accepted, Answers, NoneReachesItself, weight}
-use Rattle.gix_traverse_topo.specs.Turns.{total, Waits}
+use Rattle.gix_traverse_topo.specs.Standing.{id_at, ids_of, Comes, Gives, GoesOff, RowOff, Standing, Steps, IsInfo, IsNext, Stands, topo_request, all_accepted, Answers, NoneReachesItself, weight}
+use Rattle.gix_traverse_topo.specs.Turns.{total}
 use Rattle.gix_traverse_topo.specs.Waiting.{waiting, Popped}
 use Rattle.gix_traverse_topo.specs.declared.error.Error.{Error}
 use Rattle.gix_traverse_topo.specs.declared.error.Error.TheVariants.{Memory}

@@ -1,6 +1,6 @@
 -- What a change of one commit's count leaves.
-use Rattle.std.proofs.Common.{◌≡◌, ℕ, zero, suc, ◌+◌, ◌-◌, ◌<◌, ◌≤◌, ◌⊎◌, inl, inr, List, [], ◌∷◌, ◌++◌, length, map, take, refl, sym, ◌∙◌, ap, subst, arith, Some, None, slice_get, Option, Bool, true, false, cond, get_or, set, Result, Ok, Err, length-append}
-use Rattle.std.specs.Prelude.{Contains, IsPermutation, OnOk, IfOk, IfSome, is_some, SomeIff}
+use Rattle.std.proofs.Common.{◌≡◌, ℕ, zero, suc, ◌+◌, ◌-◌, ◌<◌, ◌≤◌, inl, inr, List, [], ◌∷◌, ◌++◌, length, take, refl, sym, ◌∙◌, ap, subst, arith, Some, None, slice_get, Option, Bool, true, false, get_or, set, Result, Ok, Err, length-append}
+use Rattle.std.specs.Prelude.{Contains, IsPermutation, OnOk, IfSome, is_some, SomeIff}
 use Rattle.std.specs.Option.{option_copied}
 use Rattle.std.specs.Borrow.{Bor}
 use Rattle.std.proofs.lemmas.Bool.Decides.{nat_tests}
@@ -9,7 +9,6 @@ use Rattle.std.specs.BinaryHeap.{heap_items, IsHeap}
 use Rattle.std.specs.declared.collections.BinaryHeap.{BinaryHeap}
 use Rattle.std.proofs.Common.{Global, ltb, eqb, ◌^◌}
 use Rattle.std.proofs.lemmas.Bool.{ltb-true}
-use Rattle.std.proofs.lemmas.List.{map-set}
 use Rattle.std.proofs.lemmas.List.Elements.{Contains-push_cases, Contains-append_left, Contains-push}
 use Rattle.std.proofs.lemmas.List.Sorted.{IsPermutation-to_front, IsPermutation-trans, length_permutation}
 use Rattle.std.proofs.lemmas.Option.{slice_get_within, slice_get-get_or}
@@ -19,12 +18,11 @@ use Rattle.gix_traverse_commit.specs.Commits.{Commits, asked, asked_parents}
 use Rattle.gix_traverse_commit.specs.Numbered.{same_id}
 use Rattle.gix_traverse_commit.specs.Order.{At}
 use Rattle.gix_traverse_commit.specs.declared.parents.Parents.{Parents}
-use Rattle.gix_traverse_commit.proofs.Lists.{at_one, at_from_contains, contains_from_at, none_at_nil, at_from_push, three}
-use Rattle.gix_traverse_topo.specs.Nodes.{readings, counts, EachCount, NamesOne, IsOnce, ParentsFrom}
-use Rattle.gix_traverse_topo.specs.Standing.{weight, CountsOff, passed, counted, freed}
+use Rattle.gix_traverse_commit.proofs.Lists.{at_from_contains, contains_from_at, none_at_nil, at_from_push, three}
+use Rattle.gix_traverse_topo.specs.Nodes.{readings, counts, EachCount, ParentsFrom}
+use Rattle.gix_traverse_topo.specs.Standing.{CountsOff, counted, freed}
 use Rattle.gix_traverse_topo.specs.Turns.{total, times, names_of, named_so_far}
 use Rattle.gix_traverse_topo.specs.Waiting.{waiting, Joined, Popped, IsFree, pending_cmp}
-use Rattle.gix_traverse_topo.specs.declared.known.Known.{Known}
 use Rattle.gix_traverse_topo.specs.declared.known.Node.{Node}
 use Rattle.gix_traverse_topo.specs.declared.known.Reading.{Reading}
 use Rattle.gix_traverse_topo.specs.declared.ready.Pending.{Pending}

@@ -1,5 +1,5 @@
 -- What a walk knows of commits, each by its number.
-use Rattle.std.specs.Prelude.{◌≡◌, ℕ, suc, zero, ◌+◌, ◌<◌, ◌≤◌, ◌⊎◌, Bool, ℤ, pos, List, [], ◌∷◌, ◌++◌, length, map, Contains, IsSome, IfSome, None, Some, slice_set}
+use Rattle.std.specs.Prelude.{◌≡◌, ℕ, ◌+◌, ◌<◌, ◌≤◌, ◌⊎◌, pos, List, [], map, IsSome, IfSome, None, Some, slice_set}
 use Rattle.gix_hash.specs.declared.object_id.ObjectId.{ObjectId}
 use Rattle.gix_object_find.specs.Table.{Table}
 use Rattle.gix_traverse_commit.specs.Commits.{Commits}
@@ -10,7 +10,6 @@ use Rattle.gix_traverse_commit.specs.declared.rows.Row.{Row}
 use Rattle.gix_traverse_commit.specs.declared.fetch.FetchError.{FetchError}
 use Rattle.gix_traverse_commit.specs.declared.fetch.FetchError.TheVariants as fetch
 use Rattle.gix_traverse_topo.specs.Faults.{IsFaultOf, error_of}
-use Rattle.gix_traverse_topo.specs.declared.error.Error.{Error}
 use Rattle.gix_traverse_topo.specs.declared.known.Node.{Node}
 use Rattle.gix_traverse_topo.specs.declared.known.Reading.{Reading}
 

@@ -1,14 +1,13 @@
 -- Where a walk stands, and what it gives.
-use Rattle.std.specs.Prelude.{◌≡◌, ◌↔◌, ◌⊎◌, ℕ, suc, ◌+◌, ◌<◌, ◌≤◌, Bool, ℤ, List, [], ◌∷◌, ◌++◌, length, map, filter, Contains, None, Some, ⊤, true, slice_set, slice_index_or}
+use Rattle.std.specs.Prelude.{◌≡◌, ◌↔◌, ◌⊎◌, ℕ, ◌+◌, ◌<◌, ◌≤◌, Bool, ℤ, List, [], ◌∷◌, ◌++◌, length, map, filter, Contains, None, Some, ⊤, true, slice_set, slice_index_or}
 use Rattle.std.specs.BinaryHeap.{heap_items, IsHeap}
 use Rattle.gix_hash.specs.declared.object_id.ObjectId.{ObjectId}
 use Rattle.gix_hash.specs.declared.object_id.ObjectId.TheVariants.{Sha1}
-use Rattle.gix_hash.specs.Id.{Id, id_of}
 use Rattle.gix_traverse_commit.specs.Commits.{Commits, WalkRequest, asked, asked_parents, Reached, Hides, Listed}
 use Rattle.gix_traverse_commit.specs.Fetching.{HasRowsGeneration}
 use Rattle.gix_traverse_commit.specs.Numbered.{same_id}
 use Rattle.gix_traverse_commit.specs.Order.{At, IsReady, NewestFirst, Outranks}
-use Rattle.gix_traverse_commit.specs.Walks.{unfiltered, InDate, InTopological}
+use Rattle.gix_traverse_commit.specs.Walks.{InDate, InTopological}
 use Rattle.gix_traverse_commit.specs.declared.info.Info.{Info}
 use Rattle.gix_traverse_commit.specs.declared.parents.Parents.{Parents}
 use Rattle.gix_traverse_commit.specs.declared.rows.Row.{Row}

@@ -1,15 +1,5 @@
-use Rattle.std.proofs.Common.{◌≡◌, ℕ, ◌+◌, ◌<◌, ◌≤◌, inl, inr, List, [], ◌∷◌, ◌++◌, length, refl, sym, ◌∙◌, ap, subst, arith, Some, None, Bool, true, false, append-nil}
-use Rattle.std.specs.Prelude.{filter}
+use Rattle.std.proofs.Common.{inl, inr, ◌∙◌}
 use Rattle.std.proofs.lemmas.Result.{err_from_is_err_and}
-use Rattle.gix_hash.specs.declared.object_id.ObjectId.{ObjectId}
-use Rattle.gix_hash.specs.Id.{Id, id_of}
-use Rattle.gix_traverse_commit.specs.Commits.{Commits}
-use Rattle.gix_traverse_commit.specs.declared.parents.Parents.{Parents}
-use Rattle.gix_traverse_commit.specs.declared.rows.Row.{Row}
-use Rattle.gix_traverse_topo.specs.Standing.{Stands, Standing, Steps, IsInfo, weight}
-use Rattle.gix_traverse_topo.specs.Waiting.{waiting}
-use Rattle.gix_traverse_topo.specs.declared.init.Sorting.{Sorting}
-use Rattle.gix_traverse_topo.specs.declared.ready.Pending.{Pending}
 use Rattle.gix_traverse_topo.proofs.Turning.{gives_of, take_refused, take_falls}
 use Rattle.gix_traverse_topo.proofs.iter.give.Goals as goal
 

@@ -1,12 +1,11 @@
-use Rattle.std.proofs.Common.{◌≡◌, ℕ, ◌+◌, ◌<◌, ◌≤◌, inl, inr, List, [], ◌∷◌, ◌++◌, length, refl, sym, ◌∙◌, ap, subst, arith, Some, None, Bool, true, false, append-nil}
+use Rattle.std.proofs.Common.{◌≡◌, List, []}
 use Rattle.gix_hash.specs.declared.object_id.ObjectId.{ObjectId}
 use Rattle.gix_hash.specs.Id.{id_of}
 use Rattle.gix_traverse_commit.specs.Commits.{Commits}
 use Rattle.gix_traverse_commit.specs.declared.rows.Row.{Row}
-use Rattle.gix_traverse_topo.specs.Standing.{Stands, Standing, weight}
+use Rattle.gix_traverse_topo.specs.Standing.{Stands, weight}
 use Rattle.gix_traverse_topo.specs.Waiting.{waiting}
 use Rattle.gix_traverse_topo.specs.declared.init.Sorting.{Sorting}
-use Rattle.gix_traverse_topo.specs.declared.ready.Pending.{Pending}
 use Rattle.gix_traverse_topo.proofs.iter.Topo.next.Given as goal
 
 abbrev pub invariant-turns : goal.invariant-turns

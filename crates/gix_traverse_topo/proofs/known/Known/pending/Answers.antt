@@ -1,28 +1,5 @@
-use Rattle.std.proofs.Common.{◌≡◌, ℕ, zero, suc, ◌+◌, ◌-◌, ◌^◌, ◌<◌, ◌≤◌, ◌⊎◌, inl, inr, List, [], ◌∷◌, ◌++◌, length, map, take, refl, sym, ◌∙◌, ap, subst, arith, rules, Some, None, slice_get, Option, Bool, true, false, cond, get_or, set, length-append}
-use Rattle.std.specs.Prelude.{Contains}
+use Rattle.std.proofs.Common.{refl, arith}
 use Rattle.std.proofs.lemmas.Int.{ints}
-use Rattle.std.proofs.lemmas.Option.{slice_get_within, slice_get-get_or}
-use Rattle.std.proofs.lemmas.Result.{err_from_is_err_and}
-use Rattle.gix_hash.specs.declared.object_id.ObjectId.{ObjectId}
-use Rattle.gix_hash.specs.declared.object_id.ObjectId.TheVariants.{Sha1}
-use Rattle.gix_traverse_commit.specs.Commits.{Commits, asked, asked_parents}
-use Rattle.gix_traverse_commit.specs.Numbered.{same_id}
-use Rattle.gix_traverse_commit.specs.Order.{At}
-use Rattle.gix_traverse_commit.specs.Reading.{Read}
-use Rattle.gix_traverse_commit.specs.Standing.{NotIn}
-use Rattle.gix_traverse_commit.specs.Told.{rows_of}
-use Rattle.gix_traverse_commit.specs.declared.rows.Row.{Row}
-use Rattle.gix_traverse_topo.specs.Meeting.{IsRow, Met, Walks}
-use Rattle.gix_traverse_topo.specs.Nodes.{readings, counts, IsReading, ParentsFrom, EachCount, NamesOne, IsOnce}
-use Rattle.gix_traverse_topo.specs.Standing.{weight, CountsOff, passed, counted, freed, GoesOff, RowOff}
-use Rattle.gix_traverse_topo.specs.Walking.{Visits, Walking}
-use Rattle.gix_traverse_topo.specs.Turns.{total, names_of, named_so_far, times}
-use Rattle.gix_traverse_topo.specs.Waiting.{IsFree, waiting, Joined, pending_cmp}
-use Rattle.gix_traverse_topo.specs.declared.known.Known.{Known}
-use Rattle.gix_traverse_topo.specs.declared.known.Node.{Node}
-use Rattle.gix_traverse_topo.specs.declared.known.Reading.{Reading}
-use Rattle.gix_traverse_topo.specs.declared.ready.Pending.{Pending}
-use Rattle.gix_traverse_topo.specs.declared.ready.Ready.{Ready}
 use Rattle.gix_traverse_topo.proofs.Updates.{reading_at, got}
 use Rattle.gix_traverse_topo.proofs.known.Known.pending.Goals as goal
 
