@@ -79,8 +79,8 @@ pub struct Fetched {
     pub generation: Option<u32>,
 }
 
-// The parents that a walk goes along, of all.
-fn asked_of(parents: &[ObjectId], along: Parents) -> &[ObjectId]
+/// The parents that a walk goes along, of all.
+pub fn asked_of(parents: &[ObjectId], along: Parents) -> &[ObjectId]
     ensures { result.now ≡ asked along parents.now }
 {
     match along {
@@ -147,10 +147,13 @@ fn load<F: Find>(
 /// Where a walk reads commits from: rows first, else objects. It counts the objects that it asks for.
 #[derive(Drop)]
 pub struct Source<F> {
+    /// The objects, asked where there is no row.
     pub objects: F,
+    /// The rows, asked first.
     pub rows: Option<Graph>,
     /// The content of the object that was read last, and nothing where a row was.
     pub buffer: Vec<u8>,
+    /// How many objects were asked for.
     pub lookups: usize,
 }
 

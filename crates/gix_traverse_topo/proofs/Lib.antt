@@ -1,0 +1,11 @@
+pub mod Turns
+pub mod Degree
+pub mod Ends
+pub mod Moved
+pub mod Begins
+pub mod Freeing
+pub mod Meeting
+pub mod Counting
+pub mod Stepping
+pub mod Updates
+pub mod Turning

@@ -1,0 +1,223 @@
+-- How far a walk has numbered and read the commits that it comes to.
+use Rattle.std.proofs.Common.{◌≡◌, ℕ, zero, suc, ◌+◌, ◌<◌, ◌≤◌, inl, inr, List, [], ◌∷◌, ◌++◌, length, map, refl, sym, ◌∙◌, ap, subst, arith, Some, Bool, true, false, cond, length-append, append_assoc, append-nil}
+use Rattle.std.specs.Prelude.{Contains}
+use Rattle.std.specs.List.{list_any, find}
+use Rattle.std.proofs.lemmas.Option.{slice_get_within, slice_get-get_or}
+use Rattle.std.proofs.lemmas.List.Elements.{Contains-append_left, Contains-append_right, Contains-append_cases}
+use Rattle.gix_hash.specs.declared.object_id.ObjectId.{ObjectId}
+use Rattle.gix_object_find.specs.Table.{Table}
+use Rattle.gix_traverse_commit.specs.Commits.{Commits, asked, asked_parents, Reached}
+use Rattle.gix_traverse_commit.specs.Numbered.{same_id}
+use Rattle.gix_traverse_commit.specs.Order.{At, Named}
+use Rattle.gix_traverse_commit.specs.Reading.{Read}
+use Rattle.gix_traverse_commit.specs.Standing.{NotIn}
+use Rattle.gix_traverse_commit.specs.declared.parents.Parents.{Parents}
+use Rattle.gix_traverse_commit.specs.declared.parents.Parents.TheVariants.{All, First}
+use Rattle.gix_traverse_commit.specs.declared.rows.Row.{Row}
+use Rattle.gix_traverse_commit.proofs.Frontier.{read_none, read_skip, read_push, read_next, read_all}
+use Rattle.gix_traverse_commit.proofs.Ids.{same_id_apart}
+use Rattle.gix_traverse_commit.proofs.Lists.{at_one, contains_from_at, at_push, at_from_push}
+use Rattle.gix_traverse_commit.proofs.Slow.{contains_from_any, any_from_contains}
+use Rattle.gix_traverse_topo.specs.Meeting.{IsRow, Met, Walks}
+use Rattle.gix_traverse_topo.specs.Nodes.{readings, counts, IsReading, ParentsFrom}
+use Rattle.gix_traverse_topo.specs.Walking.{Visits, Walking}
+use Rattle.gix_traverse_topo.specs.declared.known.Node.{Node}
+use Rattle.gix_traverse_topo.specs.declared.known.Reading.{Reading}
+
+-- the first m names of a row are met
+pub record MetSo (way : ObjectId → List ObjectId) (tips hs keys : List ObjectId) (p m : ℕ) (names : List ObjectId) : Type 0 where
+  pub xs : List ObjectId
+  pub keys_are : keys ≡ hs ++ xs
+  pub read : Read way tips (NotIn hs) xs p m
+  pub row : IsRow way tips xs p names
+
+module _ (way : ObjectId → List ObjectId) (tips : List ObjectId) where
+  row_more : (xs : List ObjectId) (y : ObjectId) (p : ℕ) (names : List ObjectId) → IsRow way tips xs p names → IsRow way tips (xs ++ y ∷ []) p names
+  row_more xs y zero names r = r
+  row_more xs y (suc q) names (c, a, e) = (c, at_push xs y q c a, e)
+
+  named_from_row : (xs : List ObjectId) (p : ℕ) (names : List ObjectId) → IsRow way tips xs p names → (m : ℕ) (y : ObjectId) → At names m y → Named way tips xs p m y
+  named_from_row xs zero names r m y a = subst (λ (zs : List ObjectId). At zs m y) (sym r) a
+  named_from_row xs (suc q) names (c, b, e) m y a = (c, b, subst (λ (zs : List ObjectId). At zs m y) (sym e) a)
+
+  row_from_named : (xs : List ObjectId) (p : ℕ) (names : List ObjectId) → IsRow way tips xs p names → (m : ℕ) (y : ObjectId) → Named way tips xs p m y → At names m y
+  row_from_named xs zero names r m y a = subst (λ (zs : List ObjectId). At zs m y) r a
+  row_from_named xs (suc q) names (c, b, e) m y (d, a, n) =
+      let same : d ≡ c = at_one xs q d c a b in
+      subst (λ (zs : List ObjectId). At zs m y) e (subst (λ (z : ObjectId). At (way z) m y) same n)
+
+  -- one more name of the row
+  pub meet_one : (hs keys keys' : List ObjectId) (p m : ℕ) (names : List ObjectId) (y : ObjectId) → MetSo way tips hs keys p m names → At names m y → keys' ≡ cond (list_any (same_id y) keys) keys (keys ++ y ∷ []) → MetSo way tips hs keys' p (suc m) names
+  meet_one hs keys keys' p m names y s here e = go (list_any (same_id y) keys) refl
+    where
+      named : Named way tips s.xs p m y
+      named = named_from_row s.xs p names s.row m y here
+
+      inside : list_any (same_id y) keys ≡ true → Contains (hs ++ s.xs) y
+      inside f = contains_from_any same_id same_id_apart (hs ++ s.xs) y (ap (list_any (same_id y)) (sym s.keys_are) ∙ f)
+
+      outside : list_any (same_id y) keys ≡ false → Contains (hs ++ s.xs) y → ⊥
+      outside f c = let t : list_any (same_id y) keys ≡ true = ap (list_any (same_id y)) s.keys_are ∙ any_from_contains same_id same_id_apart (hs ++ s.xs) y c in let z : ⊥ = cc in z
+
+      go : (b : Bool) → list_any (same_id y) keys ≡ b → MetSo way tips hs keys' p (suc m) names
+      go true f = record {
+        xs = s.xs;
+        keys_are = (let g : keys' ≡ keys = rw f at e in g ∙ s.keys_are);
+        read = read_skip way tips (NotIn hs) s.xs p m y s.read named (λ k. elim (Contains-append_cases hs s.xs y (inside f)) [ inl h ↦ absurd (k h) | inr c ↦ c ]);
+        row = s.row;
+      }
+      go false f = record {
+        xs = s.xs ++ y ∷ [];
+        keys_are = (let g : keys' ≡ keys ++ y ∷ [] = rw f at e in g ∙ ap (λ (zs : List ObjectId). zs ++ y ∷ []) s.keys_are ∙ append_assoc hs s.xs (y ∷ []));
+        read = read_push way tips (NotIn hs) s.xs p m y s.read named (λ c. outside f (Contains-append_left hs s.xs y c)) (λ c. outside f (Contains-append_right hs s.xs y c));
+        row = row_more s.xs y p names s.row;
+      }
+
+  pub meet_more : (hs keys keys' : List ObjectId) (p m : ℕ) (names : List ObjectId) (y : ObjectId) → MetSo way tips hs keys p m names → At names m y → keys' ≡ cond (list_any (same_id y) keys) keys (keys ++ y ∷ []) → MetSo way tips hs keys' p (m + 1) names
+  meet_more hs keys keys' p m names y s here e = let f : suc m ≡ m + 1 = omega arith in subst (λ (n : ℕ). MetSo way tips hs keys' p n names) f (meet_one hs keys keys' p m names y s here e)
+
+  -- all names of the row
+  pub met_all : (hs keys : List ObjectId) (p m : ℕ) (names : List ObjectId) → MetSo way tips hs keys p m names → length names ≤ m → Met way tips hs keys p
+  met_all hs keys p m names s l = record {
+    xs = s.xs;
+    keys_are = s.keys_are;
+    count = m;
+    read = s.read;
+    all = λ j x n. let a = row_from_named s.xs p names s.row j x n in let w = slice_get_within names j x a in omega arith;
+  }
+
+-- a key stays where it is
+pub keys_more : (keys keys' : List ObjectId) (y : ObjectId) → keys' ≡ cond (list_any (same_id y) keys) keys (keys ++ y ∷ []) → (k : ℕ) (x : ObjectId) → At keys k x → At keys' k x
+keys_more keys keys' y e k x a = go (list_any (same_id y) keys) refl
+  where
+    go : (b : Bool) → list_any (same_id y) keys ≡ b → At keys' k x
+    go true f = let g : keys' ≡ keys = rw f at e in subst (λ (zs : List ObjectId). At zs k x) (sym g) a
+    go false f = let g : keys' ≡ keys ++ y ∷ [] = rw f at e in subst (λ (zs : List ObjectId). At zs k x) (sym g) (at_push keys y k x a)
+
+pub asked_same : (along : Parents) (h : Commits ObjectId) (x : ObjectId) → asked_parents along h x ≡ asked along (h x).parents
+asked_same All h x = refl
+asked_same First h x = refl
+
+pub at_length_append : {I : Type 0} (xs ys : List I) (k : ℕ) (x : I) → At (xs ++ ys) (length xs + k) x → At ys k x
+at_length_append [] ys k x a = let e : 0 + k ≡ k = omega arith in subst (λ (n : ℕ). At ys n x) e a
+at_length_append (z ∷ xs) ys k x a = at_length_append xs ys k x (let e : suc (length xs) + k ≡ suc (length xs + k) = omega arith in let b : At (z ∷ (xs ++ ys)) (suc (length xs + k)) x = subst (λ (n : ℕ). At (z ∷ (xs ++ ys)) n x) e a in b)
+
+pub length_map : {A B : Type 0} (f : A → B) (xs : List A) → length (map f xs) ≡ length xs
+length_map f [] = refl
+length_map f (x ∷ xs) = ap suc (length_map f xs)
+
+pub map_push : {A B : Type 0} (f : A → B) (xs : List A) (x : A) → map f (xs ++ x ∷ []) ≡ map f xs ++ f x ∷ []
+map_push f [] x = refl
+map_push f (y ∷ xs) x = ap (λ (zs : List _). f y ∷ zs) (map_push f xs x)
+
+-- what stands at a place of the longer list stood there before
+pub at_back : {I : Type 0} (xs ys : List I) → ((k : ℕ) (x : I) → At xs k x → At ys k x) → (k : ℕ) (x : I) → k < length xs → At ys k x → At xs k x
+at_back xs ys kept k x l a =
+    let here = slice_get-get_or xs k x l in
+    let there = kept k _ here in
+    let same = at_one ys k _ x there a in
+    subst (λ (z : _). At xs k z) same here
+
+module _ (honest may_fail : Type 0) (rows : List Row) (table : Table) (along : Parents) (tips keys : List ObjectId) (nodes : List Node) where
+  -- after the tips
+  pub walking_none : (keys' : List ObjectId) → ((k : ℕ) (x : ObjectId) → At keys k x → At keys' k x) → ((way : ObjectId → List ObjectId) (tips' hs xs : List ObjectId) (p : ℕ) → keys ≡ hs ++ xs → Read way tips' (NotIn hs) xs p 0 → IsRow way tips' xs p tips → Met way tips' hs keys' p) → Walking honest may_fail rows table along tips keys nodes keys' nodes
+  walking_none keys' kept met = record {
+    keys_kept = kept;
+    nodes_kept = λ k node a. a;
+    read = λ n x r l a b. absurd (let w = slice_get_within (readings nodes) n r b in let e = length_map (λ (node : Node). node.reading) nodes in omega arith);
+    unnamed = λ n c l b. absurd (let w = slice_get_within (counts nodes) n c b in let e = length_map (λ (node : Node). node.names) nodes in omega arith);
+    place = 0;
+    placed = omega arith;
+    met = λ e h t. met (asked_parents along h) tips keys [] 0 (sym (append-nil keys)) (read_none (asked_parents along h) tips (NotIn keys)) refl;
+  }
+
+  -- one more commit
+  pub walking_step : (keys' : List ObjectId) (nodes' : List Node) (keys'' : List ObjectId) (nodes'' : List Node) (id : ObjectId) → Walking honest may_fail rows table along tips keys nodes keys' nodes' → At keys' (length nodes') id → Visits honest may_fail rows table along id keys' nodes' keys'' nodes'' → Walking honest may_fail rows table along tips keys nodes keys'' nodes''
+  walking_step keys' nodes' keys'' nodes'' id w here v = record {
+    keys_kept = λ k x a. v.kept k x (w.keys_kept k x a);
+    nodes_kept = λ k node a. subst (λ (zs : List Node). At zs k node) (sym v.pushed) (at_push nodes' (record { reading = v.reading; names = 0 }) k node (w.nodes_kept k node a));
+    read = λ n x r l a b. elim (at_from_push (readings nodes') v.reading n r (subst (λ (zs : List Reading). At zs n r) told b)) [
+      | inl c ↦ (let m = slice_get_within (readings nodes') n r c in w.read n x r l (at_back keys' keys'' v.kept n x (omega (arith, long_told, room)) a) c)
+      | inr e ↦ (
+          let f : n ≡ length nodes' = e.0 ∙ long_told in
+          let g : At keys'' (length nodes') x = subst (λ (k : ℕ). At keys'' k x) f a in
+          let same : id ≡ x = at_one keys'' (length nodes') id x (v.kept (length nodes') id here) g in
+          subst (λ (s : Reading). IsReading honest may_fail rows table x s) (sym e.1) (subst (λ (z : ObjectId). IsReading honest may_fail rows table z v.reading) same v.is_read))
+    ];
+    unnamed = λ n c l b. elim (at_from_push (counts nodes') 0 n c (subst (λ (zs : List ℕ). At zs n c) counted b)) [
+      | inl d ↦ w.unnamed n c l d
+      | inr e ↦ e.1
+    ];
+    place = suc w.place;
+    placed = omega (arith, w.placed, longer);
+    met = met;
+  }
+    where
+      told : readings nodes'' ≡ readings nodes' ++ v.reading ∷ []
+      told = ap readings v.pushed ∙ map_push (λ (node : Node). node.reading) nodes' (record { reading = v.reading; names = 0 })
+
+      counted : counts nodes'' ≡ counts nodes' ++ 0 ∷ []
+      counted = ap counts v.pushed ∙ map_push (λ (node : Node). node.names) nodes' (record { reading = v.reading; names = 0 })
+
+      longer : length nodes'' ≡ length nodes' + 1
+      longer = ap length v.pushed ∙ length-append nodes' (record { reading = v.reading; names = 0 } ∷ [])
+
+      long_told : length (readings nodes') ≡ length nodes'
+      long_told = length_map (λ (node : Node). node.reading) nodes'
+
+      room : length nodes' < length keys'
+      room = slice_get_within keys' (length nodes') id here
+
+      met : length nodes ≡ length keys → (h : Commits ObjectId) → ParentsFrom (length nodes) h keys'' (readings nodes'') → Met (asked_parents along h) tips keys keys'' (suc w.place)
+      met e h t =
+          let way = asked_parents along h in
+          let m = w.met e h (λ n x r l a b. t n x r l (v.kept n x a) (subst (λ (zs : List Reading). At zs n r) (sym told) (at_push (readings nodes') v.reading n r b))) in
+          let there : At m.xs w.place id = at_length_append keys m.xs w.place id (subst (λ (zs : List ObjectId). At zs (length keys + w.place) id) m.keys_are (subst (λ (n : ℕ). At keys' n id) (w.placed ∙ ap (λ (n : ℕ). n + w.place) e) here)) in
+          let within = slice_get_within m.xs w.place id there in
+          let at_end : At (readings nodes'') (length nodes') v.reading = subst (λ (zs : List Reading). At zs (length nodes') v.reading) (sym told) (subst (λ (n : ℕ). At (readings nodes' ++ v.reading ∷ []) n v.reading) long_told (at_end_of (readings nodes') v.reading)) in
+          let parents = t (length nodes') id v.reading (omega (arith, w.placed)) (v.kept (length nodes') id here) at_end in
+          v.met way tips keys m.xs (suc w.place) m.keys_are
+          (read_next way tips (NotIn keys) m.xs w.place m.count m.read m.all (omega arith))
+          (id, there, asked_same along h id ∙ ap (asked along) (sym parents))
+        where
+          at_end_of : {I : Type 0} (zs : List I) (y : I) → At (zs ++ y ∷ []) (length zs) y
+          at_end_of [] y = refl
+          at_end_of (z ∷ zs) y = at_end_of zs y
+
+  -- all are read
+  pub walks_all : (keys' : List ObjectId) (nodes' : List Node) → Walking honest may_fail rows table along tips keys nodes keys' nodes' → length keys' ≤ length nodes' → length nodes ≡ length keys → (h : Commits ObjectId) → ParentsFrom (length nodes) h keys' (readings nodes') → Walks (asked_parents along h) tips keys keys' × (length nodes' ≡ length keys')
+  walks_all keys' nodes' w l e h t =
+      let way = asked_parents along h in
+      let m = w.met e h t in
+      let long : length keys' ≡ length keys + length m.xs = ap length m.keys_are ∙ length-append keys m.xs in
+      let within = m.read.within in
+      let end : w.place ≡ length m.xs = omega (arith, w.placed) in (
+        record {
+          xs = m.xs;
+          keys_are = m.keys_are;
+          breadth = read_all way tips (NotIn keys) m.xs m.count (subst (λ (n : ℕ). Read way tips (NotIn keys) m.xs n m.count) end m.read) (λ j x n. m.all j x (subst (λ (q : ℕ). Named way tips m.xs q j x) (sym end) n)) (λ x. Reached way (NotIn keys) tips x) (λ x r. r) (λ x r. r);
+        },
+        omega (arith, w.placed),
+      )
+
+-- what passes in a list of keys
+pub not_among : (keys : List ObjectId) (n : ℕ) (x : ObjectId) → list_any (same_id x) keys ≡ false → At keys n x → ⊥
+not_among keys n x e a = let t = any_from_contains same_id same_id_apart keys x (contains_from_at keys n x a) in let z : ⊥ = cc in z
+
+pub find_passes : {I : Type 0} (p : I → Bool) (xs : List I) (y : I) → find p xs ≡ Some y → p y ≡ true
+find_passes p [] y e = let z : ⊥ = cc in absurd z
+find_passes {I} p (x ∷ xs) y e = go (p x) refl (find_passes p xs y)
+  where
+    go : (b : Bool) → p x ≡ b → (find p xs ≡ Some y → p y ≡ true) → p y ≡ true
+    go true f r = let g : Some x ≡ Some y = rw f at e in let same : x ≡ y = cc in ap p (sym same) ∙ f
+    go false f r = let g : find p xs ≡ Some y = rw f at e in r g
+
+pub at_map : {A B : Type 0} (f : A → B) (xs : List A) (k : ℕ) (x : A) → At xs k x → At (map f xs) k (f x)
+at_map f [] k x a = let z : ⊥ = cc in absurd z
+at_map f (y ∷ xs) zero x a = let e : y ≡ x = cc in ap (λ (z : _). Some (f z)) e
+at_map f (y ∷ xs) (suc k) x a = at_map f xs k x a
+
+pub from_map : {A B : Type 0} (f : A → B) (xs : List A) (k : ℕ) (y : B) → At (map f xs) k y → (x : A) × At xs k x × (f x ≡ y)
+from_map f [] k y a = let z : ⊥ = cc in absurd z
+from_map f (x ∷ xs) zero y a = (x, refl, cc)
+from_map f (x ∷ xs) (suc k) y a = from_map f xs k y a

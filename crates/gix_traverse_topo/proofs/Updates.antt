@@ -1,0 +1,247 @@
+-- What a change of one commit's count leaves.
+use Rattle.std.proofs.Common.{◌≡◌, ℕ, zero, suc, ◌+◌, ◌-◌, ◌<◌, ◌≤◌, inl, inr, List, [], ◌∷◌, ◌++◌, length, take, refl, sym, ◌∙◌, ap, subst, arith, Some, None, slice_get, Option, Bool, true, false, get_or, set, Result, Ok, Err, length-append}
+use Rattle.std.specs.Prelude.{Contains, IsPermutation, OnOk, IfSome, is_some, SomeIff}
+use Rattle.std.specs.Option.{option_copied}
+use Rattle.std.specs.Borrow.{Bor}
+use Rattle.std.proofs.lemmas.Bool.Decides.{nat_tests}
+use Rattle.gix_traverse_topo.specs.declared.known.Number.{Number}
+use Rattle.std.specs.BinaryHeap.{heap_items, IsHeap}
+use Rattle.std.specs.declared.collections.BinaryHeap.{BinaryHeap}
+use Rattle.std.proofs.Common.{Global, ltb, eqb, ◌^◌}
+use Rattle.std.proofs.lemmas.Bool.{ltb-true}
+use Rattle.std.proofs.lemmas.List.Elements.{Contains-push_cases, Contains-append_left, Contains-push}
+use Rattle.std.proofs.lemmas.List.Sorted.{IsPermutation-to_front, IsPermutation-trans, length_permutation}
+use Rattle.std.proofs.lemmas.Option.{slice_get_within, slice_get-get_or}
+use Rattle.gix_hash.specs.declared.object_id.ObjectId.{ObjectId}
+use Rattle.gix_hash.specs.declared.object_id.ObjectId.TheVariants.{Sha1}
+use Rattle.gix_traverse_commit.specs.Commits.{Commits, asked, asked_parents}
+use Rattle.gix_traverse_commit.specs.Numbered.{same_id}
+use Rattle.gix_traverse_commit.specs.Order.{At}
+use Rattle.gix_traverse_commit.specs.declared.parents.Parents.{Parents}
+use Rattle.gix_traverse_commit.proofs.Lists.{at_from_contains, contains_from_at, none_at_nil, at_from_push, three}
+use Rattle.gix_traverse_topo.specs.Nodes.{readings, counts, EachCount, ParentsFrom}
+use Rattle.gix_traverse_topo.specs.Standing.{CountsOff, counted, freed}
+use Rattle.gix_traverse_topo.specs.Turns.{total, times, names_of, named_so_far}
+use Rattle.gix_traverse_topo.specs.Waiting.{waiting, Joined, Popped, IsFree, pending_cmp}
+use Rattle.gix_traverse_topo.specs.declared.known.Node.{Node}
+use Rattle.gix_traverse_topo.specs.declared.known.Reading.{Reading}
+use Rattle.gix_traverse_topo.specs.declared.ready.Pending.{Pending}
+use Rattle.gix_traverse_topo.specs.declared.ready.Ready.{Ready}
+use Rattle.gix_traverse_topo.specs.declared.ready.Ready.TheVariants.{ByDate, Topological}
+use Rattle.gix_traverse_topo.proofs.Counting.{at_set_other, each_kept, total_set}
+use Rattle.gix_traverse_topo.proofs.Degree.{total_push}
+use Rattle.gix_traverse_topo.proofs.Freeing.{take_at}
+use Rattle.gix_traverse_topo.proofs.Meeting.{at_map, from_map, asked_same, at_length_append, length_map}
+
+-- a changed count leaves what was read
+pub set_readings : (nodes : List Node) (n k : ℕ) (node : Node) → node ≡ get_or nodes n node → readings (set nodes n (record { reading = node.reading; names = k })) ≡ readings nodes
+set_readings [] n k node e = refl
+set_readings (x ∷ xs) zero k node e = ap (λ (v : Node). v.reading ∷ readings xs) e
+set_readings (x ∷ xs) (suc n) k node e = ap (λ (zs : List Reading). x.reading ∷ zs) (set_readings xs n k node e)
+
+pub set_counts : (nodes : List Node) (n k : ℕ) (r : Reading) → counts (set nodes n (record { reading = r; names = k })) ≡ set (counts nodes) n k
+set_counts [] n k r = refl
+set_counts (x ∷ xs) zero k r = refl
+set_counts (x ∷ xs) (suc n) k r = ap (λ (zs : List ℕ). x.names ∷ zs) (set_counts xs n k r)
+
+-- a changed reading leaves the counts
+pub same_counts : (nodes : List Node) (n : ℕ) (r : Reading) (node : Node) → node ≡ get_or nodes n node → counts (set nodes n (record { reading = r; names = node.names })) ≡ counts nodes
+same_counts [] n r node e = refl
+same_counts (x ∷ xs) zero r node e = ap (λ (v : Node). v.names ∷ counts xs) e
+same_counts (x ∷ xs) (suc n) r node e = ap (λ (zs : List ℕ). x.names ∷ zs) (same_counts xs n r node e)
+
+pub other_readings : (nodes : List Node) (n : ℕ) (v : Node) (k : ℕ) (r : Reading) → (k ≡ n → ⊥) → At (readings (set nodes n v)) k r → At (readings nodes) k r
+other_readings nodes n v k r d a =
+    let (node, b, e) = from_map (λ (x : Node). x.reading) (set nodes n v) k r a in
+    subst (λ (z : Reading). At (readings nodes) k z) e (at_map (λ (x : Node). x.reading) nodes k node (at_set_other nodes n k v node d b))
+
+pub node_at : (nodes : List Node) (n : ℕ) (node : Node) → n < length nodes → node ≡ get_or nodes n node → At nodes n node
+node_at nodes n node l e = slice_get-get_or nodes n node l ∙ ap Some (sym e)
+
+pub reading_at : (nodes : List Node) (n : ℕ) (node : Node) → n < length nodes → node ≡ get_or nodes n node → At (readings nodes) n node.reading
+reading_at nodes n node l e = at_map (λ (x : Node). x.reading) nodes n node (node_at nodes n node l e)
+
+pub count_at : (nodes : List Node) (n : ℕ) (node : Node) → n < length nodes → node ≡ get_or nodes n node → At (counts nodes) n node.names
+count_at nodes n node l e = at_map (λ (x : Node). x.names) nodes n node (node_at nodes n node l e)
+
+pub within_true : (n : ℕ) (xs : List Node) → true ≡ ltb n (length xs) → n < length xs
+within_true n xs e = ltb-true n (length xs) (sym e)
+
+-- ---- what waits
+
+pub joined_pushed : {T E : Type 0} (r : Result T E) (ready : Ready) (p : Pending) (heap heap' : BinaryHeap Pending Global) → ready ≡ ByDate heap → OnOk r (IsPermutation (p ∷ heap_items heap) (heap_items heap')) → OnOk r (IsHeap pending_cmp (heap_items heap) → IsHeap pending_cmp (heap_items heap')) → OnOk r (Joined ready (p ∷ []) (ByDate heap'))
+joined_pushed (Ok v) ready p heap heap' e h k = subst (λ (q : Ready). Joined q (p ∷ []) (ByDate heap')) (sym e) (IsPermutation-trans (heap_items heap ++ p ∷ []) (p ∷ heap_items heap) (heap_items heap') (IsPermutation-to_front (heap_items heap) p) h, k)
+joined_pushed (Err v) ready p heap heap' e h k = tt
+
+pub joined_length : (a b : Ready) (p : Pending) → Joined a (p ∷ []) b → length (waiting b) ≡ length (waiting a) + 1
+joined_length (ByDate a) (ByDate b) p (h, k) = length_permutation (heap_items a ++ p ∷ []) (heap_items b) h ∙ length-append (heap_items a) (p ∷ [])
+joined_length (Topological a) (Topological b) p e = ap length e ∙ length-append a.items (p ∷ [])
+joined_length (ByDate a) (Topological b) p h = absurd h
+joined_length (Topological a) (ByDate b) p h = absurd h
+
+pub popped_length : (a b : Ready) (p : Pending) → Popped a p b → length (waiting a) ≡ length (waiting b) + 1
+popped_length (ByDate a) (ByDate b) p (h, k) = let e = length_permutation (heap_items a) (p ∷ heap_items b) h in omega arith
+popped_length (Topological a) (Topological b) p e = ap length e ∙ length-append b.items (p ∷ [])
+popped_length (ByDate a) (Topological b) p h = absurd h
+popped_length (Topological a) (ByDate b) p h = absurd h
+
+-- ---- rows of names
+
+pub none_so_far : (way : ObjectId → List ObjectId) (before row : List ObjectId) (y : ObjectId) → named_so_far same_id way before row 0 y ≡ names_of same_id way y before
+none_so_far way before [] y = omega arith
+none_so_far way before (z ∷ zs) y = omega arith
+
+whole : (zs : List ObjectId) (n : ℕ) → length zs ≤ n → take n zs ≡ zs
+whole [] zero l = refl
+whole [] (suc n) l = refl
+whole (y ∷ zs) zero l = absurd (omega arith)
+whole (y ∷ zs) (suc n) l = ap (λ (ys : List ObjectId). y ∷ ys) (whole zs n (omega arith))
+
+pub all_so_far : (way : ObjectId → List ObjectId) (before row : List ObjectId) (m : ℕ) (y : ObjectId) → length row ≤ m → named_so_far same_id way before row m y ≡ names_of same_id way y before + times (same_id y) row
+all_so_far way before row m y l = ap (λ (zs : List ObjectId). names_of same_id way y before + times (same_id y) zs) (whole row m l)
+
+pub past_end : {I : Type 0} (xs : List I) (n : ℕ) → slice_get xs n ≡ None → length xs ≤ n
+past_end [] n e = omega arith
+past_end (x ∷ xs) zero e = let z : ⊥ = cc in absurd z
+past_end (x ∷ xs) (suc n) e = let r = past_end xs n e in omega arith
+
+-- the names of one more commit are counted
+pub count_next : (low : ℕ) (keys hs xs : List ObjectId) (h : Commits ObjectId) (parents : Parents) (told : List Reading) (cs : List ℕ) (place : ℕ) (reading : Reading) → keys ≡ hs ++ xs → low ≡ length hs → low ≤ place → place < length keys → ParentsFrom low h keys told → At told place reading → EachCount low keys cs (λ y c. c ≡ names_of same_id (asked_parents parents h) y (take (place - low) xs) + times (same_id y) (asked parents reading.parents.items)) → EachCount low keys cs (λ y c. c ≡ names_of same_id (asked_parents parents h) y (take (place + 1 - low) xs))
+count_next low keys hs xs h parents told cs place reading e f l within t a each = each_kept low keys cs (λ y c. c ≡ names_of same_id (asked_parents parents h) y (take (place - low) xs) + times (same_id y) (asked parents reading.parents.items)) (λ y c. c ≡ names_of same_id (asked_parents parents h) y (take (place + 1 - low) xs)) each (λ n y c m b p. p ∙ sym (more y))
+  where
+    there : (x : ObjectId) × At keys place x
+    there = (get_or keys place (Sha1 []), slice_get-get_or keys place (Sha1 []) within)
+
+    more : (y : ObjectId) → names_of same_id (asked_parents parents h) y (take (place + 1 - low) xs) ≡ names_of same_id (asked_parents parents h) y (take (place - low) xs) + times (same_id y) (asked parents reading.parents.items)
+    more y =
+        let (x, at) = there in
+        let here : At xs (place - low) x = at_length_append hs xs (place - low) x (subst (λ (n : ℕ). At (hs ++ xs) n x) (omega arith) (subst (λ (zs : List ObjectId). At zs place x) e at)) in
+        let parents_are = t place x reading l at a in
+        let row : asked_parents parents h x ≡ asked parents reading.parents.items = asked_same parents h x ∙ ap (asked parents) (sym parents_are) in
+        let next : place + 1 - low ≡ (place - low) + 1 = omega arith in
+        let s : take (place + 1 - low) xs ≡ take (place - low) xs ++ x ∷ [] = ap (λ (n : ℕ). take n xs) next ∙ take_at xs (place - low) x here in
+        ap (names_of same_id (asked_parents parents h) y) s ∙ total_push (λ c. times (same_id y) (asked_parents parents h c)) (take (place - low) xs) x ∙ ap (λ (zs : List ObjectId). names_of same_id (asked_parents parents h) y (take (place - low) xs) + times (same_id y) zs) row
+
+-- ---- those that wait at first
+
+pub record FreeTo (low high : ℕ) (told : List Reading) (cs : List ℕ) (first : List Pending) : Type 0 where
+  pub each : (pending : Pending) → Contains first pending → (low ≤ pending.number.0) × (pending.number.0 < high) × At cs pending.number.0 0 × ((reading : Reading) × At told pending.number.0 reading × (pending.time ≡ reading.time))
+  pub every : (n : ℕ) (reading : Reading) → low ≤ n → n < high → At cs n 0 → At told n reading → (pending : Pending) × Contains first pending × (pending.number.0 ≡ n)
+  pub ascending : (k l : ℕ) (p q : Pending) → k < l → At first k p → At first l q → p.number.0 < q.number.0
+
+module _ (low : ℕ) (told : List Reading) (cs : List ℕ) where
+  pub free_none : (high : ℕ) → high ≤ low → (first : List Pending) → first ≡ [] → FreeTo low high told cs first
+  free_none high l first e = subst (λ (zs : List Pending). FreeTo low high told cs zs) (sym e) (record {
+    each = λ p c. let (k, a) = at_from_contains [] p c in absurd (none_at_nil k p a);
+    every = λ n r m lt a b. absurd (omega arith);
+    ascending = λ k l p q lt a b. absurd (none_at_nil k p a);
+  })
+
+  pub free_skip : (high : ℕ) (first : List Pending) → FreeTo low high told cs first → (At cs high 0 → ⊥) → FreeTo low (high + 1) told cs first
+  free_skip high first f none = record {
+    each = λ p c. let (l, m, a, r) = f.each p c in (l, omega arith, a, r);
+    every = λ n r l lt a b. elim (three n high) [
+      | inl m ↦ f.every n r l m a b
+      | inr (inl e) ↦ absurd (none (subst (λ (k : ℕ). At cs k 0) e a))
+      | inr (inr g) ↦ absurd (omega arith)
+    ];
+    ascending = f.ascending;
+  }
+
+  pub free_push : (high : ℕ) (first : List Pending) (p : Pending) (reading : Reading) → FreeTo low high told cs first → low ≤ high → p.number.0 ≡ high → At cs high 0 → At told high reading → p.time ≡ reading.time → FreeTo low (high + 1) told cs (first ++ p ∷ [])
+  free_push high first p reading f l e a b t = record {
+    each = λ q c. elim (Contains-push_cases first p q c) [
+      | inl d ↦ (let (l', m, a', r) = f.each q d in (l', omega arith, a', r))
+      | inr g ↦ subst (λ (v : Pending). (low ≤ v.number.0) × (v.number.0 < high + 1) × At cs v.number.0 0 × ((r : Reading) × At told v.number.0 r × (v.time ≡ r.time))) g
+          (omega arith, omega arith, subst (λ (k : ℕ). At cs k 0) (sym e) a, (reading, subst (λ (k : ℕ). At told k reading) (sym e) b, t))
+    ];
+    every = λ n r m lt c d. elim (three n high) [
+      | inl k ↦ (let (q, i, j) = f.every n r m k c d in (q, Contains-append_left first (p ∷ []) q i, j))
+      | inr (inl g) ↦ (p, Contains-push first p, e ∙ sym g)
+      | inr (inr g) ↦ absurd (omega arith)
+    ];
+    ascending = λ k m v w lt c d. elim (at_from_push first p m w d) [
+      | inl i ↦ elim (at_from_push first p k v c) [ inl j ↦ f.ascending k m v w lt j i | inr j ↦ absurd (let n = slice_get_within first m w i in omega (arith, j.0)) ]
+      | inr i ↦ elim (at_from_push first p k v c) [ inl j ↦ (let (l', b', a', r) = f.each v (contains_from_at first k v j) in let g : w.number.0 ≡ high = ap (λ (z : Pending). z.number.0) i.1 ∙ e in omega arith) | inr j ↦ absurd (omega (arith, i.0, j.0)) ]
+    ];
+  }
+
+  pub free_all : (high : ℕ) (first : List Pending) → FreeTo low high told cs first → length told ≤ high → IsFree low told cs first
+  free_all high first f l = record {
+    each = λ p c. let (m, lt, a, r) = f.each p c in (m, a, r);
+    every = λ n r m a b. let w = slice_get_within told n r b in f.every n r m (omega arith) a b;
+    ascending = f.ascending;
+  }
+
+-- ---- what a call found
+
+pub le_self : (n : ℕ) → n ≤ n
+le_self n = omega arith
+
+pub smaller : (a b : ℕ) → b ≡ a + 1 → a < 2 ^ 64 → 2 ^ 64 - b < 2 ^ 64 - a
+smaller a b e l = omega arith
+
+pub index_smaller : (a : ℕ) → a + 1 < 2 ^ 64 → 2 ^ 64 - (a + 1) < 2 ^ 64 - a
+index_smaller a l = omega arith
+
+pub at_within : {A : Type 0} (xs : List A) (n : ℕ) → n < length xs → (x : A) × At xs n x
+at_within [] n l = absurd (omega arith)
+at_within (x ∷ xs) zero l = (x, refl)
+at_within (x ∷ xs) (suc n) l = at_within xs n (omega arith)
+
+-- the node that a look-up by number gave
+pub got : (items zs : List Node) (n : ℕ) (o : Option (Bor Node)) (b : Bor Node) → zs ≡ items → o ≡ Some b → is_some o ≡ ltb n (length zs) → IfSome o (λ x. x.now ≡ get_or zs n x.now) → (n < length items) × (b.now ≡ get_or items n b.now)
+got items zs n o b e f l m =
+    let l' : true ≡ ltb n (length zs) = subst (λ (p : Option (Bor Node)). is_some p ≡ ltb n (length zs)) f l in
+    let m' : b.now ≡ get_or zs n b.now = subst (λ (p : Option (Bor Node)). IfSome p (λ x. x.now ≡ get_or zs n x.now)) f m in
+    (subst (λ (ys : List Node). n < length ys) e (within_true n zs l'), subst (λ (ys : List Node). b.now ≡ get_or ys n b.now) e m')
+
+pub some_value : (o : Option ℕ) (v w : ℕ) (P : Type 0) → o ≡ Some v → SomeIff o P w → P × (v ≡ w)
+some_value o v w P e s = subst (λ (p : Option ℕ). SomeIff p P w) e s
+
+pub copied : (o : Option (Bor ObjectId)) (b : Bor ObjectId) (s : Option ObjectId) → o ≡ Some b → option_copied o ≡ s → s ≡ Some b.now
+copied o b s e f = sym f ∙ ap option_copied e
+
+pub zero_found : (cs : List ℕ) (n : ℕ) (free : Bool) → n < length cs → ((count : ℕ) → At cs n count → free ≡ eqb count 0) → free ≡ true → At cs n 0
+zero_found cs n free l f e =
+    let (count, a) = at_within cs n l in
+    let z : count ≡ 0 = eqb_zero count (sym (f count a) ∙ e) in
+    subst (λ (k : ℕ). At cs n k) z a
+  where
+    eqb_zero : (k : ℕ) → eqb k 0 ≡ true → k ≡ 0
+    eqb_zero k e = grind (arith, nat_tests)
+
+pub not_zero : (cs : List ℕ) (n : ℕ) (free : Bool) → ((count : ℕ) → At cs n count → free ≡ eqb count 0) → free ≡ false → At cs n 0 → ⊥
+not_zero cs n free f e a = let z : free ≡ true = f 0 a in let w : ⊥ = cc in w
+
+-- ---- a name is counted off
+
+pub off_freed : (low : ℕ) (keys : List ObjectId) (told told' : List Reading) (cs cs' : List ℕ) (ready ready' : Ready) (id : ObjectId) (number : Number) (count : ℕ) (last : Bool) (o : Option Pending) (pending : Pending) → last ≡ true → low ≤ number.0 → At keys number.0 id → At cs number.0 (count + 1) → cs' ≡ set cs number.0 count → last ≡ eqb count 0 → told' ≡ told → o ≡ Some pending → IfSome o (λ p. (p.number ≡ number) × ((r : Reading) × At told' number.0 r × (p.time ≡ r.time))) → Joined ready (pending ∷ []) ready' → CountsOff low keys told cs ready id cs' ready'
+off_freed low keys told told' cs cs' ready ready' id number count last o pending t l a b e f s g p j =
+    let z : count ≡ 0 = eqb_zero count (sym f ∙ t) in
+    let found : (pending.number ≡ number) × ((r : Reading) × At told' number.0 r × (pending.time ≡ r.time)) = subst (λ (q : Option Pending). IfSome q (λ p. (p.number ≡ number) × ((r : Reading) × At told' number.0 r × (p.time ≡ r.time)))) g p in
+    let (r, c, d) = found.1 in
+    freed {n = number.0} {pending = pending} {reading = r} l a (subst (λ (k : ℕ). At cs number.0 (k + 1)) z b) (e ∙ ap (set cs number.0) z) (ap (λ (n : Number). n.0) found.0) (subst (λ (zs : List Reading). At zs number.0 r) s c) d j
+  where
+    eqb_zero : (k : ℕ) → eqb k 0 ≡ true → k ≡ 0
+    eqb_zero k e = grind (arith, nat_tests)
+
+pub off_counted : (low : ℕ) (keys : List ObjectId) (told : List Reading) (cs cs' : List ℕ) (ready : Ready) (id : ObjectId) (number : Number) (count : ℕ) (last : Bool) → last ≡ false → low ≤ number.0 → At keys number.0 id → At cs number.0 (count + 1) → cs' ≡ set cs number.0 count → last ≡ eqb count 0 → CountsOff low keys told cs ready id cs' ready
+off_counted low keys told cs cs' ready id number count last t l a b e f =
+    counted {n = number.0} {count = count} l a b (λ z. let g : eqb 0 0 ≡ false = ap (λ (k : ℕ). eqb k 0) (sym z) ∙ sym f ∙ t in let w : ⊥ = cc in w) e refl
+
+pub off_falls : (cs cs' : List ℕ) (n count : ℕ) → At cs n (count + 1) → cs' ≡ set cs n count → total (λ c. c) cs' + 1 ≡ total (λ c. c) cs
+off_falls cs cs' n count a e = ap (λ (zs : List ℕ). total (λ c. c) zs + 1) e ∙ total_set cs n count a
+
+pub many_counts : (a b : List Node) → readings a ≡ readings b → length (counts a) ≡ length b
+many_counts a b e = length_map (λ (v : Node). v.names) a ∙ sym (length_map (λ (v : Node). v.reading) a) ∙ ap length e ∙ length_map (λ (v : Node). v.reading) b
+
+pub names_none : (way : ObjectId → List ObjectId) (y : ObjectId) (n : ℕ) (xs : List ObjectId) → names_of same_id way y (take (n - n) xs) ≡ 0
+names_none way y n xs = let e : n - n ≡ 0 = omega arith in ap (λ (k : ℕ). names_of same_id way y (take k xs)) e ∙ go xs
+  where
+    go : (xs : List ObjectId) → names_of same_id way y (take 0 xs) ≡ 0
+    go [] = refl
+    go (x ∷ xs) = refl
+
+pub names_all : (way : ObjectId → List ObjectId) (y : ObjectId) (hs xs : List ObjectId) (low n len : ℕ) → low ≡ length hs → len ≤ n → len ≡ length (hs ++ xs) → names_of same_id way y (take (n - low) xs) ≡ names_of same_id way y xs
+names_all way y hs xs low n len e l f = let long : length xs ≤ n - low = omega (arith, length-append hs xs) in ap (names_of same_id way y) (whole xs (n - low) long)

@@ -1,0 +1,16 @@
+use Rattle.std.proofs.Common.{◌≡◌, ◌+◌, ◌-◌, ◌^◌, ◌≤◌, length}
+use Rattle.gix_traverse_commit.specs.Told.{rows_of}
+use Rattle.gix_traverse_topo.specs.Walking.{Walking}
+use Rattle.gix_traverse_topo.proofs.known.Known.walk.Given as goal
+
+abbrev pub invariant-walk : goal.invariant-walk
+invariant-walk g l = record {
+  hidden : l.self.hidden ≡ l.fn.self.hidden;
+  objects : l.source.objects ≡ l.fn.source.objects;
+  rows : l.source.rows ≡ l.fn.source.rows;
+  walking : Walking (g.F.Lookup.is_honest l.fn.source.objects) (g.F.Lookup.may_fail l.fn.source.objects) (rows_of l.fn.source.rows) (g.F.Lookup.table l.fn.source.objects) l.along l.fn.tips l.fn.self.ids.keys l.fn.self.nodes.items l.self.ids.keys l.self.nodes.items;
+  counted : l.source.lookups + length l.fn.self.nodes.items ≤ l.fn.source.lookups + length l.self.nodes.items;
+}
+
+abbrev pub decreases-walk : goal.decreases-walk
+decreases-walk g l = 2 ^ 64 - length l.self.nodes.items

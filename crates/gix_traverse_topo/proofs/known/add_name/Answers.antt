@@ -1,0 +1,16 @@
+use Rattle.std.proofs.Common.{◌+◌, ◌^◌, ◌<◌, ◌∙◌, ap, set}
+use Rattle.gix_traverse_topo.specs.Nodes.{counts}
+use Rattle.gix_traverse_topo.proofs.Updates.{set_readings, set_counts, count_at, got, some_value}
+use Rattle.gix_traverse_topo.proofs.known.add_name.Goals as goal
+
+pub returns-clause-readings : goal.returns-clause-readings
+returns-clause-readings c = set_readings c.args.nodes.now.items c.args.number.0 c.in_ok-nodes.field-0 c.index_mut.result.now c.index_mut.ensures.value
+
+pub returns-clause-added : goal.returns-clause-added
+returns-clause-added c =
+    let found = got c.args.nodes.now.items c.deref.result.now c.args.number.0 c.get.result c.in_ok-names.field-0 c.deref.ensures.value c.in_ok-names.ensures.ok_part c.get.ensures.lookup.0 c.get.ensures.lookup.1 in
+    let more = some_value c.checked_add.result c.in_ok-nodes.field-0 (c.in_ok-names.field-0.now.names + 1) (c.in_ok-names.field-0.now.names + 1 < 2 ^ 64) c.in_ok-nodes.ensures.ok_part c.checked_add.ensures in (
+      c.in_ok-names.field-0.now.names,
+      count_at c.args.nodes.now.items c.args.number.0 c.in_ok-names.field-0.now found.0 found.1,
+      set_counts c.args.nodes.now.items c.args.number.0 c.in_ok-nodes.field-0 c.index_mut.result.now.reading ∙ ap (set (counts c.args.nodes.now.items) c.args.number.0) more.1,
+    )

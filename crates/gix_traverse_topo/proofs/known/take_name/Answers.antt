@@ -1,0 +1,20 @@
+use Rattle.std.proofs.Common.{◌≡◌, ℕ, ◌+◌, ◌-◌, ◌≤◌, refl, subst, arith}
+use Rattle.gix_traverse_commit.specs.Order.{At}
+use Rattle.gix_traverse_topo.specs.Nodes.{counts}
+use Rattle.gix_traverse_topo.proofs.Updates.{set_readings, set_counts, count_at, got, some_value}
+use Rattle.gix_traverse_topo.proofs.known.take_name.Goals as goal
+
+pub returns-clause-readings : goal.returns-clause-readings
+returns-clause-readings c = set_readings c.args.nodes.now.items c.args.number.0 c.in_ok-left.left c.index_mut.result.now c.index_mut.ensures.value
+
+pub returns-clause-taken : goal.returns-clause-taken
+returns-clause-taken c =
+    let found = got c.args.nodes.now.items c.deref.result.now c.args.number.0 c.get.result c.in_ok-names.field-0 c.deref.ensures.value c.in_ok-names.ensures.ok_part c.get.ensures.lookup.0 c.get.ensures.lookup.1 in
+    let less = some_value c.checked_sub.result c.in_ok-left.left (c.in_ok-names.field-0.now.names - 1) (1 ≤ c.in_ok-names.field-0.now.names) c.in_ok-left.ensures.ok_part c.checked_sub.ensures in
+    let at : At (counts c.args.nodes.now.items) c.args.number.0 c.in_ok-names.field-0.now.names = count_at c.args.nodes.now.items c.args.number.0 c.in_ok-names.field-0.now found.0 found.1 in
+    let same : c.in_ok-names.field-0.now.names ≡ c.in_ok-left.left + 1 = omega (arith, less.0, less.1) in (
+      c.in_ok-left.left,
+      subst (λ (k : ℕ). At (counts c.args.nodes.now.items) c.args.number.0 k) same at,
+      set_counts c.args.nodes.now.items c.args.number.0 c.in_ok-left.left c.index_mut.result.now.reading,
+      refl,
+    )

@@ -1,0 +1,162 @@
+-- Where a walk stands, and what it gives.
+use Rattle.std.specs.Prelude.{◌≡◌, ◌↔◌, ◌⊎◌, ℕ, ◌+◌, ◌<◌, ◌≤◌, Bool, ℤ, List, [], ◌∷◌, ◌++◌, length, map, filter, Contains, None, Some, ⊤, true, slice_set, slice_index_or}
+use Rattle.std.specs.BinaryHeap.{heap_items, IsHeap}
+use Rattle.gix_hash.specs.declared.object_id.ObjectId.{ObjectId}
+use Rattle.gix_hash.specs.declared.object_id.ObjectId.TheVariants.{Sha1}
+use Rattle.gix_traverse_commit.specs.Commits.{Commits, WalkRequest, asked, asked_parents, Reached, Hides, Listed}
+use Rattle.gix_traverse_commit.specs.Fetching.{HasRowsGeneration}
+use Rattle.gix_traverse_commit.specs.Numbered.{same_id}
+use Rattle.gix_traverse_commit.specs.Order.{At, IsReady, NewestFirst, Outranks}
+use Rattle.gix_traverse_commit.specs.Walks.{InDate, InTopological}
+use Rattle.gix_traverse_commit.specs.declared.info.Info.{Info}
+use Rattle.gix_traverse_commit.specs.declared.parents.Parents.{Parents}
+use Rattle.gix_traverse_commit.specs.declared.rows.Row.{Row}
+use Rattle.gix_traverse_topo.specs.Nodes.{readings, counts, Tells, EachCount, IsOnce}
+use Rattle.gix_traverse_topo.specs.Turns.{total, names_of, named_so_far, Freed, Waits, Ranked}
+use Rattle.gix_traverse_topo.specs.Waiting.{pending_cmp, waiting, Joined}
+use Rattle.gix_traverse_topo.specs.declared.error.Error.{Error}
+use Rattle.gix_traverse_topo.specs.declared.error.Error.TheVariants.{Memory}
+use Rattle.gix_traverse_topo.specs.declared.init.Sorting.{Sorting}
+use Rattle.gix_traverse_topo.specs.declared.init.Sorting.TheVariants.{DateOrder, TopoOrder}
+use Rattle.gix_traverse_topo.specs.declared.known.Known.{Known}
+use Rattle.gix_traverse_topo.specs.declared.known.Reading.{Reading}
+use Rattle.gix_traverse_topo.specs.declared.ready.Pending.{Pending}
+use Rattle.gix_traverse_topo.specs.declared.ready.Ready.{Ready}
+use Rattle.gix_traverse_topo.specs.declared.ready.Ready.TheVariants.{ByDate, Topological}
+
+-- the id of a number
+abbrev pub id_at : List ObjectId → ℕ → ObjectId
+id_at keys n = slice_index_or keys n (Sha1 [])
+
+abbrev pub ids_of : List ObjectId → List Pending → List ObjectId
+ids_of keys pending = map (λ (p : Pending). id_at keys p.number.0) pending
+
+-- which of two that are ready is given first
+abbrev pub Comes : Sorting → (ObjectId → List ObjectId) → List ObjectId → (ObjectId → ℤ) → List ObjectId → ObjectId → ObjectId → Type 0
+Comes DateOrder way tips time = NewestFirst time
+Comes TopoOrder way tips time = Outranks way tips time
+
+-- those that wait stand as the order wants them
+abbrev pub Ranks : Sorting → (ObjectId → List ObjectId) → List ObjectId → (ObjectId → ℤ) → List ObjectId → List ObjectId → Ready → Type 0
+Ranks DateOrder way tips time keys finished (ByDate heap) = IsHeap pending_cmp (heap_items heap)
+Ranks TopoOrder way tips time keys finished (Topological stack) = Ranked way tips time finished (ids_of keys stack.items)
+Ranks DateOrder way tips time keys finished (Topological stack) = ⊥
+Ranks TopoOrder way tips time keys finished (ByDate heap) = ⊥
+
+-- what is still to be counted off, and what waits
+abbrev pub weight : Known → Ready → ℕ
+weight known ready = total (λ count. count) (counts known.nodes.items) + length (waiting ready)
+
+-- a name of this commit is counted off, and it waits where that was the last
+pub data CountsOff (low : ℕ) (keys : List ObjectId) (told : List Reading) (cs : List ℕ) (ready : Ready) (id : ObjectId) (cs' : List ℕ) (ready' : Ready) : Type 0 where
+  passed : (IsOnce keys → (n : ℕ) → At keys n id → n < low) → cs' ≡ cs → ready' ≡ ready → CountsOff low keys told cs ready id cs' ready'
+  counted : {n count : ℕ} → low ≤ n → At keys n id → At cs n (count + 1) → (count ≡ 0 → ⊥) → cs' ≡ slice_set cs n count → ready' ≡ ready → CountsOff low keys told cs ready id cs' ready'
+  freed : {n : ℕ} {pending : Pending} {reading : Reading} → low ≤ n → At keys n id → At cs n 1 → cs' ≡ slice_set cs n 0 → pending.number.0 ≡ n → At told n reading → pending.time ≡ reading.time → Joined ready (pending ∷ []) ready' → CountsOff low keys told cs ready id cs' ready'
+
+-- no name of this commit is left to be counted off, or it isn't known
+abbrev pub NotCounted : ℕ → List ObjectId → List ℕ → ObjectId → Type 0
+NotCounted low keys cs id = (n : ℕ) × (low ≤ n) × At keys n id × ((length cs ≤ n) ⊎ At cs n 0)
+
+-- the names of a row, of one that isn't given yet, may be counted off
+pub record GoesOff (way : ObjectId → List ObjectId) (h : Commits ObjectId) (before row hs xs : List ObjectId) (known : Known) : Type 0 where
+  pub keys_are : known.ids.keys ≡ hs ++ xs
+  pub hidden_are : known.hidden ≡ length hs
+  pub keys_once : IsOnce known.ids.keys
+  pub all_read : length known.nodes.items ≡ length known.ids.keys
+  pub room : (m : ℕ) (y : ObjectId) → At row m y → Contains xs y → named_so_far same_id way before row m y + 1 ≤ names_of same_id way y xs
+  pub timed : (n : ℕ) (y : ObjectId) (reading : Reading) → known.hidden ≤ n → At known.ids.keys n y → Contains row y → At (readings known.nodes.items) n reading → reading.time ≡ (h y).time
+  pub counted : EachCount known.hidden known.ids.keys (counts known.nodes.items) (λ y count. count + named_so_far same_id way before row 0 y ≡ names_of same_id way y xs)
+
+-- the first m names of a row are counted off, and those that are free then wait too
+pub record RowOff (low : ℕ) (keys : List ObjectId) (way : ObjectId → List ObjectId) (h : Commits ObjectId) (before row xs : List ObjectId) (ready : Ready) (m : ℕ) (cs : List ℕ) (ready' : Ready) : Type 0 where
+  pub more : List Pending
+  pub counted : EachCount low keys cs (λ y count. count + named_so_far same_id way before row m y ≡ names_of same_id way y xs)
+  pub freed : Freed same_id way xs before row m (ids_of keys more)
+  pub joined : Joined ready more ready'
+  pub numbered : (pending : Pending) → Contains more pending → (x : ObjectId) × (low ≤ pending.number.0) × At keys pending.number.0 x × (pending.time ≡ (h x).time)
+
+-- the walk has given these, and others wait
+pub record Standing (sorting : Sorting) (rows : List Row) (h : Commits ObjectId) (tips : List ObjectId) (parents : Parents) (hs xs finished : List ObjectId) (known : Known) (ready : Ready) : Type 0 where
+  pub keys_are : known.ids.keys ≡ hs ++ xs
+  pub hidden_are : known.hidden ≡ length hs
+  pub keys_once : IsOnce known.ids.keys
+  pub all_read : length known.nodes.items ≡ length known.ids.keys
+  pub tells : (n : ℕ) (x : ObjectId) (reading : Reading) → known.hidden ≤ n → At known.ids.keys n x → At (readings known.nodes.items) n reading → (Contains finished x → ⊥) → Tells rows h x reading
+  pub counted : EachCount known.hidden known.ids.keys (counts known.nodes.items) (λ y count. count + names_of same_id (asked_parents parents h) y finished ≡ names_of same_id (asked_parents parents h) y xs)
+  pub numbered : (pending : Pending) → Contains (waiting ready) pending → (x : ObjectId) × (known.hidden ≤ pending.number.0) × At known.ids.keys pending.number.0 x × (pending.time ≡ (h x).time)
+  pub waits : Waits same_id (asked_parents parents h) (Contains xs) (Comes sorting (asked_parents parents h) tips (λ x. (h x).time)) finished (ids_of known.ids.keys (waiting ready))
+  pub ranks : Ranks sorting (asked_parents parents h) tips (λ x. (h x).time) known.ids.keys finished ready
+
+-- what is given of a commit: all its parents, its time, and its row's generation
+pub record IsInfo (rows : List Row) (g : Commits ObjectId) (info : Info) : Type 0 where
+  pub parents : info.parent_ids.items ≡ (g info.id).parents
+  pub time : info.commit_time ≡ Some (g info.id).time
+  pub generation : HasRowsGeneration rows info.id info.generation
+
+-- it is this commit's turn
+pub record IsNext (sorting : Sorting) (h : Commits ObjectId) (tips : List ObjectId) (parents : Parents) (S : ObjectId → Type 0) (finished : List ObjectId) (x : ObjectId) : Type 0 where
+  pub listed : S x
+  pub new : Contains finished x → ⊥
+  pub ready : IsReady (asked_parents parents h) S finished x
+  pub first : (y : ObjectId) → S y → (Contains finished y → ⊥) → IsReady (asked_parents parents h) S finished y → (y ≡ x → ⊥) → Comes sorting (asked_parents parents h) tips (λ z. (h z).time) finished x y
+
+-- one commit is taken out of those that wait, and its names are counted off
+pub record Gives (number : ℕ) (along : Parents) (old : Known) (ready : Ready) (new : Known) (ready' : Ready) (info : Info) : Type 0 where
+  pub reading : Reading
+  pub at : At (readings old.nodes.items) number reading
+  pub read : reading.fault ≡ None
+  pub id : At old.ids.keys number info.id
+  pub parents : info.parent_ids.items ≡ reading.parents.items
+  pub generation : info.generation ≡ reading.generation
+  pub time : info.commit_time ≡ Some reading.time
+  pub off : (way : ObjectId → List ObjectId) (h : Commits ObjectId) (before hs xs : List ObjectId) → GoesOff way h before (asked along reading.parents.items) hs xs old → IsOnce xs → (m : ℕ) × (length (asked along reading.parents.items) ≤ m) × RowOff old.hidden old.ids.keys way h before (asked along reading.parents.items) xs ready m (counts new.nodes.items) ready'
+  pub others : (k : ℕ) (other : Reading) → (k ≡ number → ⊥) → At (readings new.nodes.items) k other → At (readings old.nodes.items) k other
+  pub as_many : length new.nodes.items ≡ length old.nodes.items
+
+-- it gives the commit whose turn it is, which was read
+pub record Steps (sorting : Sorting) (rows : List Row) (h : Commits ObjectId) (tips : List ObjectId) (parents : Parents) (hs xs finished : List ObjectId) (old : Known) (ready : Ready) (new : Known) (ready' : Ready) (info : Info) : Type 0 where
+  pub standing : Standing sorting rows h tips parents hs xs (finished ++ info.id ∷ []) new ready'
+  pub is_info : IsInfo rows h info
+  pub number : ℕ
+  pub reading : Reading
+  pub new_one : Contains finished info.id → ⊥
+  pub behind : old.hidden ≤ number
+  pub id : At old.ids.keys number info.id
+  pub at : At (readings old.nodes.items) number reading
+  pub read : reading.fault ≡ None
+  pub others : (k : ℕ) (other : Reading) → (k ≡ number → ⊥) → At (readings new.nodes.items) k other → At (readings old.nodes.items) k other
+
+-- the walk that is asked for
+abbrev pub topo_request : {I : Type 0} → List I → List I → Parents → (I → Bool) → WalkRequest I
+topo_request tips ends parents accepts = record { tips = tips; hidden = ends; parents = parents; since = None; accepts = accepts }
+
+abbrev pub all_accepted : ObjectId → Bool
+all_accepted x = true
+
+-- the list answers the walk in this order
+abbrev pub Answers : Sorting → Commits ObjectId → WalkRequest ObjectId → List ObjectId → Type 0
+Answers DateOrder g q given = InDate g q given
+Answers TopoOrder g q given = InTopological g q given
+
+-- no commit of the walk reaches itself
+abbrev pub NoneReachesItself : Commits ObjectId → WalkRequest ObjectId → Type 0
+NoneReachesItself g q = (x : ObjectId) → Listed g q x → Reached (λ y. (g y).parents) (λ _. ⊤) (g x).parents x → ⊥
+
+-- the walk has given these of the commits that are accepted; h are the commits as far as they were read
+pub record Stands (sorting : Sorting) (rows : List Row) (g : Commits ObjectId) (tips ends : List ObjectId) (parents : Parents) (accepts : ObjectId → Bool) (given : List ObjectId) (known : Known) (ready : Ready) : Type 0 where
+  pub h : Commits ObjectId
+  pub hs : List ObjectId
+  pub xs : List ObjectId
+  pub finished : List ObjectId
+  pub standing : Standing sorting rows h tips parents hs xs finished known ready
+  pub lists : (x : ObjectId) → Contains xs x ↔ Listed h (topo_request tips ends parents all_accepted) x
+  pub hides : (x : ObjectId) → Hides h (topo_request tips ends parents all_accepted) x ↔ Hides g (topo_request tips ends parents all_accepted) x
+  pub agrees : (n : ℕ) (x : ObjectId) (reading : Reading) → known.hidden ≤ n → At known.ids.keys n x → At (readings known.nodes.items) n reading → (Contains finished x → ⊥) → reading.fault ≡ None → h x ≡ g x
+  pub edges : (x y : ObjectId) → Contains xs x → Contains (h x).parents y → h x ≡ g x
+  pub finished_agree : (x : ObjectId) → Contains finished x → h x ≡ g x
+  pub given_are : given ≡ filter accepts finished
+
+-- of the commits that wait, it is the turn of one that isn't read, for this cause
+abbrev pub IsTurnOf : Sorting → List Row → List ObjectId → Parents → List ObjectId → Known → Ready → Error → Type 0
+IsTurnOf sorting rows tips parents finished known ready error = (h : Commits ObjectId) (hs xs : List ObjectId) → Standing sorting rows h tips parents hs xs finished known ready
+    → (error ≡ Memory) ⊎ ((x : ObjectId) × (n : ℕ) × (reading : Reading) × At known.ids.keys n x × At (readings known.nodes.items) n reading × (reading.fault ≡ Some error) × IsNext sorting h tips parents (Contains xs) finished x)

@@ -1,0 +1,192 @@
+//! The walk.
+
+ghost use Rattle.std.specs.Prelude.{true, false, ◌≡◌, ◌+◌, ◌<◌, ◌≤◌, ◌++◌, ◌∷◌, [], ℕ, List, OnOk, IfOk, IfErr, OnErr, IfSome, IfNone, IsNone, ◌⊎◌, length};
+ghost use Rattle.gix_hash.specs.declared.object_id.ObjectId.{ObjectId};
+ghost use Rattle.gix_traverse_commit.specs.Commits.{Commits, asked};
+ghost use Rattle.gix_traverse_commit.specs.Order.{At};
+ghost use Rattle.gix_traverse_commit.specs.declared.rows.Row.{Row};
+ghost use Rattle.gix_traverse_topo.specs.declared.init.Sorting.{Sorting};
+ghost use Rattle.gix_traverse_topo.specs.Nodes.{readings, counts, IsOnce};
+ghost use Rattle.gix_traverse_topo.specs.Standing.{Answers, CountsOff, Gives, GoesOff, IsInfo, IsTurnOf, NoneReachesItself, NotCounted, RowOff, Standing, Stands, Steps, all_accepted, topo_request, weight};
+ghost use Rattle.gix_traverse_topo.specs.Waiting.{waiting};
+ghost use Rattle.gix_hash.specs.Id.{id_of};
+ghost use Rattle.gix_traverse_topo.specs.declared.known.Reading.{Reading};
+ghost use Rattle.gix_traverse_topo.specs.declared.error.Error.TheVariants.{Memory};
+
+use crate::Error;
+use crate::known::{Known, Number, take_name};
+use crate::ready::Ready;
+use gix_hash::ObjectId;
+use gix_traverse_commit::{Accept, Info, Parents};
+
+/// A walk in which each commit comes after all its children.
+///
+/// After an error it gives nothing more.
+#[derive(Drop)]
+pub struct Topo<P> {
+    pub(crate) predicate: P,
+    pub(crate) known: Known,
+    pub(crate) ready: Ready,
+    pub(crate) parents: Parents,
+    pub(crate) lookups: usize,
+}
+
+// Counts a name of a commit off, unless it has no number or the ends reach it. Where that was the last, the commit waits.
+fn count_off(known: &mut Known, ready: &mut Ready, id: &ObjectId) -> Result<(), Error>
+    ensures ids { known.new.ids ≡ known.old.ids }
+    ensures hidden { known.new.hidden ≡ known.old.hidden }
+    ensures as_many { length known.new.nodes.items ≡ length known.old.nodes.items }
+    ensures readings { readings known.new.nodes.items ≡ readings known.old.nodes.items }
+    ensures counted { OnOk result (CountsOff known.old.hidden known.old.ids.keys (readings known.old.nodes.items)
+        (counts known.old.nodes.items) ready.old id.now (counts known.new.nodes.items) ready.new) }
+    ensures refused { IfErr result (λ error. (error ≡ Memory)
+        ⊎ NotCounted known.old.hidden known.old.ids.keys (counts known.old.nodes.items) id.now) }
+    ensures falls { OnOk result (weight known.new ready.new ≤ weight known.old ready.old) }
+{
+    let Some(number) = known.number_of(id) else {
+        return Ok(());
+    };
+    if take_name(&mut known.nodes, number)? {
+        let pending = known.pending(number).ok_or(Error::MissingStateUnexpected)?;
+        ready.push(pending)?;
+    }
+    Ok(())
+}
+
+// Counts the names off that a commit gives its parents.
+fn count_row_off(
+    known: &mut Known,
+    ready: &mut Ready,
+    number: Number,
+    along: Parents,
+) -> Result<(), Error>
+    ensures ids { known.new.ids ≡ known.old.ids }
+    ensures hidden { known.new.hidden ≡ known.old.hidden }
+    ensures as_many { length known.new.nodes.items ≡ length known.old.nodes.items }
+    ensures readings { readings known.new.nodes.items ≡ readings known.old.nodes.items }
+    ensures off { (way : ObjectId → List ObjectId) (h : Commits ObjectId) (before hs xs : List ObjectId) (reading : Reading)
+        → At (readings known.old.nodes.items) number.0 reading
+        → GoesOff way h before (asked along reading.parents.items) hs xs known.old → IsOnce xs
+        → OnOk result ((m : ℕ) × (length (asked along reading.parents.items) ≤ m)
+        × RowOff known.old.hidden known.old.ids.keys way h before (asked along reading.parents.items) xs ready.old m
+        (counts known.new.nodes.items) ready.new) }
+    ensures refused { IfErr result (λ error. (way : ObjectId → List ObjectId) (h : Commits ObjectId)
+        (before hs xs : List ObjectId) (reading : Reading) → At (readings known.old.nodes.items) number.0 reading
+        → GoesOff way h before (asked along reading.parents.items) hs xs known.old → IsOnce xs → error ≡ Memory) }
+    ensures falls { OnOk result (weight known.new ready.new ≤ weight known.old ready.old) }
+{
+    let mut index: usize = 0;
+    'row: while let Some(parent) = known.parent(number, index, along) {
+        count_off(known, ready, &parent)?;
+        index += 1;
+    }
+    Ok(())
+}
+
+// Gives the commit of this number.
+fn give(known: &mut Known, ready: &mut Ready, number: Number, along: Parents) -> Result<Info, Error>
+    ensures ids { known.new.ids ≡ known.old.ids }
+    ensures hidden { known.new.hidden ≡ known.old.hidden }
+    ensures gives { IfOk result (Gives number.0 along known.old ready.old known.new ready.new) }
+    ensures refused { IfErr result (λ error. (way : ObjectId → List ObjectId) (h : Commits ObjectId)
+        (before hs xs : List ObjectId) (reading : Reading) → At (readings known.old.nodes.items) number.0 reading
+        → GoesOff way h before (asked along reading.parents.items) hs xs known.old → IsOnce xs
+        → (error ≡ Memory) ⊎ (reading.fault ≡ Some error)) }
+    ensures falls { OnOk result (weight known.new ready.new ≤ weight known.old ready.old) }
+{
+    known.check(number)?;
+    count_row_off(known, ready, number, along)?;
+    known.take(number)
+}
+
+// This commit, where the predicate accepts it.
+fn accepted<P: Accept>(predicate: &mut P, info: Info) -> Option<Info>
+    ensures kept { IfSome result (λ given. (given ≡ info) × (P.accepts predicate.old (id_of info.id) ≡ true)) }
+    ensures passed { IfNone result (P.accepts predicate.old (id_of info.id) ≡ false) }
+    ensures accepts { P.accepts predicate.new ≡ P.accepts predicate.old }
+{
+    if predicate.accept(info.id.as_oid()) {
+        Some(info)
+    } else {
+        None
+    }
+}
+
+impl<P: Accept + Drop> Topo<P> {
+    /// How many objects the walk asked for.
+    pub fn lookups(&self) -> usize
+        ensures { result ≡ self.now.lookups }
+    {
+        self.lookups
+    }
+
+    // The commit whose turn it is, whether it is accepted or not.
+    fn turn(&mut self) -> Option<Result<Info, Error>>
+        ensures ids { self.new.known.ids ≡ self.old.known.ids }
+        ensures hidden { self.new.known.hidden ≡ self.old.known.hidden }
+        ensures parents { self.new.parents ≡ self.old.parents }
+        ensures predicate { self.new.predicate ≡ self.old.predicate }
+        ensures lookups { self.new.lookups ≡ self.old.lookups }
+        ensures stood { IfSome result (λ given. IfOk given (λ info. (sorting : Sorting) (rows : List Row)
+            (h : Commits ObjectId) (tips hs xs finished : List ObjectId)
+            → Standing sorting rows h tips self.old.parents hs xs finished self.old.known self.old.ready
+            → Steps sorting rows h tips self.old.parents hs xs finished self.old.known self.old.ready self.new.known
+            self.new.ready info)) }
+        ensures end { IfNone result (waiting self.old.ready ≡ []) }
+        ensures refused { IfSome result (λ given. IfErr given (λ error. (sorting : Sorting) (rows : List Row)
+            (tips finished : List ObjectId)
+            → IsTurnOf sorting rows tips self.old.parents finished self.old.known self.old.ready error)) }
+        ensures failed { IfSome result (λ given. OnErr given (waiting self.new.ready ≡ [])) }
+        ensures ended { waiting self.old.ready ≡ [] → IsNone result }
+        ensures falls { IfSome result (λ given. OnOk given (weight self.new.known self.new.ready
+            < weight self.old.known self.old.ready)) }
+    {
+        let pending = self.ready.pop()?;
+        match give(
+            &mut self.known,
+            &mut self.ready,
+            pending.number,
+            self.parents,
+        ) {
+            Ok(info) => Some(Ok(info)),
+            Err(error) => {
+                self.ready.clear();
+                Some(Err(error))
+            }
+        }
+    }
+
+    /// The next commit. It is an error where that isn't read, and where no memory is left; and nothing where all are given, or an
+    /// error was.
+    pub fn next(&mut self) -> Option<Result<Info, Error>>
+        ensures parents { self.new.parents ≡ self.old.parents }
+        ensures accepts { P.accepts self.new.predicate ≡ P.accepts self.old.predicate }
+        ensures lookups { self.new.lookups ≡ self.old.lookups }
+        ensures more { IfSome result (λ given. IfOk given (λ info. (sorting : Sorting) (rows : List Row)
+            (g : Commits ObjectId) (tips ends listed : List ObjectId)
+            → Stands sorting rows g tips ends self.old.parents (λ x. P.accepts self.old.predicate (id_of x)) listed
+            self.old.known self.old.ready
+            → Stands sorting rows g tips ends self.old.parents (λ x. P.accepts self.old.predicate (id_of x))
+            (listed ++ info.id ∷ []) self.new.known self.new.ready × IsInfo rows g info)) }
+        ensures end { IfNone result ((sorting : Sorting) (rows : List Row) (g : Commits ObjectId)
+            (tips ends listed : List ObjectId)
+            → Stands sorting rows g tips ends self.old.parents (λ x. P.accepts self.old.predicate (id_of x)) listed
+            self.old.known self.old.ready
+            → NoneReachesItself g (topo_request tips ends self.old.parents all_accepted)
+            → Answers sorting g (topo_request tips ends self.old.parents (λ x. P.accepts self.old.predicate (id_of x)))
+            listed) }
+        ensures failed { IfSome result (λ given. OnErr given (waiting self.new.ready ≡ [])) }
+        ensures ended { waiting self.old.ready ≡ [] → IsNone result }
+    {
+        'turns: while let Some(given) = self.turn() {
+            let info = match given {
+                Ok(info) => info,
+                Err(error) => return Some(Err(error)),
+            };
+            if let Some(info) = accepted(&mut self.predicate, info) {
+                return Some(Ok(info));
+            }
+        }
+        None
+    }
+}

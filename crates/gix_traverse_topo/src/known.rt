@@ -1,0 +1,413 @@
+//! The commits that a walk knows, each by a number.
+
+ghost use Rattle.std.specs.Prelude.{◌≡◌, ◌+◌, ◌^◌, ◌<◌, ◌≤◌, ◌==◌, ◌⊎◌, ℕ, List, [], ◌++◌, length, OnOk, IfOk, IfErr, IfSome, IfNone, Some, None, slice_get, slice_set};
+ghost use Rattle.gix_hash.specs.declared.object_id.ObjectId.{ObjectId};
+ghost use Rattle.gix_traverse_commit.specs.Commits.{Commits, asked, asked_parents};
+ghost use Rattle.gix_traverse_commit.specs.Numbered.{same_id};
+ghost use Rattle.gix_traverse_commit.specs.Order.{At};
+ghost use Rattle.gix_traverse_commit.specs.Reading.{Read};
+ghost use Rattle.gix_traverse_commit.specs.Standing.{NotIn};
+ghost use Rattle.gix_traverse_commit.specs.Told.{rows_of};
+ghost use Rattle.gix_traverse_topo.specs.Meeting.{IsRow, Met, Walks};
+ghost use Rattle.gix_traverse_topo.specs.Nodes.{readings, counts, IsBlank, IsReading, ParentsFrom, EachCount, NamesOne, IsOnce};
+ghost use Rattle.gix_traverse_topo.specs.Turns.{names_of, times};
+ghost use Rattle.gix_traverse_topo.specs.Waiting.{IsFree};
+ghost use Rattle.gix_traverse_topo.specs.Walking.{Visits, Walking};
+ghost use Rattle.gix_traverse_topo.specs.declared.error.Error.TheVariants.{Memory, MissingStateUnexpected, MissingIndegreeUnexpected};
+ghost use Rattle.gix_traverse_topo.specs.declared.known.Node.{Node};
+ghost use Rattle.gix_traverse_topo.specs.declared.known.Reading.{Reading};
+
+use crate::Error;
+use crate::ready::Pending;
+use gix_hash::ObjectId;
+use gix_object_find::Find;
+use gix_traverse_commit::fetch::{FetchError, Source, asked_of};
+use gix_traverse_commit::{Info, ParentIds, Parents};
+use indexmap::IndexSet;
+use std::alloc::Global;
+use std::mem;
+
+/// The number of a commit: its place among those that the walk knows.
+#[derive(Debug, Clone, Copy, PartialEq, Eq, PartialOrd, Ord)]
+pub(crate) struct Number(pub usize);
+
+/// What was read of a commit. One that isn't read counts as one without parents, of time 0.
+#[derive(Drop)]
+pub(crate) struct Reading {
+    /// The ids of all its parents.
+    pub parents: ParentIds,
+    /// Its committer's seconds.
+    pub time: i64,
+    /// The generation in its row, where it has one.
+    pub generation: Option<u32>,
+    /// Why it isn't read.
+    pub fault: Option<Error>,
+}
+
+/// A commit that the walk knows.
+#[derive(Drop)]
+pub(crate) struct Node {
+    /// What was read of it.
+    pub reading: Reading,
+    /// How often it is named as a parent by the commits that are still to be given.
+    pub names: usize,
+}
+
+/// The commits that a walk knows: first those that the ends reach, then those that the tips reach past none of these.
+#[derive(Drop)]
+pub(crate) struct Known {
+    /// Their ids. A commit's number is its place here.
+    pub ids: IndexSet<ObjectId>,
+    /// What is known of each, by its number.
+    pub nodes: Vec<Node>,
+    /// How many the ends reach.
+    pub hidden: usize,
+}
+
+// Numbers the commits that have no number yet.
+fn meet(ids: &mut IndexSet<ObjectId>, met: &[ObjectId]) -> Result<(), Error>
+    ensures met { OnOk result ((way : ObjectId → List ObjectId) (tips hs xs : List ObjectId) (p : ℕ)
+        → ids.old.keys ≡ hs ++ xs → Read way tips (NotIn hs) xs p 0 → IsRow way tips xs p met.now
+        → Met way tips hs ids.new.keys p) }
+    ensures kept { OnOk result ((k : ℕ) (x : ObjectId) → At ids.old.keys k x → At ids.new.keys k x) }
+    ensures refused { IfErr result (λ error. error ≡ Memory) }
+{
+    'met: for id in met {
+        ids.insert(*id)?;
+    }
+    Ok(())
+}
+
+// What stands for a commit that isn't read.
+fn blank(alloc: Global, fault: FetchError) -> Result<Reading, Error>
+    ensures blank { IfOk result (IsBlank fault) }
+    ensures refused { IfErr result (λ error. error ≡ Memory) }
+{
+    match fault {
+        FetchError::Memory => Err(Error::Memory),
+        other => Ok(Reading {
+            parents: ParentIds::new(alloc),
+            time: 0,
+            generation: None,
+            fault: Some(Error::from(other)),
+        }),
+    }
+}
+
+// Reads a commit.
+fn read<F: Find>(source: &mut Source<F>, id: &ObjectId) -> Result<Reading, Error>
+    ensures objects { source.new.objects ≡ source.old.objects }
+    ensures rows { source.new.rows ≡ source.old.rows }
+    ensures read { IfOk result (IsReading (F.is_honest source.old.objects) (F.may_fail source.old.objects)
+        (rows_of source.old.rows) (F.table source.old.objects) id.now) }
+    ensures counted { source.new.lookups ≤ source.old.lookups + 1 }
+    ensures refused { IfErr result (λ error. error ≡ Memory) }
+{
+    let alloc: Global = *source.buffer.allocator();
+    match source.fetch(id, Parents::All) {
+        Ok(commit) => Ok(Reading {
+            parents: commit.parents,
+            time: commit.time.unwrap_or(0),
+            generation: commit.generation,
+            fault: None,
+        }),
+        Err(fault) => blank(alloc, fault),
+    }
+}
+
+// Counts one more name of a commit.
+fn add_name(nodes: &mut Vec<Node>, number: Number) -> Result<(), Error>
+    ensures readings { readings nodes.new.items ≡ readings nodes.old.items }
+    ensures added { OnOk result ((count : ℕ) × At (counts nodes.old.items) number.0 count
+        × (counts nodes.new.items ≡ slice_set (counts nodes.old.items) number.0 (count + 1))) }
+{
+    let names = nodes
+        .get(number.0)
+        .ok_or(Error::MissingStateUnexpected)?
+        .names;
+    nodes[number.0].names = names.checked_add(1).ok_or(Error::Memory)?;
+    Ok(())
+}
+
+/// Counts a name of a commit off, and tells whether it was the last.
+pub(crate) fn take_name(nodes: &mut Vec<Node>, number: Number) -> Result<bool, Error>
+    ensures as_many { length nodes.new.items ≡ length nodes.old.items }
+    ensures readings { readings nodes.new.items ≡ readings nodes.old.items }
+    ensures taken { IfOk result (λ last. (count : ℕ) × At (counts nodes.old.items) number.0 (count + 1)
+        × (counts nodes.new.items ≡ slice_set (counts nodes.old.items) number.0 count)
+        × (last ≡ (count == 0))) }
+    ensures refused { IfErr result (λ error. (error ≡ MissingStateUnexpected × (length (counts nodes.old.items) ≤ number.0))
+        ⊎ (error ≡ MissingIndegreeUnexpected × At (counts nodes.old.items) number.0 0)) }
+{
+    let names = nodes
+        .get(number.0)
+        .ok_or(Error::MissingStateUnexpected)?
+        .names;
+    let left = names
+        .checked_sub(1)
+        .ok_or(Error::MissingIndegreeUnexpected)?;
+    nodes[number.0].names = left;
+    Ok(left == 0)
+}
+
+// The parents, which are handed out.
+fn take_parents(reading: &mut Reading, alloc: Global) -> ParentIds
+    ensures { result.items ≡ reading.old.parents.items }
+{
+    mem::replace(&mut reading.parents, ParentIds::new(alloc))
+}
+
+impl Known {
+    /// No commits.
+    pub fn new(alloc: Global) -> Known
+        ensures ids { result.ids.keys ≡ [] }
+        ensures nodes { result.nodes.items ≡ [] }
+    {
+        Known {
+            ids: IndexSet::new(alloc),
+            nodes: Vec::new(alloc),
+            hidden: 0,
+        }
+    }
+
+    // The first commit that isn't read.
+    fn unread(&self) -> Option<ObjectId>
+        ensures unread { result ≡ slice_get self.now.ids.keys (length self.now.nodes.items) }
+        ensures room { length self.now.nodes.items < 2 ^ 64 }
+    {
+        self.ids.get_index(self.nodes.as_slice().len()).copied()
+    }
+
+    // Reads this commit, the first that isn't read, and numbers its parents that the walk goes along.
+    fn visit<F: Find>(
+        &mut self,
+        source: &mut Source<F>,
+        id: &ObjectId,
+        along: Parents,
+    ) -> Result<(), Error>
+        ensures hidden { self.new.hidden ≡ self.old.hidden }
+        ensures objects { source.new.objects ≡ source.old.objects }
+        ensures rows { source.new.rows ≡ source.old.rows }
+        ensures visited { OnOk result (Visits (F.is_honest source.old.objects) (F.may_fail source.old.objects)
+            (rows_of source.old.rows) (F.table source.old.objects) along id.now
+            self.old.ids.keys self.old.nodes.items self.new.ids.keys self.new.nodes.items) }
+        ensures counted { source.new.lookups ≤ source.old.lookups + 1 }
+        ensures refused { IfErr result (λ error. error ≡ Memory) }
+    {
+        let reading = read(source, id)?;
+        meet(&mut self.ids, asked_of(reading.parents.as_slice(), along))?;
+        self.nodes.push(Node { reading, names: 0 })?;
+        Ok(())
+    }
+
+    /// Numbers and reads all that the tips reach and that isn't known yet.
+    pub fn walk<F: Find>(
+        &mut self,
+        source: &mut Source<F>,
+        tips: &[ObjectId],
+        along: Parents,
+    ) -> Result<(), Error>
+        ensures hidden { self.new.hidden ≡ self.old.hidden }
+        ensures objects { source.new.objects ≡ source.old.objects }
+        ensures rows { source.new.rows ≡ source.old.rows }
+        ensures walking { OnOk result (Walking (F.is_honest source.old.objects) (F.may_fail source.old.objects)
+            (rows_of source.old.rows) (F.table source.old.objects) along tips.now
+            self.old.ids.keys self.old.nodes.items self.new.ids.keys self.new.nodes.items) }
+        ensures all { OnOk result (length self.new.ids.keys ≤ length self.new.nodes.items) }
+        ensures counted { OnOk result (source.new.lookups + length self.old.nodes.items
+            ≤ source.old.lookups + length self.new.nodes.items) }
+        ensures refused { IfErr result (λ error. error ≡ Memory) }
+    {
+        meet(&mut self.ids, tips)?;
+        'walk: while let Some(id) = self.unread() {
+            self.visit(source, &id, along)?;
+        }
+        Ok(())
+    }
+
+    /// Why a commit isn't read, where there is one that isn't.
+    pub fn first_fault(&self) -> Option<Error>
+        ensures fault { IfSome result (λ error. (n : ℕ) × (reading : Reading)
+            × At (readings self.now.nodes.items) n reading × (reading.fault ≡ Some error)) }
+        ensures none { IfNone result ((n : ℕ) (reading : Reading)
+            → At (readings self.now.nodes.items) n reading → reading.fault ≡ None) }
+    {
+        'nodes: for node in self.nodes.as_slice() {
+            if let Some(error) = node.reading.fault {
+                return Some(error);
+            }
+        }
+        None
+    }
+
+    /// The number of a commit, unless it has none or the ends reach it.
+    pub fn number_of(&self, id: &ObjectId) -> Option<Number>
+        ensures found { IfSome result (λ number. (self.now.hidden ≤ number.0) × At self.now.ids.keys number.0 id.now) }
+        ensures none { IfNone result (IsOnce self.now.ids.keys → (n : ℕ) → At self.now.ids.keys n id.now
+            → n < self.now.hidden) }
+    {
+        let (place, _) = self.ids.get_full(id)?;
+        if self.hidden <= place {
+            Some(Number(place))
+        } else {
+            None
+        }
+    }
+
+    /// Of the parents that the walk goes along the one at this index.
+    pub fn parent(&self, number: Number, index: usize, along: Parents) -> Option<ObjectId>
+        ensures parent { (reading : Reading) → At (readings self.now.nodes.items) number.0 reading
+            → result ≡ slice_get (asked along reading.parents.items) index }
+        ensures room { IfSome result (λ _. index + 1 < 2 ^ 64) }
+    {
+        let node = self.nodes.get(number.0)?;
+        asked_of(node.reading.parents.as_slice(), along)
+            .get(index)
+            .copied()
+    }
+
+    // Counts one more name of a commit, unless it has no number or the ends reach it.
+    fn count_name(&mut self, id: &ObjectId) -> Result<(), Error>
+        ensures ids { self.new.ids ≡ self.old.ids }
+        ensures hidden { self.new.hidden ≡ self.old.hidden }
+        ensures readings { readings self.new.nodes.items ≡ readings self.old.nodes.items }
+        ensures counted { OnOk result (NamesOne self.old.hidden self.old.ids.keys (counts self.old.nodes.items) id.now
+            (counts self.new.nodes.items)) }
+    {
+        match self.number_of(id) {
+            Some(number) => add_name(&mut self.nodes, number),
+            None => Ok(()),
+        }
+    }
+
+    // Counts the names that a commit gives its parents.
+    fn count_row(&mut self, number: Number, along: Parents) -> Result<(), Error>
+        ensures ids { self.new.ids ≡ self.old.ids }
+        ensures hidden { self.new.hidden ≡ self.old.hidden }
+        ensures readings { readings self.new.nodes.items ≡ readings self.old.nodes.items }
+        ensures counted { OnOk result ((way : ObjectId → List ObjectId) (before : List ObjectId) (reading : Reading)
+            → IsOnce self.old.ids.keys → At (readings self.old.nodes.items) number.0 reading
+            → EachCount self.old.hidden self.old.ids.keys (counts self.old.nodes.items)
+            (λ y count. count ≡ names_of same_id way y before)
+            → EachCount self.old.hidden self.old.ids.keys (counts self.new.nodes.items)
+            (λ y count. count ≡ names_of same_id way y before + times (same_id y) (asked along reading.parents.items))) }
+    {
+        let mut index: usize = 0;
+        'row: while let Some(parent) = self.parent(number, index, along) {
+            self.count_name(&parent)?;
+            index += 1;
+        }
+        Ok(())
+    }
+
+    /// Counts how often those that the tips reach name each other as parents that the walk goes along.
+    pub fn count(&mut self, along: Parents) -> Result<(), Error>
+        ensures ids { self.new.ids ≡ self.old.ids }
+        ensures hidden { self.new.hidden ≡ self.old.hidden }
+        ensures readings { readings self.new.nodes.items ≡ readings self.old.nodes.items }
+        ensures counted { OnOk result ((h : Commits ObjectId) (hs xs : List ObjectId)
+            → self.old.ids.keys ≡ hs ++ xs → self.old.hidden ≡ length hs → IsOnce self.old.ids.keys
+            → length self.old.nodes.items ≡ length self.old.ids.keys
+            → ParentsFrom self.old.hidden h self.old.ids.keys (readings self.old.nodes.items)
+            → EachCount self.old.hidden self.old.ids.keys (counts self.old.nodes.items) (λ _ count. count ≡ 0)
+            → EachCount self.old.hidden self.old.ids.keys (counts self.new.nodes.items)
+            (λ y count. count ≡ names_of same_id (asked_parents along h) y xs)) }
+    {
+        'commits: for place in self.hidden..self.nodes.as_slice().len() {
+            self.count_row(Number(place), along)?;
+        }
+        Ok(())
+    }
+
+    /// A commit that waits for its turn.
+    pub fn pending(&self, number: Number) -> Option<Pending>
+        ensures pending { IfSome result (λ pending. (pending.number ≡ number) × ((reading : Reading)
+            × At (readings self.now.nodes.items) number.0 reading × (pending.time ≡ reading.time))) }
+        ensures none { IfNone result (length (readings self.now.nodes.items) ≤ number.0) }
+    {
+        let node = self.nodes.get(number.0)?;
+        Some(Pending {
+            time: node.reading.time,
+            number,
+        })
+    }
+
+    // Whether no commit that is still to be given names this one.
+    fn is_free(&self, number: Number) -> bool
+        ensures { (count : ℕ) → At (counts self.now.nodes.items) number.0 count → result ≡ (count == 0) }
+    {
+        match self.nodes.get(number.0) {
+            Some(node) => node.names == 0,
+            None => false,
+        }
+    }
+
+    /// Those that the tips reach and none names, in the order of their numbers.
+    pub fn free(&self, alloc: Global) -> Result<Vec<Pending>, Error>
+        ensures free { IfOk result (λ first. IsFree self.now.hidden (readings self.now.nodes.items)
+            (counts self.now.nodes.items) first.items) }
+        ensures refused { IfErr result (λ error. error ≡ Memory) }
+    {
+        let mut first: Vec<Pending> = Vec::new(alloc);
+        'commits: for place in self.hidden..self.nodes.as_slice().len() {
+            if self.is_free(Number(place)) {
+                if let Some(pending) = self.pending(Number(place)) {
+                    first.push(pending)?;
+                }
+            }
+        }
+        Ok(first)
+    }
+
+    /// Whether this commit is read. It is an error that tells why where it isn't.
+    pub fn check(&self, number: Number) -> Result<(), Error>
+        ensures read { OnOk result ((reading : Reading) → At (readings self.now.nodes.items) number.0 reading
+            → reading.fault ≡ None) }
+        ensures refused { IfErr result (λ error. (reading : Reading) → At (readings self.now.nodes.items) number.0 reading
+            → reading.fault ≡ Some error) }
+    {
+        let node = self
+            .nodes
+            .get(number.0)
+            .ok_or(Error::MissingStateUnexpected)?;
+        match node.reading.fault {
+            Some(error) => Err(error),
+            None => Ok(()),
+        }
+    }
+
+    /// What is given of a commit, whose parents are handed out.
+    pub fn take(&mut self, number: Number) -> Result<Info, Error>
+        ensures as_many { length self.new.nodes.items ≡ length self.old.nodes.items }
+        ensures ids { self.new.ids ≡ self.old.ids }
+        ensures hidden { self.new.hidden ≡ self.old.hidden }
+        ensures counts { counts self.new.nodes.items ≡ counts self.old.nodes.items }
+        ensures others { (k : ℕ) (reading : Reading) → (k ≡ number.0 → ⊥)
+            → At (readings self.new.nodes.items) k reading → At (readings self.old.nodes.items) k reading }
+        ensures taken { IfOk result (λ info. At self.old.ids.keys number.0 info.id × ((reading : Reading)
+            × At (readings self.old.nodes.items) number.0 reading
+            × (info.parent_ids.items ≡ reading.parents.items)
+            × (info.generation ≡ reading.generation) × (info.commit_time ≡ Some reading.time))) }
+        ensures refused { IfErr result (λ _. (length (readings self.old.nodes.items) ≤ number.0)
+            ⊎ (length self.old.ids.keys ≤ number.0)) }
+    {
+        let alloc: Global = *self.nodes.allocator();
+        let id = *self
+            .ids
+            .get_index(number.0)
+            .ok_or(Error::MissingStateUnexpected)?;
+        let node = self
+            .nodes
+            .get(number.0)
+            .ok_or(Error::MissingStateUnexpected)?;
+        let generation = node.reading.generation;
+        let time = node.reading.time;
+        let parent_ids = take_parents(&mut self.nodes[number.0].reading, alloc);
+        Ok(Info {
+            id,
+            parent_ids,
+            generation,
+            commit_time: Some(time),
+        })
+    }
+}

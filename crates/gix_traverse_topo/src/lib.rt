@@ -1,0 +1,12 @@
+//! Walks over commits in which each comes after all its children, after the module `commit::topo` of the crate `gix-traverse` 0.61.
+#![tactic(auto)]
+
+mod error;
+mod init;
+mod iter;
+mod known;
+mod ready;
+
+pub use crate::error::Error;
+pub use crate::init::{Builder, Sorting};
+pub use crate::iter::Topo;
