@@ -8,7 +8,7 @@ use Rattle.gix_object_find.specs.Existing.{Stands, LookupFault, IsAbsent, HasOth
 use Rattle.gix_object_find.specs.declared.find.existing_object.Error as existing
 use Rattle.gix_object_find.specs.declared.find.existing_object.Error.TheVariants as existing_case
 use Rattle.gix_object_entries.specs.Entry.{TreeFault}
-use Rattle.gix_object_editor.specs.WellFormed.{IsWellFormed}
+use Rattle.gix_object_entries.specs.WellFormed.{IsWellFormed}
 use Rattle.gix_object_editor.specs.declared.tree.editor.error.Error.{Error}
 use Rattle.gix_object_editor.specs.declared.tree.editor.error.Error.TheVariants.{EmptyPathComponent, FindExistingObject, CannotRemoveNonLeaf, MalformedTree, Memory}
 
