@@ -24,12 +24,6 @@ pub empty_of : (xs : List ℕ) → (length xs == 0) ≡ true → xs ≡ []
 empty_of [] e = refl
 empty_of (x ∷ xs) e = let zero_long : suc (length xs) ≡ 0 = eqb-true (suc (length xs)) 0 e in absurd (omega arith)
 
-pub last_name : (path : List (Bor (List ℕ))) (i : ℕ) (d : Bor (List ℕ)) → i + 1 ≡ length path → names (drop i path) ≡ (get_or path i d).now ∷ []
-last_name [] i d e = absurd (omega arith)
-last_name (p ∷ []) zero d e = refl
-last_name (p ∷ q ∷ path) zero d e = absurd (omega arith)
-last_name (p ∷ path) (suc i) d e = let less : i + 1 ≡ length path = omega arith in last_name path i d less
-
 pub two_names : (path : List (Bor (List ℕ))) (i : ℕ) → i + 1 < length path → (m : Bytes) × (more : Path) × (names (drop i path) ≡ get_or (names path) i [] ∷ m ∷ more)
 two_names [] i e = absurd (omega arith)
 two_names (p ∷ []) zero e = absurd (omega arith)

@@ -1,9 +1,11 @@
 -- One step further down.
 use Rattle.std.proofs.Common.{ℕ, zero, suc, arith, ◌≡◌, ◌<◌, ◌+◌, List, [], ◌∷◌, refl, Option, Some, sym, ap, subst, ◌∙◌, length, get_or, map, drop, add-one, drop-cons}
 use Rattle.std.specs.Borrow.{Bor}
+use Rattle.gix_object_editor.specs.declared.tree.editor.node.Node.{Node}
 use Rattle.gix_object_editor.specs.declared.tree.editor.node.NodeId.{NodeId}
 use Rattle.gix_object_editor.specs.Files.{Bytes, Path, through}
-use Rattle.gix_object_editor.specs.Nodes.{Slots, child_of, onto, LeadsTo, IsFolderAt, entry_at}
+use Rattle.gix_object_editor.specs.Nodes.{Slots, slots_of, slot_in, entry_in, child_of, onto, LeadsTo, IsFolderAt, entry_at}
+use Rattle.gix_object_editor.proofs.Slots.{node_at}
 use Rattle.gix_object_editor.proofs.Ways.{way_kept}
 
 abbrev pub names : List (Bor (List ℕ)) → Path
@@ -29,6 +31,12 @@ leads_on old new whole path j i d c lt links found way =
 pub folder_found : (slots : Slots) (j : ℕ) (name : Bytes) (o : Option NodeId) (c : NodeId) → o ≡ Some c → IsFolderAt slots j name o → child_of (slots j name) ≡ Some c.0
 folder_found slots j name o c is found = subst (IsFolderAt slots j name) is found
 
+pub last_name : (path : List (Bor (List ℕ))) (i : ℕ) (d : Bor (List ℕ)) → i + 1 ≡ length path → names (drop i path) ≡ (get_or path i d).now ∷ []
+last_name [] i d e = absurd (omega arith)
+last_name (p ∷ []) zero d e = refl
+last_name (p ∷ q ∷ path) zero d e = absurd (omega arith)
+last_name (p ∷ path) (suc i) d e = let less : i + 1 ≡ length path = omega arith in last_name path i d less
+
 -- ---- the entry at a path's end
 
 pub entry_down : (slots : Slots) (at : ℕ) (path : List (Bor (List ℕ))) (i : ℕ) (d : Bor (List ℕ)) (c : Option ℕ) → suc i < length path → child_of (slots at (get_or path i d).now) ≡ c
@@ -37,3 +45,10 @@ entry_down slots at [] i d c lt e = absurd (omega arith)
 entry_down slots at (p ∷ []) zero d c lt e = absurd (omega arith)
 entry_down slots at (p ∷ q ∷ path) zero d c lt e = ap (λ o. through o (λ k. entry_at slots k (q.now ∷ names path))) e
 entry_down slots at (p ∷ path) (suc i) d c lt e = let less : suc i < length path = omega arith in entry_down slots at path i d c less e
+
+pub entry_last : (nodes : List Node) (at : ℕ) (path : List (Bor (List ℕ))) (i : ℕ) (d : Bor (List ℕ)) (node : Node) → node ≡ get_or nodes at node → at < length nodes → i + 1 ≡ length path
+    → entry_in (get_or path i d).now (slot_in node (get_or path i d).now) ≡ entry_at (slots_of nodes) at (names (drop i path))
+entry_last nodes at path i d node is lt last =
+    ap (λ n. entry_in (get_or path i d).now (slot_in n (get_or path i d).now)) is
+    ∙ ap (entry_in (get_or path i d).now) (sym (node_at nodes at node (get_or path i d).now lt))
+    ∙ sym (ap (entry_at (slots_of nodes) at) (last_name path i d last))

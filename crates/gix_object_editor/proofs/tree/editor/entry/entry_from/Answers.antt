@@ -1,10 +1,8 @@
 use Rattle.std.proofs.Common.{◌≡◌, ◌∙◌, ◌<◌, ◌+◌, suc, ap, sym, arith, length, drop, add-one, None, Some}
 use Rattle.std.specs.Option.{option_map}
 use Rattle.gix_object_entries.specs.Entry.{item_of}
-use Rattle.gix_object_editor.specs.Nodes.{slots_of, slot_in, entry_at, entry_in}
-use Rattle.gix_object_editor.proofs.Slots.{node_at}
-use Rattle.gix_object_editor.proofs.Edits.{last_name}
-use Rattle.gix_object_editor.proofs.Walked.{names, entry_down}
+use Rattle.gix_object_editor.specs.Nodes.{slots_of, entry_at}
+use Rattle.gix_object_editor.proofs.Walked.{names, entry_down, entry_last}
 use Rattle.gix_object_editor.proofs.tree.editor.entry.entry_from.Goals as goal
 
 pub returns-in_err-at : goal.returns-in_err-at
@@ -26,9 +24,7 @@ names-preserved c =
 
 pub returns : goal.returns
 returns c =
-    let slots = slots_of c.args.nodes.now in
     let last : c.names.depth + 1 ≡ length c.args.path.now = omega (arith, c.names.invariant.left) in
     c.entry_of.ensures
-    ∙ ap (λ n. entry_in _ (slot_in n _)) c.index-nodes-at.is
-    ∙ ap (entry_in _) (sym (node_at c.args.nodes.now c.names.at.0 c.index-nodes-at.result _ c.names.invariant.within))
-    ∙ sym (ap (entry_at slots c.names.at.0) (last_name c.args.path.now c.names.depth _ last)) ∙ sym c.names.invariant.rest
+    ∙ entry_last c.args.nodes.now c.names.at.0 c.args.path.now c.names.depth _ c.index-nodes-at.result c.index-nodes-at.is c.names.invariant.within last
+    ∙ sym c.names.invariant.rest

@@ -4,7 +4,8 @@ use Rattle.gix_object_editor.specs.declared.tree.editor.state.Editor.{Editor}
 use Rattle.gix_object_editor.specs.Editor.{files_of, names_of, LeadsThrough}
 use Rattle.gix_object_editor.specs.Nodes.{slots_of, files_of_node, child_of, onto, IsForest}
 use Rattle.gix_object_editor.proofs.Slots.{back}
-use Rattle.gix_object_editor.proofs.Edits.{last_name, two_names, removes_at, removes_none, less_forest, stopped_tree, edit_fault}
+use Rattle.gix_object_editor.proofs.Edits.{two_names, removes_at, removes_none, less_forest, stopped_tree, edit_fault}
+use Rattle.gix_object_editor.proofs.Walked.{last_name}
 use Rattle.gix_object_editor.proofs.tree.editor.state.Editor.remove_from.Goals.{then-depth-path, else-depth-path}
 use Rattle.gix_object_editor.proofs.tree.editor.state.Editor.remove_from.Goals as goal
 
