@@ -3,3 +3,6 @@ pub mod Nodes
 pub mod WellFormed
 pub mod Refusals
 pub mod Editor
+pub mod Writing
+pub mod Written
+pub mod Below

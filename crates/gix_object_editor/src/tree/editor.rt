@@ -14,6 +14,8 @@ mod load;
 mod node;
 mod root;
 mod state;
+mod write;
+pub mod write_error;
 
 use crate::tree::editor::forest::walk;
 use crate::tree::editor::node::take_at;
