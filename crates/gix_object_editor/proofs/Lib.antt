@@ -6,3 +6,8 @@ pub mod Paths
 pub mod Slots
 pub mod Walked
 pub mod Ways
+pub mod WrittenEntries
+pub mod ReachedTrees
+pub mod HandedOrder
+pub mod WrittenFiles
+pub mod HandedSteps

@@ -16,6 +16,8 @@ mod load;
 mod node;
 mod root;
 mod state;
+mod write;
+pub mod write_error;
 
 use crate::tree::editor::entry::entry_from;
 use crate::tree::editor::node::NodeId;
