@@ -1,4 +1,5 @@
 pub mod Edits
+pub mod Filled
 pub mod Ladder
 pub mod Loaded
 pub mod Opening

@@ -49,7 +49,7 @@ some_child j m (x ∷ es) e = elim (by_test (is_named m x.0)) [
     or_true false = refl
 
 -- a slot behind the first is found by its name as well
-found_later : (m : Bytes) (x : Key × Slot) (es : List (Key × Slot)) (s : Slot) → IsDistinct (eq_by_cmp key_cmp) (keys_of (x ∷ es)) → lookup (is_named m) es ≡ Some s → lookup (is_named m) (x ∷ es) ≡ Some s
+pub found_later : (m : Bytes) (x : Key × Slot) (es : List (Key × Slot)) (s : Slot) → IsDistinct (eq_by_cmp key_cmp) (keys_of (x ∷ es)) → lookup (is_named m) es ≡ Some s → lookup (is_named m) (x ∷ es) ≡ Some s
 found_later m x es s apart e = elim (by_test (is_named m x.0)) [
   | inl t ↦
       let none : lookup (is_named m) es ≡ None = none_later x.0 m (named_same m x.0 t) es (IsDistinct-head (eq_by_cmp key_cmp) x.0 (keys_of es) apart) in
@@ -57,7 +57,7 @@ found_later m x es s apart e = elim (by_test (is_named m x.0)) [
   | inr f ↦ ap (λ b. cond b (Some x.1) (lookup (is_named m) es)) f ∙ e
 ]
 
-found_first : (x : Key × Slot) (es : List (Key × Slot)) → lookup (is_named x.0.items) (x ∷ es) ≡ Some x.1
+pub found_first : (x : Key × Slot) (es : List (Key × Slot)) → lookup (is_named x.0.items) (x ∷ es) ≡ Some x.1
 found_first x es = ap (λ b. cond b (Some x.1) (lookup (is_named x.0.items) es)) (named_itself x.0)
 
 child_later : (m : Bytes) (x : Key × Slot) (es : List (Key × Slot)) (c : ℕ) (o : Option Slot) → IsDistinct (eq_by_cmp key_cmp) (keys_of (x ∷ es)) → lookup (is_named m) es ≡ o → child_of o ≡ Some c

@@ -74,6 +74,10 @@ abbrev pub files_of_tree : Trees → List Item → FileMap
 files_of_tree trees items [] = None
 files_of_tree trees items (name ∷ rest) = through (named name items) (λ item. files_of_entry trees rest (leaf_of item))
 
+-- the entry has a file: itself, or one below it
+abbrev pub HasFile : Trees → Leaf → Type 0
+HasFile trees leaf = (rest : Path) × (file : Leaf) × (files_of_entry trees rest leaf ≡ Some file)
+
 -- ---- edits
 
 -- what follows the first path in the second, where it begins it

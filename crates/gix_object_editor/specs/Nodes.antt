@@ -15,7 +15,7 @@ use Rattle.gix_object_entries.specs.ModeText.{mode_of}
 use Rattle.gix_object_editor.specs.declared.tree.editor.node.Node.{Node}
 use Rattle.gix_object_editor.specs.declared.tree.editor.node.NodeId.{NodeId}
 use Rattle.gix_object_editor.specs.declared.tree.editor.node.Slot.{Slot}
-use Rattle.gix_object_editor.specs.Files.{Bytes, Path, Leaf, FileMap, Trees, is_null, through, files_of_entry, leaf_of, HasStored, named}
+use Rattle.gix_object_editor.specs.Files.{Bytes, Path, Leaf, FileMap, Trees, is_null, through, files_of_entry, leaf_of, HasFile, HasStored, named}
 
 abbrev pub Key : Type 0
 Key = Vec ℕ Global
@@ -50,6 +50,13 @@ files_of_slot trees slots (name ∷ rest) s =
 abbrev pub files_of_node : Trees → Slots → ℕ → FileMap
 files_of_node trees slots i [] = None
 files_of_node trees slots i (name ∷ rest) = through (slots i name) (files_of_slot trees slots rest)
+
+-- each entry that isn't null has a file, where no tree was opened for it
+abbrev pub AreFilled : Trees → Slots → Type 0
+AreFilled trees slots = (i : ℕ) (m : Bytes) (s : Slot) → slots i m ≡ Some s → s.child ≡ None → is_null (id_of s.oid) ≡ false → HasFile trees (leaf_in s)
+
+abbrev pub HasFileBelow : Trees → Slots → ℕ → Type 0
+HasFileBelow trees slots i = (m : Bytes) × (rest : Path) × (file : Leaf) × (files_of_node trees slots i (m ∷ rest) ≡ Some file)
 
 -- an unopened slot stands for an entry, or none for none
 abbrev pub StandsFor : Option Slot → Option Item → Type 0

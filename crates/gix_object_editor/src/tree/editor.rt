@@ -10,6 +10,7 @@ ghost use Rattle.gix_object_entries.specs.WellFormed.{IsWellFormed};
 mod edits;
 mod entry;
 mod error;
+mod filled;
 mod forest;
 mod graft;
 mod load;
