@@ -1,5 +1,5 @@
 -- Files below the slots of an opened tree.
-use Rattle.std.proofs.Common.{ℕ, ◌≡◌, Bool, true, false, cond, List, [], ◌∷◌, Option, Some, None, refl, sym, ap, subst, ◌∙◌, inl, inr, if◌then◌else◌}
+use Rattle.std.proofs.Common.{ℕ, ◌≡◌, Bool, not, true, false, cond, List, [], ◌∷◌, Option, Some, None, refl, sym, ap, subst, ◌∙◌, inl, inr, if◌then◌else◌}
 use Rattle.std.specs.List.{AllByRecursion, IsDistinct}
 use Rattle.std.specs.Map.{lookup, keys_of, values_of}
 use Rattle.std.specs.Ordering.{eq_by_cmp}
@@ -77,3 +77,11 @@ found_entry trees slots at m s stands closed h =
 pub found_child : (trees : Trees) (slots : Slots) (at : ℕ) (m : Bytes) (s : Slot) (c : ℕ) → slots at m ≡ Some s → child_of (Some s) ≡ Some c → HasFileBelow trees slots c → HasFileBelow trees slots at
 found_child trees slots at m s c stands e h =
     (m, h.0 ∷ h.1, h.2, ap (λ o. through o (files_of_slot trees slots (h.0 ∷ h.1))) stands ∙ child_files trees slots h.0 h.1 (Some s) c e ∙ h.3)
+
+pub isnt : (b : Bool) → not b ≡ true → b ≡ false
+isnt true e = cc
+isnt false e = refl
+
+pub is_so : (b : Bool) → not b ≡ false → b ≡ true
+is_so true e = refl
+is_so false e = cc

@@ -8,7 +8,8 @@ use Rattle.gix_object_entries.specs.Order.{name_cmp, is_tree}
 use Rattle.std.specs.declared.cmp.Ordering.TheVariants.{Less}
 use Rattle.std.specs.Ordering.{is_lt}
 use Rattle.gix_hash.specs.Id.{Id, null_id}
-use Rattle.gix_hash.specs.OrderLaws.{id_eq-same}
+use Rattle.gix_hash.specs.Order.{id_eq}
+use Rattle.gix_hash.specs.OrderLaws.{id_eq-same, id_eq-itself}
 use Rattle.gix_object_editor.specs.declared.tree.editor.node.NodeId.{NodeId}
 use Rattle.gix_object_editor.specs.declared.tree.editor.node.Slot.{Slot}
 use Rattle.gix_object_editor.specs.Files.{Bytes, Path, Trees, leaf_of, named, is_null, through, files_of_entry, files_of_tree}
@@ -134,6 +135,9 @@ not_null id b says isnt = elim (by_test (is_null id)) [
   | inl t ↦ absurd (not_both b (says.1 (id_eq-same id (null_id id.kind) t)) isnt)
   | inr f ↦ f
 ]
+
+pub null_by_test : (id : Id) (b : Bool) → (IsTrue b ↔ (id ≡ null_id id.kind)) → b ≡ true → is_null id ≡ true
+null_by_test id b says is = ap (id_eq id) (sym (says.0 is)) ∙ id_eq-itself id
 
 pub no_child : (o : Option NodeId) → is_some o ≡ false → o ≡ None
 no_child None e = refl
