@@ -1,18 +1,19 @@
 -- Edits below the root, after a walk down.
-use Rattle.std.proofs.Common.{subst, ◌-◌, ◌≤◌, take, ℕ, suc, ◌≡◌, ◌≢◌, ◌<◌, ◌+◌, List, [], ◌∷◌, Some, None, refl, sym, ap, ◌∙◌, arith, zero, inl, inr, length, get_or, drop, if◌then◌else◌, true, ◌==◌, eqb-true}
+use Rattle.std.proofs.Common.{subst, ◌-◌, ◌≤◌, take, ℕ, suc, ◌≡◌, ◌≢◌, ◌<◌, ◌+◌, List, [], ◌∷◌, ◌++◌, Some, None, refl, sym, ap, ◌∙◌, arith, zero, inl, inr, length, get_or, drop, if◌then◌else◌, true, ◌==◌, eqb-true}
 use Rattle.std.specs.Prelude.{is_some, IsTrue}
 use Rattle.gix_object_entries.specs.Mode.{is_tree_value}
 use Rattle.std.specs.Borrow.{Bor}
 use Rattle.std.proofs.lemmas.List.{get_or-map, length-drop, take_all}
 use Rattle.std.proofs.lemmas.List.Elements.{All-map}
-use Rattle.gix_hash.specs.Id.{Id}
+use Rattle.gix_hash.specs.Id.{Id, id_of}
+use Rattle.gix_object_editor.specs.declared.tree.editor.node.Slot.{Slot}
 use Rattle.gix_object_find.specs.Table.{Table}
 use Rattle.gix_object_editor.specs.declared.tree.editor.error.Error.{Error}
 use Rattle.gix_object_editor.specs.declared.tree.editor.error.Error.TheVariants.{EmptyPathComponent, FindExistingObject, CannotRemoveNonLeaf, MalformedTree, Memory}
-use Rattle.gix_object_editor.specs.Editor.{EditFault, IsTreeNamed, LeadsThrough}
-use Rattle.gix_object_editor.specs.Refusals.{OpeningFault}
-use Rattle.gix_object_editor.specs.Files.{Bytes, Path, Leaf, Trees, HasStored, NamesAreFull, through, tree_under, unless_tree, files_of_entry, behind, removed, put, put_at}
-use Rattle.gix_object_editor.specs.Nodes.{Slots, child_or, child_of, leaf_in, files_of_slot, files_of_node, onto, Way, LeadsTo, IsFolderAt, IsStoppedAt, IsForest, IsOpened}
+use Rattle.gix_object_editor.specs.Editor.{EditFault, LeafFault, IsFolder, IsTreeNamed, LeadsThrough, LeadsInto}
+use Rattle.gix_object_editor.specs.Refusals.{OpeningFault, FolderFault}
+use Rattle.gix_object_editor.specs.Files.{Bytes, Path, Leaf, FileMap, Trees, HasStored, HasNoneBelow, NamesAreFull, through, tree_under, unless_tree, files_of_entry, behind, removed, put, put_at}
+use Rattle.gix_object_editor.specs.Nodes.{Slots, child_or, child_of, leaf_in, files_of_slot, files_of_node, onto, Way, LeadsTo, IsFolderAt, IsStoppedAt, IsUnopened, AreFilled, IsForest, IsOpened}
 use Rattle.gix_object_editor.proofs.Ways.{down, removes, removes_nothing}
 use Rattle.gix_object_editor.proofs.Opening.{fewer, at_or_off}
 use Rattle.gix_object_editor.proofs.Paths.{onto-append}
@@ -87,22 +88,63 @@ less_forest slots new bound more at name ok e closed others = fewer slots new bo
 
 -- ---- refusals
 
+append_nil : (p : Path) → p ++ [] ≡ p
+append_nil [] = refl
+append_nil (n ∷ p) = ap (λ q. n ∷ q) (append_nil p)
+
+-- an unopened tree stands as a file, where its tree isn't there
+alone : (slots : Slots) (at : ℕ) (name : Bytes) (slot : Slot) → slots at name ≡ Some slot → IsUnopened slot → (trees : Trees) → trees (id_of slot.oid) ≡ None
+    → files_of_node trees slots at (name ∷ []) ≡ Some (leaf_in slot)
+alone slots at name slot stands unopened trees gone =
+    ap (λ o. through o (files_of_slot trees slots [])) stands ∙ ap (λ o. child_or o (λ c. None) (files_of_entry trees [] (leaf_in slot))) unopened.closed
+    ∙ ap (λ b. if b then None else unless_tree (tree_under trees (leaf_in slot)) (leaf_in slot)) unopened.isnt_null
+    ∙ ap (λ b. unless_tree (if b then trees (leaf_in slot).id else None) (leaf_in slot)) unopened.is_tree
+    ∙ ap (λ o. unless_tree o (leaf_in slot)) gone
+
+-- it stands where a way leads
+tree_at_way : (slots : Slots) (way : Path) (at : ℕ) (name : Bytes) (slot : Slot) (id : Id) → Way slots way at → slots at name ≡ Some slot → IsUnopened slot → id_of slot.oid ≡ id
+    → (trees : Trees) → trees id ≡ None → IsTreeNamed id (files_of_node trees slots 0 (onto way (name ∷ [])))
+tree_at_way slots way at name slot id reached stands unopened is trees gone =
+    subst (IsTreeNamed id) (sym (down trees slots way at name [] reached ∙ alone slots at name slot stands unopened trees (ap trees is ∙ gone))) (is, unopened.is_tree)
+
 -- where a walk stops, an unopened tree stands
 pub stopped_tree : (slots : Slots) (path : Path) (id : Id) → IsStoppedAt slots path id → LeadsThrough (λ trees. files_of_node trees slots 0) path id
 stopped_tree slots path id s =
-    let way = s.leads.0 in
-    (onto way (s.name ∷ []), s.next, s.rest, sym (onto-append way (s.name ∷ []) (s.next ∷ s.rest)) ∙ s.leads.2, λ trees gone.
-    subst (IsTreeNamed id) (sym (down trees slots way s.at s.name [] s.leads.1 ∙ alone trees gone)) (s.id_is, trivially))
-  where
-    alone : (trees : Trees) → trees id ≡ None → files_of_node trees slots s.at (s.name ∷ []) ≡ Some (leaf_in s.slot)
-    alone trees gone =
-        ap (λ o. through o (files_of_slot trees slots [])) s.stands ∙ ap (λ o. child_or o (λ c. None) (files_of_entry trees [] (leaf_in s.slot))) s.unopened.closed
-        ∙ ap (λ b. if b then None else unless_tree (tree_under trees (leaf_in s.slot)) (leaf_in s.slot)) s.unopened.isnt_null
-        ∙ ap (λ b. unless_tree (if b then trees (leaf_in s.slot).id else None) (leaf_in s.slot)) s.unopened.is_tree
-        ∙ ap (λ o. unless_tree o (leaf_in s.slot)) (ap trees s.id_is ∙ gone)
+    let way = s.leads.0 in (
+      onto way (s.name ∷ []),
+      s.next,
+      s.rest,
+      sym (onto-append way (s.name ∷ []) (s.next ∷ s.rest)) ∙ s.leads.2,
+      tree_at_way slots way s.at s.name s.slot id s.leads.1 s.stands s.unopened s.id_is,
+    )
 
-    trivially : IsTrue (is_tree_value (leaf_in s.slot).mode.value)
-    trivially = s.unopened.is_tree
+pub leads_into : (files : Trees → FileMap) (path : Path) (id : Id) → LeadsThrough files path id → LeadsInto files path id
+leads_into files path id h = (h.0, h.1 ∷ h.2, h.3, h.4)
+
+-- the same of the tree at the path's end
+end_tree : (slots : Slots) (path : Path) (at : ℕ) (name : Bytes) (slot : Slot) → LeadsTo slots path at (name ∷ []) → slots at name ≡ Some slot → IsUnopened slot
+    → LeadsInto (λ trees. files_of_node trees slots 0) path (id_of slot.oid)
+end_tree slots path at name slot leads stands unopened =
+    (onto leads.0 (name ∷ []), [], append_nil (onto leads.0 (name ∷ [])) ∙ leads.2, tree_at_way slots leads.0 at name slot (id_of slot.oid) leads.1 stands unopened refl)
+
+-- what stands below a path's end
+below_end : (slots : Slots) (path : Path) (at : ℕ) (name : Bytes) (left : Path) (trees : Trees) (m : Bytes) (rest : Path) → LeadsTo slots path at (name ∷ left)
+    → files_of_node trees slots 0 (path ++ m ∷ rest) ≡ files_of_node trees slots at (name ∷ (left ++ m ∷ rest))
+below_end slots path at name left trees m rest leads =
+    ap (λ p. files_of_node trees slots 0 (p ++ m ∷ rest)) (sym leads.2)
+    ∙ ap (files_of_node trees slots 0) (sym (onto-append leads.0 (name ∷ left) (m ∷ rest)))
+    ∙ down trees slots leads.0 at name (left ++ m ∷ rest) leads.1
+
+none_left : (slots : Slots) (at : ℕ) (name : Bytes) (left : Path) (trees : Trees) (m : Bytes) (rest : Path) → IsFolderAt slots at name None → files_of_node trees slots at (name ∷ (left ++ m ∷ rest)) ≡ None
+none_left slots at name [] trees m rest plain = plain trees m rest
+none_left slots at name (l ∷ left) trees m rest plain = plain trees l (left ++ m ∷ rest)
+
+module _ (honest : Type 0) (table : Table) (old mid : Slots) (bound more : ℕ) (ok : IsForest old bound) (opened : IsOpened honest table old mid bound more) (path : Path) (at : ℕ) where
+  pub none_below_path : (name : Bytes) (left rest : Path) → LeadsTo mid path at rest → rest ≡ name ∷ left → IsFolderAt mid at name None → honest → (trees : Trees) → HasStored table trees
+      → HasNoneBelow path (files_of_node trees old 0)
+  none_below_path name left rest leads is plain h trees has m below =
+      sym (opened.files h trees has (path ++ m ∷ below) 0 ok.rooted)
+      ∙ below_end mid path at name left trees m below (subst (LeadsTo mid path at) is leads) ∙ none_left mid at name left trees m below plain
 
 pub edit_fault : (honest may_fail : Type 0) (table : Table) (path : Path) (Through : Id → Type 0) (e : Error) → (id : Id) → Through id → OpeningFault honest may_fail table id e
     → EditFault honest may_fail table path Through e
@@ -111,3 +153,47 @@ edit_fault honest may_fail table path Through (FindExistingObject error) id t h 
 edit_fault honest may_fail table path Through (CannotRemoveNonLeaf filename) id t h = absurd h
 edit_fault honest may_fail table path Through (MalformedTree oid) id t h = (id, t, h)
 edit_fault honest may_fail table path Through Memory id t h = tt
+
+pub leaf_fault : (honest may_fail : Type 0) (table : Table) (path : Path) (Into : Id → Type 0) (Folder : Type 0) (e : Error) → (id : Id) → Into id → OpeningFault honest may_fail table id e
+    → LeafFault honest may_fail table path Into Folder e
+leaf_fault honest may_fail table path Into Folder EmptyPathComponent id t h = absurd h
+leaf_fault honest may_fail table path Into Folder (FindExistingObject error) id t h = (id, t, h)
+leaf_fault honest may_fail table path Into Folder (CannotRemoveNonLeaf filename) id t h = absurd h
+leaf_fault honest may_fail table path Into Folder (MalformedTree oid) id t h = (id, t, h)
+leaf_fault honest may_fail table path Into Folder Memory id t h = tt
+
+-- a refused folder at a path's end
+pub folder_fault : (honest may_fail : Type 0) (table : Table) (slots : Slots) (names path : Path) (at : ℕ) (name : Bytes) (Fit : Trees → Type 0) → ((trees : Trees) → Fit trees → AreFilled trees slots)
+    → ((front : Path) × (names ≡ front ++ name ∷ [])) → LeadsTo slots path at (name ∷ []) → (e : Error) → FolderFault honest may_fail table slots at name e
+    → LeafFault honest may_fail table names (LeadsInto (λ trees. files_of_node trees slots 0) path) (IsFolder Fit (λ trees. files_of_node trees slots 0) path) e
+folder_fault honest may_fail table slots names path at name Fit filled last leads EmptyPathComponent h = absurd h
+folder_fault honest may_fail table slots names path at name Fit filled last leads (FindExistingObject error) h =
+    (id_of h.0.oid, end_tree slots path at name h.0 leads h.1 h.2, h.3)
+folder_fault honest may_fail table slots names path at name Fit filled last leads (CannotRemoveNonLeaf filename) h = (
+  (last.0, last.1 ∙ ap (λ n. last.0 ++ n ∷ []) (sym h.0)),
+  λ trees fit.
+      let file = h.1 trees (filled trees fit) in
+      (file.0, file.1, file.2, below_end slots path at name [] trees file.0 file.1 leads ∙ file.3),
+)
+folder_fault honest may_fail table slots names path at name Fit filled last leads (MalformedTree oid) h =
+    (id_of h.0.oid, end_tree slots path at name h.0 leads h.1 h.2, h.3)
+folder_fault honest may_fail table slots names path at name Fit filled last leads Memory h = tt
+
+-- a folder that isn't opened is refused for that
+pub opened_fault : (honest may_fail : Type 0) (table : Table) (slots : Slots) (at : ℕ) (name : Bytes) (e : Error)
+    → ((s : Slot) × (slots at name ≡ Some s) × IsUnopened s × OpeningFault honest may_fail table (id_of s.oid) e) → FolderFault honest may_fail table slots at name e
+opened_fault honest may_fail table slots at name EmptyPathComponent h = absurd h.3
+opened_fault honest may_fail table slots at name (FindExistingObject error) h = h
+opened_fault honest may_fail table slots at name (CannotRemoveNonLeaf filename) h = absurd h.3
+opened_fault honest may_fail table slots at name (MalformedTree oid) h = h
+opened_fault honest may_fail table slots at name Memory h = tt
+
+-- the last name, and those before it
+pub last_split : (path : List (Bor (List ℕ))) (i : ℕ) (d : Bor (List ℕ)) → i + 1 ≡ length path → (front : Path) × (names path ≡ front ++ (get_or path i d).now ∷ [])
+last_split [] i d e = absurd (omega arith)
+last_split (p ∷ []) zero d e = ([], refl)
+last_split (p ∷ q ∷ path) zero d e = absurd (omega arith)
+last_split (p ∷ path) (suc i) d e =
+    let less : i + 1 ≡ length path = omega arith in
+    let rest = last_split path i d less in
+    (p.now ∷ rest.0, ap (λ q. p.now ∷ q) rest.1)

@@ -5,3 +5,4 @@ pub mod Editor
 pub mod Writing
 pub mod Written
 pub mod Below
+pub mod Lending

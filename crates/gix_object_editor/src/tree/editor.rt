@@ -1,10 +1,11 @@
 //! Edits of a tree and the trees below it.
 
 ghost use Rattle.std.specs.Prelude.{◌≡◌, ◌≤◌, ◌+◌, length, map, option_map, IfOk, IfErr, OnOk, OnErr, IsFalse, IsTrue};
+ghost use Rattle.std.specs.Borrow.{sem};
 ghost use Rattle.gix_object_entries.specs.Entry.{item_of, own_item};
-ghost use Rattle.gix_object_editor.specs.Files.{Path, Trees, HasStored, SameFiles, NamesAreFull, removed, put, files_of_tree};
+ghost use Rattle.gix_object_editor.specs.Files.{Path, Trees, HasStored, SameFiles, NamesAreFull, HasNoneBelow, removed, put, files_of_tree};
 ghost use Rattle.gix_object_editor.specs.Nodes.{slots_of, entry_at};
-ghost use Rattle.gix_object_editor.specs.Editor.{files_of, names_of, leaf_of_kind, LeadsThrough, EditFault};
+ghost use Rattle.gix_object_editor.specs.Editor.{files_of, names_of, leaf_of_kind, LeadsThrough, LeadsInto, EditFault, LeafFault, IsFilled, IsFolder};
 ghost use Rattle.gix_object_entries.specs.WellFormed.{IsWellFormed};
 
 mod edits;
@@ -32,6 +33,8 @@ pub use state::Editor;
 use std::alloc::{AllocError, Global};
 
 impl<S: Find> Editor<S> {
+    ghost use Rattle.gix_object_editor.specs.Lending.{LendsStore};
+
     /// An editor of this tree, whose subtrees are looked up in the store. The tree is well-formed.
     pub fn new(alloc: Global, root: &Tree, store: S) -> Result<Editor<S>, AllocError>
     where
@@ -60,6 +63,14 @@ impl<S: Find> Editor<S> {
         self.nodes = opened_root(alloc, root)?;
         self.lookups = 0;
         Ok(())
+    }
+
+    /// Lends the store.
+    pub fn store_mut(&mut self) -> &mut S
+        ensures* lends { sem 𝓛 (LendsStore S.row self.entry result) }
+        ensures value { result.now ≡ self.old.store }
+    {
+        &mut self.store
     }
 
     /// How many trees were asked of the store since the root was set.
@@ -93,6 +104,26 @@ impl<S: Find> Editor<S> {
         ensures store { self.new.store ≡ self.old.store }
     {
         self.remove_from(alloc, NodeId(0), path)
+    }
+
+    /// Takes out the file at the path, if one stands there.
+    ///
+    /// It is refused as `remove` is, of the trees on the path and of a folder at its end, and `CannotRemoveNonLeaf` with the last
+    /// name where a file stands below the path.
+    pub fn remove_leaf(&mut self, alloc: Global, path: &[&[u8]]) -> Result<(), Error>
+        ensures removed { S.is_honest self.old.store → OnOk result ((trees : Trees) → HasStored (S.table self.old.store) trees
+            → SameFiles (files_of trees self.new) (removed (names_of path.now) (files_of trees self.old))) }
+        ensures leaf { S.is_honest self.old.store → OnOk result ((trees : Trees) → HasStored (S.table self.old.store) trees
+            → HasNoneBelow (names_of path.now) (files_of trees self.old)) }
+        ensures unchanged { S.is_honest self.old.store → OnErr result ((trees : Trees) → HasStored (S.table self.old.store) trees
+            → SameFiles (files_of trees self.new) (files_of trees self.old)) }
+        ensures named { OnOk result (NamesAreFull (names_of path.now)) }
+        ensures refused { IfErr result (LeafFault (S.is_honest self.old.store) (S.may_fail self.old.store) (S.table self.old.store) (names_of path.now)
+            (LeadsInto (λ trees. files_of trees self.new) (names_of path.now)) (IsFolder (λ trees. IsFilled trees self.new) (λ trees. files_of trees self.new) (names_of path.now))) }
+        ensures counted { self.new.lookups ≤ self.old.lookups + length path.now }
+        ensures store { self.new.store ≡ self.old.store }
+    {
+        self.remove_leaf_from(alloc, NodeId(0), path)
     }
 
     /// Puts an entry of this kind and id at the path, in folders that are made for it: a file, or a tree with its files. All that

@@ -67,7 +67,13 @@ fn hang(
 {
     let first = NodeId(nodes.len());
     push_ladder(nodes, alloc, &names[1..], slot)?;
-    put_at(nodes.as_mut_slice(), alloc, at, names[0], folder(slot.oid, first))?;
+    put_at(
+        nodes.as_mut_slice(),
+        alloc,
+        at,
+        names[0],
+        folder(slot.oid, first),
+    )?;
     Ok(())
 }
 

@@ -19,7 +19,7 @@ names-preserved c =
       within = c.requires.forest.within c.names.at.0 _ c.in_ok-at.at.0 (sym c.in_ok-at.ensures);
       left = omega arith;
       rest = c.names.invariant.rest ∙ entry_down slots c.names.at.0 c.args.path.now c.names.depth _ (Some c.in_ok-at.at.0) more (sym c.in_ok-at.ensures)
-      ∙ ap (λ n. entry_at slots c.in_ok-at.at.0 (names (drop n c.args.path.now))) (sym (add-one c.names.depth));
+          ∙ ap (λ n. entry_at slots c.in_ok-at.at.0 (names (drop n c.args.path.now))) (sym (add-one c.names.depth));
     }
 
 pub returns : goal.returns

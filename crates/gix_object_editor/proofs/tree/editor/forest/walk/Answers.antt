@@ -42,15 +42,19 @@ returns-in_err-child-clause-refused g c =
     let told = c.in_err-child.ensures.refused in
     let s = told.0 in
     let left = two_names c.args.path.now c.names.depth c.names-test.true in
-    rw (p.1, p.2) (id_of s.oid, λ way w. record {
-      at = c.names.at.0;
-      name = _;
-      next = left.0;
-      rest = left.1;
-      slot = s;
-      leads = subst (LeadsTo (slots_of c.«open».new.nodes.items) (onto way (names c.args.path.now)) c.names.at.0) (left.2 ∙ ap (λ n. n ∷ left.0 ∷ left.1) (get_or-map (λ (x : Bor (List ℕ)). x.now) c.args.path.now c.names.depth _ [] (omega arith)))
-      (leads_kept (slots_of c.names.nodes.items) (slots_of c.«open».new.nodes.items) (onto way (names c.args.path.now)) c.names.at.0 (names (drop c.names.depth c.args.path.now)) c.in_err-child.ensures.opened.links (c.names.invariant.leads way w));
-      stands = told.1;
-      unopened = told.2;
-      id_is = refl;
-    }, told.3)
+    rw (p.1, p.2) (
+      id_of s.oid,
+      λ way w. record {
+        at = c.names.at.0;
+        name = _;
+        next = left.0;
+        rest = left.1;
+        slot = s;
+        leads = subst (LeadsTo (slots_of c.«open».new.nodes.items) (onto way (names c.args.path.now)) c.names.at.0) (left.2 ∙ ap (λ n. n ∷ left.0 ∷ left.1) (get_or-map (λ (x : Bor (List ℕ)). x.now) c.args.path.now c.names.depth _ [] (omega arith)))
+            (leads_kept (slots_of c.names.nodes.items) (slots_of c.«open».new.nodes.items) (onto way (names c.args.path.now)) c.names.at.0 (names (drop c.names.depth c.args.path.now)) c.in_err-child.ensures.opened.links (c.names.invariant.leads way w));
+        stands = told.1;
+        unopened = told.2;
+        id_is = refl;
+      },
+      told.3,
+    )

@@ -30,17 +30,17 @@ loop-i-preserved c =
       len = omega (arith, ap length pushed, length_push before node);
       front = λ j m less. let more : j < length before = omega arith in front j m more ∙ c.loop-i.invariant.front j m less;
       rungs = one_rung_more (names c.args.names.now) (slots_of before) (slots_of c.push.new.self.items) (length old) (length before) c.loop-i.i c.args.slot c.if-i-names.rung n front
-      (new _ ∙ ap (slot_in node) (get_or-map (λ (x : Bor (List ℕ)). x.now) c.args.names.now c.loop-i.i _ [] lt) ∙ c.in_ok-lone.ensures.here)
-      (λ m apart. new m ∙ c.in_ok-lone.ensures.others m (λ same. apart (same ∙ sym (get_or-map (λ (x : Bor (List ℕ)). x.now) c.args.names.now c.loop-i.i _ [] lt))))
-      (λ inner. elim c.if-i-names.branch [
-        | then-i-names w ↦
-            let next : w.len.result + 1 ≡ suc (length before) = omega arith in
-            ap (λ (r : Slot). child_of (Some r)) w.rung-is ∙ ap (λ o. child_or o (λ d. Some d) None) w.folder-rung.ensures ∙ ap (λ k. Some k) next
-        | else-i-names w ↦ absurd (omega (arith, w.if-i-names.false))
-      ])
-      (λ end. elim c.if-i-names.branch [
-        | then-i-names w ↦ absurd (omega (arith, w.if-i-names.true))
-        | else-i-names w ↦ w.rung-is
-      ])
-      c.loop-i.invariant.rungs;
+          (new _ ∙ ap (slot_in node) (get_or-map (λ (x : Bor (List ℕ)). x.now) c.args.names.now c.loop-i.i _ [] lt) ∙ c.in_ok-lone.ensures.here)
+          (λ m apart. new m ∙ c.in_ok-lone.ensures.others m (λ same. apart (same ∙ sym (get_or-map (λ (x : Bor (List ℕ)). x.now) c.args.names.now c.loop-i.i _ [] lt))))
+          (λ inner. elim c.if-i-names.branch [
+            | then-i-names w ↦
+                let next : w.len.result + 1 ≡ suc (length before) = omega arith in
+                ap (λ (r : Slot). child_of (Some r)) w.rung-is ∙ ap (λ o. child_or o (λ d. Some d) None) w.folder-rung.ensures ∙ ap (λ k. Some k) next
+            | else-i-names w ↦ absurd (omega (arith, w.if-i-names.false))
+          ])
+          (λ end. elim c.if-i-names.branch [
+            | then-i-names w ↦ absurd (omega (arith, w.if-i-names.true))
+            | else-i-names w ↦ w.rung-is
+          ])
+          c.loop-i.invariant.rungs;
     }
