@@ -1,22 +1,19 @@
 -- Trees that are handed out: those that lie in them come before them.
-use Rattle.std.proofs.Common.{ℕ, zero, suc, ◌≡◌, ◌≢◌, ◌<◌, ◌≤◌, ◌+◌, ◌⊎◌, Bool, true, false, List, [], ◌∷◌, ◌++◌, Option, Some, None, refl, sym, ap, subst, ◌∙◌, inl, inr, arith, length, get_or, map, append-nil, append_assoc}
-use Rattle.std.specs.Prelude.{bytes_eq}
-use Rattle.std.specs.List.{All, Contains, IsDistinct}
-use Rattle.std.proofs.lemmas.Bool.{cases_eq, cases_lt}
-use Rattle.std.proofs.lemmas.List.Elements.{All-push, All-weaker, Contains-append_left, Contains-push, Contains-get_or}
+use Rattle.std.proofs.Common.{ℕ, ◌≡◌, ◌<◌, ◌≤◌, false, List, [], ◌∷◌, ◌++◌, Option, Some, None, refl, sym, ap, subst, ◌∙◌, inl, inr, arith, get_or, append-nil, append_assoc}
+use Rattle.std.specs.List.{All, Contains}
+use Rattle.std.proofs.lemmas.List.Elements.{Contains-get_or}
 use Rattle.gix_hash.specs.Id.{Id}
 use Rattle.gix_object_entries.specs.Entry.{Item}
 use Rattle.gix_object_editor.specs.declared.tree.editor.node.NodeId.{NodeId}
 use Rattle.gix_object_editor.specs.declared.tree.editor.node.Slot.{Slot}
 use Rattle.gix_object_editor.specs.Files.{Bytes, Path, is_null, leaf_of, through, behind, named}
-use Rattle.gix_object_editor.specs.Nodes.{Slots, child_or, child_of, leaf_in, Way, onto, LeadsTo, IsForest}
-use Rattle.gix_object_editor.specs.Writing.{Ids, IsReached, unless_null, folder_item, slot_item, written_item, HasEntries, IsTreeOf}
-use Rattle.gix_object_editor.specs.Written.{HandedOut, EachBehind, IsKnown, IsHandedOut}
-use Rattle.gix_object_editor.specs.Below.{IsAnswered, IsDone, IsOneFrom, IsHandedOutFrom}
+use Rattle.gix_object_editor.specs.Nodes.{Slots, child_or, child_of, Way, onto, LeadsTo, IsForest}
+use Rattle.gix_object_editor.specs.Writing.{Ids, IsReached, unless_null, folder_item, slot_item, written_item, HasEntries}
+use Rattle.gix_object_editor.specs.Written.{HandedOut, EachBehind, IsKnown}
+use Rattle.gix_object_editor.specs.Below.{IsAnswered, IsDone}
 use Rattle.gix_object_editor.proofs.Paths.{behind_is, onto-onto, onto-append}
 use Rattle.gix_object_editor.proofs.Ways.{unique}
-use Rattle.gix_object_editor.proofs.ReachedTrees.{reached_child}
-use Rattle.gix_object_editor.proofs.WrittenEntries.{unless_is, written_is, named_found, contained_named}
+use Rattle.gix_object_editor.proofs.WrittenEntries.{unless_is, written_is}
 
 -- ---- ways that begin one another
 

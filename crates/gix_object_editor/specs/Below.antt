@@ -1,14 +1,14 @@
 -- The trees below a root, while they are handed out from the last number down.
-use Rattle.std.specs.Prelude.{ℕ, ◌≡◌, ◌≢◌, ◌<◌, ◌≤◌, List, [], map, Option, Result, Ok, Err, Some, None}
+use Rattle.std.specs.Prelude.{ℕ, ◌≡◌, ◌≢◌, ◌<◌, ◌≤◌, List, [], Option, Result, Ok, Err, Some, None}
 use Rattle.std.specs.Borrow.{Bor}
 use Rattle.std.specs.Fn.{Mut, CalledAt}
 use Rattle.std.specs.List.{All, Contains}
-use Rattle.gix_hash.specs.Id.{Id, id_of}
+use Rattle.gix_hash.specs.Id.{Id}
 use Rattle.gix_hash.specs.declared.object_id.ObjectId.{ObjectId}
 use Rattle.gix_object_entries.specs.Entry.{Item}
 use Rattle.gix_object_entries.specs.declared.tree.owned.Tree.{Tree}
-use Rattle.gix_object_editor.specs.declared.tree.editor.write_error.Error.{Error}
-use Rattle.gix_object_editor.specs.declared.tree.editor.write_error.Error.TheVariants.{Out, Memory}
+use Rattle.gix_object_editor.specs.declared.tree.editor.write.error.Error.{Error}
+use Rattle.gix_object_editor.specs.declared.tree.editor.write.error.Error.TheVariants.{Out, Memory}
 use Rattle.gix_object_editor.specs.Files.{Path}
 use Rattle.gix_object_editor.specs.Nodes.{Slots, LeadsTo}
 use Rattle.gix_object_editor.specs.Writing.{Ids, IsReached, HasEntries}

@@ -1,5 +1,5 @@
 -- Opened trees as they are written: their entries, with the ids of the trees that lie in them.
-use Rattle.std.specs.Prelude.{ℕ, zero, suc, ◌≡◌, false, Bool, List, [], ◌∷◌, Option, Some, None, if◌then◌else◌}
+use Rattle.std.specs.Prelude.{ℕ, zero, suc, ◌≡◌, false, List, [], ◌∷◌, Option, Some, None, if◌then◌else◌}
 use Rattle.std.specs.List.{All}
 use Rattle.gix_hash.specs.Id.{Id, id_of}
 use Rattle.gix_hash.specs.declared.object_id.ObjectId.{ObjectId}

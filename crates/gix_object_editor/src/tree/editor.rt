@@ -14,8 +14,7 @@ mod load;
 mod node;
 mod root;
 mod state;
-mod write;
-pub mod write_error;
+pub mod write;
 
 use crate::tree::editor::forest::walk;
 use crate::tree::editor::node::take_at;

@@ -1,19 +1,20 @@
 //! Writing the trees of an editor.
 
-ghost use Rattle.std.specs.Prelude.{◌≡◌, ℕ, List, IfOk, IfErr, OnErr};
+ghost use Rattle.std.specs.Prelude.{◌≡◌, List, IfOk, IfErr};
 ghost use Rattle.std.specs.List.{FoldsTo};
 ghost use Rattle.gix_hash.specs.Id.{id_of};
-ghost use Rattle.gix_object_editor.specs.declared.tree.editor.write_error.Error.TheVariants.{Memory};
+ghost use Rattle.gix_object_editor.specs.Nodes.{slots_of};
 ghost use Rattle.gix_object_editor.specs.Written.{HandedOut, HandsOut, WriteFault, IsWritten};
 
 mod below;
 mod entries;
+mod error;
 mod reached;
 
 use crate::tree::editor::Editor;
 use crate::tree::editor::write::below::write_below;
 use crate::tree::editor::write::entries::tree_of;
-use crate::tree::editor::write_error::Error;
+pub use crate::tree::editor::write::error::Error;
 use gix_hash::ObjectId;
 use gix_object_entries::Tree;
 use std::alloc::Global;
@@ -32,7 +33,7 @@ impl<S> Editor<S> {
     ) -> Result<ObjectId, Error<E>>
         requires { F.IsAlwaysCallable out.old }
         ensures written { IfOk result (λ root. (handed : List HandedOut) × FoldsTo (HandsOut F.FnMut) out.old handed out.new × IsWritten self.old handed (id_of root)) }
-        ensures refused { IfErr result (WriteFault F.FnMut out.old) }
+        ensures refused { IfErr result (λ error. WriteFault F.FnMut (slots_of self.old.nodes.items) out.old error out.new) }
         ensures unchanged { self.new ≡ self.old }
         ensures callable { F.IsAlwaysCallable out.new }
     {

@@ -8,9 +8,9 @@ ghost use Rattle.gix_object_editor.specs.Written.{HandedOut, HandsOut, WriteFaul
 ghost use Rattle.gix_object_editor.specs.Below.{IsHandedOutFrom, Answered};
 
 use crate::tree::editor::node::Node;
+use crate::tree::editor::write::Error;
 use crate::tree::editor::write::entries::tree_of;
 use crate::tree::editor::write::reached::reached;
-use crate::tree::editor::write_error::Error;
 use gix_hash::ObjectId;
 use gix_object_entries::Tree;
 use std::alloc::Global;
@@ -27,7 +27,7 @@ pub(crate) fn write_below<E, F: FnMut(&Tree) -> Result<ObjectId, E>>(
     ensures written { IfOk result (λ ids. (handed : List HandedOut) × FoldsTo (HandsOut F.FnMut) out.old handed out.new
         × IsHandedOutFrom (slots_of nodes.now) (length nodes.now) (ids_of ids.items) handed 1) }
     ensures len { IfOk result (λ ids. length ids.items ≡ length nodes.now) }
-    ensures refused { IfErr result (WriteFault F.FnMut out.old) }
+    ensures refused { IfErr result (λ error. WriteFault F.FnMut (slots_of nodes.now) out.old error out.new) }
     ensures callable { F.IsAlwaysCallable out.new }
 {
     let reached = reached(nodes, alloc)?;

@@ -1,4 +1,4 @@
-use Rattle.std.proofs.Common.{ℕ, suc, ◌≡◌, ◌∙◌, ◌<◌, ◌≤◌, ◌-◌, [], true, false, ap, sym, subst, refl, arith, length, get_or, map, slice_set, rules, List, Option}
+use Rattle.std.proofs.Common.{suc, ◌≡◌, ◌∙◌, ◌<◌, ◌-◌, [], true, false, ap, sym, subst, refl, arith, length, map, List, Option}
 use Rattle.std.proofs.lemmas.List.{length-set}
 use Rattle.std.proofs.lemmas.Result.{err_from_is_err_and}
 use Rattle.gix_hash.specs.declared.object_id.ObjectId.{ObjectId}
@@ -32,8 +32,37 @@ tree_of-requires g c = λ m k is.
 pub returns-in_err-ids-2-clause-refused : goal.returns-in_err-ids-2-clause-refused
 returns-in_err-ids-2-clause-refused g c =
     let p = err_from_is_err_and c.from_residual-in_err-ids-2.result c.from_residual-in_err-ids-2.ensures.1 in
+    let nodes = c.args.nodes.now in
+    let slots = slots_of nodes in
+    let oids = c.nodes.ids.items in
+    let i = c.nodes.at - 1 in
+    let next : c.nodes.at ≡ suc i = omega (arith, c.nodes.invariant.some) in
+    let within : i < length nodes = omega (arith, c.nodes.invariant.within, c.nodes.invariant.some) in
+    let marks = c.in_ok-reached.reached.items in
+    let long : i < length marks = omega (arith, c.in_ok-reached.ensures.len) in
+    let reached : IsReached slots i = (c.in_ok-reached.ensures.leads i).0 (is_set marks i c.index.result.now long c.index.ensures ∙ c.if-index.true) in
     let so = c.nodes.invariant.written in
-    rw (p.1, p.2) (fails_by g.F.FnMut c.args.out.now c.nodes.out c.hand_out.new.out so.0 c.in_ok-tree.tree c.in_err-ids-2.field-0.0 so.1 c.in_err-ids-2.ensures.answered)
+    let tree : IsTreeOf (ids_of oids) (slots i) (map own_item c.in_ok-tree.tree.entries.items) =
+    tree_at (ids_of oids) nodes i c.index-nodes-at.result (map own_item c.in_ok-tree.tree.entries.items) within c.index-nodes-at.is
+    (subst (λ (xs : List (Option ObjectId)). IsTreeOf (ids_of xs) (slot_in c.index-nodes-at.result) (map own_item c.in_ok-tree.tree.entries.items)) c.as_slice.ensures.value c.in_ok-tree.ensures) in
+    rw (p.1, p.2) (fails_by g.F.FnMut slots (length nodes) c.requires.forest oids i c.nodes.invariant.len within c.args.out.now c.nodes.out c.hand_out.new.out so.0 so.1
+    (subst (λ n. IsHandedOutFrom slots (length nodes) (ids_of oids) so.0 n) next so.2) reached c.in_ok-tree.tree tree c.in_err-ids-2.field-0.0 c.in_err-ids-2.ensures.answered)
+
+pub returns-in_err-reached-clause-refused : goal.returns-in_err-reached-clause-refused
+returns-in_err-reached-clause-refused g c =
+    let p = err_from_is_err_and c.from_residual.result c.from_residual.ensures.1 in
+    rw (p.1, p.2) ([], record { calls_made = refl; in_order = tt })
+
+pub returns-in_err-ids-clause-refused : goal.returns-in_err-ids-clause-refused
+returns-in_err-ids-clause-refused g c =
+    let p = err_from_is_err_and c.from_residual-in_err-ids.result c.from_residual-in_err-ids.ensures.1 in
+    rw (p.1, p.2) ([], record { calls_made = refl; in_order = tt })
+
+pub returns-in_err-tree-clause-refused : goal.returns-in_err-tree-clause-refused
+returns-in_err-tree-clause-refused g c =
+    let p = err_from_is_err_and c.from_residual-in_err-tree.result c.from_residual-in_err-tree.ensures.1 in
+    let so = c.nodes.invariant.written in
+    rw (p.1, p.2) (so.0, record { calls_made = so.1; in_order = so.2.in_order })
 
 pub nodes-preserved-then-index : goal.nodes-preserved-then-index
 nodes-preserved-then-index g c =

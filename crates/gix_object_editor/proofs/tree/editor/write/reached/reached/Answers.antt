@@ -1,4 +1,4 @@
-use Rattle.std.proofs.Common.{ℕ, ◌≡◌, ◌∙◌, ◌<◌, ◌≤◌, ◌+◌, ◌++◌, Bool, List, Vec, true, false, ap, sym, subst, refl, arith, length, get_or, take, rules, inl, inr}
+use Rattle.std.proofs.Common.{ℕ, ◌≡◌, ◌∙◌, ◌<◌, ◌+◌, Bool, List, Vec, true, false, ap, sym, subst, arith, length, get_or, rules, inl, inr}
 use Rattle.std.specs.declared.alloc.Global.{Global}
 use Rattle.std.proofs.lemmas.List.{length-set}
 use Rattle.gix_object_editor.specs.Nodes.{slots_of, slot_in, child_of}
