@@ -41,14 +41,14 @@ no_files : (trees : Trees) (rest : Path) → files_of_tree trees [] rest ≡ Non
 no_files trees [] = refl
 no_files trees (n ∷ rest) = refl
 
-module _ (slots : Slots) (bound : ℕ) (ok : IsForest slots bound) (ids : Ids) (handed : List HandedOut) (at : ℕ) (done : (j : ℕ) → at < j → j < bound → IsReached slots j → IsDone slots ids handed j)
+module _ (slots : Slots) (bound : ℕ) (ok : IsForest slots bound) (ids : Ids) (handed : List HandedOut) (base : Path) (at : ℕ) (done : (j : ℕ) → at < j → j < bound → IsReached slots base j → IsDone slots ids handed j)
     (trees : Trees) (has : (tree : HandedOut) → Contains handed tree → (trees tree.id ≡ Some tree.items) × (is_null tree.id ≡ false)) where
   below_it : (c : ℕ) → at < c → at ≤ c
   below_it c lt = omega arith
 
   -- a folder's files, from those of its tree
-  one_child : (rest : Path) → ((j : ℕ) (items : List Item) → at ≤ j → IsReached slots j → HasEntries ids (slots j) items → files_of_tree trees items rest ≡ files_of_node trees slots j rest)
-      → (name : Bytes) (c : ℕ) → at < c → c < bound → IsReached slots c → (o : Option Id) → ids c ≡ o
+  one_child : (rest : Path) → ((j : ℕ) (items : List Item) → at ≤ j → IsReached slots base j → HasEntries ids (slots j) items → files_of_tree trees items rest ≡ files_of_node trees slots j rest)
+      → (name : Bytes) (c : ℕ) → at < c → c < bound → IsReached slots base c → (o : Option Id) → ids c ≡ o
       → through (through o (λ id. unless_null (folder_item name id))) (λ item. files_of_entry trees rest (leaf_of item)) ≡ files_of_node trees slots c rest
   one_child rest later name c some within reached None e =
       let d = done c some within reached in
@@ -60,8 +60,8 @@ module _ (slots : Slots) (bound : ℕ) (ok : IsForest slots bound) (ids : Ids) (
       let stands = has (record { path = d.path; items = d.items; id = id }) found in
       folder_entry trees rest name id d.items stands.0 stands.1 ∙ later c d.items (below_it c some) reached d.entries
 
-  one_slot : (rest : Path) → ((j : ℕ) (items : List Item) → at ≤ j → IsReached slots j → HasEntries ids (slots j) items → files_of_tree trees items rest ≡ files_of_node trees slots j rest)
-      → (i : ℕ) (name : Bytes) → at ≤ i → IsReached slots i → (o : Option Slot) → slots i name ≡ o
+  one_slot : (rest : Path) → ((j : ℕ) (items : List Item) → at ≤ j → IsReached slots base j → HasEntries ids (slots j) items → files_of_tree trees items rest ≡ files_of_node trees slots j rest)
+      → (i : ℕ) (name : Bytes) → at ≤ i → IsReached slots base i → (o : Option Slot) → slots i name ≡ o
       → through (through o (written_item ids name)) (λ item. files_of_entry trees rest (leaf_of item)) ≡ through o (files_of_slot trees slots rest)
   one_slot rest later i name from reached None e = refl
   one_slot rest later i name from reached (Some s) e = by_child s.child refl ∙ split rest
@@ -81,9 +81,9 @@ module _ (slots : Slots) (bound : ℕ) (ok : IsForest slots bound) (ids : Ids) (
           let is : child_of (slots i name) ≡ Some c.0 = ap child_of e ∙ ap (λ o. child_or o (λ c. Some c) None) opened in
           let up : i < c.0 = ok.forward i name c.0 is in
           let some : at < c.0 = omega (arith, from) in
-          one_child rest later name c.0 some (ok.within i name c.0 is) (reached_child slots i c.0 name reached is) (ids c.0) refl
+          one_child rest later name c.0 some (ok.within i name c.0 is) (reached_child slots base i c.0 name reached is) (ids c.0) refl
 
-  pub tree_files : (q : Path) (j : ℕ) (items : List Item) → at ≤ j → IsReached slots j → HasEntries ids (slots j) items → files_of_tree trees items q ≡ files_of_node trees slots j q
+  pub tree_files : (q : Path) (j : ℕ) (items : List Item) → at ≤ j → IsReached slots base j → HasEntries ids (slots j) items → files_of_tree trees items q ≡ files_of_node trees slots j q
   tree_files [] j items from reached e = refl
   tree_files (n ∷ rest) j items from reached e =
       ap (λ o. through o (λ item. files_of_entry trees rest (leaf_of item))) (e n) ∙ one_slot rest (tree_files rest) j n from reached (slots j n) refl

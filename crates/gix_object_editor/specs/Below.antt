@@ -31,12 +31,12 @@ pub record IsDone (slots : Slots) (ids : Ids) (handed : List HandedOut) (j : ℕ
 abbrev pub IsOneFrom : Slots → ℕ → Ids → ℕ → HandedOut → Type 0
 IsOneFrom slots bound ids at tree = (j : ℕ) × (at ≤ j) × (j < bound) × LeadsTo slots tree.path j [] × HasEntries ids (slots j) tree.items
 
--- the opened trees from this number on are handed out
-pub record IsHandedOutFrom (slots : Slots) (bound : ℕ) (ids : Ids) (handed : List HandedOut) (at : ℕ) : Type 0 where
+-- the opened trees from this number on to which the tree at the end of these names leads are handed out
+pub record IsHandedOutFrom (slots : Slots) (base : Path) (bound : ℕ) (ids : Ids) (handed : List HandedOut) (at : ℕ) : Type 0 where
   pub in_order : EachBehind (IsHandedOut slots) [] handed
   pub some : All (λ tree. tree.items ≢ []) handed
   pub ones : All (IsOneFrom slots bound ids at) handed
-  pub done : (j : ℕ) → at ≤ j → j < bound → IsReached slots j → IsDone slots ids handed j
+  pub done : (j : ℕ) → at ≤ j → j < bound → IsReached slots base j → IsDone slots ids handed j
 
 module _ {F E : Type 0} (calls : Mut F (Bor Tree × Unit {0}) (Result ObjectId E)) where
   -- a tree is handed out, unless it has no entries

@@ -60,13 +60,13 @@ pub record IsHandedOut (slots : Slots) (before : List HandedOut) (tree : HandedO
   -- it has the files below its path
   pub files : (trees : Trees) → HasHandedOut before trees → (q : Path) → files_of_tree trees tree.items q ≡ files_of_node trees slots 0 (tree.path ++ q)
 
--- what is handed out of an editor for the id of its root
-pub record IsWritten {S : Type 0} (editor : Editor S) (handed : List HandedOut) (root : Id) : Type 0 where
+-- what is handed out of an editor for the id of the tree at a path
+pub record IsWritten {S : Type 0} (editor : Editor S) (path : Path) (handed : List HandedOut) (id : Id) : Type 0 where
   pub in_order : EachBehind (IsHandedOut (slots_of editor.nodes.items)) [] handed
-  -- the root comes last, and no other tree is empty
-  pub root_last : (below : List HandedOut) × (items : List Item) × (handed ≡ below ++ record { path = []; items = items; id = root } ∷ [])
+  -- this tree comes last, and no other is empty
+  pub last : (below : List HandedOut) × (items : List Item) × (handed ≡ below ++ record { path = path; items = items; id = id } ∷ [])
       × All (λ tree. tree.items ≢ []) below
-  pub files : (trees : Trees) → HasHandedOut handed trees → SameFiles (files_under trees root) (files_of trees editor)
+  pub files : (trees : Trees) → HasHandedOut handed trees → SameFiles (files_under trees id) (λ q. files_of trees editor (path ++ q))
 
 -- ---- calls
 
