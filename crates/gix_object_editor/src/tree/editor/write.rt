@@ -1,6 +1,6 @@
 //! Writing the trees of an editor.
 
-ghost use Rattle.std.specs.Prelude.{◌≡◌, ◌<◌, List, [], length, IfOk, IfErr};
+ghost use Rattle.std.specs.Prelude.{◌<◌, List, [], length, IfOk, IfErr};
 ghost use Rattle.std.specs.List.{FoldsTo};
 ghost use Rattle.gix_hash.specs.Id.{id_of};
 ghost use Rattle.gix_object_editor.specs.Files.{Path};
@@ -25,18 +25,17 @@ impl<S> Editor<S> {
     /// Hands out the trees that were opened, and answers the root's id.
     ///
     /// Each is handed out once, behind the trees that lie in it, and named by the id that `out` answered for it. The root comes
-    /// last. A folder whose tree has no entries is left out, and so is an entry with the null id. The editor stays as it is.
+    /// last. A folder whose tree has no entries is left out, and so is an entry with the null id.
     ///
     /// It is `Out` where `out` answers an error, and `Memory` where no memory is left.
     pub fn write<E, F: FnMut(&Tree) -> Result<ObjectId, E>>(
-        &mut self,
+        &self,
         alloc: Global,
         out: &mut F,
     ) -> Result<ObjectId, Error<E>>
         requires { F.IsAlwaysCallable out.old }
-        ensures written { IfOk result (λ root. (handed : List HandedOut) × FoldsTo (HandsOut F.FnMut) out.old handed out.new × IsWritten self.old [] handed (id_of root)) }
-        ensures refused { IfErr result (λ error. WriteFault F.FnMut (slots_of self.old.nodes.items) out.old error out.new) }
-        ensures unchanged { self.new ≡ self.old }
+        ensures written { IfOk result (λ root. (handed : List HandedOut) × FoldsTo (HandsOut F.FnMut) out.old handed out.new × IsWritten self.now [] handed (id_of root)) }
+        ensures refused { IfErr result (λ error. WriteFault F.FnMut (slots_of self.now.nodes.items) out.old error out.new) }
         ensures callable { F.IsAlwaysCallable out.new }
     {
         self.write_from(alloc, NodeId(0), out)
