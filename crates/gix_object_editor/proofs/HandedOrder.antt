@@ -1,31 +1,22 @@
 -- Trees that are handed out: those that lie in them come before them.
-use Rattle.std.proofs.Common.{ℕ, zero, suc, ◌≡◌, ◌≢◌, ◌<◌, ◌≤◌, ◌+◌, ◌⊎◌, Bool, true, false, List, [], ◌∷◌, ◌++◌, Option, Some, None, refl, sym, ap, subst, ◌∙◌, inl, inr, arith, length, get_or, map, append-nil, append_assoc}
-use Rattle.std.specs.Prelude.{bytes_eq}
-use Rattle.std.specs.List.{All, Contains, IsDistinct}
-use Rattle.std.proofs.lemmas.Bool.{cases_eq, cases_lt}
-use Rattle.std.proofs.lemmas.List.Elements.{All-push, All-weaker, Contains-append_left, Contains-push, Contains-get_or}
+use Rattle.std.proofs.Common.{ℕ, ◌≡◌, ◌<◌, ◌≤◌, false, List, [], ◌∷◌, ◌++◌, Option, Some, None, refl, sym, ap, subst, ◌∙◌, inl, inr, arith, get_or, append-nil, append_assoc}
+use Rattle.std.specs.List.{All, Contains}
+use Rattle.std.proofs.lemmas.List.Elements.{Contains-get_or}
 use Rattle.gix_hash.specs.Id.{Id}
 use Rattle.gix_object_entries.specs.Entry.{Item}
 use Rattle.gix_object_editor.specs.declared.tree.editor.node.NodeId.{NodeId}
 use Rattle.gix_object_editor.specs.declared.tree.editor.node.Slot.{Slot}
 use Rattle.gix_object_editor.specs.Files.{Bytes, Path, is_null, leaf_of, through, behind, named}
-use Rattle.gix_object_editor.specs.Nodes.{Slots, child_or, child_of, leaf_in, Way, onto, LeadsTo, IsForest}
-use Rattle.gix_object_editor.specs.Writing.{Ids, IsReached, unless_null, folder_item, slot_item, written_item, HasEntries, IsTreeOf}
-use Rattle.gix_object_editor.specs.Written.{HandedOut, EachBehind, IsKnown, IsHandedOut}
-use Rattle.gix_object_editor.specs.Below.{IsAnswered, IsDone, IsOneFrom, IsHandedOutFrom}
+use Rattle.gix_object_editor.specs.Nodes.{Slots, child_or, child_of, Way, onto, LeadsTo, IsForest}
+use Rattle.gix_object_editor.specs.Writing.{Ids, IsReached, unless_null, folder_item, slot_item, written_item, HasEntries}
+use Rattle.gix_object_editor.specs.Written.{HandedOut, EachBehind, IsKnown}
+use Rattle.gix_object_editor.specs.Below.{IsAnswered, IsDone}
 use Rattle.gix_object_editor.proofs.Paths.{behind_is, onto-onto, onto-append}
+use Rattle.gix_object_editor.proofs.ReachedTrees.{way_end}
 use Rattle.gix_object_editor.proofs.Ways.{unique}
-use Rattle.gix_object_editor.proofs.ReachedTrees.{reached_child}
-use Rattle.gix_object_editor.proofs.WrittenEntries.{unless_is, written_is, named_found, contained_named}
+use Rattle.gix_object_editor.proofs.WrittenEntries.{unless_is, written_is}
 
 -- ---- ways that begin one another
-
-way_end : (slots : Slots) (way : Path) (i j : ℕ) → Way slots way i → Way slots way j → i ≡ j
-way_end slots [] i j w v = sym w ∙ v
-way_end slots (n ∷ way) i j w v =
-    let up : w.0 ≡ v.0 = way_end slots way w.0 v.0 w.1 v.1 in
-    let both : Some i ≡ Some j = sym w.2 ∙ ap (λ k. child_of (slots k n)) up ∙ v.2 in
-    cc
 
 way_back : (slots : Slots) (bound : ℕ) → IsForest slots bound → (t way : Path) (j : ℕ) → Way slots (onto t way) j → (i : ℕ) × Way slots way i × (i ≤ j)
 way_back slots bound ok [] way j w = let le : j ≤ j = omega arith in (j, w, le)
@@ -84,19 +75,20 @@ module _ (slots : Slots) (bound : ℕ) (ok : IsForest slots bound) where
 
   -- ---- entries are known
 
-  module _ (ids : Ids) (handed : List HandedOut) (i : ℕ) (done : (j : ℕ) → i < j → j < bound → IsReached slots j → IsDone slots ids handed j)
-      (way path : Path) (w : Way slots way i) (leads : onto way [] ≡ path) where
+  module _ (ids : Ids) (handed : List HandedOut) (i : ℕ) (base : Path)
+      (done : (j : ℕ) → i < j → j < bound → IsReached slots base j → IsDone slots ids handed j)
+      (way path : Path) (w : Way slots (way ++ base) i) (leads : onto (way ++ base) [] ≡ path) where
     child_known : (c : ℕ) (item : Item) → child_of (slots i item.name) ≡ Some c → (o : Option Id) → ids c ≡ o → through o (λ id. unless_null (folder_item item.name id)) ≡ Some item → IsKnown slots handed path item
     child_known c item is None at e = absurd (cc e)
     child_known c item is (Some id) at e =
         let up : i < c = ok.forward i item.name c is in
         let within : c < bound = ok.within i item.name c is in
-        let to : Way slots (item.name ∷ way) c = (i, w, is) in
+        let to : Way slots (item.name ∷ (way ++ base)) c = (i, w, is) in
         let d = done c up within (item.name ∷ way, to) in
         let found : Contains handed (record { path = d.path; items = d.items; id = id }) = subst (λ x. IsAnswered x handed d.path d.items) at d.answered in
-        let same : d.leads.0 ≡ item.name ∷ way = unique slots bound ok d.leads.0 (item.name ∷ way) c d.leads.1 to in
+        let same : d.leads.0 ≡ item.name ∷ (way ++ base) = unique slots bound ok d.leads.0 (item.name ∷ (way ++ base)) c d.leads.1 to in
         let below : d.path ≡ path ++ item.name ∷ [] =
-        sym d.leads.2 ∙ ap (λ p. onto p []) same ∙ onto-append way [] (item.name ∷ []) ∙ ap (λ p. p ++ item.name ∷ []) leads in
+        sym d.leads.2 ∙ ap (λ p. onto p []) same ∙ onto-append (way ++ base) [] (item.name ∷ []) ∙ ap (λ p. p ++ item.name ∷ []) leads in
         let named_so = unless_is (folder_item item.name id) item e in
         inl (record { path = d.path; items = d.items; id = id }, found, below, ap (λ (x : Item). x.id) (sym named_so.0))
 
@@ -107,7 +99,7 @@ module _ (slots : Slots) (bound : ℕ) (ok : IsForest slots bound) where
         by_child : (child : Option NodeId) → s.child ≡ child → child_or child (λ c. through (ids c) (λ id. unless_null (folder_item item.name id))) (unless_null (slot_item item.name s)) ≡ Some item → IsKnown slots handed path item
         by_child None closed e =
             let is = unless_is (slot_item item.name s) item e in
-            let to : LeadsTo slots path i [] = (way, w, leads) in
+            let to : LeadsTo slots path i [] = (way ++ base, w, leads) in
             inr (i, s, to, at, closed, ap leaf_of (sym is.0))
         by_child (Some c) opened e =
             let is : child_of (slots i item.name) ≡ Some c.0 = ap child_of at ∙ ap (λ o. child_or o (λ c. Some c) None) opened in

@@ -1,32 +1,31 @@
 -- Handing out one tree more, and the root.
-use Rattle.std.proofs.Common.{ℕ, zero, suc, ◌≡◌, ◌≢◌, ◌<◌, ◌≤◌, ◌+◌, ◌⊎◌, Bool, true, false, List, [], ◌∷◌, ◌++◌, Option, Some, None, refl, sym, ap, subst, ◌∙◌, inl, inr, arith, length, get_or, map, slice_set}
-use Rattle.std.specs.List.{All, Contains, AllPairs, IsDistinct}
+use Rattle.std.proofs.Common.{ℕ, zero, suc, ◌≡◌, ◌≢◌, ◌<◌, ◌≤◌, false, List, [], ◌∷◌, ◌++◌, Option, Some, None, refl, sym, ap, subst, ◌∙◌, inl, inr, arith, length, get_or, map, slice_set, add-one, ◌+◌}
+use Rattle.std.specs.List.{All, Contains}
 use Rattle.std.specs.Prelude.{Result, Ok, Err}
 use Rattle.std.specs.Borrow.{Bor}
-use Rattle.std.specs.Fn.{Mut, CalledAt}
+use Rattle.std.specs.Fn.{Mut}
 use Rattle.std.specs.List.{FoldsTo}
-use Rattle.std.proofs.lemmas.Bool.{cases_eq, cases_lt}
+use Rattle.std.proofs.lemmas.Bool.{cases_eq}
 use Rattle.std.proofs.lemmas.Fn.{FoldsTo-push}
-use Rattle.std.proofs.lemmas.List.Elements.{All-push, All-weaker, All-contains, Contains-append_left, Contains-push}
+use Rattle.std.proofs.lemmas.List.Elements.{All-push, All-weaker, All-contains, Contains-append_left, Contains-push, Contains-get_or}
 use Rattle.gix_hash.specs.Id.{Id, id_of}
 use Rattle.gix_hash.specs.declared.object_id.ObjectId.{ObjectId}
 use Rattle.gix_object_entries.specs.Entry.{Item, own_item}
 use Rattle.gix_object_entries.specs.declared.tree.entry.Entry.{Entry}
 use Rattle.gix_object_entries.specs.declared.tree.owned.Tree.{Tree}
-use Rattle.gix_object_entries.specs.WellFormed.{HasNamesOnce}
 use Rattle.gix_object_editor.specs.declared.tree.editor.node.Node.{Node}
-use Rattle.gix_object_editor.specs.declared.tree.editor.write_error.Error.{Error}
-use Rattle.gix_object_editor.specs.declared.tree.editor.write_error.Error.TheVariants.{Out, Memory}
+use Rattle.gix_object_editor.specs.declared.tree.editor.write.error.Error.{Error}
+use Rattle.gix_object_editor.specs.declared.tree.editor.write.error.Error.TheVariants.{Out, Memory}
 use Rattle.gix_object_editor.specs.declared.tree.editor.state.Editor.{Editor}
-use Rattle.gix_object_editor.specs.Files.{Bytes, Path, Trees, is_null, through, behind, named, files_of_tree}
+use Rattle.gix_object_editor.specs.Files.{Path, Trees, is_null, through, behind, files_of_tree}
 use Rattle.gix_object_editor.specs.Nodes.{Slots, slot_in, slots_of, Way, onto, LeadsTo, IsForest, files_of_node}
 use Rattle.gix_object_editor.specs.Writing.{Ids, ids_of, IsReached, written_item, HasEntries, IsTreeOf}
-use Rattle.gix_object_editor.specs.Written.{HandedOut, HasHandedOut, HandsOut, WriteFault, EachBehind, IsHandedOut, IsWritten, files_under}
+use Rattle.gix_object_editor.specs.Written.{HandedOut, HasHandedOut, HandsOut, WriteFault, EachBehind, StandsUnopened, IsKnown, IsHandedOut, IsWritten}
 use Rattle.gix_object_editor.specs.Below.{IsAnswered, IsDone, IsOneFrom, IsHandedOutFrom, Answered}
 use Rattle.gix_object_editor.proofs.HandedOrder.{not_above, each_more, entries_kept, all_known, none_null}
 use Rattle.gix_object_editor.proofs.Slots.{node_at}
 use Rattle.gix_object_editor.proofs.WrittenFiles.{tree_files, files_below}
-use Rattle.gix_object_editor.proofs.WrittenEntries.{contained_named, once_named}
+use Rattle.gix_object_editor.proofs.WrittenEntries.{once_named}
 
 -- ---- ids at their numbers
 
@@ -44,21 +43,46 @@ id_other (x ∷ oids) (suc i) (suc k) o ne = id_other oids i k o (λ e. ne (ap s
 
 -- ---- one more
 
-module _ (slots : Slots) (bound : ℕ) (ok : IsForest slots bound) (ids : Ids) (handed : List HandedOut) (i : ℕ) where
-  -- a tree that is handed out behind those of greater numbers
-  pub is_next : IsHandedOutFrom slots bound ids handed (suc i) → (way path : Path) (items : List Item) (id : Id) → Way slots way i → onto way [] ≡ path → IsTreeOf ids (slots i) items
-      → IsHandedOut slots handed (record { path = path; items = items; id = id })
-  is_next so way path items id w leads tree =
-      let done : (j : ℕ) → i < j → j < bound → IsReached slots j → IsDone slots ids handed j = λ j up. let le : suc i ≤ j = omega arith in so.done j le in
-      let to : LeadsTo slots path i [] = (way, w, leads) in
-      record {
-        opened = (i, to);
-        once = All-weaker (IsOneFrom slots bound ids (suc i)) (λ earlier. behind earlier.path path ≡ None)
-            (λ earlier one. let up : i < one.0 = omega (arith, one.1) in not_above slots bound ok earlier.path path one.0 i one.3 to up) handed so.ones;
-        known = all_known slots bound ok ids handed i done way path w leads items tree.entries (once_named items tree.once);
-        no_null = none_null slots bound ok ids handed i done way path w leads items tree.entries (once_named items tree.once);
-        well_formed = tree.well_formed;
-      }
+module _ (slots : Slots) (base : Path) (bound : ℕ) (ok : IsForest slots bound) (ids : Ids) (handed : List HandedOut) (i : ℕ) where
+  module _ (so : IsHandedOutFrom slots base bound ids handed (suc i)) (way path : Path) (items : List Item) (w : Way slots (way ++ base) i) (leads : onto (way ++ base) [] ≡ path) (tree : IsTreeOf ids (slots i) items) where
+    done : (j : ℕ) → i < j → j < bound → IsReached slots base j → IsDone slots ids handed j
+    done j up = let le : suc i ≤ j = omega arith in so.done j le
+
+    known : All (IsKnown slots handed path) items
+    known = all_known slots bound ok ids handed i base done way path w leads items tree.entries (once_named items tree.once)
+
+    module _ (trees : Trees) (has : HasHandedOut handed trees) where
+      stands : (x : HandedOut) → Contains handed x → (trees x.id ≡ Some x.items) × (is_null x.id ≡ false)
+      stands x h = All-contains (λ (t : HandedOut). (trees t.id ≡ Some t.items) × (is_null t.id ≡ false)) handed x has h
+
+      filled : (item : Item) → IsKnown slots handed path item → trees item.id ≡ Some [] → StandsUnopened slots path item
+      filled item (inl child) none =
+          let is = stands child.0 child.1 in
+          let both : Some child.0.items ≡ Some [] = sym is.0 ∙ ap trees child.3 ∙ none in
+          let empty : child.0.items ≡ [] = cc in
+          absurd (All-contains (λ (t : HandedOut). t.items ≢ []) handed child.0 so.some child.1 empty)
+      filled item (inr stood) none = stood
+
+      files : (q : Path) → files_of_tree trees items q ≡ files_of_node trees slots 0 (path ++ q)
+      files q =
+          let le : i ≤ i = omega arith in
+          let to : LeadsTo slots path i [] = (way ++ base, w, leads) in
+          tree_files slots bound ok ids handed base i done trees stands q i items le (way, w) tree.entries ∙ files_below trees slots path i q to
+
+    -- a tree that is handed out behind those of greater numbers
+    pub is_next : (id : Id) → IsHandedOut slots handed (record { path = path; items = items; id = id })
+    is_next id =
+        let to : LeadsTo slots path i [] = (way ++ base, w, leads) in
+        record {
+          opened = (i, to);
+          once = All-weaker (IsOneFrom slots bound ids (suc i)) (λ earlier. behind earlier.path path ≡ None)
+              (λ earlier one. let up : i < one.0 = omega (arith, one.1) in not_above slots bound ok earlier.path path one.0 i one.3 to up) handed so.ones;
+          known = known;
+          no_null = none_null slots bound ok ids handed i base done way path w leads items tree.entries (once_named items tree.once);
+          no_empty = λ trees has. All-weaker (IsKnown slots handed path) (λ (item : Item). trees item.id ≡ Some [] → StandsUnopened slots path item) (filled trees has) items known;
+          well_formed = tree.well_formed;
+          files = files;
+        }
 
   module _ (now : Ids) (same : (k : ℕ) → i ≢ k → now k ≡ ids k) where
     later : (k : ℕ) → i < k → now k ≡ ids k
@@ -83,17 +107,17 @@ module _ (slots : Slots) (bound : ℕ) (ok : IsForest slots bound) (ids : Ids) (
           answered = answered_kept more (ids j) (now j) d.path d.items (later j up) in_more d.answered;
         }
 
-    done_from : (more : List HandedOut) → ((x : HandedOut) → Contains handed x → Contains more x) → IsHandedOutFrom slots bound ids handed (suc i) → (IsReached slots i → IsDone slots now more i)
-        → (j : ℕ) → i ≤ j → j < bound → IsReached slots j → IsDone slots now more j
+    done_from : (more : List HandedOut) → ((x : HandedOut) → Contains handed x → Contains more x) → IsHandedOutFrom slots base bound ids handed (suc i) → (IsReached slots base i → IsDone slots now more i)
+        → (j : ℕ) → i ≤ j → j < bound → IsReached slots base j → IsDone slots now more j
     done_from more in_more so here j le within reached = elim (cases_eq i j) [
-      | inl e ↦ subst (λ k. IsDone slots now more k) e (here (subst (λ k. IsReached slots k) (sym e) reached))
+      | inl e ↦ subst (λ k. IsDone slots now more k) e (here (subst (λ k. IsReached slots base k) (sym e) reached))
       | inr ne ↦
           let up : i < j = omega (arith, ne) in
           done_kept more j up in_more (so.done j up within reached)
     ]
 
     -- a tree that isn't reached
-    pub skipped : IsHandedOutFrom slots bound ids handed (suc i) → (IsReached slots i → ⊥) → IsHandedOutFrom slots bound now handed i
+    pub skipped : IsHandedOutFrom slots base bound ids handed (suc i) → (IsReached slots base i → ⊥) → IsHandedOutFrom slots base bound now handed i
     skipped so off = record {
       in_order = so.in_order;
       some = so.some;
@@ -102,7 +126,7 @@ module _ (slots : Slots) (bound : ℕ) (ok : IsForest slots bound) (ids : Ids) (
     }
 
     -- a tree without entries
-    pub left_out : IsHandedOutFrom slots bound ids handed (suc i) → IsReached slots i → (items : List Item) → HasEntries ids (slots i) items → items ≡ [] → now i ≡ None → IsHandedOutFrom slots bound now handed i
+    pub left_out : IsHandedOutFrom slots base bound ids handed (suc i) → IsReached slots base i → (items : List Item) → HasEntries ids (slots i) items → items ≡ [] → now i ≡ None → IsHandedOutFrom slots base bound now handed i
     left_out so reached items e empty none =
         let le : i ≤ i = omega arith in
         record {
@@ -110,25 +134,25 @@ module _ (slots : Slots) (bound : ℕ) (ok : IsForest slots bound) (ids : Ids) (
           some = so.some;
           ones = ones_kept handed so.ones;
           done = done_from handed (λ x h. h) so (λ _. record {
-            path = onto reached.0 [];
+            path = onto (reached.0 ++ base) [];
             items = items;
-            leads = (reached.0, reached.1, refl);
+            leads = (reached.0 ++ base, reached.1, refl);
             entries = entries_kept slots bound ok ids now i i items later le e;
-            answered = subst (λ o. IsAnswered o handed (onto reached.0 []) items) (sym none) empty;
+            answered = subst (λ o. IsAnswered o handed (onto (reached.0 ++ base) []) items) (sym none) empty;
           });
         }
 
     -- a tree with entries
-    pub handed_more : IsHandedOutFrom slots bound ids handed (suc i) → (reached : IsReached slots i) → i < bound → (items : List Item) → IsTreeOf ids (slots i) items → items ≢ [] → (id : Id) → now i ≡ Some id
-        → IsHandedOutFrom slots bound now (handed ++ record { path = onto reached.0 []; items = items; id = id } ∷ []) i
+    pub handed_more : IsHandedOutFrom slots base bound ids handed (suc i) → (reached : IsReached slots base i) → i < bound → (items : List Item) → IsTreeOf ids (slots i) items → items ≢ [] → (id : Id) → now i ≡ Some id
+        → IsHandedOutFrom slots base bound now (handed ++ record { path = onto (reached.0 ++ base) []; items = items; id = id } ∷ []) i
     handed_more so reached within items tree some id is =
-        let path = onto reached.0 [] in
+        let path = onto (reached.0 ++ base) [] in
         let one : HandedOut = record { path = path; items = items; id = id } in
         let le : i ≤ i = omega arith in
-        let to : LeadsTo slots path i [] = (reached.0, reached.1, refl) in
+        let to : LeadsTo slots path i [] = (reached.0 ++ base, reached.1, refl) in
         let entries = entries_kept slots bound ok ids now i i items later le tree.entries in
         record {
-          in_order = each_more (IsHandedOut slots) [] handed one so.in_order (is_next so reached.0 path items id reached.1 refl tree);
+          in_order = each_more (IsHandedOut slots) [] handed one so.in_order (is_next so reached.0 path items reached.1 refl tree id);
           some = All-push (λ (t : HandedOut). t.items ≢ []) handed one so.some some;
           ones = All-push (IsOneFrom slots bound now i) handed one (ones_kept handed so.ones) (i, le, within, to, entries);
           done = done_from (handed ++ one ∷ []) (λ x h. Contains-append_left handed (one ∷ []) x h) so (λ _. record {
@@ -150,27 +174,37 @@ tree_at ids nodes i d items lt is tree = record {
 }
 
 module _ {F E : Type 0} (calls : Mut F (Bor Tree × Unit {0}) (Result ObjectId E)) where
-  pub fails_by : (out before after : F) (handed : List HandedOut) (tree : Tree) (error : Error E) → FoldsTo (HandsOut calls) out handed before → Answered calls before tree (Err error) after → WriteFault calls out error
-  fails_by out before after handed tree (Out error) folds fails = (handed, tree, before, after, folds, fails)
-  fails_by out before after handed tree Memory folds fails = tt
+  module _ (slots : Slots) (base : Path) (bound : ℕ) (ok : IsForest slots bound) (oids : List (Option ObjectId)) (i : ℕ) (long : length oids ≡ bound) (within : i < bound) (out before after : F) where
+    pub fails_by : (handed : List HandedOut) → FoldsTo (HandsOut calls) out handed before → IsHandedOutFrom slots base bound (ids_of oids) handed (suc i) → IsReached slots base i
+        → (tree : Tree) → IsTreeOf (ids_of oids) (slots i) (map own_item tree.entries.items) → (error : Error E) → Answered calls before tree (Err error) after → WriteFault calls slots out error after
+    fails_by handed folds so reached tree is (Out error) fails = (
+      handed,
+      before,
+      record { calls_made = folds; in_order = so.in_order },
+      record {
+        shown = tree;
+        called = fails;
+        next = (onto (reached.0 ++ base) [], is_next slots base bound ok (ids_of oids) handed i so reached.0 (onto (reached.0 ++ base) []) (map own_item tree.entries.items) reached.1 refl is);
+      },
+    )
+    fails_by handed folds so reached tree is Memory fails = absurd fails
 
-  module _ (slots : Slots) (bound : ℕ) (ok : IsForest slots bound) (oids : List (Option ObjectId)) (i : ℕ) (long : length oids ≡ bound) (within : i < bound) (out before after : F) where
-    pub step : (handed : List HandedOut) → FoldsTo (HandsOut calls) out handed before → IsHandedOutFrom slots bound (ids_of oids) handed (suc i) → IsReached slots i
+    pub step : (handed : List HandedOut) → FoldsTo (HandsOut calls) out handed before → IsHandedOutFrom slots base bound (ids_of oids) handed (suc i) → IsReached slots base i
         → (tree : Tree) → IsTreeOf (ids_of oids) (slots i) (map own_item tree.entries.items) → (o : Option ObjectId) → Answered calls before tree (Ok o) after
-        → (more : List HandedOut) × FoldsTo (HandsOut calls) out more after × IsHandedOutFrom slots bound (ids_of (slice_set oids i o)) more i
+        → (more : List HandedOut) × FoldsTo (HandsOut calls) out more after × IsHandedOutFrom slots base bound (ids_of (slice_set oids i o)) more i
     step handed folds so reached tree is None answered =
         let lt : i < length oids = omega arith in (
           handed,
           subst (λ s. FoldsTo (HandsOut calls) out handed s) answered.1 folds,
-          left_out slots bound ok (ids_of oids) handed i (ids_of (slice_set oids i None)) (λ k ne. id_other oids i k None ne) so reached
+          left_out slots base bound ok (ids_of oids) handed i (ids_of (slice_set oids i None)) (λ k ne. id_other oids i k None ne) so reached
               (map own_item tree.entries.items) is.entries (ap (map own_item) answered.0) (id_here oids i None lt),
         )
     step handed folds so reached tree is (Some oid) answered =
         let lt : i < length oids = omega arith in
-        let one : HandedOut = record { path = onto reached.0 []; items = map own_item tree.entries.items; id = id_of oid } in (
+        let one : HandedOut = record { path = onto (reached.0 ++ base) []; items = map own_item tree.entries.items; id = id_of oid } in (
           handed ++ one ∷ [],
           FoldsTo-push (HandsOut calls) out handed before one after folds (tree, oid, answered.1, refl, refl),
-          handed_more slots bound ok (ids_of oids) handed i (ids_of (slice_set oids i (Some oid))) (λ k ne. id_other oids i k (Some oid) ne) so reached within
+          handed_more slots base bound ok (ids_of oids) handed i (ids_of (slice_set oids i (Some oid))) (λ k ne. id_other oids i k (Some oid) ne) so reached within
               (map own_item tree.entries.items) is (some_entries tree.entries.items answered.0) (id_of oid) (id_here oids i (Some oid) lt),
         )
       where
@@ -179,50 +213,44 @@ module _ {F E : Type 0} (calls : Mut F (Bor Tree × Unit {0}) (Result ObjectId E
         some_entries (x ∷ es) some e = absurd (cc e)
 
 -- before any is handed out
-pub none_yet : (slots : Slots) (bound : ℕ) (ids : Ids) → IsHandedOutFrom slots bound ids [] bound
-none_yet slots bound ids = record {
+pub none_yet : (slots : Slots) (base : Path) (bound : ℕ) (ids : Ids) → IsHandedOutFrom slots base bound ids [] bound
+none_yet slots base bound ids = record {
   in_order = tt;
   some = λ k d lt. absurd (omega arith);
   ones = λ k d lt. absurd (omega arith);
   done = λ j le lt. absurd (omega arith);
 }
 
--- ---- the root
+-- ---- the last tree
 
-module _ (slots : Slots) (bound : ℕ) (ok : IsForest slots bound) (ids : Ids) (handed : List HandedOut) (so : IsHandedOutFrom slots bound ids handed 1) (items : List Item) (tree : IsTreeOf ids (slots 0) items) (id : Id) where
-  abbrev root_one : HandedOut
-  root_one = record { path = []; items = items; id = id }
+module _ (slots : Slots) (base : Path) (bound : ℕ) (ok : IsForest slots bound) (from : ℕ) (w : Way slots base from) (ids : Ids) (handed : List HandedOut) (so : IsHandedOutFrom slots base bound ids handed (from + 1))
+    (items : List Item) (tree : IsTreeOf ids (slots from) items) where
+  pub last_next : (id : Id) → IsHandedOut slots handed (record { path = onto base []; items = items; id = id })
+  last_next = is_next slots base bound ok ids handed from (subst (λ n. IsHandedOutFrom slots base bound ids handed n) (add-one from) so) [] (onto base []) items w refl tree
 
-  pub root_behind : EachBehind (IsHandedOut slots) [] (handed ++ root_one ∷ [])
-  root_behind = each_more (IsHandedOut slots) [] handed root_one so.in_order (is_next slots bound ok ids handed 0 so [] [] items id refl refl tree)
+  module _ (id : Id) where
+    abbrev last_one : HandedOut
+    last_one = record { path = onto base []; items = items; id = id }
 
-  module _ (trees : Trees) (has : HasHandedOut (handed ++ root_one ∷ []) trees) where
-    stands : (x : HandedOut) → Contains (handed ++ root_one ∷ []) x → (trees x.id ≡ Some x.items) × (is_null x.id ≡ false)
-    stands x h = All-contains (λ (t : HandedOut). (trees t.id ≡ Some t.items) × (is_null t.id ≡ false)) (handed ++ root_one ∷ []) x has h
+    pub last_behind : EachBehind (IsHandedOut slots) [] (handed ++ last_one ∷ [])
+    last_behind = each_more (IsHandedOut slots) [] handed last_one so.in_order (last_next id)
 
-    of_tree : (q : Path) (j : ℕ) (xs : List Item) → IsReached slots j → HasEntries ids (slots j) xs → files_of_tree trees xs q ≡ files_of_node trees slots j q
-    of_tree = tree_files slots bound ok ids handed (λ j up. so.done j up) trees (λ x h. stands x (Contains-append_left handed (root_one ∷ []) x h))
+    pub last_files : (trees : Trees) → HasHandedOut (handed ++ last_one ∷ []) trees → (q : Path) → through (trees id) (λ xs. files_of_tree trees xs q) ≡ files_of_node trees slots 0 (onto base [] ++ q)
+    last_files trees has q =
+        let last = All-contains (λ (t : HandedOut). (trees t.id ≡ Some t.items) × (is_null t.id ≡ false)) (handed ++ last_one ∷ []) last_one has (Contains-push handed last_one) in
+        ap (λ o. through o (λ xs. files_of_tree trees xs q)) last.0 ∙ (last_next id).files trees (All-front (λ (t : HandedOut). (trees t.id ≡ Some t.items) × (is_null t.id ≡ false)) handed (last_one ∷ []) has) q
+      where
+        All-front : (P : HandedOut → Type 0) (xs ys : List HandedOut) → All P (xs ++ ys) → All P xs
+        All-front P xs ys all k d lt = All-contains P (xs ++ ys) (get_or xs k d) all (Contains-append_left xs ys (get_or xs k d) (Contains-get_or xs k d lt))
 
-    pub root_tree : (q : Path) → files_of_tree trees items q ≡ files_of_node trees slots 0 q
-    root_tree q = of_tree q 0 items ([], refl) tree.entries
-
-    pub each_tree : All (λ t. (q : Path) → files_of_tree trees t.items q ≡ files_of_node trees slots 0 (t.path ++ q)) (handed ++ root_one ∷ [])
-    each_tree = All-push (λ (t : HandedOut). (q : Path) → files_of_tree trees t.items q ≡ files_of_node trees slots 0 (t.path ++ q)) handed root_one
-        (All-weaker (IsOneFrom slots bound ids 1) (λ t. (q : Path) → files_of_tree trees t.items q ≡ files_of_node trees slots 0 (t.path ++ q))
-        (λ t one q. of_tree q one.0 t.items (one.3.0, one.3.1) one.4 ∙ files_below trees slots t.path one.0 q one.3) handed so.ones)
-        root_tree
-
-    pub root_under : (q : Path) → through (trees id) (λ xs. files_of_tree trees xs q) ≡ files_of_node trees slots 0 q
-    root_under q = ap (λ o. through o (λ xs. files_of_tree trees xs q)) (stands root_one (Contains-push handed root_one)).0 ∙ root_tree q
-
-pub written : {S : Type 0} (editor : Editor S) (ids : Ids) (handed : List HandedOut) → IsHandedOutFrom (slots_of editor.nodes.items) (length editor.nodes.items) ids handed 1
-    → (items : List Item) → IsTreeOf ids (slots_of editor.nodes.items 0) items → (id : Id) → IsWritten editor (handed ++ record { path = []; items = items; id = id } ∷ []) id
-written editor ids handed so items tree id =
+pub written : {S : Type 0} (editor : Editor S) (base : Path) (from : ℕ) → Way (slots_of editor.nodes.items) base from → (ids : Ids) (handed : List HandedOut)
+    → IsHandedOutFrom (slots_of editor.nodes.items) base (length editor.nodes.items) ids handed (from + 1)
+    → (items : List Item) → IsTreeOf ids (slots_of editor.nodes.items from) items → (id : Id) → IsWritten editor (onto base []) (handed ++ record { path = onto base []; items = items; id = id } ∷ []) id
+written editor base from w ids handed so items tree id =
     let slots = slots_of editor.nodes.items in
     let bound = length editor.nodes.items in
     record {
-      in_order = root_behind slots bound editor.forest ids handed so items tree id;
-      root_last = (handed, items, refl, so.some);
-      files = λ trees has. each_tree slots bound editor.forest ids handed so items tree id trees has;
-      root_files = λ trees has q. root_under slots bound editor.forest ids handed so items tree id trees has q;
+      in_order = last_behind slots base bound editor.forest from w ids handed so items tree id;
+      last = (handed, items, refl, so.some);
+      files = λ trees has q. last_files slots base bound editor.forest from w ids handed so items tree id trees has q;
     }

@@ -1,10 +1,10 @@
 -- Marks on the opened trees that the root leads down to.
-use Rattle.std.proofs.Common.{ℕ, zero, suc, ◌≡◌, ◌≢◌, ◌<◌, ◌≤◌, ◌+◌, ◌⊎◌, Bool, true, false, cond, List, [], ◌∷◌, Option, Some, None, refl, sym, ap, subst, ◌∙◌, inl, inr, arith, length, get_or, slice_set, ◌==◌, ◌||◌, eqb-true, eq-eqb, ne_eqb, replicate, take, ◌++◌}
+use Rattle.std.proofs.Common.{ℕ, zero, suc, ◌≡◌, ◌<◌, ◌≤◌, ◌+◌, ◌⊎◌, Bool, true, false, cond, List, [], ◌∷◌, Option, Some, None, refl, sym, ap, ◌∙◌, inl, inr, arith, length, get_or, slice_set, ◌==◌, ◌||◌, eqb-true, eq-eqb, ne_eqb, replicate, take, ◌++◌, subst}
 use Rattle.std.specs.List.{AllByRecursion, IsDistinct}
 use Rattle.std.specs.Map.{lookup, keys_of, values_of}
 use Rattle.std.specs.Ordering.{eq_by_cmp}
 use Rattle.std.proofs.lemmas.Bool.{cases_eq, cases_lt}
-use Rattle.std.proofs.lemmas.List.{get_or-set_same, get_or-set_other, get_or-replicate}
+use Rattle.std.proofs.lemmas.List.{get_or-set_same, get_or-set_other}
 use Rattle.std.proofs.Math.Seq.{take-append_seam}
 use Rattle.std.proofs.lemmas.Map.Keys.{IsDistinct-head, IsDistinct-tail}
 use Rattle.gix_object_editor.specs.declared.tree.editor.node.NodeId.{NodeId}
@@ -133,13 +133,20 @@ still_marked false new more e is = absurd (cc is)
 
 -- ---- the trees that are reached
 
-pub reached_child : (slots : Slots) (p c : ℕ) (m : Bytes) → IsReached slots p → child_of (slots p m) ≡ Some c → IsReached slots c
-reached_child slots p c m r e = (m ∷ r.0, (p, r.1, e))
+pub way_end : (slots : Slots) (way : Path) (i j : ℕ) → Way slots way i → Way slots way j → i ≡ j
+way_end slots [] i j w v = sym w ∙ v
+way_end slots (n ∷ way) i j w v =
+    let up : w.0 ≡ v.0 = way_end slots way w.0 v.0 w.1 v.1 in
+    let both : Some i ≡ Some j = sym w.2 ∙ ap (λ k. child_of (slots k n)) up ∙ v.2 in
+    cc
+
+pub reached_child : (slots : Slots) (base : Path) (p c : ℕ) (m : Bytes) → IsReached slots base p → child_of (slots p m) ≡ Some c → IsReached slots base c
+reached_child slots base p c m r e = (m ∷ r.0, (p, r.1, e))
 
 -- what the marks say once the first nodes have marked the trees that lie in them
-pub record AreMarked (slots : Slots) (marks : List Bool) (i : ℕ) : Type 0 where
-  pub rooted : get_or marks 0 false ≡ true
-  pub sound : (j : ℕ) → get_or marks j false ≡ true → IsReached slots j
+pub record AreMarked (slots : Slots) (from : ℕ) (marks : List Bool) (i : ℕ) : Type 0 where
+  pub rooted : get_or marks from false ≡ true
+  pub sound : (base : Path) → Way slots base from → (j : ℕ) → get_or marks j false ≡ true → IsReached slots base j
   pub whole : (p : ℕ) (m : Bytes) (c : ℕ) → p < i → get_or marks p false ≡ true → child_of (slots p m) ≡ Some c → get_or marks c false ≡ true
 
 -- marks that were set through a slice
@@ -158,30 +165,30 @@ none_set zero j = refl
 none_set (suc n) zero = refl
 none_set (suc n) (suc j) = none_set n j
 
-pub root_marked : (slots : Slots) (n : ℕ) (marks : List Bool) → marks ≡ replicate n false → 0 < length marks → AreMarked slots (slice_set marks 0 true) 0
-root_marked slots n marks e lt = record {
-  rooted = get_or-set_same marks 0 true false lt;
-  sound = λ j is. elim (cases_eq j 0) [
-    | inl zero_is ↦ ([], sym zero_is)
+pub root_marked : (slots : Slots) (n from : ℕ) (marks : List Bool) → marks ≡ replicate n false → from < length marks → AreMarked slots from (slice_set marks from true) 0
+root_marked slots n from marks e lt = record {
+  rooted = get_or-set_same marks from true false lt;
+  sound = λ base w j is. elim (cases_eq j from) [
+    | inl same ↦ ([], subst (λ k. Way slots base k) (sym same) w)
     | inr ne ↦
         let off : get_or marks j false ≡ false = ap (λ ms. get_or ms j false) e ∙ none_set n j in
-        let both : true ≡ false = sym is ∙ get_or-set_other marks 0 j true false ne ∙ off in
+        let both : true ≡ false = sym is ∙ get_or-set_other marks from j true false ne ∙ off in
         absurd (cc both)
   ];
   whole = λ p m c lt. absurd (omega (arith, lt));
 }
 
-module _ (slots : Slots) (bound : ℕ) (ok : IsForest slots bound) where
-  pub marked_more : (old new : List Bool) (i : ℕ) → AreMarked slots old i → get_or old i false ≡ true
+module _ (slots : Slots) (from bound : ℕ) (ok : IsForest slots bound) where
+  pub marked_more : (old new : List Bool) (i : ℕ) → AreMarked slots from old i → get_or old i false ≡ true
       → ((j : ℕ) → get_or old j false ≡ true → get_or new j false ≡ true)
       → ((m : Bytes) (c : ℕ) → child_of (slots i m) ≡ Some c → get_or new c false ≡ true)
       → ((j : ℕ) → get_or new j false ≡ true → (get_or old j false ≡ true) ⊎ ((m : Bytes) × (child_of (slots i m) ≡ Some j)))
-      → AreMarked slots new (i + 1)
+      → AreMarked slots from new (i + 1)
   marked_more old new i so here kept children others = record {
-    rooted = kept 0 so.rooted;
-    sound = λ j is. elim (others j is) [
-      | inl was ↦ so.sound j was
-      | inr child ↦ reached_child slots i j child.0 (so.sound i here) child.1
+    rooted = kept from so.rooted;
+    sound = λ base w j is. elim (others j is) [
+      | inl was ↦ so.sound base w j was
+      | inr child ↦ reached_child slots base i j child.0 (so.sound base w i here) child.1
     ];
     whole = λ p m c lt is child. elim (others p is) [
       | inl was ↦ by_place p m c lt was child (cases_lt p i)
@@ -193,7 +200,7 @@ module _ (slots : Slots) (bound : ℕ) (ok : IsForest slots bound) where
       by_place p m c lt was child (inl before) = kept c (so.whole p m c before was child)
       by_place p m c lt was child (inr behind) = let same : p ≡ i = omega arith in children m c (ap (λ k. child_of (slots k m)) (sym same) ∙ child)
 
-  pub unmarked_more : (marks : List Bool) (i : ℕ) → AreMarked slots marks i → get_or marks i false ≡ false → AreMarked slots marks (i + 1)
+  pub unmarked_more : (marks : List Bool) (i : ℕ) → AreMarked slots from marks i → get_or marks i false ≡ false → AreMarked slots from marks (i + 1)
   unmarked_more marks i so here = record {
     rooted = so.rooted;
     sound = so.sound;
@@ -203,13 +210,14 @@ module _ (slots : Slots) (bound : ℕ) (ok : IsForest slots bound) where
     ];
   }
 
-  marked_at : (marks : List Bool) → AreMarked slots marks bound → (way : Path) (j : ℕ) → Way slots way j → get_or marks j false ≡ true
-  marked_at marks so [] j w = ap (λ k. get_or marks k false) (sym w) ∙ so.rooted
-  marked_at marks so (n ∷ way) j w =
-      let up : w.0 < j = ok.forward w.0 n j w.2 in
-      let within : j < bound = ok.within w.0 n j w.2 in
-      let less : w.0 < bound = omega arith in
-      so.whole w.0 n j less (marked_at marks so way w.0 w.1) w.2
+  module _ (base : Path) (w : Way slots base from) (marks : List Bool) (so : AreMarked slots from marks bound) where
+    marked_at : (way : Path) (j : ℕ) → Way slots (way ++ base) j → get_or marks j false ≡ true
+    marked_at [] j v = ap (λ k. get_or marks k false) (way_end slots base j from v w) ∙ so.rooted
+    marked_at (n ∷ way) j v =
+        let up : v.0 < j = ok.forward v.0 n j v.2 in
+        let within : j < bound = ok.within v.0 n j v.2 in
+        let less : v.0 < bound = omega arith in
+        so.whole v.0 n j less (marked_at way v.0 v.1) v.2
 
-  pub all_marked : (marks : List Bool) → AreMarked slots marks bound → (j : ℕ) → IsReached slots j → get_or marks j false ≡ true
-  all_marked marks so j r = marked_at marks so r.0 j r.1
+    pub all_marked : (j : ℕ) → IsReached slots base j → get_or marks j false ≡ true
+    all_marked j r = marked_at r.0 j r.1

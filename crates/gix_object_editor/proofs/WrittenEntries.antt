@@ -1,16 +1,14 @@
 -- The entries that slots are written as, by their names and in Git's order.
-use Rattle.std.proofs.Common.{ℕ, zero, suc, ◌≡◌, ◌≢◌, ◌<◌, ◌≤◌, ◌+◌, Bool, true, false, cond, List, [], ◌∷◌, ◌++◌, Option, Some, None, refl, sym, ap, subst, ◌∙◌, inl, inr, arith, length, get_or, map, if◌then◌else◌, ◌==◌, ◌||◌}
+use Rattle.std.proofs.Common.{ℕ, zero, suc, ◌≡◌, ◌<◌, ◌≤◌, Bool, true, false, cond, List, [], ◌∷◌, ◌++◌, Option, Some, None, refl, sym, ap, subst, ◌∙◌, inl, inr, arith, length, get_or, map, if◌then◌else◌, ◌==◌, ◌||◌}
 use Rattle.std.specs.Prelude.{bytes_eq, IsTrue, ◌↔◌}
-use Rattle.std.specs.List.{All, AllByRecursion, AllPairs, Contains, IsDistinct, filter_map, cons_option, list_any}
+use Rattle.std.specs.List.{All, AllByRecursion, Contains, IsDistinct, filter_map, cons_option, list_any}
 use Rattle.std.specs.List.Sorted.{IsPermutation, IsSorted}
 use Rattle.std.specs.Map.{lookup, keys_of}
-use Rattle.std.specs.Cmp.Lexicographic.{slice_cmp}
-use Rattle.std.specs.Ordering.{nat_cmp, is_eq, is_lt, eq_by_cmp, ordering_then, ordering_reverse}
+use Rattle.std.specs.Ordering.{is_eq, is_lt, eq_by_cmp, ordering_then, ordering_reverse}
 use Rattle.std.specs.declared.cmp.Ordering.{Ordering}
 use Rattle.std.specs.declared.cmp.Ordering.TheVariants.{Less, Equal, Greater}
 use Rattle.std.proofs.lemmas.Cmp.{nat_list_cmp_total}
 use Rattle.std.proofs.lemmas.List.{get_or-map}
-use Rattle.std.proofs.lemmas.List.Elements.{All-map, Contains-get_or}
 use Rattle.std.proofs.lemmas.List.Sorted.{IsPermutation-map, IsPermutation-sym, Contains-permutation, sorted_far, ranks_by}
 use Rattle.std.proofs.lemmas.Map.Keys.{IsDistinct-head, IsDistinct-tail, IsDistinct-cons, IsDistinct-IsPermutation, apart_from_distinct}
 use Rattle.std.proofs.lemmas.Map.Text.{is_eq-slice_cmp}
@@ -28,7 +26,7 @@ use Rattle.gix_object_editor.specs.declared.tree.editor.node.NodeId.{NodeId}
 use Rattle.gix_object_editor.specs.declared.tree.editor.node.Slot.{Slot}
 use Rattle.gix_object_editor.specs.Files.{Bytes, is_null, through, named}
 use Rattle.gix_object_editor.specs.Nodes.{Key, child_or}
-use Rattle.gix_object_editor.specs.Writing.{Ids, ids_of, unless_null, folder_item, slot_item, written_item, HasEntries, IsTreeOf}
+use Rattle.gix_object_editor.specs.Writing.{Ids, ids_of, unless_null, folder_item, slot_item, written_item, IsTreeOf}
 use Rattle.gix_object_editor.proofs.Paths.{same_name, name_itself, by_test}
 use Rattle.gix_object_editor.proofs.Slots.{key_cmp, is_named}
 use Rattle.gix_object_editor.proofs.Loaded.{not_null}

@@ -1,7 +1,7 @@
 -- The files of trees that were handed out are those of the opened trees.
-use Rattle.std.proofs.Common.{ℕ, suc, ◌≡◌, ◌<◌, ◌≤◌, Bool, true, false, List, [], ◌∷◌, ◌++◌, Option, Some, None, refl, sym, ap, subst, ◌∙◌, inl, inr, arith, if◌then◌else◌}
+use Rattle.std.proofs.Common.{ℕ, ◌≡◌, ◌<◌, ◌≤◌, true, false, List, [], ◌∷◌, ◌++◌, Option, Some, None, refl, sym, ap, subst, ◌∙◌, inl, inr, arith, if◌then◌else◌}
 use Rattle.std.specs.List.{Contains}
-use Rattle.gix_hash.specs.Id.{Id, id_of}
+use Rattle.gix_hash.specs.Id.{Id}
 use Rattle.gix_object_entries.specs.Entry.{Item}
 use Rattle.gix_object_editor.specs.declared.tree.editor.node.NodeId.{NodeId}
 use Rattle.gix_object_editor.specs.declared.tree.editor.node.Slot.{Slot}
@@ -41,30 +41,30 @@ no_files : (trees : Trees) (rest : Path) → files_of_tree trees [] rest ≡ Non
 no_files trees [] = refl
 no_files trees (n ∷ rest) = refl
 
-module _ (slots : Slots) (bound : ℕ) (ok : IsForest slots bound) (ids : Ids) (handed : List HandedOut) (done : (j : ℕ) → 0 < j → j < bound → IsReached slots j → IsDone slots ids handed j)
+module _ (slots : Slots) (bound : ℕ) (ok : IsForest slots bound) (ids : Ids) (handed : List HandedOut) (base : Path) (at : ℕ) (done : (j : ℕ) → at < j → j < bound → IsReached slots base j → IsDone slots ids handed j)
     (trees : Trees) (has : (tree : HandedOut) → Contains handed tree → (trees tree.id ≡ Some tree.items) × (is_null tree.id ≡ false)) where
+  below_it : (c : ℕ) → at < c → at ≤ c
+  below_it c lt = omega arith
+
   -- a folder's files, from those of its tree
-  one_child : (rest : Path) → ((j : ℕ) (items : List Item) → IsReached slots j → HasEntries ids (slots j) items → files_of_tree trees items rest ≡ files_of_node trees slots j rest)
-      → (name : Bytes) (c : ℕ) → 0 < c → c < bound → IsReached slots c → (o : Option Id) → ids c ≡ o
+  one_child : (rest : Path) → ((j : ℕ) (items : List Item) → at ≤ j → IsReached slots base j → HasEntries ids (slots j) items → files_of_tree trees items rest ≡ files_of_node trees slots j rest)
+      → (name : Bytes) (c : ℕ) → at < c → c < bound → IsReached slots base c → (o : Option Id) → ids c ≡ o
       → through (through o (λ id. unless_null (folder_item name id))) (λ item. files_of_entry trees rest (leaf_of item)) ≡ files_of_node trees slots c rest
   one_child rest later name c some within reached None e =
       let d = done c some within reached in
       let none : d.items ≡ [] = subst (λ x. IsAnswered x handed d.path d.items) e d.answered in
-      sym (no_files trees rest) ∙ ap (λ xs. files_of_tree trees xs rest) (sym none) ∙ later c d.items reached d.entries
+      sym (no_files trees rest) ∙ ap (λ xs. files_of_tree trees xs rest) (sym none) ∙ later c d.items (below_it c some) reached d.entries
   one_child rest later name c some within reached (Some id) e =
       let d = done c some within reached in
       let found : Contains handed (record { path = d.path; items = d.items; id = id }) = subst (λ x. IsAnswered x handed d.path d.items) e d.answered in
       let stands = has (record { path = d.path; items = d.items; id = id }) found in
-      folder_entry trees rest name id d.items stands.0 stands.1 ∙ later c d.items reached d.entries
+      folder_entry trees rest name id d.items stands.0 stands.1 ∙ later c d.items (below_it c some) reached d.entries
 
-  root_has_none : (j : ℕ) → files_of_node trees slots j [] ≡ None
-  root_has_none j = refl
-
-  one_slot : (rest : Path) → ((j : ℕ) (items : List Item) → IsReached slots j → HasEntries ids (slots j) items → files_of_tree trees items rest ≡ files_of_node trees slots j rest)
-      → (i : ℕ) (name : Bytes) → IsReached slots i → (o : Option Slot) → slots i name ≡ o
+  one_slot : (rest : Path) → ((j : ℕ) (items : List Item) → at ≤ j → IsReached slots base j → HasEntries ids (slots j) items → files_of_tree trees items rest ≡ files_of_node trees slots j rest)
+      → (i : ℕ) (name : Bytes) → at ≤ i → IsReached slots base i → (o : Option Slot) → slots i name ≡ o
       → through (through o (written_item ids name)) (λ item. files_of_entry trees rest (leaf_of item)) ≡ through o (files_of_slot trees slots rest)
-  one_slot rest later i name reached None e = refl
-  one_slot rest later i name reached (Some s) e = by_child s.child refl ∙ split rest
+  one_slot rest later i name from reached None e = refl
+  one_slot rest later i name from reached (Some s) e = by_child s.child refl ∙ split rest
     where
       files_by : Path → Option NodeId → Option Leaf
       files_by rest child = child_or child (λ c. files_of_node trees slots c rest) (files_of_entry trees rest (leaf_in s))
@@ -80,13 +80,13 @@ module _ (slots : Slots) (bound : ℕ) (ok : IsForest slots bound) (ids : Ids) (
       by_child (Some c) opened =
           let is : child_of (slots i name) ≡ Some c.0 = ap child_of e ∙ ap (λ o. child_or o (λ c. Some c) None) opened in
           let up : i < c.0 = ok.forward i name c.0 is in
-          let some : 0 < c.0 = omega arith in
-          one_child rest later name c.0 some (ok.within i name c.0 is) (reached_child slots i c.0 name reached is) (ids c.0) refl
+          let some : at < c.0 = omega (arith, from) in
+          one_child rest later name c.0 some (ok.within i name c.0 is) (reached_child slots base i c.0 name reached is) (ids c.0) refl
 
-  pub tree_files : (q : Path) (j : ℕ) (items : List Item) → IsReached slots j → HasEntries ids (slots j) items → files_of_tree trees items q ≡ files_of_node trees slots j q
-  tree_files [] j items reached e = refl
-  tree_files (n ∷ rest) j items reached e =
-      ap (λ o. through o (λ item. files_of_entry trees rest (leaf_of item))) (e n) ∙ one_slot rest (tree_files rest) j n reached (slots j n) refl
+  pub tree_files : (q : Path) (j : ℕ) (items : List Item) → at ≤ j → IsReached slots base j → HasEntries ids (slots j) items → files_of_tree trees items q ≡ files_of_node trees slots j q
+  tree_files [] j items from reached e = refl
+  tree_files (n ∷ rest) j items from reached e =
+      ap (λ o. through o (λ item. files_of_entry trees rest (leaf_of item))) (e n) ∙ one_slot rest (tree_files rest) j n from reached (slots j n) refl
 
 -- the files of an opened tree are the root's below its path
 pub files_below : (trees : Trees) (slots : Slots) (path : Path) (j : ℕ) (q : Path) → LeadsTo slots path j [] → files_of_node trees slots j q ≡ files_of_node trees slots 0 (path ++ q)

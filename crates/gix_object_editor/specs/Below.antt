@@ -1,14 +1,14 @@
 -- The trees below a root, while they are handed out from the last number down.
-use Rattle.std.specs.Prelude.{ℕ, ◌≡◌, ◌≢◌, ◌<◌, ◌≤◌, List, [], map, Option, Result, Ok, Err, Some, None}
+use Rattle.std.specs.Prelude.{ℕ, ◌≡◌, ◌≢◌, ◌<◌, ◌≤◌, List, [], Option, Result, Ok, Err, Some, None}
 use Rattle.std.specs.Borrow.{Bor}
 use Rattle.std.specs.Fn.{Mut, CalledAt}
 use Rattle.std.specs.List.{All, Contains}
-use Rattle.gix_hash.specs.Id.{Id, id_of}
+use Rattle.gix_hash.specs.Id.{Id}
 use Rattle.gix_hash.specs.declared.object_id.ObjectId.{ObjectId}
 use Rattle.gix_object_entries.specs.Entry.{Item}
 use Rattle.gix_object_entries.specs.declared.tree.owned.Tree.{Tree}
-use Rattle.gix_object_editor.specs.declared.tree.editor.write_error.Error.{Error}
-use Rattle.gix_object_editor.specs.declared.tree.editor.write_error.Error.TheVariants.{Out, Memory}
+use Rattle.gix_object_editor.specs.declared.tree.editor.write.error.Error.{Error}
+use Rattle.gix_object_editor.specs.declared.tree.editor.write.error.Error.TheVariants.{Out, Memory}
 use Rattle.gix_object_editor.specs.Files.{Path}
 use Rattle.gix_object_editor.specs.Nodes.{Slots, LeadsTo}
 use Rattle.gix_object_editor.specs.Writing.{Ids, IsReached, HasEntries}
@@ -31,12 +31,12 @@ pub record IsDone (slots : Slots) (ids : Ids) (handed : List HandedOut) (j : ℕ
 abbrev pub IsOneFrom : Slots → ℕ → Ids → ℕ → HandedOut → Type 0
 IsOneFrom slots bound ids at tree = (j : ℕ) × (at ≤ j) × (j < bound) × LeadsTo slots tree.path j [] × HasEntries ids (slots j) tree.items
 
--- the opened trees from this number on are handed out
-pub record IsHandedOutFrom (slots : Slots) (bound : ℕ) (ids : Ids) (handed : List HandedOut) (at : ℕ) : Type 0 where
+-- the opened trees from this number on to which the tree at the end of these names leads are handed out
+pub record IsHandedOutFrom (slots : Slots) (base : Path) (bound : ℕ) (ids : Ids) (handed : List HandedOut) (at : ℕ) : Type 0 where
   pub in_order : EachBehind (IsHandedOut slots) [] handed
   pub some : All (λ tree. tree.items ≢ []) handed
   pub ones : All (IsOneFrom slots bound ids at) handed
-  pub done : (j : ℕ) → at ≤ j → j < bound → IsReached slots j → IsDone slots ids handed j
+  pub done : (j : ℕ) → at ≤ j → j < bound → IsReached slots base j → IsDone slots ids handed j
 
 module _ {F E : Type 0} (calls : Mut F (Bor Tree × Unit {0}) (Result ObjectId E)) where
   -- a tree is handed out, unless it has no entries

@@ -1,5 +1,5 @@
 -- Opened trees as they are written: their entries, with the ids of the trees that lie in them.
-use Rattle.std.specs.Prelude.{ℕ, zero, suc, ◌≡◌, false, Bool, List, [], ◌∷◌, Option, Some, None, if◌then◌else◌}
+use Rattle.std.specs.Prelude.{ℕ, zero, suc, ◌≡◌, false, ◌++◌, List, [], ◌∷◌, Option, Some, None, if◌then◌else◌}
 use Rattle.std.specs.List.{All}
 use Rattle.gix_hash.specs.Id.{Id, id_of}
 use Rattle.gix_hash.specs.declared.object_id.ObjectId.{ObjectId}
@@ -13,9 +13,9 @@ use Rattle.gix_object_editor.specs.declared.tree.editor.node.Slot.{Slot}
 use Rattle.gix_object_editor.specs.Files.{Bytes, Path, is_null, through, named}
 use Rattle.gix_object_editor.specs.Nodes.{Slots, child_or, Way}
 
--- the root leads down to this opened tree
-abbrev pub IsReached : Slots → ℕ → Type 0
-IsReached slots j = (way : Path) × Way slots way j
+-- the tree at the end of these names, last first, leads down to this opened tree
+abbrev pub IsReached : Slots → Path → ℕ → Type 0
+IsReached slots base j = (way : Path) × Way slots (way ++ base) j
 
 -- the ids of opened trees by their numbers; none of those without entries
 abbrev pub Ids : Type 0

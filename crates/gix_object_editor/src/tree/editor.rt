@@ -18,8 +18,7 @@ mod load;
 mod node;
 mod root;
 mod state;
-mod write;
-pub mod write_error;
+pub mod write;
 
 use crate::tree::editor::entry::entry_from;
 use crate::tree::editor::node::NodeId;

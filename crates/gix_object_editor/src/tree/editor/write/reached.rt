@@ -1,21 +1,23 @@
-//! Which opened trees the root still leads down to.
+//! Which opened trees another still leads down to.
 
 ghost use Rattle.std.specs.Prelude.{◌≡◌, ◌<◌, ◌↔◌, ◌⊎◌, ℕ, Some, length, slice_index_or, true, false, IfOk, IsTrue};
-ghost use Rattle.gix_object_editor.specs.Files.{Bytes};
-ghost use Rattle.gix_object_editor.specs.Nodes.{slot_in, slots_of, child_of, IsForest};
+ghost use Rattle.gix_object_editor.specs.Files.{Bytes, Path};
+ghost use Rattle.gix_object_editor.specs.Nodes.{slot_in, slots_of, child_of, IsForest, Way};
 ghost use Rattle.gix_object_editor.specs.Writing.{IsReached};
 
-use crate::tree::editor::node::Node;
+use crate::tree::editor::node::{Node, NodeId};
 use std::alloc::{AllocError, Global};
 
-/// Which opened trees the root leads down to, by their numbers. An edit may have cut off others.
-pub(crate) fn reached(nodes: &[Node], alloc: Global) -> Result<Vec<bool>, AllocError>
-    requires { IsForest (slots_of nodes.now) (length nodes.now) }
+/// Which opened trees this one leads down to, by their numbers. An edit may have cut off others.
+pub(crate) fn reached(nodes: &[Node], from: NodeId, alloc: Global) -> Result<Vec<bool>, AllocError>
+    requires forest { IsForest (slots_of nodes.now) (length nodes.now) }
+    requires within { from.0 < length nodes.now }
     ensures len { IfOk result (λ marks. length marks.items ≡ length nodes.now) }
-    ensures leads { IfOk result (λ marks. (j : ℕ) → (slice_index_or marks.items j false ≡ true) ↔ IsReached (slots_of nodes.now) j) }
+    ensures leads { IfOk result (λ marks. (base : Path) → Way (slots_of nodes.now) base from.0
+        → (j : ℕ) → (slice_index_or marks.items j false ≡ true) ↔ IsReached (slots_of nodes.now) base j) }
 {
     let mut marks = vec![in alloc; false; nodes.len()]?;
-    marks[0] = true;
+    marks[from.0] = true;
     for (i, node) in nodes.iter().enumerate() {
         if marks[i] {
             mark(node, marks.as_mut_slice());

@@ -1,44 +1,11 @@
-use Rattle.std.proofs.Common.{ℕ, ◌≡◌, ◌∙◌, ◌<◌, ◌++◌, ◌∷◌, [], List, Option, ap, sym, subst, refl, arith, length, map, get_or}
-use Rattle.std.proofs.lemmas.Fn.{called_at, FoldsTo-push}
-use Rattle.gix_hash.specs.Id.{id_of}
-use Rattle.gix_hash.specs.declared.object_id.ObjectId.{ObjectId}
-use Rattle.gix_object_entries.specs.Entry.{own_item}
-use Rattle.gix_object_editor.specs.Nodes.{slots_of, slot_in, child_of, IsForest}
-use Rattle.gix_object_editor.specs.Writing.{ids_of, IsTreeOf}
-use Rattle.gix_object_editor.specs.Written.{HandedOut, HandsOut}
-use Rattle.gix_object_editor.specs.Below.{IsHandedOutFrom}
-use Rattle.gix_object_editor.proofs.Slots.{node_at}
-use Rattle.gix_object_editor.proofs.HandedSteps.{tree_at, written}
+use Rattle.std.proofs.Common.{[], refl}
 use Rattle.gix_object_editor.proofs.tree.editor.state.Editor.write.Goals as goal
 
-pub tree_of-requires : goal.tree_of-requires
-tree_of-requires g c = λ m k is.
-    let nodes = c.as_slice-nodes.result.now in
-    let forest = subst (λ ns. IsForest (slots_of ns) (length ns)) (sym c.as_slice-nodes.ensures.value) c.args.self.now.forest in
-    let e = ap child_of (node_at nodes 0 c.index-nodes-0.result m forest.rooted ∙ ap (λ n. slot_in n m) (sym c.index-nodes-0.is)) ∙ is in
-    let lt : k < length nodes = forest.within 0 m k e in
-    omega (arith, ap length c.as_slice.ensures.value, c.in_ok-ids.ensures.len)
+pub write_from-requires : goal.write_from-requires
+write_from-requires g c = record { callable = c.requires; within = c.args.self.now.forest.rooted }
 
-pub returns-in-Ok-clause-written : goal.returns-in-Ok-clause-written
-returns-in-Ok-clause-written g c =
-    let editor = c.args.self.now in
-    let same = c.as_slice-nodes.ensures.value in
-    let ids = c.in_ok-ids.ids.items in
-    let root = c.in_ok-root.root in
-    let items = map own_item root.entries.items in
-    let so = c.in_ok-ids.ensures.written in
-    let handed = subst (λ ns. IsHandedOutFrom (slots_of ns) (length ns) (ids_of ids) so.0 1) same so.2 in
-    let is = subst (λ ns. c.index-nodes-0.result ≡ get_or ns 0 c.index-nodes-0.result) same c.index-nodes-0.is in
-    let tree : IsTreeOf (ids_of ids) (slots_of editor.nodes.items 0) items =
-    tree_at (ids_of ids) editor.nodes.items 0 c.index-nodes-0.result items editor.forest.rooted is
-    (subst (λ (xs : List (Option ObjectId)). IsTreeOf (ids_of xs) (slot_in c.index-nodes-0.result) items) c.as_slice.ensures.value c.in_ok-root.ensures) in
-    let one : HandedOut = record { path = []; items = items; id = id_of c.in-Ok.id } in (
-      so.0 ++ one ∷ [],
-      FoldsTo-push (HandsOut g.F.FnMut) c.args.out.now so.0 c.write_below.new.out one c.out.new.self so.1 (root, c.in-Ok.id, called_at g.F.FnMut c.out.ensures c.in-Ok.is, refl, refl),
-      written editor (ids_of ids) so.0 handed items tree (id_of c.in-Ok.id),
-    )
+pub returns-clause-written : goal.returns-clause-written
+returns-clause-written g c = c.write_from.ensures.written [] refl
 
 pub returns-clause-refused : goal.returns-clause-refused
-returns-clause-refused g c =
-    let so = c.in_ok-ids.ensures.written in
-    (so.0, c.in_ok-root.root, c.write_below.new.out, c.out.new.self, so.1, called_at g.F.FnMut c.out.ensures c.in-Err.is)
+returns-clause-refused g c = c.write_from.ensures.refused [] refl

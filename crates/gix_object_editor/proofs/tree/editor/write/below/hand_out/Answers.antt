@@ -1,4 +1,4 @@
-use Rattle.std.proofs.Common.{◌∙◌, ◌≡◌, [], ap, sym, arith, length, rules, refl, eq-eqb}
+use Rattle.std.proofs.Common.{◌∙◌, ◌≡◌, ap, arith, length, eq-eqb}
 use Rattle.std.proofs.lemmas.Fn.{called_at}
 use Rattle.gix_object_editor.proofs.Paths.{not_both}
 use Rattle.gix_object_editor.proofs.tree.editor.write.below.hand_out.Goals as goal

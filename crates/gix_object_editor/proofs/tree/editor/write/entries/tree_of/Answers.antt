@@ -1,18 +1,17 @@
-use Rattle.std.proofs.Common.{◌≡◌, ◌∙◌, ◌++◌, ◌∷◌, [], Some, None, ap, sym, subst, List, length, map, append-nil, append_assoc, rules, true, if◌then◌else◌}
-use Rattle.std.specs.Prelude.{is_ok, option_map}
+use Rattle.std.proofs.Common.{◌≡◌, ◌∙◌, ◌++◌, None, ap, sym, subst, List, length, map, append-nil}
+use Rattle.std.specs.Prelude.{option_map}
 use Rattle.std.specs.Map.{keys_of, values_of}
 use Rattle.std.specs.List.{IsDistinct, cons_option}
 use Rattle.std.specs.Ordering.{eq_by_cmp}
-use Rattle.std.proofs.lemmas.List.{map-append}
 use Rattle.std.proofs.lemmas.Map.Keys.{IsDistinct-from_sorted}
-use Rattle.gix_object_entries.specs.Entry.{Item, own_item}
+use Rattle.gix_object_entries.specs.Entry.{own_item}
 use Rattle.gix_object_entries.specs.declared.tree.entry.Entry.{Entry}
 use Rattle.gix_object_editor.specs.declared.tree.editor.node.Slot.{Slot}
 use Rattle.gix_object_editor.specs.Nodes.{Key}
 use Rattle.gix_object_editor.specs.Writing.{ids_of, written_item}
 use Rattle.gix_object_editor.proofs.Slots.{key_cmp}
 use Rattle.gix_object_editor.proofs.ReachedTrees.{AreWithin, all_within}
-use Rattle.gix_object_editor.proofs.WrittenEntries.{entries_of, entry_of, tree_is}
+use Rattle.gix_object_editor.proofs.WrittenEntries.{entries_of, tree_is}
 use Rattle.gix_object_editor.proofs.tree.editor.write.entries.tree_of.Goals as goal
 
 pub loop-name-init : goal.loop-name-init

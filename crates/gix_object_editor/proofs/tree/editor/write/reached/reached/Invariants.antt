@@ -7,5 +7,5 @@ use Rattle.gix_object_editor.proofs.tree.editor.write.reached.reached.Given as g
 abbrev pub invariant-loop-i : goal.invariant-loop-i
 invariant-loop-i l = record {
   len : length l.marks.items ≡ length l.nodes;
-  marked : AreMarked (slots_of l.nodes) l.marks.items l.i;
+  marked : AreMarked (slots_of l.nodes) l.fn.from.0 l.marks.items l.i;
 }

@@ -1,7 +1,7 @@
 //! Why the trees of an editor aren't written.
 
 ghost use Rattle.std.specs.Prelude.{◌≡◌};
-ghost use Rattle.gix_object_editor.specs.declared.tree.editor.write_error.Error.TheVariants.{Memory};
+ghost use Rattle.gix_object_editor.specs.declared.tree.editor.write.error.Error.TheVariants.{Memory};
 
 use std::alloc::AllocError;
 
