@@ -47,6 +47,13 @@ impl Page {
         self.put(value);
     }
 
+    /// Adds a number in octal digits.
+    pub fn octal(&mut self, number: u16) {
+        if write!(&mut self.text, "{number:o}").is_err() {
+            self.full = true;
+        }
+    }
+
     /// Adds bytes in hexadecimal digits.
     pub fn hex(&mut self, bytes: &[u8]) {
         for byte in bytes {

@@ -4,8 +4,7 @@ use crate::case::{Case, read_case, read_entry_kind, read_id, read_path};
 use crate::page::Page;
 use crate::store::{Row, Trees, row_of};
 use gix_hash::{Kind, ObjectId};
-use gix_object_editor::tree::Editor;
-use gix_object_editor::tree::editor::Error;
+use gix_object_editor::tree::editor::{Editor, Error};
 use gix_object_entries::Tree;
 use std::alloc::{AllocError, Global};
 
@@ -78,7 +77,8 @@ fn at_path(alloc: Global, editor: &mut Editor<Trees>, word: &str, page: &mut Pag
 fn show_entry(editor: &Editor<Trees>, path: &[&[u8]], page: &mut Page) {
     match editor.get(path) {
         Some(entry) => {
-            page.word(entry.mode.kind().as_octal_str().to_str().unwrap_or("?"));
+            page.word("");
+            page.octal(entry.mode.value());
             page.value(entry.oid);
         }
         None => page.word("none"),
