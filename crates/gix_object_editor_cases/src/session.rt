@@ -62,12 +62,12 @@ fn at_path(alloc: Global, editor: &mut Editor<Trees>, word: &str, page: &mut Pag
     let path = path.as_slice();
     match what {
         "get" => show_entry(editor, path, page),
-        "remove" => show_result(editor.remove(alloc, path), page),
-        "remove_leaf" => show_result(editor.remove_leaf(alloc, path), page),
+        "remove" => show_done(editor.remove(alloc, path), page),
+        "remove_leaf" => show_done(editor.remove_leaf(alloc, path), page),
         "upsert" => {
             let kind = read_entry_kind(parts.next()?)?;
             let id = read_id(parts.next()?)?;
-            show_result(editor.upsert(alloc, path, kind, id), page);
+            show_done(editor.upsert(alloc, path, kind, id), page);
         }
         _ => return None,
     }
@@ -85,8 +85,8 @@ fn show_entry(editor: &Editor<Trees>, path: &[&[u8]], page: &mut Page) {
     }
 }
 
-fn show_result(result: Result<(), Error>, page: &mut Page) {
-    match result {
+fn show_done(done: Result<(), Error>, page: &mut Page) {
+    match done {
         Ok(()) => page.word("ok"),
         Err(Error::EmptyPathComponent) => page.word("EmptyPathComponent"),
         Err(Error::FindExistingObject(_)) => page.word("FindExistingObject"),
