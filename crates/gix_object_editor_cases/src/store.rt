@@ -77,8 +77,9 @@ impl Find for Trees {
     ) -> Result<Option<gix_object_lines::Kind>, Error> {
         self.asked.set(self.asked.get().saturating_add(1));
         buffer.clear();
+        let wanted = ObjectId::from(id);
         for row in &self.rows {
-            if row.oid.as_oid() == id {
+            if row.oid == wanted {
                 buffer.extend_from_slice(row.content.as_slice())?;
                 return Ok(Some(gix_object_lines::Kind::Tree));
             }
