@@ -1,7 +1,14 @@
 pub mod Edits
+pub mod Filled
+pub mod Ladder
 pub mod Loaded
 pub mod Opening
 pub mod Paths
 pub mod Slots
 pub mod Walked
 pub mod Ways
+pub mod WrittenEntries
+pub mod ReachedTrees
+pub mod HandedOrder
+pub mod WrittenFiles
+pub mod HandedSteps

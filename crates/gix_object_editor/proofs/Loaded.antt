@@ -1,19 +1,21 @@
 -- A node of entries in order, and trees that are no such.
 use Rattle.std.proofs.Common.{ℕ, zero, suc, ◌≡◌, ◌≢◌, ◌<◌, ◌+◌, Bool, true, false, List, [], ◌∷◌, ◌++◌, Option, Some, None, refl, sym, ap, subst, ◌∙◌, inl, inr, arith, length, get_or, map, take, add-one, if◌then◌else◌}
 use Rattle.std.specs.Prelude.{bytes_eq, is_some, IsTrue, ◌↔◌}
-use Rattle.std.proofs.lemmas.List.{get_or-map, take-map, map-append}
+use Rattle.std.proofs.lemmas.List.{get_or-map, get_or_default, get_or-take, take-map, map-append, length-take}
 use Rattle.std.proofs.Math.Seq.{take-suc}
 use Rattle.gix_object_entries.specs.Entry.{Item}
 use Rattle.gix_object_entries.specs.Order.{name_cmp, is_tree}
 use Rattle.std.specs.declared.cmp.Ordering.TheVariants.{Less}
 use Rattle.std.specs.Ordering.{is_lt}
 use Rattle.gix_hash.specs.Id.{Id, null_id}
-use Rattle.gix_hash.specs.OrderLaws.{id_eq-same}
+use Rattle.gix_hash.specs.Order.{id_eq}
+use Rattle.gix_hash.specs.OrderLaws.{id_eq-same, id_eq-itself}
 use Rattle.gix_object_editor.specs.declared.tree.editor.node.NodeId.{NodeId}
 use Rattle.gix_object_editor.specs.declared.tree.editor.node.Slot.{Slot}
 use Rattle.gix_object_editor.specs.Files.{Bytes, Path, Trees, leaf_of, named, is_null, through, files_of_entry, files_of_tree}
 use Rattle.gix_object_editor.specs.Nodes.{Slots, StandsFor, leaf_in, child_of, child_or, files_of_slot, files_of_node, IsForest}
-use Rattle.gix_object_editor.specs.WellFormed.{IsWellFormed, is_entry_name}
+use Rattle.gix_object_entries.specs.WellFormed.{IsWellFormed, HasNamesOnce}
+use Rattle.gix_object_lines.specs.Bytes.{Lacks}
 use Rattle.gix_object_editor.proofs.Paths.{same_name, name_itself, by_test, not_both}
 
 named-more : (xs : List Item) (x : Item) (m : Bytes) → named m xs ≡ None → bytes_eq m x.name ≡ true → named m (xs ++ x ∷ []) ≡ Some x
@@ -28,6 +30,20 @@ named-more (y ∷ xs) x m none is = elim (by_test (bytes_eq m y.name)) [
 named-kept : (xs : List Item) (x : Item) (m : Bytes) → bytes_eq m x.name ≡ false → named m (xs ++ x ∷ []) ≡ named m xs
 named-kept [] x m isnt = ap (λ b. if b then Some x else None) isnt
 named-kept (y ∷ xs) x m isnt = ap (λ o. if bytes_eq m y.name then Some y else o) (named-kept xs x m isnt)
+
+-- a name that none of the entries has
+none_named : (xs : List Item) (m : Bytes) → ((j : ℕ) (d : Item) → j < length xs → (get_or xs j d).name ≢ m) → named m xs ≡ None
+none_named [] m h = refl
+none_named (y ∷ xs) m h = elim (by_test (bytes_eq m y.name)) [
+  | inl t ↦ let first : 0 < length (y ∷ xs) = omega arith in absurd (h 0 y first (sym (same_name m y.name t)))
+  | inr f ↦ ap (λ b. if b then Some y else named m xs) f ∙ none_named xs m (λ j d lt. let more : suc j < length (y ∷ xs) = omega arith in h (suc j) d more)
+]
+
+-- no entry before one has its name
+none_before : (xs : List Item) (k : ℕ) (d : Item) → HasNamesOnce xs → k < length xs → named (get_or xs k d).name (take k xs) ≡ None
+none_before xs k d once lt = none_named (take k xs) (get_or xs k d).name (λ j e less.
+    let below : j < k = omega (arith, length-take k xs) in
+    λ same. once j k e below lt (ap (λ x. x.name) (sym (get_or-take k xs j e below)) ∙ same ∙ ap (λ x. x.name) (get_or_default xs k d e lt)))
 
 none_for_none : (p : Option Item) → StandsFor None p → p ≡ None
 none_for_none None h = refl
@@ -77,15 +93,15 @@ module _ {E : Type 0} (item_of : E → Item) where
       let more : i < length (map item_of entries) = omega (arith, length-of entries) in
       let at : get_or (map item_of entries) i (item_of e) ≡ item_of e = get_or-map item_of entries i e (item_of e) lt ∙ ap item_of (sym is) in
       let none : named (item_of e).name (map item_of (take i entries)) ≡ None =
-      ap (named (item_of e).name) (sym (take-map item_of i entries)) ∙ ap (λ x. named x.name (take i (map item_of entries))) (sym at) ∙ whole.once i (item_of e) more in
+      ap (named (item_of e).name) (sym (take-map item_of i entries)) ∙ ap (λ x. named x.name (take i (map item_of entries))) (sym at) ∙ none_before (map item_of entries) i (item_of e) whole.once more in
       subst (λ p. StandsFor (Some s) p) none stands
 
-  pub name_isnt_one : (entries : List E) (i : ℕ) (e : E) → i < length entries → e ≡ get_or entries i e → is_entry_name (item_of e).name ≡ false → IsWellFormed (map item_of entries) → ⊥
+  pub name_isnt_one : (entries : List E) (i : ℕ) (e : E) → i < length entries → e ≡ get_or entries i e → (((item_of e).name ≢ []) × Lacks 47 (item_of e).name → ⊥) → IsWellFormed (map item_of entries) → ⊥
   name_isnt_one entries i e lt is bad whole =
       let more : i < length (map item_of entries) = omega (arith, length-of entries) in
       let at : get_or (map item_of entries) i (item_of e) ≡ item_of e = get_or-map item_of entries i e (item_of e) lt ∙ ap item_of (sym is) in
-      let good : is_entry_name (item_of e).name ≡ true = ap (λ x. is_entry_name x.name) (sym at) ∙ whole.full i (item_of e) more in
-      cc
+      let good = subst (λ x. (x.name ≢ []) × Lacks 47 x.name) at ((whole.names i (item_of e) more).some, (whole.names i (item_of e) more).within_folder) in
+      bad good
 
   pub isnt_behind : (entries : List E) (k i : ℕ) (a b : E) → i ≡ suc k → i < length entries → a ≡ get_or entries k a → b ≡ get_or entries i b
       → is_lt (name_cmp (item_of a).name (is_tree (item_of a)) (item_of b).name (is_tree (item_of b))) ≡ false → IsWellFormed (map item_of entries) → ⊥
@@ -99,7 +115,7 @@ module _ {E : Type 0} (item_of : E → Item) where
       let good : name_cmp (item_of a).name (is_tree (item_of a)) (item_of b).name (is_tree (item_of b)) ≡ Less =
       ap (λ x. name_cmp x.name (is_tree x) (item_of b).name (is_tree (item_of b))) (sym first)
       ∙ ap (λ y. name_cmp (get_or (map item_of entries) k (item_of a)).name (is_tree (get_or (map item_of entries) k (item_of a))) y.name (is_tree y)) (sym second)
-      ∙ whole.ascending k (item_of a) more in
+      ∙ whole.ordered k (suc k) (item_of a) (omega arith) more in
       let yes : is_lt (name_cmp (item_of a).name (is_tree (item_of a)) (item_of b).name (is_tree (item_of b))) ≡ true = ap is_lt good in
       cc
 
@@ -119,6 +135,9 @@ not_null id b says isnt = elim (by_test (is_null id)) [
   | inl t ↦ absurd (not_both b (says.1 (id_eq-same id (null_id id.kind) t)) isnt)
   | inr f ↦ f
 ]
+
+pub null_by_test : (id : Id) (b : Bool) → (IsTrue b ↔ (id ≡ null_id id.kind)) → b ≡ true → is_null id ≡ true
+null_by_test id b says is = ap (id_eq id) (sym (says.0 is)) ∙ id_eq-itself id
 
 pub no_child : (o : Option NodeId) → is_some o ≡ false → o ≡ None
 no_child None e = refl

@@ -8,7 +8,7 @@ use Rattle.gix_object_entries.specs.Mode.{is_tree_value}
 use Rattle.gix_object_editor.specs.declared.tree.editor.node.NodeId.{NodeId}
 use Rattle.gix_object_editor.specs.declared.tree.editor.node.Slot.{Slot}
 use Rattle.gix_object_editor.specs.Files.{Bytes, Path, Leaf, Trees, through, named, leaf_of, is_null, tree_under, unless_tree, files_of_entry, HasStored}
-use Rattle.gix_object_editor.specs.Nodes.{Slots, child_or, child_of, leaf_in, files_of_slot, files_of_node, IsForest, StandsFor, IsOpened}
+use Rattle.gix_object_editor.specs.Nodes.{Slots, child_or, child_of, leaf_in, files_of_slot, files_of_node, IsForest, StandsFor, IsOpened, IsUnopened}
 use Rattle.gix_object_editor.proofs.Paths.{same_name, name_itself, by_test}
 
 -- both the number and the name, or not
@@ -20,11 +20,6 @@ at_or_off i j n m = elim (cases_eq i j) [
   ]
   | inr ne ↦ inr (λ e _. ne e)
 ]
-
--- the folder of a name: an entry of tree mode that isn't null
-pub record IsFolder (leaf : Leaf) : Type 0 where
-  pub is_tree : is_tree_value leaf.mode.value ≡ true
-  pub isnt_null : is_null leaf.id ≡ false
 
 -- an entry that is no folder has no file below it
 pub plain_below : (trees : Trees) (leaf : Leaf) (m : Bytes) (rest : Path) → (is_tree_value leaf.mode.value ≡ false) ⊎ (is_null leaf.id ≡ true) → files_of_entry trees (m ∷ rest) leaf ≡ None
@@ -38,8 +33,21 @@ plain_below trees leaf m rest (inl file) =
 plain_below trees leaf m rest (inr null) =
     ap (λ b. if b then None else through (tree_under trees leaf) (λ items. through (named m items) (λ item. files_of_entry trees rest (leaf_of item)))) null
 
+-- an entry's slot has the same files where its opened tree has
+same_child : (trees : Trees) (slots new : Slots) (child : Option NodeId) (m : Bytes) (more : Path) (x : Option Leaf)
+    → ((c : ℕ) → child_or child (λ c. Some c) None ≡ Some c → files_of_node trees new c (m ∷ more) ≡ files_of_node trees slots c (m ∷ more))
+    → child_or child (λ c. files_of_node trees new c (m ∷ more)) x ≡ child_or child (λ c. files_of_node trees slots c (m ∷ more)) x
+same_child trees slots new None m more x h = refl
+same_child trees slots new (Some c) m more x h = h c.0 refl
+
+pub same_through : (trees : Trees) (slots new : Slots) (rest : Path) (o : Option Slot) → ((c : ℕ) → child_of o ≡ Some c → files_of_node trees new c rest ≡ files_of_node trees slots c rest)
+    → through o (files_of_slot trees new rest) ≡ through o (files_of_slot trees slots rest)
+same_through trees slots new rest None h = refl
+same_through trees slots new [] (Some u) h = refl
+same_through trees slots new (m ∷ more) (Some u) h = same_child trees slots new u.child m more (files_of_entry trees (m ∷ more) (leaf_in u)) h
+
 module _ (trees : Trees) (slots new : Slots) (bound : ℕ) (ok : IsForest slots bound) (j : ℕ) (name : Bytes) (s t : Slot) (items : List Item)
-    (stood : slots j name ≡ Some s) (closed : s.child ≡ None) (folder : IsFolder (leaf_in s)) (stored : trees (leaf_in s).id ≡ Some items)
+    (stood : slots j name ≡ Some s) (folder : IsUnopened s) (stored : trees (leaf_in s).id ≡ Some items)
     (stands : new j name ≡ Some t) (linked : child_of (Some t) ≡ Some bound)
     (opened : (m : Bytes) → StandsFor (new bound m) (named m items))
     (agree : (i : ℕ) (m : Bytes) → i < bound → ((i ≡ j) → (m ≡ name) → ⊥) → new i m ≡ slots i m) where
@@ -64,26 +72,15 @@ module _ (trees : Trees) (slots new : Slots) (bound : ℕ) (ok : IsForest slots 
   at_slot : (rest : Path) → files_of_slot trees new rest t ≡ files_of_slot trees slots rest s
   at_slot [] =
       below_slot t.child (files_of_entry trees [] (leaf_in t)) None (λ c. None) linked refl
-      ∙ sym (ap (λ o. child_or o (λ c. None) (files_of_entry trees [] (leaf_in s))) closed
+      ∙ sym (ap (λ o. child_or o (λ c. None) (files_of_entry trees [] (leaf_in s))) folder.closed
       ∙ ap (λ b. if b then None else unless_tree (tree_under trees (leaf_in s)) (leaf_in s)) folder.isnt_null
       ∙ ap (λ o. unless_tree o (leaf_in s)) leads)
   at_slot (m ∷ more) =
       below_slot t.child (files_of_entry trees (m ∷ more) (leaf_in t)) (files_of_node trees new bound (m ∷ more)) (λ c. files_of_node trees new c (m ∷ more)) linked refl
       ∙ entries more (new bound m) (named m items) (opened m)
-      ∙ sym (ap (λ o. child_or o (λ c. files_of_node trees slots c (m ∷ more)) (files_of_entry trees (m ∷ more) (leaf_in s))) closed
+      ∙ sym (ap (λ o. child_or o (λ c. files_of_node trees slots c (m ∷ more)) (files_of_entry trees (m ∷ more) (leaf_in s))) folder.closed
       ∙ ap (λ b. if b then None else through (tree_under trees (leaf_in s)) (λ tree. through (named m tree) (λ item. files_of_entry trees more (leaf_of item)))) folder.isnt_null
       ∙ ap (λ o. through o (λ tree. through (named m tree) (λ item. files_of_entry trees more (leaf_of item)))) leads)
-
-  same_child : (child : Option NodeId) (m : Bytes) (more : Path) (x : Option Leaf) → ((c : ℕ) → child_or child (λ c. Some c) None ≡ Some c → files_of_node trees new c (m ∷ more) ≡ files_of_node trees slots c (m ∷ more))
-      → child_or child (λ c. files_of_node trees new c (m ∷ more)) x ≡ child_or child (λ c. files_of_node trees slots c (m ∷ more)) x
-  same_child None m more x h = refl
-  same_child (Some c) m more x h = h c.0 refl
-
-  same_through : (rest : Path) (o : Option Slot) → ((c : ℕ) → child_of o ≡ Some c → files_of_node trees new c rest ≡ files_of_node trees slots c rest)
-      → through o (files_of_slot trees new rest) ≡ through o (files_of_slot trees slots rest)
-  same_through rest None h = refl
-  same_through [] (Some u) h = refl
-  same_through (m ∷ more) (Some u) h = same_child u.child m more (files_of_entry trees (m ∷ more) (leaf_in u)) h
 
   -- no node's files change
   pub opens : (q : Path) (i : ℕ) → i < bound → files_of_node trees new i q ≡ files_of_node trees slots i q
@@ -95,7 +92,7 @@ module _ (trees : Trees) (slots new : Slots) (bound : ℕ) (ok : IsForest slots 
         ∙ sym (ap (λ k. through (slots k n) (files_of_slot trees slots rest)) e.0 ∙ ap (λ k. through (slots j k) (files_of_slot trees slots rest)) e.1)
     | inr off ↦
         ap (λ o. through o (files_of_slot trees new rest)) (agree i n lt off)
-        ∙ same_through rest (slots i n) (λ c is. opens rest c (ok.within i n c is))
+        ∙ same_through trees slots new rest (slots i n) (λ c is. opens rest c (ok.within i n c is))
   ]
 
 -- ---- forests
@@ -157,20 +154,20 @@ opened_then honest table a b c k l m first second = record {
 
 -- one tree more, from the slot of a folder
 pub opened_one : (honest : Type 0) (table : Table) (slots new : Slots) (bound more : ℕ) → IsForest slots bound → more ≡ suc bound
-    → (j : ℕ) (name : Bytes) (s t : Slot) → j < bound → slots j name ≡ Some s → s.child ≡ None → IsFolder (leaf_in s)
+    → (j : ℕ) (name : Bytes) (s t : Slot) → j < bound → slots j name ≡ Some s → IsUnopened s
     → (honest → (items : List Item) × ((m : Bytes) → StandsFor (new bound m) (named m items)) × ((trees : Trees) → HasStored table trees → trees (leaf_in s).id ≡ Some items))
     → new j name ≡ Some t → child_of (Some t) ≡ Some bound → ((m : Bytes) → child_of (new bound m) ≡ None)
     → ((i : ℕ) (m : Bytes) → i < bound → ((i ≡ j) → (m ≡ name) → ⊥) → new i m ≡ slots i m)
     → ((i : ℕ) (m : Bytes) → bound < i → new i m ≡ None)
     → ((i : ℕ) (m : Bytes) → bound ≤ i → slots i m ≡ None)
     → IsOpened honest table slots new bound more
-opened_one honest table slots new bound more ok next j name s t lt stood closed folder loaded stands linked fresh agree past empty = record {
+opened_one honest table slots new bound more ok next j name s t lt stood folder loaded stands linked fresh agree past empty = record {
   longer = omega arith;
   forest = subst (IsForest new) (sym next) (linked_more slots new (suc bound) wider j name bound lt (omega arith) free split);
   links = kept;
   files = λ h trees has q i less.
       let tree = loaded h in
-      opens trees slots new bound ok j name s t tree.0 stood closed folder (tree.2 trees has) stands linked tree.1 agree q i less;
+      opens trees slots new bound ok j name s t tree.0 stood folder (tree.2 trees has) stands linked tree.1 agree q i less;
 }
   where
     wider : IsForest slots (suc bound)
@@ -186,7 +183,7 @@ opened_one honest table slots new bound more ok next j name s t lt stood closed 
     ]
 
     closed_child : child_of (slots j name) ≡ None
-    closed_child = ap child_of stood ∙ ap (λ o. child_or o (λ c. Some c) None) closed
+    closed_child = ap child_of stood ∙ ap (λ o. child_or o (λ c. Some c) None) folder.closed
 
     kept : (i : ℕ) (m : Bytes) (c : ℕ) → child_of (slots i m) ≡ Some c → child_of (new i m) ≡ Some c
     kept i m c e = elim (at_or_off i j m name) [

@@ -90,27 +90,27 @@ at_end (k ∷ nodes) n m = at_end nodes n m
 pub back : (n : ℕ) (xs ys : List Node) → n ≡ length xs → take n (xs ++ ys) ≡ xs
 back n xs ys e = ap (λ k. take k (xs ++ ys)) e ∙ take-append_seam xs ys
 
+taken : (ns : List Node) (k i : ℕ) (m : Bytes) → i < k → slots_of (take k ns) i m ≡ slots_of ns i m
+taken [] zero i m lt = refl
+taken [] (suc k) i m lt = refl
+taken (x ∷ ns) zero i m lt = absurd (omega arith)
+taken (x ∷ ns) (suc k) zero m lt = refl
+taken (x ∷ ns) (suc k) (suc i) m lt = let less : i < k = omega arith in taken ns k i m less
+
+-- the nodes at the front alone are as they were where each of them is
+pub cut_back : (old now : List Node) (k : ℕ) → k ≡ length old → ((i : ℕ) (m : Bytes) → i < length old → slots_of now i m ≡ slots_of old i m)
+    → (i : ℕ) (m : Bytes) → slots_of (take k now) i m ≡ slots_of old i m
+cut_back old now k e same i m = elim (cases_lt i (length old)) [
+  | inl lt ↦ let less : i < k = omega arith in taken now k i m less ∙ same i m lt
+  | inr le ↦
+      let past : length (take k now) ≤ i = omega (arith, length-take k now) in
+      none_past (take k now) i m past ∙ sym (none_past old i m le)
+]
+
 -- nodes without the last are as before it was pushed
 pub without_last : (old now : List Node) (n : Node) (k : ℕ) → k ≡ length old → length now ≡ suc (length old) → ((i : ℕ) (m : Bytes) → slots_of now i m ≡ slots_of (old ++ n ∷ []) i m)
     → (i : ℕ) (m : Bytes) → slots_of (take k now) i m ≡ slots_of old i m
-without_last old now n k e len same i m = elim (cases_lt i (length old)) [
-  | inl lt ↦
-      let less : i < k = omega arith in
-      taken now k i m less ∙ same i m ∙ front_kept old (n ∷ []) i m lt
-  | inr le ↦
-      let past : length (take k now) ≤ i = taken_length now k i (omega arith) in
-      none_past (take k now) i m past ∙ sym (none_past old i m le)
-]
-  where
-    taken : (ns : List Node) (k i : ℕ) (m : Bytes) → i < k → slots_of (take k ns) i m ≡ slots_of ns i m
-    taken [] zero i m lt = refl
-    taken [] (suc k) i m lt = refl
-    taken (x ∷ ns) zero i m lt = absurd (omega arith)
-    taken (x ∷ ns) (suc k) zero m lt = refl
-    taken (x ∷ ns) (suc k) (suc i) m lt = let less : i < k = omega arith in taken ns k i m less
-
-    taken_length : (ns : List Node) (k i : ℕ) → k ≤ i → length (take k ns) ≤ i
-    taken_length ns k i le = omega (arith, length-take k ns)
+without_last old now n k e len same i m = cut_back old now k e (λ j name lt. same j name ∙ front_kept old (n ∷ []) j name lt) i m
 
 -- a change that failed left each slot
 pub all_slots : (old new : List Node) (at : ℕ) (name : Bytes) → slots_of new at name ≡ slots_of old at name → ((i : ℕ) (m : Bytes) → ((i ≡ at) → (m ≡ name) → ⊥) → slots_of new i m ≡ slots_of old i m)

@@ -1,13 +1,16 @@
 -- An editor as its files.
-use Rattle.std.specs.Prelude.{ℕ, List, map, ⊤}
+use Rattle.std.specs.Prelude.{ℕ, ◌≡◌, false, List, [], ◌∷◌, ◌++◌, map, Option, Some, None, IsTrue, ⊤}
 use Rattle.std.specs.Borrow.{Bor}
-use Rattle.gix_hash.specs.Id.{Id}
+use Rattle.gix_hash.specs.Id.{Id, id_of}
+use Rattle.gix_hash.specs.declared.object_id.ObjectId.{ObjectId}
+use Rattle.gix_object_entries.specs.Mode.{kind_value, is_tree_value}
+use Rattle.gix_object_entries.specs.declared.tree.mode.EntryKind.{EntryKind}
 use Rattle.gix_object_find.specs.Table.{Table}
 use Rattle.gix_object_editor.specs.declared.tree.editor.state.Editor.{Editor}
 use Rattle.gix_object_editor.specs.declared.tree.editor.error.Error.{Error}
 use Rattle.gix_object_editor.specs.declared.tree.editor.error.Error.TheVariants.{EmptyPathComponent, FindExistingObject, CannotRemoveNonLeaf, MalformedTree, Memory}
-use Rattle.gix_object_editor.specs.Files.{Path, FileMap, Trees, NamesAreFull}
-use Rattle.gix_object_editor.specs.Nodes.{slots_of, files_of_node}
+use Rattle.gix_object_editor.specs.Files.{Bytes, Path, Leaf, FileMap, Trees, NamesAreFull}
+use Rattle.gix_object_editor.specs.Nodes.{slots_of, files_of_node, AreFilled}
 use Rattle.gix_object_editor.specs.Refusals.{OpeningFault}
 
 -- the files of the edited root, over a table of trees
@@ -17,10 +20,43 @@ files_of trees editor = files_of_node trees (slots_of editor.nodes.items) 0
 abbrev pub names_of : List (Bor (List ℕ)) → Path
 names_of path = map (λ name. name.now) path
 
--- why an edit at a path is refused
-abbrev pub EditFault : Type 0 → Type 0 → Table → Path → Error → Type 0
-EditFault honest may_fail table path EmptyPathComponent = NamesAreFull path → ⊥
-EditFault honest may_fail table path (FindExistingObject error) = (id : Id) × OpeningFault honest may_fail table id (FindExistingObject error)
-EditFault honest may_fail table path (CannotRemoveNonLeaf filename) = ⊥
-EditFault honest may_fail table path (MalformedTree oid) = (id : Id) × OpeningFault honest may_fail table id (MalformedTree oid)
-EditFault honest may_fail table path Memory = ⊤
+-- what an entry of this kind and id is
+abbrev pub leaf_of_kind : EntryKind → ObjectId → Leaf
+leaf_of_kind kind id = record { mode = record { value = kind_value kind; padded = false }; id = id_of id }
+
+abbrev pub IsTreeNamed : Id → Option Leaf → Type 0
+IsTreeNamed id None = ⊥
+IsTreeNamed id (Some leaf) = (leaf.id ≡ id) × IsTrue (is_tree_value leaf.mode.value)
+
+-- the path leads through the tree of this id: without that tree, its entry stands at a beginning of the path
+abbrev pub LeadsThrough : (Trees → FileMap) → Path → Id → Type 0
+LeadsThrough files path id =
+    (front : Path) × (name : Bytes) × (rest : Path) × (front ++ name ∷ rest ≡ path) × ((trees : Trees) → trees id ≡ None → IsTreeNamed id (files trees front))
+
+-- the same, or the tree stands at the path's end
+abbrev pub LeadsInto : (Trees → FileMap) → Path → Id → Type 0
+LeadsInto files path id = (front : Path) × (rest : Path) × (front ++ rest ≡ path) × ((trees : Trees) → trees id ≡ None → IsTreeNamed id (files trees front))
+
+-- why an edit at a path is refused: a tree is told that the path leads through
+abbrev pub EditFault : Type 0 → Type 0 → Table → Path → (Id → Type 0) → Error → Type 0
+EditFault honest may_fail table path Through EmptyPathComponent = NamesAreFull path → ⊥
+EditFault honest may_fail table path Through (FindExistingObject error) = (id : Id) × Through id × OpeningFault honest may_fail table id (FindExistingObject error)
+EditFault honest may_fail table path Through (CannotRemoveNonLeaf filename) = ⊥
+EditFault honest may_fail table path Through (MalformedTree oid) = (id : Id) × Through id × OpeningFault honest may_fail table id (MalformedTree oid)
+EditFault honest may_fail table path Through Memory = ⊤
+
+-- each entry of an editor that isn't null has a file: none names a tree without files
+abbrev pub IsFilled : {S : Type 0} → Trees → Editor S → Type 0
+IsFilled trees editor = AreFilled trees (slots_of editor.nodes.items)
+
+-- a folder stands at the path: each table of trees, where no entry names a tree without files, has a file below it
+abbrev pub IsFolder : (Trees → Type 0) → (Trees → FileMap) → Path → Type 0
+IsFolder Fit files path = (trees : Trees) → Fit trees → (name : Bytes) × (rest : Path) × (file : Leaf) × (files trees (path ++ name ∷ rest) ≡ Some file)
+
+-- why a file isn't removed
+abbrev pub LeafFault : Type 0 → Type 0 → Table → Path → (Id → Type 0) → Type 0 → Error → Type 0
+LeafFault honest may_fail table path Into Folder EmptyPathComponent = NamesAreFull path → ⊥
+LeafFault honest may_fail table path Into Folder (FindExistingObject error) = (id : Id) × Into id × OpeningFault honest may_fail table id (FindExistingObject error)
+LeafFault honest may_fail table path Into Folder (CannotRemoveNonLeaf filename) = ((front : Path) × (path ≡ front ++ filename ∷ [])) × Folder
+LeafFault honest may_fail table path Into Folder (MalformedTree oid) = (id : Id) × Into id × OpeningFault honest may_fail table id (MalformedTree oid)
+LeafFault honest may_fail table path Into Folder Memory = ⊤

@@ -1,7 +1,7 @@
 -- The files that a tree unfolds to, as a map from paths to mode and id, and edits of it (Git's glossary, "tree object"; Pro Git,
 -- "Tree Objects"). Trees are followed in a table of trees by their ids. Each path is followed to its own end, so that a cycle of
 -- trees does no harm.
-use Rattle.std.specs.Prelude.{ℕ, ◌≡◌, ◌≢◌, Bool, List, [], ◌∷◌, Option, Some, None, is_some, bytes_eq, if◌then◌else◌}
+use Rattle.std.specs.Prelude.{ℕ, ◌≡◌, ◌≢◌, Bool, List, [], ◌∷◌, ◌++◌, Option, Some, None, is_some, bytes_eq, if◌then◌else◌}
 use Rattle.std.specs.List.{All}
 use Rattle.gix_hash.specs.Id.{Id, null_id}
 use Rattle.gix_hash.specs.Order.{id_eq}
@@ -74,6 +74,10 @@ abbrev pub files_of_tree : Trees → List Item → FileMap
 files_of_tree trees items [] = None
 files_of_tree trees items (name ∷ rest) = through (named name items) (λ item. files_of_entry trees rest (leaf_of item))
 
+-- the entry has a file: itself, or one below it
+abbrev pub HasFile : Trees → Leaf → Type 0
+HasFile trees leaf = (rest : Path) × (file : Leaf) × (files_of_entry trees rest leaf ≡ Some file)
+
 -- ---- edits
 
 -- what follows the first path in the second, where it begins it
@@ -97,6 +101,10 @@ put trees p leaf files q = put_at trees leaf (behind p q) (if is_some (behind q 
 
 abbrev pub SameFiles : FileMap → FileMap → Type 0
 SameFiles a b = (q : Path) → a q ≡ b q
+
+-- no file stands below the path
+abbrev pub HasNoneBelow : Path → FileMap → Type 0
+HasNoneBelow p files = (name : Bytes) (rest : Path) → files (p ++ name ∷ rest) ≡ None
 
 -- a path has a name, and none of its names is empty
 abbrev pub NamesAreFull : Path → Type 0

@@ -1,5 +1,5 @@
 -- Opened trees as numbered nodes, and the files that they stand for.
-use Rattle.std.specs.Prelude.{ℕ, zero, suc, ◌≡◌, ◌≢◌, ◌<◌, ◌≤◌, List, [], ◌∷◌, Option, Some, None, Vec, ⊤}
+use Rattle.std.specs.Prelude.{ℕ, zero, suc, ◌≡◌, ◌≢◌, ◌<◌, ◌≤◌, ◌+◌, length, slice_index_or, List, [], ◌∷◌, Option, Some, None, Vec, ⊤, true, false}
 use Rattle.std.specs.Map.{lookup}
 use Rattle.std.specs.BTreeMap.{is_at}
 use Rattle.std.specs.Cmp.Lexicographic.{slice_cmp}
@@ -10,11 +10,12 @@ use Rattle.gix_object_lines.specs.declared.kind.Kind.TheVariants as kinds
 use Rattle.gix_object_find.specs.Table.{Table}
 use Rattle.gix_object_find.specs.Existing.{Stands}
 use Rattle.gix_object_entries.specs.Entry.{Item, SpellsTree}
+use Rattle.gix_object_entries.specs.Mode.{is_tree_value}
 use Rattle.gix_object_entries.specs.ModeText.{mode_of}
 use Rattle.gix_object_editor.specs.declared.tree.editor.node.Node.{Node}
 use Rattle.gix_object_editor.specs.declared.tree.editor.node.NodeId.{NodeId}
 use Rattle.gix_object_editor.specs.declared.tree.editor.node.Slot.{Slot}
-use Rattle.gix_object_editor.specs.Files.{Bytes, Path, Leaf, FileMap, Trees, through, files_of_entry, leaf_of, HasStored, named}
+use Rattle.gix_object_editor.specs.Files.{Bytes, Path, Leaf, FileMap, Trees, is_null, through, files_of_entry, leaf_of, HasFile, HasStored, named}
 
 abbrev pub Key : Type 0
 Key = Vec ℕ Global
@@ -49,6 +50,13 @@ files_of_slot trees slots (name ∷ rest) s =
 abbrev pub files_of_node : Trees → Slots → ℕ → FileMap
 files_of_node trees slots i [] = None
 files_of_node trees slots i (name ∷ rest) = through (slots i name) (files_of_slot trees slots rest)
+
+-- each entry that isn't null has a file, where no tree was opened for it
+abbrev pub AreFilled : Trees → Slots → Type 0
+AreFilled trees slots = (i : ℕ) (m : Bytes) (s : Slot) → slots i m ≡ Some s → s.child ≡ None → is_null (id_of s.oid) ≡ false → HasFile trees (leaf_in s)
+
+abbrev pub HasFileBelow : Trees → Slots → ℕ → Type 0
+HasFileBelow trees slots i = (m : Bytes) × (rest : Path) × (file : Leaf) × (files_of_node trees slots i (m ∷ rest) ≡ Some file)
 
 -- an unopened slot stands for an entry, or none for none
 abbrev pub StandsFor : Option Slot → Option Item → Type 0
@@ -100,6 +108,24 @@ abbrev pub IsFolderAt : Slots → ℕ → Bytes → Option NodeId → Type 0
 IsFolderAt slots at name (Some c) = child_of (slots at name) ≡ Some c.0
 IsFolderAt slots at name None = (trees : Trees) (m : Bytes) (rest : Path) → through (slots at name) (files_of_slot trees slots (m ∷ rest)) ≡ None
 
+-- a tree's entry that no tree was opened for
+pub record IsUnopened (s : Slot) : Type 0 where
+  pub closed : s.child ≡ None
+  pub is_tree : is_tree_value s.mode.value ≡ true
+  pub isnt_null : is_null (id_of s.oid) ≡ false
+
+-- the path leads through the unopened tree of this id, and on
+pub record IsStoppedAt (slots : Slots) (path : Path) (id : Id) : Type 0 where
+  pub at : ℕ
+  pub name : Bytes
+  pub next : Bytes
+  pub rest : Path
+  pub slot : Slot
+  pub leads : LeadsTo slots path at (name ∷ next ∷ rest)
+  pub stands : slots at name ≡ Some slot
+  pub unopened : IsUnopened slot
+  pub id_is : id_of slot.oid ≡ id
+
 -- some trees were opened, and no file changed
 pub record IsOpened (honest : Type 0) (table : Table) (old new : Slots) (bound more : ℕ) : Type 0 where
   pub longer : bound ≤ more
@@ -107,15 +133,28 @@ pub record IsOpened (honest : Type 0) (table : Table) (old new : Slots) (bound m
   pub links : (i : ℕ) (m : Bytes) (c : ℕ) → child_of (old i m) ≡ Some c → child_of (new i m) ≡ Some c
   pub files : honest → (trees : Trees) → HasStored table trees → (q : Path) (i : ℕ) → i < bound → files_of_node trees new i q ≡ files_of_node trees old i q
 
--- ---- trees of one entry each
+-- ---- trees with one slot each
 
 -- the node has this slot alone
 abbrev pub IsOnly : Slots → ℕ → Bytes → Slot → Type 0
 IsOnly slots n name s = (slots n name ≡ Some s) × ((m : Bytes) → m ≢ name → slots n m ≡ None)
 
--- nodes one below the other, each with one of the names, and the last with the slot
-abbrev pub IsChain : Slots → ℕ → Path → Slot → Type 0
-IsChain slots n [] s = ⊤
-IsChain slots n (name ∷ []) s = IsOnly slots n name s
-IsChain slots n (name ∷ next ∷ rest) s =
-    (folder : Slot) × IsOnly slots n name folder × (child_of (Some folder) ≡ Some (suc n)) × IsChain slots (suc n) (next ∷ rest) s
+-- of nodes one behind the other, each with the slot of one name alone, this one: it leads to the next node, or is the last's
+pub record IsRung (slots : Slots) (first : ℕ) (names : Path) (last : Slot) (k : ℕ) : Type 0 where
+  pub slot : Slot
+  pub only : IsOnly slots (first + k) (slice_index_or names k []) slot
+  pub leads : suc k < length names → child_of (Some slot) ≡ Some (suc (first + k))
+  pub ends : suc k ≡ length names → slot ≡ last
+
+-- ---- entries of opened trees
+
+-- the entry that a slot of this name is
+abbrev pub entry_in : Bytes → Option Slot → Option Item
+entry_in name None = None
+entry_in name (Some s) = Some (record { mode = mode_of s.mode; name = name; id = id_of s.oid })
+
+-- the entry at a path's end, where opened trees lead there
+abbrev pub entry_at : Slots → ℕ → Path → Option Item
+entry_at slots i [] = None
+entry_at slots i (name ∷ []) = entry_in name (slots i name)
+entry_at slots i (name ∷ next ∷ rest) = through (child_of (slots i name)) (λ c. entry_at slots c (next ∷ rest))

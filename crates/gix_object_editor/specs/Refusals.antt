@@ -1,5 +1,5 @@
 -- Why an edit is refused.
-use Rattle.std.specs.Prelude.{ℕ, ◌≡◌, ⊤, List}
+use Rattle.std.specs.Prelude.{ℕ, ◌≡◌, ⊤, List, ◌∷◌, Some}
 use Rattle.gix_hash.specs.Id.{Id, id_of}
 use Rattle.gix_object_lines.specs.declared.kind.Kind.TheVariants as kinds
 use Rattle.gix_object_entries.specs.Entry.{Item, SpellsTree}
@@ -8,7 +8,10 @@ use Rattle.gix_object_find.specs.Existing.{Stands, LookupFault, IsAbsent, HasOth
 use Rattle.gix_object_find.specs.declared.find.existing_object.Error as existing
 use Rattle.gix_object_find.specs.declared.find.existing_object.Error.TheVariants as existing_case
 use Rattle.gix_object_entries.specs.Entry.{TreeFault}
-use Rattle.gix_object_editor.specs.WellFormed.{IsWellFormed}
+use Rattle.gix_object_entries.specs.WellFormed.{IsWellFormed}
+use Rattle.gix_object_editor.specs.Files.{Bytes, Path, Leaf, Trees}
+use Rattle.gix_object_editor.specs.Nodes.{Slots, files_of_node, AreFilled, IsUnopened}
+use Rattle.gix_object_editor.specs.declared.tree.editor.node.Slot.{Slot}
 use Rattle.gix_object_editor.specs.declared.tree.editor.error.Error.{Error}
 use Rattle.gix_object_editor.specs.declared.tree.editor.error.Error.TheVariants.{EmptyPathComponent, FindExistingObject, CannotRemoveNonLeaf, MalformedTree, Memory}
 
@@ -40,3 +43,16 @@ BuildingFault id items (FindExistingObject error) = ⊥
 BuildingFault id items (CannotRemoveNonLeaf filename) = ⊥
 BuildingFault id items (MalformedTree oid) = (id_of oid ≡ id) × ¬ IsWellFormed items
 BuildingFault id items Memory = ⊤
+
+-- why a name's folder is refused as a file: its tree isn't opened, or a file stands below it, where no entry names a tree without
+-- files
+abbrev pub FolderFault : Type 0 → Type 0 → Table → Slots → ℕ → Bytes → Error → Type 0
+FolderFault honest may_fail table slots at name EmptyPathComponent = ⊥
+FolderFault honest may_fail table slots at name (FindExistingObject error) =
+    (s : Slot) × (slots at name ≡ Some s) × IsUnopened s × OpeningFault honest may_fail table (id_of s.oid) (FindExistingObject error)
+FolderFault honest may_fail table slots at name (CannotRemoveNonLeaf filename) =
+    (filename ≡ name) × ((trees : Trees) → AreFilled trees slots
+    → (m : Bytes) × (rest : Path) × (file : Leaf) × (files_of_node trees slots at (name ∷ m ∷ rest) ≡ Some file))
+FolderFault honest may_fail table slots at name (MalformedTree oid) =
+    (s : Slot) × (slots at name ≡ Some s) × IsUnopened s × OpeningFault honest may_fail table (id_of s.oid) (MalformedTree oid)
+FolderFault honest may_fail table slots at name Memory = ⊤

@@ -1,30 +1,39 @@
 //! Edits of a tree and the trees below it.
 
-ghost use Rattle.std.specs.Prelude.{◌≡◌, ◌≤◌, ◌+◌, length, map, IfOk, IfErr, OnOk, OnErr, IsFalse, IsTrue};
-ghost use Rattle.gix_hash.specs.Id.{Id};
-ghost use Rattle.gix_object_entries.specs.Entry.{own_item};
-ghost use Rattle.gix_object_editor.specs.Files.{Path, Trees, HasStored, SameFiles, NamesAreFull, removed, files_of_tree};
-ghost use Rattle.gix_object_editor.specs.Editor.{files_of, names_of, EditFault};
-ghost use Rattle.gix_object_editor.specs.declared.tree.editor.error.Error.TheVariants.{EmptyPathComponent};
-ghost use Rattle.gix_object_editor.specs.WellFormed.{IsWellFormed};
+ghost use Rattle.std.specs.Prelude.{◌≡◌, ◌≤◌, ◌+◌, length, map, option_map, IfOk, IfErr, OnOk, OnErr, IsFalse, IsTrue};
+ghost use Rattle.std.specs.Borrow.{sem};
+ghost use Rattle.gix_object_entries.specs.Entry.{item_of, own_item};
+ghost use Rattle.gix_object_editor.specs.Files.{Path, Trees, HasStored, SameFiles, NamesAreFull, HasNoneBelow, removed, put, files_of_tree};
+ghost use Rattle.gix_object_editor.specs.Nodes.{slots_of, entry_at};
+ghost use Rattle.gix_object_editor.specs.Editor.{files_of, names_of, leaf_of_kind, LeadsThrough, LeadsInto, EditFault, LeafFault, IsFilled, IsFolder};
+ghost use Rattle.gix_object_entries.specs.WellFormed.{IsWellFormed};
 
+mod edits;
+mod entry;
 mod error;
+mod filled;
 mod forest;
+mod graft;
 mod load;
 mod node;
 mod root;
 mod state;
+pub mod write;
 
-use crate::tree::editor::forest::walk;
-use crate::tree::editor::node::take_at;
+use crate::tree::editor::entry::entry_from;
+use crate::tree::editor::node::NodeId;
 use crate::tree::editor::root::opened_root;
 pub use error::Error;
+use gix_hash::ObjectId;
 use gix_object_entries::Tree;
+use gix_object_entries::tree::{EntryKind, EntryRef};
 use gix_object_find::Find;
 pub use state::Editor;
 use std::alloc::{AllocError, Global};
 
 impl<S: Find> Editor<S> {
+    ghost use Rattle.gix_object_editor.specs.Lending.{LendsStore};
+
     /// An editor of this tree, whose subtrees are looked up in the store. The tree is well-formed.
     pub fn new(alloc: Global, root: &Tree, store: S) -> Result<Editor<S>, AllocError>
     where
@@ -55,11 +64,27 @@ impl<S: Find> Editor<S> {
         Ok(())
     }
 
+    /// Lends the store.
+    pub fn store_mut(&mut self) -> &mut S
+        ensures* lends { sem 𝓛 (LendsStore S.row self.entry result) }
+        ensures value { result.now ≡ self.old.store }
+    {
+        &mut self.store
+    }
+
     /// How many trees were asked of the store since the root was set.
     pub fn lookups(&self) -> u64
         ensures { result ≡ self.now.lookups }
     {
         self.lookups
+    }
+
+    /// The entry at the path, as far as edits opened trees: `None` where none stands there, or where a tree above it isn't opened.
+    /// The id of a tree is the one that it had before edits below it, the null id where it was made for them.
+    pub fn get<'a>(&'a self, path: &[&'a [u8]]) -> Option<EntryRef<'a>>
+        ensures { option_map item_of result ≡ entry_at (slots_of self.now.nodes.items) 0 (names_of path.now) }
+    {
+        entry_from(self.nodes.as_slice(), NodeId(0), path)
     }
 
     /// Takes out what stands at or below the path, if anything does.
@@ -71,31 +96,56 @@ impl<S: Find> Editor<S> {
             → SameFiles (files_of trees self.new) (removed (names_of path.now) (files_of trees self.old))) }
         ensures unchanged { S.is_honest self.old.store → OnErr result ((trees : Trees) → HasStored (S.table self.old.store) trees
             → SameFiles (files_of trees self.new) (files_of trees self.old)) }
-        ensures refused { IfErr result (EditFault (S.is_honest self.old.store) (S.may_fail self.old.store) (S.table self.old.store) (names_of path.now)) }
+        ensures named { OnOk result (NamesAreFull (names_of path.now)) }
+        ensures refused { IfErr result (EditFault (S.is_honest self.old.store) (S.may_fail self.old.store) (S.table self.old.store) (names_of path.now)
+            (LeadsThrough (λ trees. files_of trees self.new) (names_of path.now))) }
         ensures counted { self.new.lookups ≤ self.old.lookups + length path.now }
         ensures store { self.new.store ≡ self.old.store }
     {
-        check_names(path)?;
-        let (at, depth) = walk(&self.store, &mut self.nodes, &mut self.lookups, alloc, path)?;
-        if depth + 1 == path.len() {
-            take_at(self.nodes.as_mut_slice(), at, path[depth]);
-        }
-        Ok(())
+        self.remove_from(alloc, NodeId(0), path)
     }
-}
 
-// Refuses a path without a name, or with an empty one.
-fn check_names(path: &[&[u8]]) -> Result<(), Error>
-    ensures ok { OnOk result (NamesAreFull (names_of path.now)) }
-    ensures refused { IfErr result (λ error. (error ≡ EmptyPathComponent) × (NamesAreFull (names_of path.now) → ⊥)) }
-{
-    if path.is_empty() {
-        return Err(Error::EmptyPathComponent);
+    /// Takes out the file at the path, if one stands there.
+    ///
+    /// It is refused as `remove` is, of the trees on the path and of a folder at its end, and `CannotRemoveNonLeaf` with the last
+    /// name where a file stands below the path.
+    pub fn remove_leaf(&mut self, alloc: Global, path: &[&[u8]]) -> Result<(), Error>
+        ensures removed { S.is_honest self.old.store → OnOk result ((trees : Trees) → HasStored (S.table self.old.store) trees
+            → SameFiles (files_of trees self.new) (removed (names_of path.now) (files_of trees self.old))) }
+        ensures leaf { S.is_honest self.old.store → OnOk result ((trees : Trees) → HasStored (S.table self.old.store) trees
+            → HasNoneBelow (names_of path.now) (files_of trees self.old)) }
+        ensures unchanged { S.is_honest self.old.store → OnErr result ((trees : Trees) → HasStored (S.table self.old.store) trees
+            → SameFiles (files_of trees self.new) (files_of trees self.old)) }
+        ensures named { OnOk result (NamesAreFull (names_of path.now)) }
+        ensures refused { IfErr result (LeafFault (S.is_honest self.old.store) (S.may_fail self.old.store) (S.table self.old.store) (names_of path.now)
+            (LeadsInto (λ trees. files_of trees self.new) (names_of path.now)) (IsFolder (λ trees. IsFilled trees self.new) (λ trees. files_of trees self.new) (names_of path.now))) }
+        ensures counted { self.new.lookups ≤ self.old.lookups + length path.now }
+        ensures store { self.new.store ≡ self.old.store }
+    {
+        self.remove_leaf_from(alloc, NodeId(0), path)
     }
-    for name in path {
-        if name.is_empty() {
-            return Err(Error::EmptyPathComponent);
-        }
+
+    /// Puts an entry of this kind and id at the path, in folders that are made for it: a file, or a tree with its files. All that
+    /// stands at or below the path goes, and each file above it. With the null id an entry has no file.
+    ///
+    /// It is refused as `remove` is.
+    pub fn upsert(
+        &mut self,
+        alloc: Global,
+        path: &[&[u8]],
+        kind: EntryKind,
+        id: ObjectId,
+    ) -> Result<(), Error>
+        ensures put { S.is_honest self.old.store → OnOk result ((trees : Trees) → HasStored (S.table self.old.store) trees
+            → SameFiles (files_of trees self.new) (put trees (names_of path.now) (leaf_of_kind kind id) (files_of trees self.old))) }
+        ensures unchanged { S.is_honest self.old.store → OnErr result ((trees : Trees) → HasStored (S.table self.old.store) trees
+            → SameFiles (files_of trees self.new) (files_of trees self.old)) }
+        ensures named { OnOk result (NamesAreFull (names_of path.now)) }
+        ensures refused { IfErr result (EditFault (S.is_honest self.old.store) (S.may_fail self.old.store) (S.table self.old.store) (names_of path.now)
+            (LeadsThrough (λ trees. files_of trees self.new) (names_of path.now))) }
+        ensures counted { self.new.lookups ≤ self.old.lookups + length path.now }
+        ensures store { self.new.store ≡ self.old.store }
+    {
+        self.upsert_from(alloc, NodeId(0), path, kind, id)
     }
-    Ok(())
 }

@@ -1,10 +1,11 @@
 //! Walking down opened trees, and opening more of them.
 
 ghost use Rattle.std.specs.Prelude.{◌≡◌, ◌<◌, ◌≤◌, ◌+◌, ℕ, length, map, drop, slice_index_or, if◌then◌else◌, is_ok, IfOk, IfErr, OnOk, OnErr, Some, None, []};
-ghost use Rattle.gix_hash.specs.Id.{Id};
-ghost use Rattle.gix_object_editor.specs.Files.{Bytes};
-ghost use Rattle.gix_object_editor.specs.Nodes.{slot_in, slots_of, child_of, IsForest, IsOpened, IsFolderAt, LeadsTo};
+ghost use Rattle.gix_hash.specs.Id.{Id, id_of};
+ghost use Rattle.gix_object_editor.specs.Files.{Bytes, Path};
+ghost use Rattle.gix_object_editor.specs.Nodes.{slot_in, slots_of, child_of, IsForest, IsOpened, IsFolderAt, IsUnopened, IsStoppedAt, Way, onto, LeadsTo};
 ghost use Rattle.gix_object_editor.specs.Refusals.{OpeningFault};
+ghost use Rattle.gix_object_editor.specs.declared.tree.editor.node.Slot.{Slot};
 
 use crate::tree::editor::Error;
 use crate::tree::editor::load::load;
@@ -59,7 +60,8 @@ pub(crate) fn open<S: Find>(
     ensures opened { IsOpened (S.is_honest store.now) (S.table store.now) (slots_of nodes.old.items) (slots_of nodes.new.items) (length nodes.old.items) (length nodes.new.items) }
     ensures found { IfOk result (IsFolderAt (slots_of nodes.new.items) at.0 name.now) }
     ensures counted { lookups.new ≤ lookups.old + 1 }
-    ensures refused { IfErr result (λ error. (id : Id) × OpeningFault (S.is_honest store.now) (S.may_fail store.now) (S.table store.now) id error) }
+    ensures refused { IfErr result (λ error. (s : Slot) × (slots_of nodes.new.items at.0 name.now ≡ Some s) × IsUnopened s
+        × OpeningFault (S.is_honest store.now) (S.may_fail store.now) (S.table store.now) (id_of s.oid) error) }
 {
     let Some(slot) = slot_at(nodes.as_slice(), at, name) else {
         return Ok(None);
@@ -75,25 +77,29 @@ pub(crate) fn open<S: Find>(
     Ok(Some(attach(nodes, alloc, at, name, slot, tree)?))
 }
 
-/// The opened tree in which a path's walk down ends, and how many names lead there. What is left is one name alone, or begins
+/// The opened tree in which a path's walk down from one ends, and how many names lead there. What is left is one name alone, or begins
 /// with that of no folder.
 pub(crate) fn walk<S: Find>(
     store: &S,
     nodes: &mut Vec<Node>,
     lookups: &mut u64,
     alloc: Global,
+    from: NodeId,
     path: &[&[u8]],
 ) -> Result<(NodeId, usize), Error>
     requires forest { IsForest (slots_of nodes.old.items) (length nodes.old.items) }
+    requires within { from.0 < length nodes.old.items }
     requires named { 0 < length path.now }
     ensures opened { IsOpened (S.is_honest store.now) (S.table store.now) (slots_of nodes.old.items) (slots_of nodes.new.items) (length nodes.old.items) (length nodes.new.items) }
     ensures within { IfOk result (λ end. (end.0.0 < length nodes.new.items) × (end.1 < length path.now)) }
-    ensures leads { IfOk result (λ end. LeadsTo (slots_of nodes.new.items) (map (λ n. n.now) path.now) end.0.0 (map (λ n. n.now) (drop end.1 path.now))) }
+    ensures leads { IfOk result (λ end. (way : Path) → Way (slots_of nodes.old.items) way from.0
+        → LeadsTo (slots_of nodes.new.items) (onto way (map (λ n. n.now) path.now)) end.0.0 (map (λ n. n.now) (drop end.1 path.now))) }
     ensures stopped { IfOk result (λ end. end.1 + 1 < length path.now → IsFolderAt (slots_of nodes.new.items) end.0.0 (slice_index_or (map (λ n. n.now) path.now) end.1 []) None) }
-    ensures counted { lookups.new ≤ lookups.old + length path.now }
-    ensures refused { IfErr result (λ error. (id : Id) × OpeningFault (S.is_honest store.now) (S.may_fail store.now) (S.table store.now) id error) }
+    ensures counted { lookups.new + 1 ≤ lookups.old + length path.now }
+    ensures refused { IfErr result (λ error. (id : Id) × ((way : Path) → Way (slots_of nodes.old.items) way from.0 → IsStoppedAt (slots_of nodes.new.items) (onto way (map (λ n. n.now) path.now)) id)
+        × OpeningFault (S.is_honest store.now) (S.may_fail store.now) (S.table store.now) id error) }
 {
-    let mut at = NodeId(0);
+    let mut at = from;
     let mut depth = 0;
     'names: while depth + 1 < path.len() {
         let Some(child) = open(store, nodes, lookups, alloc, at, path[depth])? else {

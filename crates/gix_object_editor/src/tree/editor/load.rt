@@ -1,13 +1,14 @@
 //! Opening stored trees.
 
-ghost use Rattle.std.specs.Prelude.{◌≡◌, ◌<◌, length, map, None, IfOk, IfErr, IsTrue, IsFalse};
+ghost use Rattle.std.specs.Prelude.{◌≡◌, ◌≢◌, ◌<◌, ◌↔◌, [], length, map, None, IfOk, IfErr, IsTrue, IsFalse};
 ghost use Rattle.gix_hash.specs.Id.{id_of};
 ghost use Rattle.gix_object_lines.specs.declared.kind.Kind.TheVariants as kinds;
+ghost use Rattle.gix_object_lines.specs.Bytes.{Lacks};
 ghost use Rattle.gix_object_entries.specs.Entry.{Item, item_of};
+ghost use Rattle.gix_object_entries.specs.WellFormed.{IsWellFormed};
 ghost use Rattle.gix_object_find.specs.Existing.{Stands};
 ghost use Rattle.gix_object_editor.specs.Files.{Bytes, Trees, HasStored, named};
 ghost use Rattle.gix_object_editor.specs.Nodes.{slot_in, StandsFor, OpensTree, IsReadTree, child_of};
-ghost use Rattle.gix_object_editor.specs.WellFormed.{IsWellFormed, is_entry_name};
 ghost use Rattle.gix_object_editor.specs.Refusals.{TreeIsUnread, BuildingFault, OpeningFault};
 
 use crate::tree::editor::Error;
@@ -115,7 +116,7 @@ fn is_in_place(entries: &[EntryRef<'_>], i: usize) -> bool
 
 // Whether an entry may have this name.
 fn is_name(name: &[u8]) -> bool
-    ensures { result ≡ is_entry_name name.now }
+    ensures { IsTrue result ↔ ((name.now ≢ []) × Lacks 47 name.now) }
 {
     !name.is_empty() && !name.contains(&b'/')
 }

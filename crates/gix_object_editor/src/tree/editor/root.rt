@@ -4,7 +4,7 @@ ghost use Rattle.std.specs.Prelude.{◌≡◌, ℕ, [], length, map, IfOk, None}
 ghost use Rattle.gix_object_entries.specs.Entry.{own_item};
 ghost use Rattle.gix_object_editor.specs.Files.{Bytes, Path, Trees, named, files_of_tree};
 ghost use Rattle.gix_object_editor.specs.Nodes.{slot_in, slots_of, files_of_node, StandsFor, IsForest};
-ghost use Rattle.gix_object_editor.specs.WellFormed.{IsWellFormed};
+ghost use Rattle.gix_object_entries.specs.WellFormed.{IsWellFormed};
 
 use crate::tree::editor::node::{Node, Slot};
 use gix_object_entries::Tree;

@@ -5,16 +5,37 @@ use Rattle.gix_hash.specs.Id.{id_of}
 use Rattle.gix_object_entries.specs.Mode.{is_tree_value}
 use Rattle.gix_object_editor.specs.declared.tree.editor.node.Slot.{Slot}
 use Rattle.gix_object_editor.specs.Files.{Bytes, named}
-use Rattle.gix_object_editor.specs.Nodes.{slots_of, slot_in, leaf_in, child_of, StandsFor}
+use Rattle.gix_object_editor.specs.Nodes.{slots_of, slot_in, leaf_in, child_of, StandsFor, IsUnopened}
 use Rattle.gix_object_editor.proofs.Loaded.{not_null, no_child}
-use Rattle.gix_object_editor.proofs.Opening.{IsFolder, opened_one}
+use Rattle.gix_object_editor.proofs.Opening.{opened_one}
 use Rattle.gix_object_editor.proofs.Slots.{none_past}
 use Rattle.gix_object_editor.proofs.tree.editor.forest.open.Goals as goal
 
+pub returns-in_err-tree-clause-refused : goal.returns-in_err-tree-clause-refused
+returns-in_err-tree-clause-refused g c =
+    let s : Slot = c.in-Some.slot in
+    let stood : slots_of c.args.nodes.now.items c.args.at.0 c.args.name.now ≡ Some s = ap (λ ns. slots_of ns c.args.at.0 c.args.name.now) (sym c.as_slice.ensures.value) ∙ sym c.slot_at.ensures ∙ c.in-Some.is in
+    let tree_mode : is_tree_value s.mode.value ≡ true = search rules in
+    let folder : IsUnopened s = record {
+      closed = no_child s.child (sym c.is_some.ensures ∙ c.if-is_some.false);
+      is_tree = tree_mode;
+      isnt_null = not_null (id_of s.oid) c.is_null.result c.is_null.ensures c.if-is_null.false;
+    } in
+    let p = err_from_is_err_and c.from_residual.result c.from_residual.ensures.1 in
+    rw (p.1, p.2) (s, stood, folder, c.in_err-tree.ensures.refused)
+
 pub returns-in_err-attach-clause-refused : goal.returns-in_err-attach-clause-refused
 returns-in_err-attach-clause-refused g c =
+    let s : Slot = c.in-Some.slot in
+    let stood : slots_of c.args.nodes.now.items c.args.at.0 c.args.name.now ≡ Some s = ap (λ ns. slots_of ns c.args.at.0 c.args.name.now) (sym c.as_slice.ensures.value) ∙ sym c.slot_at.ensures ∙ c.in-Some.is in
+    let tree_mode : is_tree_value s.mode.value ≡ true = search rules in
+    let folder : IsUnopened s = record {
+      closed = no_child s.child (sym c.is_some.ensures ∙ c.if-is_some.false);
+      is_tree = tree_mode;
+      isnt_null = not_null (id_of s.oid) c.is_null.result c.is_null.ensures c.if-is_null.false;
+    } in
     let p = err_from_is_err_and c.from_residual-in_err-attach.result c.from_residual-in_err-attach.ensures.1 in
-    rw (p.1, p.2) (id_of c.in-Some.slot.oid, tt)
+    rw (p.1, p.2) (s, c.in_err-attach.ensures.err c.args.at.0 c.args.name.now ∙ stood, folder, tt)
 
 pub returns-clause-opened : goal.returns-clause-opened
 returns-clause-opened g c =
@@ -27,9 +48,9 @@ returns-clause-opened g c =
     let stood : slots_of old c.args.at.0 c.args.name.now ≡ Some s = ap (λ ns. slots_of ns c.args.at.0 c.args.name.now) (sym c.as_slice.ensures.value) ∙ sym c.slot_at.ensures ∙ c.in-Some.is in
     let closed : s.child ≡ None = no_child s.child (sym c.is_some.ensures ∙ c.if-is_some.false) in
     let tree_mode : is_tree_value (leaf_in s).mode.value ≡ true = search rules in
-    let folder : IsFolder (leaf_in s) = record { is_tree = tree_mode; isnt_null = not_null (id_of s.oid) c.is_null.result c.is_null.ensures c.if-is_null.false } in
+    let folder : IsUnopened s = record { closed = closed; is_tree = tree_mode; isnt_null = not_null (id_of s.oid) c.is_null.result c.is_null.ensures c.if-is_null.false } in
     let at : (m : Bytes) → slots_of new (length old) m ≡ slot_in c.in_ok-tree.tree m = c.in_ok-attach.ensures.behind in
-    opened_one _ _ (slots_of old) (slots_of new) (length old) (length new) c.requires.forest next c.args.at.0 c.args.name.now s t c.requires.within stood closed folder
+    opened_one _ _ (slots_of old) (slots_of new) (length old) (length new) c.requires.forest next c.args.at.0 c.args.name.now s t c.requires.within stood folder
     (λ honest. let tree = c.in_ok-tree.ensures.opened honest in (tree.0, λ m. subst (λ o. StandsFor o (named m tree.0)) (sym (at m)) (tree.1 m), tree.2))
     c.in_ok-attach.ensures.here (ap Some c.in_ok-attach.ensures.number) (λ m. ap child_of (at m) ∙ c.in_ok-tree.ensures.fresh m) c.in_ok-attach.ensures.others
     (λ i m lt. let le : length new ≤ i = omega arith in none_past new i m le) (λ i m le. none_past old i m le)

@@ -1,12 +1,17 @@
-use Rattle.std.proofs.Common.{◌<◌, arith, length, drop}
-use Rattle.gix_object_editor.specs.Nodes.{slots_of}
-use Rattle.gix_object_editor.proofs.Opening.{opened_then}
+use Rattle.std.proofs.Common.{ℕ, List, [], ◌∷◌, ◌<◌, ◌∙◌, ap, subst, arith, length, drop, refl}
+use Rattle.std.specs.Borrow.{Bor}
+use Rattle.std.proofs.lemmas.List.{get_or-map}
+use Rattle.std.proofs.lemmas.Result.{err_from_is_err_and}
+use Rattle.gix_hash.specs.Id.{id_of}
+use Rattle.gix_object_editor.specs.Nodes.{slots_of, onto, LeadsTo}
+use Rattle.gix_object_editor.proofs.Opening.{opened_none, opened_then}
+use Rattle.gix_object_editor.proofs.Edits.{two_names}
 use Rattle.gix_object_editor.proofs.Walked.{names, leads_kept, leads_on, folder_found}
 use Rattle.gix_object_editor.proofs.tree.editor.forest.walk.Goals as goal
 
 pub returns-in_default-clause-leads : goal.returns-in_default-clause-leads
-returns-in_default-clause-leads g c =
-    leads_kept (slots_of c.names.nodes.items) (slots_of c.open.new.nodes.items) (names c.args.path.now) c.names.at.0 (names (drop c.names.depth c.args.path.now)) c.in_ok-child.ensures.opened.links c.names.invariant.leads
+returns-in_default-clause-leads g c = λ way w.
+    leads_kept (slots_of c.names.nodes.items) (slots_of c.open.new.nodes.items) (onto way (names c.args.path.now)) c.names.at.0 (names (drop c.names.depth c.args.path.now)) c.in_ok-child.ensures.opened.links (c.names.invariant.leads way w)
 
 pub names-preserved : goal.names-preserved
 names-preserved g c =
@@ -18,6 +23,38 @@ names-preserved g c =
       within = c.in_ok-child.ensures.opened.forest.within c.names.at.0 _ c.in-Some.child.0 found;
       left = omega arith;
       opened = opened_then _ _ (slots_of c.args.nodes.now.items) (slots_of old) (slots_of new) (length c.args.nodes.now.items) (length old) (length new) c.names.invariant.opened c.in_ok-child.ensures.opened;
-      leads = leads_on (slots_of old) (slots_of new) c.args.path.now c.names.at.0 c.names.depth _ c.in-Some.child.0 lt c.in_ok-child.ensures.opened.links found c.names.invariant.leads;
+      leads = λ way w. leads_on (slots_of old) (slots_of new) (onto way (names c.args.path.now)) c.args.path.now c.names.at.0 c.names.depth _ c.in-Some.child.0 lt c.in_ok-child.ensures.opened.links found (c.names.invariant.leads way w);
       counted = let n = c.in_ok-child.ensures.counted in let m = c.names.invariant.counted in omega arith;
     }
+
+pub names-init : goal.names-init
+names-init g c = record {
+  within = c.requires.within;
+  left = c.requires.named;
+  opened = opened_none _ _ (slots_of c.args.nodes.now.items) (length c.args.nodes.now.items) c.requires.forest;
+  leads = λ way w. (way, w, refl);
+  counted = omega arith;
+}
+
+pub returns-in_err-child-clause-refused : goal.returns-in_err-child-clause-refused
+returns-in_err-child-clause-refused g c =
+    let p = err_from_is_err_and c.from_residual.result c.from_residual.ensures.1 in
+    let told = c.in_err-child.ensures.refused in
+    let s = told.0 in
+    let left = two_names c.args.path.now c.names.depth c.names-test.true in
+    rw (p.1, p.2) (
+      id_of s.oid,
+      λ way w. record {
+        at = c.names.at.0;
+        name = _;
+        next = left.0;
+        rest = left.1;
+        slot = s;
+        leads = subst (LeadsTo (slots_of c.«open».new.nodes.items) (onto way (names c.args.path.now)) c.names.at.0) (left.2 ∙ ap (λ n. n ∷ left.0 ∷ left.1) (get_or-map (λ (x : Bor (List ℕ)). x.now) c.args.path.now c.names.depth _ [] (omega arith)))
+            (leads_kept (slots_of c.names.nodes.items) (slots_of c.«open».new.nodes.items) (onto way (names c.args.path.now)) c.names.at.0 (names (drop c.names.depth c.args.path.now)) c.in_err-child.ensures.opened.links (c.names.invariant.leads way w));
+        stands = told.1;
+        unopened = told.2;
+        id_is = refl;
+      },
+      told.3,
+    )

@@ -1,5 +1,6 @@
 use Rattle.std.proofs.Common.{length, ◌-◌, ◌<◌, ◌≤◌, ◌+◌, map, drop}
-use Rattle.gix_object_editor.specs.Nodes.{slots_of, IsOpened, LeadsTo}
+use Rattle.gix_object_editor.specs.Files.{Path}
+use Rattle.gix_object_editor.specs.Nodes.{slots_of, IsOpened, Way, onto, LeadsTo}
 use Rattle.gix_object_editor.proofs.tree.editor.forest.walk.Given as goal
 
 -- the names so far lead down, through trees that were opened
@@ -8,7 +9,7 @@ invariant-names g l = record {
   within : l.at.0 < length l.nodes.items;
   left : l.depth < length l.path;
   opened : IsOpened (g.S.Lookup.is_honest l.store) (g.S.Lookup.table l.store) (slots_of l.initial.nodes.items) (slots_of l.nodes.items) (length l.initial.nodes.items) (length l.nodes.items);
-  leads : LeadsTo (slots_of l.nodes.items) (map (λ n. n.now) l.path) l.at.0 (map (λ n. n.now) (drop l.depth l.path));
+  leads : (way : Path) → Way (slots_of l.initial.nodes.items) way l.fn.from.0 → LeadsTo (slots_of l.nodes.items) (onto way (map (λ n. n.now) l.path)) l.at.0 (map (λ n. n.now) (drop l.depth l.path));
   counted : l.lookups ≤ l.initial.lookups + l.depth;
 }
 

@@ -1,15 +1,16 @@
-use Rattle.std.proofs.Common.{◌≡◌, ◌-◌, suc, arith, false, rules}
+use Rattle.std.proofs.Common.{ℕ, List, [], ◌≢◌, sym, subst, ◌≡◌, ◌-◌, suc, arith, false, rules}
 use Rattle.std.specs.Ordering.{is_lt}
 use Rattle.gix_object_entries.specs.Entry.{item_of}
 use Rattle.gix_object_entries.specs.Order.{name_cmp, is_tree}
-use Rattle.gix_object_editor.specs.WellFormed.{is_entry_name}
+use Rattle.gix_object_lines.specs.Bytes.{Lacks}
+use Rattle.gix_object_editor.proofs.Paths.{not_both}
 use Rattle.gix_object_editor.proofs.Loaded.{name_isnt_one, isnt_behind}
 use Rattle.gix_object_editor.proofs.tree.editor.load.is_in_place.Goals as goal
 
 pub returns-then-not-is_name : goal.returns-then-not-is_name
 returns-then-not-is_name c = λ _ whole.
-    let bad : is_entry_name (item_of c.index-entries-i.result).name ≡ false = search rules in
-    name_isnt_one item_of c.args.entries.now c.args.i c.index-entries-i.result c.requires c.index-entries-i.is bad whole
+    name_isnt_one item_of c.args.entries.now c.args.i c.index-entries-i.result c.requires c.index-entries-i.is
+    (λ both. not_both c.is_name.result (c.is_name.ensures.1 (subst (λ (n : List ℕ). (n ≢ []) × Lacks 47 n) (sym c.as_bytes.ensures) both)) c.if-not-is_name.true) whole
 
 pub returns : goal.returns
 returns c = λ isnt whole.

@@ -4,7 +4,7 @@ use Rattle.gix_object_entries.specs.declared.tree.entry.Entry.{Entry}
 use Rattle.std.proofs.Common.{List, map}
 use Rattle.gix_object_editor.specs.declared.tree.editor.node.Slot.{Slot}
 use Rattle.gix_object_editor.specs.Nodes.{slot_in}
-use Rattle.gix_object_editor.specs.WellFormed.{IsWellFormed}
+use Rattle.gix_object_entries.specs.WellFormed.{IsWellFormed}
 use Rattle.gix_object_editor.proofs.Loaded.{absent_before, stands_more}
 use Rattle.gix_object_editor.proofs.tree.editor.root.node_of.Goals as goal
 

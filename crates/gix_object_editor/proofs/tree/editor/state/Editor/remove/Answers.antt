@@ -1,46 +1,11 @@
-use Rattle.std.proofs.Common.{◌≡◌, ◌∙◌, ◌<◌, ◌+◌, ap, sym, subst, arith, length}
-use Rattle.std.proofs.lemmas.Result.{err_from_is_err_and}
-use Rattle.gix_object_editor.specs.declared.tree.editor.state.Editor.{Editor}
-use Rattle.gix_object_editor.specs.Editor.{files_of, names_of}
-use Rattle.gix_object_editor.specs.Nodes.{slots_of, files_of_node, child_of, IsForest}
-use Rattle.gix_object_editor.proofs.Slots.{back}
-use Rattle.gix_object_editor.proofs.Edits.{last_name, two_names, removes_at, removes_none, less_forest, edit_fault}
-use Rattle.gix_object_editor.proofs.tree.editor.state.Editor.remove.Goals.{then-depth-path, else-depth-path}
+use Rattle.std.proofs.Common.{[], refl}
 use Rattle.gix_object_editor.proofs.tree.editor.state.Editor.remove.Goals as goal
 
-pub returns-in_err-at-clause-refused : goal.returns-in_err-at-clause-refused
-returns-in_err-at-clause-refused g c =
-    let p = err_from_is_err_and c.from_residual-in_err-at.result c.from_residual-in_err-at.ensures.1 in
-    rw (p.1, p.2) (edit_fault (g.S.Lookup.is_honest c.args.self.now.store) (g.S.Lookup.may_fail c.args.self.now.store) (g.S.Lookup.table c.args.self.now.store) (names_of c.args.path.now) c.in_err-at.field-0.0 c.in_err-at.ensures.refused)
-
-pub invariant_of-self-then-depth-path : goal.invariant_of-self-then-depth-path
-invariant_of-self-then-depth-path g c =
-    let mid = c.walk.new.nodes.items in
-    let new = c.take_at.new.nodes in
-    let n : c.walk.new.nodes.len ≡ length new = omega (arith, c.take_at.auto.nodes, c.as_mut_slice.ensures.len) in
-    let len : length mid ≡ length new = omega (arith, c.walk.new.nodes.ok.0) in
-    let forest = less_forest (slots_of mid) (slots_of new) (length mid) (length new) c.in_ok-at.at.0 _ c.in_ok-at.ensures.opened.forest len (ap child_of c.take_at.ensures.here)
-    (λ i m off. c.take_at.ensures.others i m off ∙ ap (λ ns. slots_of ns i m) c.as_mut_slice.ensures.value) in
-    record { forest = subst (λ ns. IsForest (slots_of ns) (length ns)) (sym (back c.walk.new.nodes.len new _ n)) forest }
+pub remove_from-requires : goal.remove_from-requires
+remove_from-requires g c = c.args.self.now.forest.rooted
 
 pub returns-clause-removed : goal.returns-clause-removed
-returns-clause-removed g c = λ honest trees has q. elim c.if-depth-path.branch [
-  | then-depth-path w ↦
-      let old = c.args.self.now.nodes.items in
-      let mid = c.walk.new.nodes.items in
-      let new = w.take_at.new.nodes in
-      let n : c.walk.new.nodes.len ≡ length new = omega (arith, w.take_at.auto.nodes, w.as_mut_slice.ensures.len) in
-      ap (λ (e : Editor _). files_of trees e q) w.self-is
-      ∙ ap (λ ns. files_of_node trees (slots_of ns) 0 q) (back c.walk.new.nodes.len new _ n)
-      ∙ removes_at _ _ (slots_of old) (slots_of mid) (length old) (length mid) c.args.self.now.forest c.in_ok-at.ensures.opened (names_of c.args.path.now) c.in_ok-at.at.0
-      (slots_of new) _ _ c.in_ok-at.ensures.leads (last_name c.args.path.now c.in_ok-at.depth _ w.if-depth-path.true) w.take_at.ensures.here
-      (λ i m off. w.take_at.ensures.others i m off ∙ ap (λ ns. slots_of ns i m) w.as_mut_slice.ensures.value) honest trees has q
-  | else-depth-path w ↦
-      let old = c.args.self.now.nodes.items in
-      let mid = c.walk.new.nodes.items in
-      let lt : c.in_ok-at.depth + 1 < length c.args.path.now = omega (arith, c.in_ok-at.ensures.within.1, w.if-depth-path.false) in
-      let left = two_names c.args.path.now c.in_ok-at.depth lt in
-      ap (λ (e : Editor _). files_of trees e q) w.self-is
-      ∙ removes_none _ _ (slots_of old) (slots_of mid) (length old) (length mid) c.args.self.now.forest c.in_ok-at.ensures.opened (names_of c.args.path.now) c.in_ok-at.at.0
-      _ left.0 left.1 _ c.in_ok-at.ensures.leads left.2 (c.in_ok-at.ensures.stopped lt) honest trees has q
-]
+returns-clause-removed g c = c.remove_from.ensures.removed [] refl
+
+pub returns-clause-refused : goal.returns-clause-refused
+returns-clause-refused g c = c.remove_from.ensures.refused [] refl

@@ -1,6 +1,6 @@
 use Rattle.std.proofs.Common.{ℕ, ◌<◌, ◌≢◌, [], get_or, List}
 use Rattle.std.specs.Borrow.{Bor}
-use Rattle.gix_object_editor.proofs.tree.editor.check_names.Given as goal
+use Rattle.gix_object_editor.proofs.tree.editor.edits.check_names.Given as goal
 
 -- the names so far aren't empty
 abbrev pub invariant-loop-name : goal.invariant-loop-name

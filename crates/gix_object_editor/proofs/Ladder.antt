@@ -1,0 +1,287 @@
+-- Trees with one slot each, put behind the others and then linked.
+use Rattle.std.proofs.Common.{ℕ, zero, suc, ◌≡◌, ◌≢◌, ◌<◌, ◌≤◌, ◌+◌, ◌-◌, ◌⊎◌, Bool, true, false, List, [], ◌∷◌, Option, Some, None, refl, sym, ap, subst, ◌∙◌, inl, inr, arith, length, get_or, drop, if◌then◌else◌}
+use Rattle.std.specs.Prelude.{bytes_eq, is_some}
+use Rattle.std.specs.Borrow.{Bor}
+use Rattle.std.proofs.lemmas.List.{length-drop}
+use Rattle.std.proofs.lemmas.Bool.{cases_lt}
+use Rattle.gix_object_editor.specs.declared.tree.editor.node.Node.{Node}
+use Rattle.gix_object_editor.specs.declared.tree.editor.node.Slot.{Slot}
+use Rattle.gix_object_editor.specs.Files.{Bytes, Path, Leaf, Trees, behind, through, files_of_entry, put, put_at}
+use Rattle.gix_object_editor.specs.Nodes.{Slots, slots_of, child_or, child_of, leaf_in, files_of_slot, files_of_node, IsForest, IsFolderAt, IsOnly, IsRung, Way, onto}
+use Rattle.gix_object_editor.proofs.Opening.{same_through, linked_more, at_or_off}
+use Rattle.gix_object_editor.proofs.Paths.{same_name, name_itself, by_test}
+use Rattle.gix_object_editor.proofs.Slots.{none_past}
+use Rattle.gix_object_editor.proofs.Walked.{names, names_length}
+use Rattle.gix_object_editor.proofs.Ways.{child_files, child_no_file, puts, grafts, way_kept}
+use Rattle.gix_object_editor.proofs.Edits.{less_forest}
+
+-- nodes behind the others change no file
+pub front_files : (trees : Trees) (slots new : Slots) (bound : ℕ) → IsForest slots bound → ((i : ℕ) (m : Bytes) → i < bound → new i m ≡ slots i m)
+    → (q : Path) (i : ℕ) → i < bound → files_of_node trees new i q ≡ files_of_node trees slots i q
+front_files trees slots new bound ok front [] i lt = refl
+front_files trees slots new bound ok front (n ∷ rest) i lt =
+    ap (λ o. through o (files_of_slot trees new rest)) (front i n lt)
+    ∙ same_through trees slots new rest (slots i n) (λ c is. front_files trees slots new bound ok front rest c (ok.within i n c is))
+
+-- ---- a ladder that grows
+
+rung_kept : (slots new : Slots) (first : ℕ) (names : Path) (s : Slot) (n k : ℕ) → ((i : ℕ) (m : Bytes) → i < n → new i m ≡ slots i m) → first + k < n
+    → IsRung slots first names s k → IsRung new first names s k
+rung_kept slots new first names s n k front lt r = record {
+  slot = r.slot;
+  only = (front (first + k) (get_or names k []) lt ∙ r.only.0, λ m apart. front (first + k) m lt ∙ r.only.1 m apart);
+  leads = r.leads;
+  ends = r.ends;
+}
+
+pub one_rung_more : (names : Path) (slots new : Slots) (first n i : ℕ) (s rung : Slot) → n ≡ first + i → ((j : ℕ) (m : Bytes) → j < n → new j m ≡ slots j m)
+    → new n (get_or names i []) ≡ Some rung → ((m : Bytes) → m ≢ get_or names i [] → new n m ≡ None)
+    → (suc i < length names → child_of (Some rung) ≡ Some (suc n)) → (suc i ≡ length names → rung ≡ s)
+    → ((k : ℕ) → k < i → IsRung slots first names s k) → (k : ℕ) → k < i + 1 → IsRung new first names s k
+one_rung_more names slots new first n i s rung at front stands apart leads ends before k lt = elim (cases_lt k i) [
+  | inl less ↦ let inside : first + k < n = omega arith in rung_kept slots new first names s n k front inside (before k less)
+  | inr le ↦
+      let same : i ≡ k = omega arith in
+      subst (IsRung new first names s) same (record {
+        slot = rung;
+        only = subst (λ j. IsOnly new j (get_or names i []) rung) at (stands, apart);
+        leads = λ inner. leads inner ∙ ap (λ j. Some (suc j)) at;
+        ends = ends;
+      })
+]
+
+-- ---- the files of a ladder
+
+module _ (trees : Trees) (new : Slots) (s : Slot) (closed : s.child ≡ None) where
+  entry : (rest : Path) → files_of_slot trees new rest s ≡ files_of_entry trees rest (leaf_in s)
+  entry [] = ap (λ o. child_or o (λ c. None) (files_of_entry trees [] (leaf_in s))) closed
+  entry (m ∷ rest) = ap (λ o. child_or o (λ c. files_of_node trees new c (m ∷ rest)) (files_of_entry trees (m ∷ rest) (leaf_in s))) closed
+
+  first_rung : (name : Bytes) (names : Path) (n : ℕ) (slot : Slot) → IsOnly new (n + 0) name slot → (m : Bytes) (rest : Path)
+      → files_of_slot trees new rest slot ≡ put_at trees (leaf_in s) (behind names rest) None
+      → files_of_node trees new n (m ∷ rest) ≡ put_at trees (leaf_in s) (behind (name ∷ names) (m ∷ rest)) None
+  first_rung name names n slot only m rest below =
+      let at : n ≡ n + 0 = omega arith in
+      elim (by_test (bytes_eq name m)) [
+        | inl t ↦
+            let same : name ≡ m = same_name name m t in
+            ap (λ i. through (new i m) (files_of_slot trees new rest)) at ∙ ap (λ k. through (new (n + 0) k) (files_of_slot trees new rest)) (sym same)
+            ∙ ap (λ o. through o (files_of_slot trees new rest)) only.0 ∙ below
+            ∙ sym (ap (λ b. put_at trees (leaf_in s) (if b then behind names rest else None) None) t)
+        | inr f ↦
+            let apart : m ≢ name = λ same. let yes : bytes_eq name m ≡ true = ap (bytes_eq name) same ∙ name_itself name in cc in
+            ap (λ i. through (new i m) (files_of_slot trees new rest)) at ∙ ap (λ o. through o (files_of_slot trees new rest)) (only.1 m apart)
+            ∙ sym (ap (λ b. put_at trees (leaf_in s) (if b then behind names rest else None) None) f)
+      ]
+
+  next_rung : (name next : Bytes) (more : Path) (n k : ℕ) → IsRung new n (name ∷ next ∷ more) s (suc k) → IsRung new (suc (n + 0)) (next ∷ more) s k
+  next_rung name next more n k r =
+      let at : n + suc k ≡ suc (n + 0) + k = omega arith in
+      record {
+        slot = r.slot;
+        only = subst (λ i. IsOnly new i (get_or (next ∷ more) k []) r.slot) at r.only;
+        leads = λ lt. let less : suc (suc k) < length (name ∷ next ∷ more) = omega arith in r.leads less ∙ ap (λ i. Some (suc i)) at;
+        ends = λ e. r.ends (ap suc e);
+      }
+
+  pub ladder_files : (names : Path) (n : ℕ) → 0 < length names → ((k : ℕ) → k < length names → IsRung new n names s k) → (m : Bytes) (rest : Path)
+      → files_of_node trees new n (m ∷ rest) ≡ put_at trees (leaf_in s) (behind names (m ∷ rest)) None
+  ladder_files [] n some rungs m rest = absurd (omega arith)
+  ladder_files (name ∷ []) n some rungs m rest =
+      let r = rungs 0 some in
+      first_rung name [] n r.slot r.only m rest (ap (files_of_slot trees new rest) (r.ends refl) ∙ entry rest)
+  ladder_files (name ∷ next ∷ more) n some rungs m [] =
+      let r = rungs 0 some in
+      let two : 1 < length (name ∷ next ∷ more) = omega arith in
+      first_rung name (next ∷ more) n r.slot r.only m [] (child_no_file trees new (Some r.slot) (suc (n + 0)) (r.leads two))
+  ladder_files (name ∷ next ∷ more) n some rungs m (k ∷ rest) =
+      let r = rungs 0 some in
+      let two : 1 < length (name ∷ next ∷ more) = omega arith in
+      let later : 0 < length (next ∷ more) = omega arith in
+      first_rung name (next ∷ more) n r.slot r.only m (k ∷ rest) (
+      child_files trees new k rest (Some r.slot) (suc (n + 0)) (r.leads two)
+      ∙ ladder_files (next ∷ more) (suc (n + 0)) later (λ j lt. let less : suc j < length (name ∷ next ∷ more) = omega arith in next_rung name next more n j (rungs (suc j) less)) k rest)
+
+-- ---- a ladder behind a forest
+
+module _ (slots mid : Slots) (bound more : ℕ) (ok : IsForest slots bound) (names : Path) (s : Slot) (closed : s.child ≡ None)
+    (front : (i : ℕ) (m : Bytes) → i < bound → mid i m ≡ slots i m) (rungs : (k : ℕ) → k < length names → IsRung mid bound names s k)
+    (len : more ≡ bound + length names) (past : (i : ℕ) (m : Bytes) → more ≤ i → mid i m ≡ None) where
+  -- where a rung leads
+  rung_link : (i : ℕ) (m : Bytes) (c : ℕ) → bound ≤ i → child_of (mid i m) ≡ Some c → (m ≡ get_or names (i - bound) []) × (c ≡ suc i) × (suc i < more)
+  rung_link i m c le e = elim (cases_lt i more) [
+    | inr above ↦ let none : child_of (mid i m) ≡ None = ap child_of (past i m above) in absurd (cc (sym none ∙ e))
+    | inl lt ↦
+        let at : i ≡ bound + (i - bound) = omega arith in
+        let less : i - bound < length names = omega arith in
+        let r = rungs (i - bound) less in
+        elim (by_test (bytes_eq m (get_or names (i - bound) []))) [
+          | inr f ↦
+              let apart : m ≢ get_or names (i - bound) [] = λ same. let yes : bytes_eq m (get_or names (i - bound) []) ≡ true = ap (bytes_eq m) (sym same) ∙ name_itself m in cc in
+              let none : child_of (mid i m) ≡ None = ap (λ j. child_of (mid j m)) at ∙ ap child_of (r.only.1 m apart) in
+              absurd (cc (sym none ∙ e))
+          | inl t ↦
+              let same : m ≡ get_or names (i - bound) [] = same_name m (get_or names (i - bound) []) t in
+              let here : child_of (mid i m) ≡ child_of (Some r.slot) =
+              ap (λ j. child_of (mid j m)) at ∙ ap (λ n. child_of (mid (bound + (i - bound)) n)) same ∙ ap child_of r.only.0 in
+              elim (cases_lt (suc (i - bound)) (length names)) [
+                | inl inner ↦
+                    let next : Some c ≡ Some (suc (bound + (i - bound))) = sym e ∙ here ∙ r.leads inner in
+                    let is : c ≡ suc (bound + (i - bound)) = cc in
+                    (same, omega arith, omega arith)
+                | inr last ↦
+                    let end : suc (i - bound) ≡ length names = omega arith in
+                    let none : child_of (mid i m) ≡ None = here ∙ ap (λ u. child_of (Some u)) (r.ends end) ∙ ap (λ o. child_or o (λ d. Some d) None) closed in
+                    absurd (cc (sym none ∙ e))
+              ]
+        ]
+  ]
+
+  old_link : (i : ℕ) (m : Bytes) (c : ℕ) → i < bound → child_of (mid i m) ≡ Some c → child_of (slots i m) ≡ Some c
+  old_link i m c lt e = ap child_of (sym (front i m lt)) ∙ e
+
+  one_link : (i j c : ℕ) (n m : Bytes) → child_of (mid i n) ≡ Some c → child_of (mid j m) ≡ Some c → (i ≡ j) × (n ≡ m)
+  one_link i j c n m e f = elim (cases_lt i bound) [
+    | inl lt ↦ elim (cases_lt j bound) [
+      | inl less ↦ ok.one i j c n m (old_link i n c lt e) (old_link j m c less f)
+      | inr le ↦ let w : c < bound = ok.within i n c (old_link i n c lt e) in let r = rung_link j m c le f in let is = r.1 in absurd (omega arith)
+    ]
+    | inr ge ↦ elim (cases_lt j bound) [
+      | inl less ↦ let w : c < bound = ok.within j m c (old_link j m c less f) in let r = rung_link i n c ge e in let is = r.1 in absurd (omega arith)
+      | inr le ↦
+          let a = rung_link i n c ge e in
+          let b = rung_link j m c le f in
+          let x = a.1 in
+          let y = b.1 in
+          let same : i ≡ j = omega arith in
+          (same, a.0 ∙ ap (λ k. get_or names (k - bound) []) same ∙ sym b.0)
+    ]
+  ]
+
+  pub ladder_forest : IsForest mid more
+  ladder_forest = record {
+    rooted = let r = ok.rooted in omega arith;
+    forward = λ i n c e. elim (cases_lt i bound) [
+      | inl lt ↦ ok.forward i n c (old_link i n c lt e)
+      | inr le ↦ let r = rung_link i n c le e in let is = r.1 in omega arith
+    ];
+    within = λ i n c e. elim (cases_lt i bound) [
+      | inl lt ↦ let w = ok.within i n c (old_link i n c lt e) in omega arith
+      | inr le ↦ let r = rung_link i n c le e in let is = r.1 in let less = r.2 in omega arith
+    ];
+    one = one_link;
+  }
+
+  free : (i : ℕ) (n : Bytes) → child_of (mid i n) ≡ Some bound → ⊥
+  free i n e = elim (cases_lt i bound) [
+    | inl lt ↦ let w = ok.within i n bound (old_link i n bound lt e) in absurd (omega arith)
+    | inr le ↦ let r = rung_link i n bound le e in let is = r.1 in absurd (omega arith)
+  ]
+
+  module _ (new : Slots) (at : ℕ) (name : Bytes) (top : Slot) (below : at < bound) (some : 0 < length names) (stands : new at name ≡ Some top) (linked : child_of (Some top) ≡ Some bound)
+      (others : (i : ℕ) (m : Bytes) → ((i ≡ at) → (m ≡ name) → ⊥) → new i m ≡ mid i m) where
+    -- the ladder, linked
+    pub linked_forest : IsForest new more
+    linked_forest =
+        let less : bound < more = omega arith in
+        linked_more mid new more ladder_forest at name bound below less free (λ i n d e. elim (at_or_off i at n name) [
+          | inl x ↦
+              let here : child_of (new i n) ≡ Some bound = ap (λ k. child_of (new k n)) x.0 ∙ ap (λ k. child_of (new at k)) x.1 ∙ ap child_of stands ∙ linked in
+              let same : d ≡ bound = cc in
+              inl (x.0, x.1, same)
+          | inr off ↦ inr (ap child_of (sym (others i n off)) ∙ e)
+        ])
+
+    rung_stays : (k : ℕ) → IsRung mid bound names s k → IsRung new bound names s k
+    rung_stays k r =
+        let off : (bound + k ≡ at) → ⊥ = λ e. absurd (omega arith) in
+        record {
+          slot = r.slot;
+          only = (others (bound + k) (get_or names k []) (λ e _. off e) ∙ r.only.0, λ m apart. others (bound + k) m (λ e _. off e) ∙ r.only.1 m apart);
+          leads = r.leads;
+          ends = r.ends;
+        }
+
+    kept_links : (i : ℕ) (m : Bytes) (c : ℕ) → child_of (slots i m) ≡ Some c → child_of (mid i m) ≡ Some c
+    kept_links i m c e =
+        let up = ok.forward i m c e in
+        let in_it = ok.within i m c e in
+        let lt : i < bound = omega arith in
+        ap child_of (front i m lt) ∙ e
+
+    pub linked_files : (next : Bytes) (rest : Path) → names ≡ next ∷ rest → IsFolderAt slots at name None → (trees : Trees) (way : Path) → Way slots way at
+        → (q : Path) → files_of_node trees new 0 q ≡ put trees (onto way (name ∷ next ∷ rest)) (leaf_in s) (files_of_node trees slots 0) q
+    linked_files next rest is plain trees way reached q =
+        let root : 0 < bound = ok.rooted in
+        grafts trees mid new more ladder_forest at name way (way_kept slots mid kept_links way at reached) others bound (leaf_in s) next rest (ap child_of stands ∙ linked)
+        (λ m below_m. ladder_files trees new s closed names bound some (λ k lt. rung_stays k (rungs k lt)) m below_m ∙ ap (λ p. put_at trees (leaf_in s) (behind p (m ∷ below_m)) None) is)
+        (λ m more_m. front_files trees slots mid bound ok front (name ∷ m ∷ more_m) at below ∙ plain trees m more_m) q
+        ∙ ap (λ x. put_at trees (leaf_in s) (behind (onto way (name ∷ next ∷ rest)) q) (if is_some (behind q (onto way (name ∷ next ∷ rest))) then None else x))
+        (front_files trees slots mid bound ok front q 0 root)
+
+-- ---- the same of nodes
+
+rest_names : (path : List (Bor (List ℕ))) → 1 < length path → (next : Bytes) × (rest : Path) × (names path ≡ get_or (names path) 0 [] ∷ next ∷ rest) × (names (drop 1 path) ≡ next ∷ rest)
+rest_names [] lt = absurd (omega arith)
+rest_names (p ∷ []) lt = absurd (omega arith)
+rest_names (p ∷ q ∷ path) lt = (q.now, names path, refl, refl)
+
+module _ (old mid new : List Node) (ok : IsForest (slots_of old) (length old)) (path tail : List (Bor (List ℕ))) (two : 1 < length path) (tail_is : tail ≡ drop 1 path)
+    (s top : Slot) (closed : s.child ≡ None) (front : (i : ℕ) (m : Bytes) → i < length old → slots_of mid i m ≡ slots_of old i m)
+    (rungs : (k : ℕ) → k < length tail → IsRung (slots_of mid) (length old) (names tail) s k) (len : length mid ≡ length old + length tail) (same_len : length new ≡ length mid)
+    (at : ℕ) (name : Bytes) (name_is : get_or (names path) 0 [] ≡ name) (below : at < length old) (stands : slots_of new at name ≡ Some top) (linked : child_of (Some top) ≡ Some (length old))
+    (others : (i : ℕ) (m : Bytes) → ((i ≡ at) → (m ≡ name) → ⊥) → slots_of new i m ≡ slots_of mid i m) where
+  tail_long : length (names tail) ≡ length tail
+  tail_long = names_length tail
+
+  some : 0 < length (names tail)
+  some = omega (arith, tail_long, ap length tail_is, length-drop 1 path)
+
+  rungs_named : (k : ℕ) → k < length (names tail) → IsRung (slots_of mid) (length old) (names tail) s k
+  rungs_named k lt = let less : k < length tail = omega (arith, tail_long) in rungs k less
+
+  long : length mid ≡ length old + length (names tail)
+  long = omega (arith, tail_long)
+
+  past : (i : ℕ) (m : Bytes) → length mid ≤ i → slots_of mid i m ≡ None
+  past i m le = none_past mid i m le
+
+  pub hung_forest : IsForest (slots_of new) (length new)
+  hung_forest =
+      subst (IsForest (slots_of new)) (sym same_len)
+      (linked_forest (slots_of old) (slots_of mid) (length old) (length mid) ok (names tail) s closed front rungs_named long past (slots_of new) at name top below some stands linked others)
+
+  pub hung_files : IsFolderAt (slots_of old) at (get_or (names path) 0 []) None → (trees : Trees) (way : Path) → Way (slots_of old) way at
+      → (q : Path) → files_of_node trees (slots_of new) 0 q ≡ put trees (onto way (names path)) (leaf_in s) (files_of_node trees (slots_of old) 0) q
+  hung_files plain trees way reached q =
+      let parts = rest_names path two in
+      let is : names path ≡ name ∷ parts.0 ∷ parts.1 = parts.2 ∙ ap (λ n. n ∷ parts.0 ∷ parts.1) name_is in
+      let plain_here : IsFolderAt (slots_of old) at name None = subst (λ n. IsFolderAt (slots_of old) at n None) name_is plain in
+      linked_files (slots_of old) (slots_of mid) (length old) (length mid) ok (names tail) s closed front rungs_named long past (slots_of new) at name top below some stands linked others
+      parts.0 parts.1 (ap names tail_is ∙ parts.3) plain_here trees way reached q
+      ∙ ap (λ p. put trees (onto way p) (leaf_in s) (files_of_node trees (slots_of old) 0) q) (sym is)
+
+  pub hung_others : (i : ℕ) (m : Bytes) → i < length old → ((i ≡ at) → (m ≡ get_or (names path) 0 []) → ⊥) → slots_of new i m ≡ slots_of old i m
+  hung_others i m lt off = others i m (λ e same. off e (same ∙ sym name_is)) ∙ front i m lt
+
+-- ---- one name alone
+
+lone_name : (path : List (Bor (List ℕ))) → length path ≡ 1 → names path ≡ get_or (names path) 0 [] ∷ []
+lone_name [] e = absurd (omega arith)
+lone_name (p ∷ []) e = refl
+lone_name (p ∷ q ∷ path) e = absurd (omega arith)
+
+module _ (old new : List Node) (ok : IsForest (slots_of old) (length old)) (path : List (Bor (List ℕ))) (one : length path ≡ 1) (s : Slot) (closed : s.child ≡ None)
+    (same_len : length new ≡ length old) (at : ℕ) (name : Bytes) (name_is : get_or (names path) 0 [] ≡ name) (stands : slots_of new at name ≡ Some s)
+    (others : (i : ℕ) (m : Bytes) → ((i ≡ at) → (m ≡ name) → ⊥) → slots_of new i m ≡ slots_of old i m) where
+  pub put_forest : IsForest (slots_of new) (length new)
+  put_forest =
+      less_forest (slots_of old) (slots_of new) (length old) (length new) at name ok (sym same_len)
+      (ap child_of stands ∙ ap (λ o. child_or o (λ d. Some d) None) closed) others
+
+  pub put_files : (trees : Trees) (way : Path) → Way (slots_of old) way at
+      → (q : Path) → files_of_node trees (slots_of new) 0 q ≡ put trees (onto way (names path)) (leaf_in s) (files_of_node trees (slots_of old) 0) q
+  put_files trees way reached q =
+      let is : names path ≡ name ∷ [] = lone_name path one ∙ ap (λ n. n ∷ []) name_is in
+      puts trees (slots_of old) (slots_of new) (length old) ok at name way reached others s stands closed q
+      ∙ ap (λ p. put trees (onto way p) (leaf_in s) (files_of_node trees (slots_of old) 0) q) (sym is)

@@ -1,0 +1,78 @@
+use Rattle.std.proofs.Common.{ℕ, List, ◌≡◌, ◌∙◌, ◌<◌, ◌≤◌, ◌+◌, ap, sym, subst, refl, arith, length, get_or, []}
+use Rattle.std.specs.Borrow.{Bor}
+use Rattle.std.proofs.lemmas.Result.{err_from_is_err_and}
+use Rattle.std.proofs.lemmas.List.{get_or-map, length-take}
+use Rattle.gix_object_editor.specs.declared.tree.editor.node.Node.{Node}
+use Rattle.gix_object_editor.specs.Files.{Bytes}
+use Rattle.gix_object_editor.specs.Nodes.{slots_of, files_of_node, child_of, IsForest}
+use Rattle.gix_object_editor.proofs.Slots.{back, all_slots, cut_back}
+use Rattle.gix_object_editor.proofs.Opening.{fewer}
+use Rattle.gix_object_editor.proofs.Ladder.{put_forest, put_files}
+use Rattle.gix_object_editor.proofs.tree.editor.graft.graft.Goals as goal
+
+pub returns-in_err-put_at-clause-forest : goal.returns-in_err-put_at-clause-forest
+returns-in_err-put_at-clause-forest c =
+    let old = c.args.nodes.now.items in
+    let new = c.put_at.new.nodes in
+    let n : c.args.nodes.now.len ≡ length new = omega (arith, c.put_at.auto.nodes, c.as_mut_slice.ensures.len) in
+    let le : length old ≤ length new = omega (arith, c.args.nodes.now.ok.0) in
+    let same : (i : ℕ) (m : Bytes) → slots_of new i m ≡ slots_of old i m = λ i m.
+    all_slots c.as_mut_slice.result.now new c.args.at.0 _ c.in_err-put_at.ensures.err c.in_err-put_at.ensures.others i m
+    ∙ ap (λ ns. slots_of ns i m) c.as_mut_slice.ensures.value in
+    subst (λ (ns : List Node). IsForest (slots_of ns) (length ns)) (sym (back c.args.nodes.now.len new _ n))
+    (fewer (slots_of old) (slots_of new) (length old) (length new) c.requires.forest le (λ i m d e. ap child_of (sym (same i m)) ∙ e))
+
+pub returns-in_err-put_at-clause-err : goal.returns-in_err-put_at-clause-err
+returns-in_err-put_at-clause-err c =
+    let p = err_from_is_err_and c.from_residual.result c.from_residual.ensures.1 in
+    let new = c.put_at.new.nodes in
+    let n : c.args.nodes.now.len ≡ length new = omega (arith, c.put_at.auto.nodes, c.as_mut_slice.ensures.len) in
+    rw p.1 (λ i m.
+    ap (λ (ns : List Node). slots_of ns i m) (back c.args.nodes.now.len new _ n)
+    ∙ all_slots c.as_mut_slice.result.now new c.args.at.0 _ c.in_err-put_at.ensures.err c.in_err-put_at.ensures.others i m
+    ∙ ap (λ ns. slots_of ns i m) c.as_mut_slice.ensures.value)
+
+pub returns-then-names-eq1-clause-forest : goal.returns-then-names-eq1-clause-forest
+returns-then-names-eq1-clause-forest c =
+    let old = c.args.nodes.now.items in
+    let new = c.put_at.new.nodes in
+    let path = c.args.names.now in
+    let n : c.args.nodes.now.len ≡ length new = omega (arith, c.put_at.auto.nodes, c.as_mut_slice.ensures.len) in
+    let same_len : length new ≡ length old = omega (arith, c.args.nodes.now.ok.0) in
+    let one : length path ≡ 1 = omega arith in
+    let some : 0 < length path = omega arith in
+    subst (λ (ns : List Node). IsForest (slots_of ns) (length ns)) (sym (back c.args.nodes.now.len new _ n))
+    (put_forest old new c.requires.forest path one c.args.slot c.requires.unopened same_len c.args.at.0 _ (get_or-map (λ (x : Bor (List ℕ)). x.now) path 0 _ [] some) c.in_ok-put_at.ensures.here
+    (λ i m off. c.in_ok-put_at.ensures.others i m off ∙ ap (λ ns. slots_of ns i m) c.as_mut_slice.ensures.value))
+
+pub returns-then-names-eq1-clause-put : goal.returns-then-names-eq1-clause-put
+returns-then-names-eq1-clause-put c = λ trees way reached q.
+    let old = c.args.nodes.now.items in
+    let new = c.put_at.new.nodes in
+    let path = c.args.names.now in
+    let n : c.args.nodes.now.len ≡ length new = omega (arith, c.put_at.auto.nodes, c.as_mut_slice.ensures.len) in
+    let same_len : length new ≡ length old = omega (arith, c.args.nodes.now.ok.0) in
+    let one : length path ≡ 1 = omega arith in
+    let some : 0 < length path = omega arith in
+    ap (λ (ns : List Node). files_of_node trees (slots_of ns) 0 q) (back c.args.nodes.now.len new _ n)
+    ∙ put_files old new c.requires.forest path one c.args.slot c.requires.unopened same_len c.args.at.0 _ (get_or-map (λ (x : Bor (List ℕ)). x.now) path 0 _ [] some) c.in_ok-put_at.ensures.here
+    (λ i m off. c.in_ok-put_at.ensures.others i m off ∙ ap (λ ns. slots_of ns i m) c.as_mut_slice.ensures.value) trees way reached q
+
+pub returns-in-Err-clause-err : goal.returns-in-Err-clause-err
+returns-in-Err-clause-err c = λ i m.
+    let old = c.args.nodes.now.items in
+    let front : c.len-before.result ≡ length old = omega arith in
+    ap (λ (ns : List Node). slots_of ns i m) c.truncate.ensures.items
+    ∙ cut_back old c.hang.new.nodes.items c.len-before.result front c.in-Err.ensures.err i m
+
+pub returns-in-Err-clause-others : goal.returns-in-Err-clause-others
+returns-in-Err-clause-others c = λ i m lt off. returns-in-Err-clause-err c i m
+
+pub returns-in-Err-clause-forest : goal.returns-in-Err-clause-forest
+returns-in-Err-clause-forest c =
+    let old = c.args.nodes.now.items in
+    let new = c.truncate.new.self.items in
+    let front : c.len-before.result ≡ length old = omega arith in
+    let longer : length old ≤ length c.hang.new.nodes.items = c.hang.ensures.longer in
+    let le : length old ≤ length new = omega (arith, ap length c.truncate.ensures.items, length-take c.len-before.result c.hang.new.nodes.items) in
+    fewer (slots_of old) (slots_of new) (length old) (length new) c.requires.forest le (λ i m d e. ap child_of (sym (returns-in-Err-clause-err c i m)) ∙ e)

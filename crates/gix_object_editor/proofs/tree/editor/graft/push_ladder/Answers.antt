@@ -1,0 +1,46 @@
+use Rattle.std.proofs.Common.{ℕ, suc, ◌≡◌, ◌≢◌, ◌∙◌, ◌<◌, ◌+◌, ◌++◌, ◌∷◌, [], List, Some, None, ap, sym, arith, length, get_or, rules, true, if◌then◌else◌, map}
+use Rattle.std.specs.Prelude.{is_ok}
+use Rattle.std.specs.Borrow.{Bor}
+use Rattle.std.proofs.lemmas.List.{get_or-map}
+use Rattle.gix_object_editor.specs.declared.tree.editor.node.Node.{Node}
+use Rattle.gix_object_editor.specs.declared.tree.editor.node.Slot.{Slot}
+use Rattle.gix_object_editor.specs.Files.{Bytes}
+use Rattle.gix_object_editor.specs.Nodes.{slots_of, slot_in, child_of, child_or}
+use Rattle.gix_object_editor.proofs.Slots.{at_end, front_kept, length_push}
+use Rattle.gix_object_editor.proofs.Walked.{names, names_length}
+use Rattle.gix_object_editor.proofs.Ladder.{one_rung_more}
+use Rattle.gix_object_editor.proofs.tree.editor.graft.push_ladder.Goals.{then-i-names, else-i-names}
+use Rattle.gix_object_editor.proofs.tree.editor.graft.push_ladder.Goals as goal
+
+pub loop-i-preserved : goal.loop-i-preserved
+loop-i-preserved c =
+    let old = c.args.nodes.now.items in
+    let before = c.loop-i.nodes.items in
+    let node : Node = c.in_ok-lone.field-0 in
+    let ok : is_ok c.push.result ≡ true = search rules in
+    let pushed : c.push.new.self.items ≡ before ++ node ∷ [] = c.push.ensures.items ∙ ap (λ b. if b then before ++ node ∷ [] else before) ok in
+    let n : length before ≡ length old + c.loop-i.i = c.loop-i.invariant.len in
+    let lt : c.loop-i.i < length c.args.names.now = omega arith in
+    let long : length (names c.args.names.now) ≡ length c.args.names.now = names_length c.args.names.now in
+    let front : (j : ℕ) (m : Bytes) → j < length before → slots_of c.push.new.self.items j m ≡ slots_of before j m = λ j m less.
+    ap (λ ns. slots_of ns j m) pushed ∙ front_kept before (node ∷ []) j m less in
+    let new : (m : Bytes) → slots_of c.push.new.self.items (length before) m ≡ slot_in node m = λ m.
+    ap (λ ns. slots_of ns (length before) m) pushed ∙ at_end before node m in
+    record {
+      len = omega (arith, ap length pushed, length_push before node);
+      front = λ j m less. let more : j < length before = omega arith in front j m more ∙ c.loop-i.invariant.front j m less;
+      rungs = one_rung_more (names c.args.names.now) (slots_of before) (slots_of c.push.new.self.items) (length old) (length before) c.loop-i.i c.args.slot c.if-i-names.rung n front
+          (new _ ∙ ap (slot_in node) (get_or-map (λ (x : Bor (List ℕ)). x.now) c.args.names.now c.loop-i.i _ [] lt) ∙ c.in_ok-lone.ensures.here)
+          (λ m apart. new m ∙ c.in_ok-lone.ensures.others m (λ same. apart (same ∙ sym (get_or-map (λ (x : Bor (List ℕ)). x.now) c.args.names.now c.loop-i.i _ [] lt))))
+          (λ inner. elim c.if-i-names.branch [
+            | then-i-names w ↦
+                let next : w.len.result + 1 ≡ suc (length before) = omega arith in
+                ap (λ (r : Slot). child_of (Some r)) w.rung-is ∙ ap (λ o. child_or o (λ d. Some d) None) w.folder-rung.ensures ∙ ap (λ k. Some k) next
+            | else-i-names w ↦ absurd (omega (arith, w.if-i-names.false))
+          ])
+          (λ end. elim c.if-i-names.branch [
+            | then-i-names w ↦ absurd (omega (arith, w.if-i-names.true))
+            | else-i-names w ↦ w.rung-is
+          ])
+          c.loop-i.invariant.rungs;
+    }

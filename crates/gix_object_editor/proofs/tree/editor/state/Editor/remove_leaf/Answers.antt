@@ -1,0 +1,14 @@
+use Rattle.std.proofs.Common.{[], refl}
+use Rattle.gix_object_editor.proofs.tree.editor.state.Editor.remove_leaf.Goals as goal
+
+pub remove_leaf_from-requires : goal.remove_leaf_from-requires
+remove_leaf_from-requires g c = c.args.self.now.forest.rooted
+
+pub returns-clause-removed : goal.returns-clause-removed
+returns-clause-removed g c = c.remove_leaf_from.ensures.removed [] refl
+
+pub returns-clause-leaf : goal.returns-clause-leaf
+returns-clause-leaf g c = c.remove_leaf_from.ensures.leaf [] refl
+
+pub returns-clause-refused : goal.returns-clause-refused
+returns-clause-refused g c = c.remove_leaf_from.ensures.refused [] refl

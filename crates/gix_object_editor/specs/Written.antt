@@ -1,0 +1,92 @@
+-- What is handed out where the trees of an editor are written.
+use Rattle.std.specs.Prelude.{ℕ, ◌≡◌, ◌≢◌, ◌⊎◌, false, List, [], ◌∷◌, ◌++◌, map, Result, Ok, Err, Some, None, ⊤}
+use Rattle.std.specs.Borrow.{Bor}
+use Rattle.std.specs.Fn.{Mut, CalledAt}
+use Rattle.std.specs.List.{All, Contains, FoldsTo}
+use Rattle.gix_hash.specs.Id.{Id, id_of}
+use Rattle.gix_hash.specs.declared.object_id.ObjectId.{ObjectId}
+use Rattle.gix_object_entries.specs.Entry.{Item, own_item}
+use Rattle.gix_object_entries.specs.WellFormed.{IsFilename, IsWellFormed}
+use Rattle.gix_object_entries.specs.declared.tree.owned.Tree.{Tree}
+use Rattle.gix_object_editor.specs.declared.tree.editor.node.Slot.{Slot}
+use Rattle.gix_object_editor.specs.declared.tree.editor.state.Editor.{Editor}
+use Rattle.gix_object_editor.specs.declared.tree.editor.write.error.Error.{Error}
+use Rattle.gix_object_editor.specs.declared.tree.editor.write.error.Error.TheVariants.{Out, Memory}
+use Rattle.gix_object_editor.specs.Files.{Path, FileMap, Trees, SameFiles, is_null, leaf_of, through, behind, files_of_tree}
+use Rattle.gix_object_editor.specs.Nodes.{Slots, slots_of, leaf_in, files_of_node, LeadsTo}
+use Rattle.gix_object_editor.specs.Editor.{files_of}
+
+-- a tree that was handed out: the folder that it is, its entries, and the id that was answered
+pub record HandedOut : Type 0 where
+  pub path : Path
+  pub items : List Item
+  pub id : Id
+
+-- the table has each of these trees under its id, and none of the ids is null
+abbrev pub HasHandedOut : List HandedOut → Trees → Type 0
+HasHandedOut handed trees = All (λ tree. (trees tree.id ≡ Some tree.items) × (is_null tree.id ≡ false)) handed
+
+-- the files of the tree under an id
+abbrev pub files_under : Trees → Id → FileMap
+files_under trees id path = through (trees id) (λ items. files_of_tree trees items path)
+
+-- ---- the order
+
+-- each has this with those before it
+abbrev pub EachBehind : {X : Type 0} → (List X → X → Type 0) → List X → List X → Type 0
+EachBehind R before [] = ⊤
+EachBehind R before (x ∷ xs) = R before x × EachBehind R (before ++ x ∷ []) xs
+
+-- the entry stands so in the opened tree at the path, and no tree was opened for it
+abbrev pub StandsUnopened : Slots → Path → Item → Type 0
+StandsUnopened slots path item = (j : ℕ) × (s : Slot) × LeadsTo slots path j [] × (slots j item.name ≡ Some s) × (s.child ≡ None) × (leaf_in s ≡ leaf_of item)
+
+-- the entry names a folder's tree that was handed out before, or it stood so
+abbrev pub IsKnown : Slots → List HandedOut → Path → Item → Type 0
+IsKnown slots before path item =
+    ((child : HandedOut) × Contains before child × (child.path ≡ path ++ item.name ∷ []) × (child.id ≡ item.id)) ⊎ StandsUnopened slots path item
+
+-- a tree that is handed out behind these
+pub record IsHandedOut (slots : Slots) (before : List HandedOut) (tree : HandedOut) : Type 0 where
+  -- it was opened
+  pub opened : (j : ℕ) × LeadsTo slots tree.path j []
+  -- neither it nor a tree that it lies in was handed out before
+  pub once : All (λ earlier. behind earlier.path tree.path ≡ None) before
+  pub known : All (IsKnown slots before tree.path) tree.items
+  pub no_null : All (λ item. is_null item.id ≡ false) tree.items
+  -- an entry that names the empty tree stood so
+  pub no_empty : (trees : Trees) → HasHandedOut before trees → All (λ item. trees item.id ≡ Some [] → StandsUnopened slots tree.path item) tree.items
+  pub well_formed : All (λ item. IsFilename item.name) tree.items → IsWellFormed tree.items
+  -- it has the files below its path
+  pub files : (trees : Trees) → HasHandedOut before trees → (q : Path) → files_of_tree trees tree.items q ≡ files_of_node trees slots 0 (tree.path ++ q)
+
+-- what is handed out of an editor for the id of the tree at a path
+pub record IsWritten {S : Type 0} (editor : Editor S) (path : Path) (handed : List HandedOut) (id : Id) : Type 0 where
+  pub in_order : EachBehind (IsHandedOut (slots_of editor.nodes.items)) [] handed
+  -- this tree comes last, and no other is empty
+  pub last : (below : List HandedOut) × (items : List Item) × (handed ≡ below ++ record { path = path; items = items; id = id } ∷ [])
+      × All (λ tree. tree.items ≢ []) below
+  pub files : (trees : Trees) → HasHandedOut handed trees → SameFiles (files_under trees id) (λ q. files_of trees editor (path ++ q))
+
+-- ---- calls
+
+module _ {F E : Type 0} (calls : Mut F (Bor Tree × Unit {0}) (Result ObjectId E)) where
+  -- a call hands out this tree, and answers its id
+  abbrev pub HandsOut : F → HandedOut → F → Type 0
+  HandsOut before tree after = (shown : Tree) × (oid : ObjectId) × CalledAt calls before shown (Ok oid) after × (map own_item shown.entries.items ≡ tree.items) × (id_of oid ≡ tree.id)
+
+  -- trees of these slots are handed out, one after another
+  pub record HandsOutSome (slots : Slots) (out : F) (handed : List HandedOut) (after : F) : Type 0 where
+    pub calls_made : FoldsTo HandsOut out handed after
+    pub in_order : EachBehind (IsHandedOut slots) [] handed
+
+  -- one more is handed out behind them, and the call answers this error
+  pub record FailsBehind (slots : Slots) (handed : List HandedOut) (before : F) (error : E) (after : F) : Type 0 where
+    pub shown : Tree
+    pub called : CalledAt calls before shown (Err error) after
+    pub next : (path : Path) × ((id : Id) → IsHandedOut slots handed (record { path = path; items = map own_item shown.entries.items; id = id }))
+
+  -- why no id is answered, and what was handed out by then
+  abbrev pub WriteFault : Slots → F → Error E → F → Type 0
+  WriteFault slots out (Out error) after = (handed : List HandedOut) × (before : F) × HandsOutSome slots out handed before × FailsBehind slots handed before error after
+  WriteFault slots out Memory after = (handed : List HandedOut) × HandsOutSome slots out handed after

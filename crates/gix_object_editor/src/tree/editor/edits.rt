@@ -1,0 +1,149 @@
+//! Edits below an opened tree.
+
+ghost use Rattle.std.specs.Prelude.{◌≡◌, ◌<◌, ◌≤◌, ◌+◌, length, IfErr, OnOk, OnErr};
+ghost use Rattle.gix_object_editor.specs.Files.{Path, Trees, HasStored, SameFiles, NamesAreFull, HasNoneBelow, removed, put};
+ghost use Rattle.gix_object_editor.specs.Nodes.{slots_of, Way, onto};
+ghost use Rattle.gix_object_editor.specs.Editor.{files_of, names_of, leaf_of_kind, LeadsThrough, LeadsInto, EditFault, LeafFault, IsFilled, IsFolder};
+ghost use Rattle.gix_object_editor.specs.declared.tree.editor.error.Error.TheVariants.{EmptyPathComponent};
+
+use crate::tree::editor::filled::refuse_folder;
+use crate::tree::editor::forest::walk;
+use crate::tree::editor::graft::graft;
+use crate::tree::editor::node::{NodeId, Slot, take_at};
+use crate::tree::editor::{Editor, Error};
+use gix_hash::ObjectId;
+use gix_object_entries::tree::{EntryKind, EntryMode};
+use gix_object_find::Find;
+use std::alloc::Global;
+
+impl<S: Find> Editor<S> {
+    /// Takes out what stands at or below the path, which begins at an opened tree.
+    pub(crate) fn remove_from(
+        &mut self,
+        alloc: Global,
+        from: NodeId,
+        path: &[&[u8]],
+    ) -> Result<(), Error>
+        requires { from.0 < length self.old.nodes.items }
+        ensures removed { (way : Path) → Way (slots_of self.old.nodes.items) way from.0 → S.is_honest self.old.store → OnOk result ((trees : Trees) → HasStored (S.table self.old.store) trees
+            → SameFiles (files_of trees self.new) (removed (onto way (names_of path.now)) (files_of trees self.old))) }
+        ensures unchanged { S.is_honest self.old.store → OnErr result ((trees : Trees) → HasStored (S.table self.old.store) trees
+            → SameFiles (files_of trees self.new) (files_of trees self.old)) }
+        ensures named { OnOk result (NamesAreFull (names_of path.now)) }
+        ensures refused { (way : Path) → Way (slots_of self.old.nodes.items) way from.0 → IfErr result (EditFault (S.is_honest self.old.store) (S.may_fail self.old.store) (S.table self.old.store) (names_of path.now)
+            (LeadsThrough (λ trees. files_of trees self.new) (onto way (names_of path.now)))) }
+        ensures counted { self.new.lookups ≤ self.old.lookups + length path.now }
+        ensures store { self.new.store ≡ self.old.store }
+    {
+        check_names(path)?;
+        let (at, depth) = walk(
+            &self.store,
+            &mut self.nodes,
+            &mut self.lookups,
+            alloc,
+            from,
+            path,
+        )?;
+        if depth + 1 == path.len() {
+            take_at(self.nodes.as_mut_slice(), at, path[depth]);
+        }
+        Ok(())
+    }
+
+    /// The same, but refused where a file stands below the path.
+    pub(crate) fn remove_leaf_from(
+        &mut self,
+        alloc: Global,
+        from: NodeId,
+        path: &[&[u8]],
+    ) -> Result<(), Error>
+        requires { from.0 < length self.old.nodes.items }
+        ensures removed { (way : Path) → Way (slots_of self.old.nodes.items) way from.0 → S.is_honest self.old.store → OnOk result ((trees : Trees) → HasStored (S.table self.old.store) trees
+            → SameFiles (files_of trees self.new) (removed (onto way (names_of path.now)) (files_of trees self.old))) }
+        ensures leaf { (way : Path) → Way (slots_of self.old.nodes.items) way from.0 → S.is_honest self.old.store → OnOk result ((trees : Trees) → HasStored (S.table self.old.store) trees
+            → HasNoneBelow (onto way (names_of path.now)) (files_of trees self.old)) }
+        ensures unchanged { S.is_honest self.old.store → OnErr result ((trees : Trees) → HasStored (S.table self.old.store) trees
+            → SameFiles (files_of trees self.new) (files_of trees self.old)) }
+        ensures named { OnOk result (NamesAreFull (names_of path.now)) }
+        ensures refused { (way : Path) → Way (slots_of self.old.nodes.items) way from.0 → IfErr result (LeafFault (S.is_honest self.old.store) (S.may_fail self.old.store) (S.table self.old.store) (names_of path.now)
+            (LeadsInto (λ trees. files_of trees self.new) (onto way (names_of path.now))) (IsFolder (λ trees. IsFilled trees self.new) (λ trees. files_of trees self.new) (onto way (names_of path.now)))) }
+        ensures counted { self.new.lookups ≤ self.old.lookups + length path.now }
+        ensures store { self.new.store ≡ self.old.store }
+    {
+        check_names(path)?;
+        let (at, depth) = walk(
+            &self.store,
+            &mut self.nodes,
+            &mut self.lookups,
+            alloc,
+            from,
+            path,
+        )?;
+        if depth + 1 == path.len() {
+            refuse_folder(
+                &self.store,
+                &mut self.nodes,
+                &mut self.lookups,
+                alloc,
+                at,
+                path[depth],
+            )?;
+            take_at(self.nodes.as_mut_slice(), at, path[depth]);
+        }
+        Ok(())
+    }
+
+    /// Puts an entry at the end of the path, which begins at an opened tree.
+    pub(crate) fn upsert_from(
+        &mut self,
+        alloc: Global,
+        from: NodeId,
+        path: &[&[u8]],
+        kind: EntryKind,
+        id: ObjectId,
+    ) -> Result<(), Error>
+        requires { from.0 < length self.old.nodes.items }
+        ensures put { (way : Path) → Way (slots_of self.old.nodes.items) way from.0 → S.is_honest self.old.store → OnOk result ((trees : Trees) → HasStored (S.table self.old.store) trees
+            → SameFiles (files_of trees self.new) (put trees (onto way (names_of path.now)) (leaf_of_kind kind id) (files_of trees self.old))) }
+        ensures unchanged { S.is_honest self.old.store → OnErr result ((trees : Trees) → HasStored (S.table self.old.store) trees
+            → SameFiles (files_of trees self.new) (files_of trees self.old)) }
+        ensures named { OnOk result (NamesAreFull (names_of path.now)) }
+        ensures refused { (way : Path) → Way (slots_of self.old.nodes.items) way from.0 → IfErr result (EditFault (S.is_honest self.old.store) (S.may_fail self.old.store) (S.table self.old.store) (names_of path.now)
+            (LeadsThrough (λ trees. files_of trees self.new) (onto way (names_of path.now)))) }
+        ensures counted { self.new.lookups ≤ self.old.lookups + length path.now }
+        ensures store { self.new.store ≡ self.old.store }
+    {
+        check_names(path)?;
+        let (at, depth) = walk(
+            &self.store,
+            &mut self.nodes,
+            &mut self.lookups,
+            alloc,
+            from,
+            path,
+        )?;
+        let slot = Slot {
+            mode: EntryMode::from(kind),
+            oid: id,
+            child: None,
+        };
+        graft(&mut self.nodes, alloc, at, &path[depth..], slot)?;
+        Ok(())
+    }
+}
+
+// Refuses a path without a name, or with an empty one.
+fn check_names(path: &[&[u8]]) -> Result<(), Error>
+    ensures ok { OnOk result (NamesAreFull (names_of path.now)) }
+    ensures refused { IfErr result (λ error. (error ≡ EmptyPathComponent) × (NamesAreFull (names_of path.now) → ⊥)) }
+{
+    if path.is_empty() {
+        return Err(Error::EmptyPathComponent);
+    }
+    for name in path {
+        if name.is_empty() {
+            return Err(Error::EmptyPathComponent);
+        }
+    }
+    Ok(())
+}

@@ -1,0 +1,52 @@
+//! Entries of opened trees.
+
+ghost use Rattle.std.specs.Prelude.{◌≡◌, ◌<◌, length, map, option_map};
+ghost use Rattle.gix_object_entries.specs.Entry.{item_of};
+ghost use Rattle.gix_object_editor.specs.Nodes.{slot_in, slots_of, child_of, entry_at, entry_in, IsForest};
+
+use crate::tree::editor::node::{Node, NodeId, slot_at};
+use bstr::BStr;
+use gix_object_entries::tree::EntryRef;
+
+/// The entry at the end of a path that begins at an opened tree. `None` where none stands there, or where a tree above it isn't
+/// opened.
+pub(crate) fn entry_from<'a>(
+    nodes: &'a [Node],
+    from: NodeId,
+    path: &[&'a [u8]],
+) -> Option<EntryRef<'a>>
+    requires forest { IsForest (slots_of nodes.now) (length nodes.now) }
+    requires within { from.0 < length nodes.now }
+    ensures { option_map item_of result ≡ entry_at (slots_of nodes.now) from.0 (map (λ n. n.now) path.now) }
+{
+    if path.is_empty() {
+        return None;
+    }
+    let mut at = from;
+    let mut depth = 0;
+    'names: while depth + 1 < path.len() {
+        at = child_at(nodes, at, path[depth])?;
+        depth += 1;
+    }
+    entry_of(&nodes[at.0], path[depth])
+}
+
+// The opened tree of a name in another.
+fn child_at(nodes: &[Node], at: NodeId, name: &[u8]) -> Option<NodeId>
+    requires { at.0 < length nodes.now }
+    ensures { option_map (λ c. c.0) result ≡ child_of (slots_of nodes.now at.0 name.now) }
+{
+    slot_at(nodes, at, name)?.child
+}
+
+// The entry of a name in an opened tree.
+fn entry_of<'a>(node: &'a Node, name: &'a [u8]) -> Option<EntryRef<'a>>
+    ensures { option_map item_of result ≡ entry_in name.now (slot_in node.now name.now) }
+{
+    let slot = node.slots.get(name)?;
+    Some(EntryRef {
+        mode: slot.mode,
+        filename: BStr::new(name),
+        oid: slot.oid.as_oid(),
+    })
+}

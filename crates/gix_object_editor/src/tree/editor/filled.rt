@@ -1,0 +1,59 @@
+//! Folders with files.
+
+ghost use Rattle.std.specs.Prelude.{◌≡◌, ◌<◌, ◌≤◌, ◌+◌, ◌∷◌, length, IsTrue, IsFalse, IfErr, OnOk, None};
+ghost use Rattle.gix_object_editor.specs.Files.{Bytes, Path, Trees};
+ghost use Rattle.gix_object_editor.specs.Nodes.{slots_of, files_of_node, IsForest, AreFilled, HasFileBelow, IsOpened, IsFolderAt};
+ghost use Rattle.gix_object_editor.specs.Refusals.{FolderFault};
+
+use crate::tree::editor::Error;
+use crate::tree::editor::forest::open;
+use crate::tree::editor::node::{Node, NodeId};
+use gix_object_find::Find;
+use gix_object_lines::ByteString;
+use std::alloc::Global;
+
+/// Refuses a name's folder, where a file stands below it. Its tree is opened.
+pub(crate) fn refuse_folder<S: Find>(
+    store: &S,
+    nodes: &mut Vec<Node>,
+    lookups: &mut u64,
+    alloc: Global,
+    at: NodeId,
+    name: &[u8],
+) -> Result<(), Error>
+    requires forest { IsForest (slots_of nodes.old.items) (length nodes.old.items) }
+    requires within { at.0 < length nodes.old.items }
+    ensures opened { IsOpened (S.is_honest store.now) (S.table store.now) (slots_of nodes.old.items) (slots_of nodes.new.items) (length nodes.old.items) (length nodes.new.items) }
+    ensures plain { OnOk result (IsFolderAt (slots_of nodes.new.items) at.0 name.now None) }
+    ensures counted { lookups.new ≤ lookups.old + 1 }
+    ensures refused { IfErr result (FolderFault (S.is_honest store.now) (S.may_fail store.now) (S.table store.now) (slots_of nodes.new.items) at.0 name.now) }
+{
+    let Some(folder) = open(store, nodes, lookups, alloc, at, name)? else {
+        return Ok(());
+    };
+    if has_file(nodes.as_slice(), folder) {
+        let filename = ByteString::from_slice(alloc, name)?;
+        return Err(Error::CannotRemoveNonLeaf { filename });
+    }
+    Ok(())
+}
+
+// Whether a file stands below an opened tree. An entry that isn't null has one, unless a tree was opened for it.
+fn has_file(nodes: &[Node], at: NodeId) -> bool
+    requires forest { IsForest (slots_of nodes.now) (length nodes.now) }
+    requires within { at.0 < length nodes.now }
+    ensures found { IsTrue result → (trees : Trees) → AreFilled trees (slots_of nodes.now) → HasFileBelow trees (slots_of nodes.now) at.0 }
+    ensures none { IsFalse result → (trees : Trees) (m : Bytes) (rest : Path) → files_of_node trees (slots_of nodes.now) at.0 (m ∷ rest) ≡ None }
+{
+    let node = &nodes[at.0];
+    for slot in node.slots.values() {
+        let filled = match slot.child {
+            Some(child) => has_file(nodes, child),
+            None => !slot.oid.is_null(),
+        };
+        if filled {
+            return true;
+        }
+    }
+    false
+}

@@ -1,0 +1,124 @@
+//! Putting an entry below an opened tree, in folders that are made for it.
+
+ghost use Rattle.std.specs.Prelude.{◌≡◌, ◌≢◌, ◌<◌, ◌≤◌, ◌+◌, ℕ, length, map, slice_index_or, IfOk, OnOk, OnErr, Some, None, []};
+ghost use Rattle.gix_object_entries.specs.Mode.{is_tree_value};
+ghost use Rattle.gix_object_editor.specs.Files.{Bytes, Path, Trees, SameFiles, put};
+ghost use Rattle.gix_object_editor.specs.Nodes.{slot_in, slots_of, child_of, leaf_in, files_of_node, Way, onto, IsForest, IsFolderAt, IsRung};
+
+use crate::tree::editor::node::{Node, NodeId, Slot, put_at};
+use gix_hash::ObjectId;
+use gix_object_entries::tree::{EntryKind, EntryMode};
+use std::alloc::{AllocError, Global};
+
+/// Puts an entry at the end of the names below an opened tree, in folders that are made for it. What stood at the first name
+/// is cut off. Without memory nothing changes.
+pub(crate) fn graft(
+    nodes: &mut Vec<Node>,
+    alloc: Global,
+    at: NodeId,
+    names: &[&[u8]],
+    slot: Slot,
+) -> Result<(), AllocError>
+    requires forest { IsForest (slots_of nodes.old.items) (length nodes.old.items) }
+    requires within { at.0 < length nodes.old.items }
+    requires named { 0 < length names.now }
+    requires unopened { slot.child ≡ None }
+    requires plain { 1 < length names.now → IsFolderAt (slots_of nodes.old.items) at.0 (slice_index_or (map (λ n. n.now) names.now) 0 []) None }
+    ensures forest { IsForest (slots_of nodes.new.items) (length nodes.new.items) }
+    ensures longer { length nodes.old.items ≤ length nodes.new.items }
+    ensures put { OnOk result ((trees : Trees) (way : Path) → Way (slots_of nodes.old.items) way at.0
+        → SameFiles (files_of_node trees (slots_of nodes.new.items) 0) (put trees (onto way (map (λ n. n.now) names.now)) (leaf_in slot) (files_of_node trees (slots_of nodes.old.items) 0))) }
+    ensures others { (i : ℕ) (m : Bytes) → i < length nodes.old.items → (i ≡ at.0 → m ≡ slice_index_or (map (λ n. n.now) names.now) 0 [] → ⊥) → slots_of nodes.new.items i m ≡ slots_of nodes.old.items i m }
+    ensures err { OnErr result ((i : ℕ) (m : Bytes) → slots_of nodes.new.items i m ≡ slots_of nodes.old.items i m) }
+{
+    if names.len() == 1 {
+        put_at(nodes.as_mut_slice(), alloc, at, names[0], slot)?;
+        return Ok(());
+    }
+    let before = nodes.len();
+    match hang(nodes, alloc, at, names, slot) {
+        Ok(()) => Ok(()),
+        Err(error) => {
+            nodes.truncate(before);
+            Err(error)
+        }
+    }
+}
+
+// The same for more than one name. Without memory there may be more trees, to which none leads.
+fn hang(
+    nodes: &mut Vec<Node>,
+    alloc: Global,
+    at: NodeId,
+    names: &[&[u8]],
+    slot: Slot,
+) -> Result<(), AllocError>
+    requires forest { IsForest (slots_of nodes.old.items) (length nodes.old.items) }
+    requires within { at.0 < length nodes.old.items }
+    requires named { 1 < length names.now }
+    requires unopened { slot.child ≡ None }
+    requires plain { IsFolderAt (slots_of nodes.old.items) at.0 (slice_index_or (map (λ n. n.now) names.now) 0 []) None }
+    ensures forest { OnOk result (IsForest (slots_of nodes.new.items) (length nodes.new.items)) }
+    ensures longer { length nodes.old.items ≤ length nodes.new.items }
+    ensures put { OnOk result ((trees : Trees) (way : Path) → Way (slots_of nodes.old.items) way at.0
+        → SameFiles (files_of_node trees (slots_of nodes.new.items) 0) (put trees (onto way (map (λ n. n.now) names.now)) (leaf_in slot) (files_of_node trees (slots_of nodes.old.items) 0))) }
+    ensures others { (i : ℕ) (m : Bytes) → i < length nodes.old.items → (i ≡ at.0 → m ≡ slice_index_or (map (λ n. n.now) names.now) 0 [] → ⊥) → slots_of nodes.new.items i m ≡ slots_of nodes.old.items i m }
+    ensures err { OnErr result ((i : ℕ) (m : Bytes) → i < length nodes.old.items → slots_of nodes.new.items i m ≡ slots_of nodes.old.items i m) }
+{
+    let first = NodeId(nodes.len());
+    push_ladder(nodes, alloc, &names[1..], slot)?;
+    put_at(
+        nodes.as_mut_slice(),
+        alloc,
+        at,
+        names[0],
+        folder(slot.oid, first),
+    )?;
+    Ok(())
+}
+
+// Puts trees behind the others, each with the slot of one name, which leads to the next tree. The last has the slot that is
+// handed in.
+fn push_ladder(
+    nodes: &mut Vec<Node>,
+    alloc: Global,
+    names: &[&[u8]],
+    slot: Slot,
+) -> Result<(), AllocError>
+    requires { 0 < length names.now }
+    ensures front { (i : ℕ) (m : Bytes) → i < length nodes.old.items → slots_of nodes.new.items i m ≡ slots_of nodes.old.items i m }
+    ensures rungs { OnOk result ((k : ℕ) → k < length names.now → IsRung (slots_of nodes.new.items) (length nodes.old.items) (map (λ n. n.now) names.now) slot k) }
+    ensures len { OnOk result (length nodes.new.items ≡ length nodes.old.items + length names.now) }
+    ensures longer { length nodes.old.items ≤ length nodes.new.items }
+{
+    for (i, name) in names.iter().enumerate() {
+        let rung = if i + 1 < names.len() {
+            folder(slot.oid, NodeId(nodes.len() + 1))
+        } else {
+            slot
+        };
+        nodes.push(lone(alloc, name, rung)?)?;
+    }
+    Ok(())
+}
+
+// The tree with this entry alone.
+fn lone(alloc: Global, name: &[u8], slot: Slot) -> Result<Node, AllocError>
+    ensures here { IfOk result (λ node. slot_in node name.now ≡ Some slot) }
+    ensures others { IfOk result (λ node. (m : Bytes) → m ≢ name.now → slot_in node m ≡ None) }
+{
+    let mut node = Node::empty(alloc);
+    node.put(alloc, name, slot)?;
+    Ok(node)
+}
+
+// The slot of an opened tree that has no id yet, of the hash function of the other id.
+fn folder(like: ObjectId, child: NodeId) -> Slot
+    ensures { result.child ≡ Some child }
+{
+    Slot {
+        mode: EntryMode::from(EntryKind::Tree),
+        oid: ObjectId::null(like.kind()),
+        child: Some(child),
+    }
+}

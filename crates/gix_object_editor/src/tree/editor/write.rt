@@ -1,0 +1,67 @@
+//! Writing the trees of an editor.
+
+ghost use Rattle.std.specs.Prelude.{◌<◌, List, [], length, IfOk, IfErr};
+ghost use Rattle.std.specs.List.{FoldsTo};
+ghost use Rattle.gix_hash.specs.Id.{id_of};
+ghost use Rattle.gix_object_editor.specs.Files.{Path};
+ghost use Rattle.gix_object_editor.specs.Nodes.{slots_of, Way, onto};
+ghost use Rattle.gix_object_editor.specs.Written.{HandedOut, HandsOut, WriteFault, IsWritten};
+
+mod below;
+mod entries;
+mod error;
+mod reached;
+
+use crate::tree::editor::Editor;
+use crate::tree::editor::node::NodeId;
+use crate::tree::editor::write::below::write_below;
+use crate::tree::editor::write::entries::tree_of;
+pub use crate::tree::editor::write::error::Error;
+use gix_hash::ObjectId;
+use gix_object_entries::Tree;
+use std::alloc::Global;
+
+impl<S> Editor<S> {
+    /// Hands out the trees that were opened, and answers the root's id.
+    ///
+    /// Each is handed out once, behind the trees that lie in it, and named by the id that `out` answered for it. The root comes
+    /// last. A folder whose tree has no entries is left out, and so is an entry with the null id.
+    ///
+    /// It is `Out` where `out` answers an error, and `Memory` where no memory is left.
+    pub fn write<E, F: FnMut(&Tree) -> Result<ObjectId, E>>(
+        &self,
+        alloc: Global,
+        out: &mut F,
+    ) -> Result<ObjectId, Error<E>>
+        requires { F.IsAlwaysCallable out.old }
+        ensures written { IfOk result (λ root. (handed : List HandedOut) × FoldsTo (HandsOut F.FnMut) out.old handed out.new × IsWritten self.now [] handed (id_of root)) }
+        ensures refused { IfErr result (λ error. WriteFault F.FnMut (slots_of self.now.nodes.items) out.old error out.new) }
+        ensures callable { F.IsAlwaysCallable out.new }
+    {
+        self.write_from(alloc, NodeId(0), out)
+    }
+
+    /// Hands out the trees that were opened from this one down, and answers its id.
+    pub(crate) fn write_from<E, F: FnMut(&Tree) -> Result<ObjectId, E>>(
+        &self,
+        alloc: Global,
+        from: NodeId,
+        out: &mut F,
+    ) -> Result<ObjectId, Error<E>>
+        requires callable { F.IsAlwaysCallable out.old }
+        requires within { from.0 < length self.now.nodes.items }
+        ensures written { (base : Path) → Way (slots_of self.now.nodes.items) base from.0 → IfOk result (λ id. (handed : List HandedOut)
+            × FoldsTo (HandsOut F.FnMut) out.old handed out.new × IsWritten self.now (onto base []) handed (id_of id)) }
+        ensures refused { (base : Path) → Way (slots_of self.now.nodes.items) base from.0
+            → IfErr result (λ error. WriteFault F.FnMut (slots_of self.now.nodes.items) out.old error out.new) }
+        ensures callable { F.IsAlwaysCallable out.new }
+    {
+        let nodes = self.nodes.as_slice();
+        let ids = write_below(nodes, from, alloc, out)?;
+        let tree = tree_of(&nodes[from.0], ids.as_slice(), alloc)?;
+        match out(&tree) {
+            Ok(id) => Ok(id),
+            Err(error) => Err(Error::Out(error)),
+        }
+    }
+}

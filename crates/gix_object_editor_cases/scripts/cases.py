@@ -1,0 +1,171 @@
+"""Writes stdin and stdout of gix_object_editor_cases. Trees and their ids come from git (update-index, write-tree, mktree, cat-file,
+ls-tree). An edit is made on a map from paths to modes and ids, as git's glossary speaks of files in folders, and git writes the tree."""
+import os, random, subprocess, tempfile
+
+KINDS = {"100644": "blob", "100755": "exe", "120000": "link", "160000": "commit", "40000": "tree"}
+LENGTH = {"sha1": 40, "sha256": 64}
+rows = []
+
+
+class Git:
+    """A repository of one hash function."""
+
+    def __init__(self, kind):
+        self.kind, self.null = kind, "0" * LENGTH[kind]
+        folder = tempfile.mkdtemp()
+        self.env = dict(os.environ, GIT_DIR=folder + "/.git")
+        subprocess.run(["git", "init", "-q", "--object-format=" + kind, folder], check=True)
+        self.blobs = [self.run("hash-object", "-w", "--stdin", data=b"%d" % n).decode().strip() for n in range(9)]
+        self.empty = self.run("mktree").decode().strip()
+
+    def run(self, *words, data=b""):
+        return subprocess.run(["git", *words], input=data, capture_output=True, env=self.env, check=True).stdout
+
+    def tree(self, files):
+        """The id of the tree of these files, which git writes from an index."""
+        index = self.env["GIT_DIR"] + "/index"
+        if os.path.exists(index):
+            os.remove(index)
+        lines = b"".join(f"{mode} {oid}\t".encode() + b"/".join(path) + b"\0" for path, (mode, oid) in sorted(files.items()))
+        self.run("update-index", "-z", "--index-info", data=lines)
+        return self.run("write-tree").decode().strip()
+
+    def content(self, oid):
+        return self.run("cat-file", "tree", oid)
+
+    def trees(self, oid):
+        """The contents of the trees below one."""
+        out = self.run("ls-tree", "-z", "-r", "-t", oid)
+        return {self.content(part.split(b"\t")[0].split()[2].decode()) for part in out.split(b"\0") if part.split(b" ")[1:2] == [b"tree"]}
+
+    def files(self, oid):
+        """The files of a tree."""
+        found = {}
+        for part in self.run("ls-tree", "-z", "-r", oid).split(b"\0")[:-1]:
+            words, _, name = part.partition(b"\t")
+            mode, _, blob = words.decode().split()
+            found[tuple(name.split(b"/"))] = (mode, blob)
+        return found
+
+    def entry(self, oid, path):
+        """The mode and id of what stands at a path, as git-ls-tree tells."""
+        words = self.run("ls-tree", "-z", oid, "--", b"/".join(path)).split(b"\t")[0].decode().split()
+        return f"{words[0].lstrip('0')} {words[2]}" if words else "none"
+
+
+def begins(p, q):
+    return q[: len(p)] == p
+
+
+def removed(files, path):
+    return {q: file for q, file in files.items() if not begins(path, q)}
+
+
+def put(files, path, below):
+    kept = {q: file for q, file in files.items() if not begins(path, q) and not begins(q, path)}
+    kept.update({path + q: file for q, file in below.items()})
+    return kept
+
+
+def path_word(path):
+    return "/".join(name.hex() for name in path) if path else "-"
+
+
+def upsert(path, mode, oid):
+    return f"upsert:{path_word(path)}:{KINDS[mode]}:{oid}"
+
+
+def row(git, root, more, edits, answers):
+    trees = ",".join(sorted(content.hex() for content in git.trees(root) | set().union(*[git.trees(t) | {git.content(t)} for t in more])))
+    rows.append((" ".join([git.kind, git.content(root).hex() or "-", trees or "-"] + edits), " ".join(answers)))
+
+
+NAMES = [b"a", b"a.b", b"a0", b"a-b", b"b", b"c", b"\xff", b"a b", b"A"]
+
+
+def some_path(chance, names):
+    return tuple(chance.choice(names) for _ in range(chance.choice([1, 1, 2, 2, 2, 3, 4])))
+
+
+def some_files(git, chance, names, most):
+    files = {}
+    for _ in range(chance.randrange(most)):
+        files = put(files, some_path(chance, names), {(): (chance.choice(list(KINDS)[:4]), chance.choice(git.blobs))})
+    return files
+
+
+def random_row(git, chance):
+    names = chance.sample(NAMES, chance.choice([2, 3, 5]))
+    files = some_files(git, chance, names, 12)
+    root = git.tree(files)
+    edits, answers, more = [], [], []
+    for _ in range(chance.randrange(1, 8)):
+        path = some_path(chance, names)
+        what = chance.choice(["put", "put", "put", "null", "tree", "remove", "leaf", "write"])
+        if what == "put":
+            mode, oid = chance.choice(list(KINDS)[:4]), chance.choice(git.blobs)
+            files = put(files, path, {(): (mode, oid)})
+            edits.append(upsert(path, mode, oid))
+        elif what == "null":
+            files = put(files, path, {})
+            edits.append(upsert(path, chance.choice(list(KINDS)), git.null))
+        elif what == "tree":
+            below = some_files(git, chance, names, 5)
+            tree = git.tree(below)
+            if tree == git.empty:
+                continue
+            more.append(tree)
+            files = put(files, path, below)
+            edits.append(upsert(path, "40000", tree))
+        elif what == "remove":
+            files = removed(files, path)
+            edits.append(f"remove:{path_word(path)}")
+        elif what == "leaf":
+            edits.append(f"remove_leaf:{path_word(path)}")
+            if any(begins(path, q) and q != path for q in files):
+                answers.append(f"CannotRemoveNonLeaf({path[-1].hex()})")
+                continue
+            files = removed(files, path)
+        else:
+            edits.append("write")
+            answers.append(f"{git.tree(files)} known+")
+            continue
+        answers.append("ok")
+    row(git, root, more, edits + ["write"], answers + [f"{git.tree(files)} known+"])
+
+
+def chosen_rows(git):
+    x, y = git.blobs[0], git.blobs[1]
+    nested = git.tree({(b"a", b"b", b"e"): ("100644", x), (b"a", b"f"): ("100644", y), (b"g",): ("100755", x)})
+    two = [upsert((b"a", b"b", b"c"), "100644", x), upsert((b"a", b"b", b"d"), "100644", y)]
+    row(git, nested, [], two + ["lookups"], ["ok", "ok", "2 asked 2"])
+    row(git, nested, [], ["lookups", "get:" + path_word((b"g",)), "get:" + path_word((b"a",)), "get:" + path_word((b"a", b"f")), "lookups"], ["0 asked 0", git.entry(nested, (b"g",)), git.entry(nested, (b"a",)), "none", "0 asked 0"])
+    row(git, nested, [], two + ["get:" + path_word((b"a", b"b", b"e")), "get:" + path_word((b"a", b"b", b"c")), "get:" + path_word((b"a", b"f")), "get:" + path_word((b"a", b"b", b"x"))], ["ok", "ok", git.entry(nested, (b"a", b"b", b"e")), f"100644 {x}", git.entry(nested, (b"a", b"f")), "none"])
+    for edit in ["upsert:-:blob:" + x, "upsert:61//62:blob:" + x, "remove:-", "remove:61/", "remove_leaf:-"]:
+        row(git, nested, [], [edit, "lookups", "write"], ["EmptyPathComponent", "0 asked 0", f"{nested} known+"])
+    for path in [(b"a", b"b", b"c"), (b"a", b"b", b"c", b"d")]:
+        rows.append((f"{git.kind} {git.content(nested).hex()} - {upsert(path, '100644', x)} write", f"FindExistingObject {nested} known-"))
+    a_tree = bytes.fromhex(git.run("ls-tree", nested, "a").split()[2].decode())
+    for content in [b"100644 b\0" + bytes.fromhex(x) + b"100644 a\0" + bytes.fromhex(y), b"100644 a\0" + bytes.fromhex(x) * 1 + b"100644 a\0" + bytes.fromhex(y), b"100644 a/b\0" + bytes.fromhex(x), b"100644 \0" + bytes.fromhex(x)]:
+        odd = git.run("hash-object", "-t", "tree", "--literally", "-w", "--stdin", data=content).decode().strip()
+        root = b"40000 d\0" + bytes.fromhex(odd)
+        whole = git.run("hash-object", "-t", "tree", "--literally", "-w", "--stdin", data=root).decode().strip()
+        rows.append((f"{git.kind} {root.hex()} {content.hex()} {upsert((b'd', b'e'), '100644', x)} lookups write", f"MalformedTree({odd}) 1 asked 1 {whole} known+"))
+    many = git.tree({(b"a",): ("100644", x), (b"a-b",): ("100644", x), (b"a.b",): ("100644", x), (b"a0",): ("100644", x)})
+    folder = git.tree({(b"a", b"z"): ("100644", y), (b"a-b",): ("100644", x), (b"a.b",): ("100644", x), (b"a0",): ("100644", x)})
+    row(git, many, [], [upsert((b"a", b"z"), "100644", y), "write"], ["ok", f"{folder} known+"])
+    row(git, folder, [], [upsert((b"a",), "100644", x), "write"], ["ok", f"{many} known+"])
+    row(git, folder, [], ["remove:" + path_word((b"a", b"z")), "write"], ["ok", f"{git.tree({(n,): ('100644', x) for n in (b'a-b', b'a.b', b'a0')})} known+"])
+    row(git, nested, [], ["remove:" + path_word((n,)) for n in (b"a", b"g")] + ["write"], ["ok", "ok", f"{git.empty} known+"])
+
+
+for kind in LENGTH:
+    git, chance = Git(kind), random.Random("editor " + kind)
+    chosen_rows(git)
+    for _ in range(250):
+        random_row(git, chance)
+
+with open("stdin", "w") as lines, open("stdout", "w") as answers:
+    for line, answer in rows:
+        print(line, file=lines)
+        print(answer, file=answers)

@@ -1,0 +1,154 @@
+//! The edits of a line, one after another.
+
+use crate::case::{Case, read_case, read_entry_kind, read_id, read_path};
+use crate::page::Page;
+use crate::store::{Row, Trees, row_of};
+use gix_hash::{Kind, ObjectId};
+use gix_object_editor::tree::editor::{Editor, Error};
+use gix_object_entries::Tree;
+use std::alloc::{AllocError, Global};
+
+/// What the words of a line answer.
+pub fn answer(alloc: Global, line: &str) -> Result<String, AllocError> {
+    let mut page = Page::new(alloc);
+    if edit(alloc, line, &mut page).is_none() {
+        page.word("unread");
+    }
+    page.finish()
+}
+
+fn edit(alloc: Global, line: &str, page: &mut Page) -> Option<()> {
+    let mut words = line.split(' ');
+    let Case { kind, root, trees } = read_case(alloc, words.next()?, words.next()?, words.next()?)?;
+    if !root.is_well_formed() {
+        return None;
+    }
+    let mut editor = Editor::new(alloc, &root, trees).ok()?;
+    for word in words {
+        act(alloc, kind, &mut editor, word, page)?;
+    }
+    Some(())
+}
+
+// One edit, or one question.
+fn act(
+    alloc: Global,
+    kind: Kind,
+    editor: &mut Editor<Trees>,
+    word: &str,
+    page: &mut Page,
+) -> Option<()> {
+    match word {
+        "lookups" => {
+            page.value(editor.lookups());
+            page.word("asked");
+            page.value(editor.store_mut().asked());
+            Some(())
+        }
+        "write" => write(alloc, kind, editor, page),
+        _ => at_path(alloc, editor, word, page),
+    }
+}
+
+// An edit or a question of a path.
+fn at_path(alloc: Global, editor: &mut Editor<Trees>, word: &str, page: &mut Page) -> Option<()> {
+    let mut parts = word.split(':');
+    let what = parts.next()?;
+    let names = read_path(alloc, parts.next()?)?;
+    let mut path = Vec::new(alloc);
+    for name in &names {
+        path.push(name.as_slice()).ok()?;
+    }
+    let path = path.as_slice();
+    match what {
+        "get" => show_entry(editor, path, page),
+        "remove" => show_done(editor.remove(alloc, path), page),
+        "remove_leaf" => show_done(editor.remove_leaf(alloc, path), page),
+        "upsert" => {
+            let kind = read_entry_kind(parts.next()?)?;
+            let id = read_id(parts.next()?)?;
+            show_done(editor.upsert(alloc, path, kind, id), page);
+        }
+        _ => return None,
+    }
+    Some(())
+}
+
+fn show_entry(editor: &Editor<Trees>, path: &[&[u8]], page: &mut Page) {
+    match editor.get(path) {
+        Some(entry) => {
+            page.word("");
+            page.octal(entry.mode.value());
+            page.value(entry.oid);
+        }
+        None => page.word("none"),
+    }
+}
+
+fn show_done(done: Result<(), Error>, page: &mut Page) {
+    match done {
+        Ok(()) => page.word("ok"),
+        Err(Error::EmptyPathComponent) => page.word("EmptyPathComponent"),
+        Err(Error::FindExistingObject(_)) => page.word("FindExistingObject"),
+        Err(Error::CannotRemoveNonLeaf { filename }) => {
+            page.word("CannotRemoveNonLeaf(");
+            page.hex(filename.as_bytes());
+            page.text(")");
+        }
+        Err(Error::MalformedTree { oid }) => {
+            page.word("MalformedTree(");
+            page.put(oid);
+            page.text(")");
+        }
+        Err(Error::Memory) => page.word("Memory"),
+    }
+}
+
+// A tree that was handed out, and the ids of the trees that it names.
+#[derive(Drop)]
+struct Written {
+    row: Row,
+    named: Vec<ObjectId>,
+}
+
+fn written_of(alloc: Global, kind: Kind, tree: &Tree) -> Option<Written> {
+    let mut named = Vec::new(alloc);
+    for entry in &tree.entries {
+        if entry.mode.is_tree() {
+            named.push(entry.oid).ok()?;
+        }
+    }
+    Some(Written {
+        row: row_of(alloc, kind, tree)?,
+        named,
+    })
+}
+
+// The id of the written root, and whether each tree that a written one names was there or written before. They may be asked
+// for afterwards.
+fn write(alloc: Global, kind: Kind, editor: &mut Editor<Trees>, page: &mut Page) -> Option<()> {
+    let mut trees: Vec<Written> = Vec::new(alloc);
+    let root = editor.write(alloc, &mut |tree: &Tree| -> Result<ObjectId, AllocError> {
+        let written = written_of(alloc, kind, tree).ok_or(AllocError)?;
+        let oid = written.row.oid;
+        trees.push(written)?;
+        Ok(oid)
+    });
+    page.value(root.ok()?);
+    let mut known = true;
+    for written in trees {
+        known = known && has_all(editor.store_mut(), written.named.as_slice());
+        editor.store_mut().add(written.row).ok()?;
+    }
+    page.word(if known { "known+" } else { "known-" });
+    Some(())
+}
+
+fn has_all(trees: &Trees, oids: &[ObjectId]) -> bool {
+    for oid in oids {
+        if !trees.has(oid) {
+            return false;
+        }
+    }
+    true
+}
