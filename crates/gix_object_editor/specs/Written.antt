@@ -75,6 +75,10 @@ module _ {F E : Type 0} (calls : Mut F (Bor Tree × Unit {0}) (Result ObjectId E
   abbrev pub HandsOut : F → HandedOut → F → Type 0
   HandsOut before tree after = (shown : Tree) × (oid : ObjectId) × CalledAt calls before shown (Ok oid) after × (map own_item shown.entries.items ≡ tree.items) × (id_of oid ≡ tree.id)
 
+  -- what is written of the tree at a path is handed out, and this is its id
+  abbrev pub Writes : {S : Type 0} → Editor S → Path → F → Id → F → Type 0
+  Writes editor path out id after = (handed : List HandedOut) × FoldsTo HandsOut out handed after × IsWritten editor path handed id
+
   -- trees of these slots are handed out, one after another
   pub record HandsOutSome (slots : Slots) (out : F) (handed : List HandedOut) (after : F) : Type 0 where
     pub calls_made : FoldsTo HandsOut out handed after

@@ -1,11 +1,10 @@
 //! Writing the trees of an editor.
 
-ghost use Rattle.std.specs.Prelude.{◌<◌, List, [], length, IfOk, IfErr};
-ghost use Rattle.std.specs.List.{FoldsTo};
+ghost use Rattle.std.specs.Prelude.{◌<◌, [], length, IfOk, IfErr};
 ghost use Rattle.gix_hash.specs.Id.{id_of};
 ghost use Rattle.gix_object_editor.specs.Files.{Path};
 ghost use Rattle.gix_object_editor.specs.Nodes.{slots_of, Way, onto};
-ghost use Rattle.gix_object_editor.specs.Written.{HandedOut, HandsOut, WriteFault, IsWritten};
+ghost use Rattle.gix_object_editor.specs.Written.{WriteFault, Writes};
 
 mod below;
 mod entries;
@@ -34,8 +33,9 @@ impl<S> Editor<S> {
         out: &mut F,
     ) -> Result<ObjectId, Error<E>>
         requires { F.IsAlwaysCallable out.old }
-        ensures written { IfOk result (λ root. (handed : List HandedOut) × FoldsTo (HandsOut F.FnMut) out.old handed out.new × IsWritten self.now [] handed (id_of root)) }
-        ensures refused { IfErr result (λ error. WriteFault F.FnMut (slots_of self.now.nodes.items) out.old error out.new) }
+        ensures written { IfOk result (λ root. Writes F.FnMut self.now [] out.old (id_of root) out.new) }
+        ensures refused { IfErr result (λ error.
+            WriteFault F.FnMut (slots_of self.now.nodes.items) out.old error out.new) }
         ensures callable { F.IsAlwaysCallable out.new }
     {
         self.write_from(alloc, NodeId(0), out)
@@ -50,10 +50,11 @@ impl<S> Editor<S> {
     ) -> Result<ObjectId, Error<E>>
         requires callable { F.IsAlwaysCallable out.old }
         requires within { from.0 < length self.now.nodes.items }
-        ensures written { (base : Path) → Way (slots_of self.now.nodes.items) base from.0 → IfOk result (λ id. (handed : List HandedOut)
-            × FoldsTo (HandsOut F.FnMut) out.old handed out.new × IsWritten self.now (onto base []) handed (id_of id)) }
+        ensures written { (base : Path) → Way (slots_of self.now.nodes.items) base from.0
+            → IfOk result (λ id. Writes F.FnMut self.now (onto base []) out.old (id_of id) out.new) }
         ensures refused { (base : Path) → Way (slots_of self.now.nodes.items) base from.0
-            → IfErr result (λ error. WriteFault F.FnMut (slots_of self.now.nodes.items) out.old error out.new) }
+            → IfErr result (λ error.
+            WriteFault F.FnMut (slots_of self.now.nodes.items) out.old error out.new) }
         ensures callable { F.IsAlwaysCallable out.new }
     {
         let nodes = self.nodes.as_slice();

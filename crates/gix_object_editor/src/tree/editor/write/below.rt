@@ -27,10 +27,12 @@ pub(crate) fn write_below<E, F: FnMut(&Tree) -> Result<ObjectId, E>>(
     requires callable { F.IsAlwaysCallable out.old }
     requires forest { IsForest (slots_of nodes.now) (length nodes.now) }
     requires within { from.0 < length nodes.now }
-    ensures written { (base : Path) → Way (slots_of nodes.now) base from.0 → IfOk result (λ ids. (handed : List HandedOut) × FoldsTo (HandsOut F.FnMut) out.old handed out.new
+    ensures written { (base : Path) → Way (slots_of nodes.now) base from.0
+        → IfOk result (λ ids. (handed : List HandedOut) × FoldsTo (HandsOut F.FnMut) out.old handed out.new
         × IsHandedOutFrom (slots_of nodes.now) base (length nodes.now) (ids_of ids.items) handed (from.0 + 1)) }
     ensures len { IfOk result (λ ids. length ids.items ≡ length nodes.now) }
-    ensures refused { (base : Path) → Way (slots_of nodes.now) base from.0 → IfErr result (λ error. WriteFault F.FnMut (slots_of nodes.now) out.old error out.new) }
+    ensures refused { (base : Path) → Way (slots_of nodes.now) base from.0
+        → IfErr result (λ error. WriteFault F.FnMut (slots_of nodes.now) out.old error out.new) }
     ensures callable { F.IsAlwaysCallable out.new }
 {
     let reached = reached(nodes, from, alloc)?;
