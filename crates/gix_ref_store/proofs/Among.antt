@@ -1,17 +1,16 @@
 -- What a full name reads as, by its file and by records.
 use Rattle.std.proofs.Common.{◌≡◌, ◌∙◌, refl, sym, ap, subst, ℕ, Bool, true, false, cond, ◌&&◌, not, List, [], ◌∷◌, ◌++◌, Option, Some, None, option_map, append-nil}
-use Rattle.std.specs.Prelude.{Result, Ok, Err, MatchResult, IsTrue, is_some, option_and_then, codes}
+use Rattle.std.specs.Prelude.{Result, Ok, Err, MatchResult, is_some, option_and_then, codes}
 use Rattle.std.specs.Borrow.{Bor}
-use Rattle.gix_hash.specs.Id.{Id, id_of}
+use Rattle.gix_hash.specs.Id.{Id}
 use Rattle.gix_object_lines.specs.NameTest.{is_full_name}
 use Rattle.gix_ref_file.specs.Tree.{Tree}
-use Rattle.gix_ref_name.specs.Targets.{Points, ToObject, target_view}
+use Rattle.gix_ref_name.specs.Targets.{Points, target_view}
 use Rattle.gix_ref_name.specs.declared.target.Target.{Target}
-use Rattle.gix_ref_format.specs.Packed.{Record, record_of, packed_records}
-use Rattle.gix_ref_format.specs.PackedBuffer.{hit, Keeps, KeepsFile, FileFault}
+use Rattle.gix_ref_format.specs.Packed.{Record}
+use Rattle.gix_ref_format.specs.PackedBuffer.{hit, KeepsFile}
 use Rattle.gix_ref_format.specs.PackedKept.{kept}
 use Rattle.gix_ref_format.specs.Lookup.{packed_key, packed_hit, lookup_names, tag_names, word_names, placed, is_complete}
-use Rattle.gix_ref_format.specs.declared.packed.Reference.{Reference as PackedRecord}
 use Rattle.gix_ref_format.specs.declared.packed.buffer.Buffer.{Buffer}
 use Rattle.gix_ref_store.specs.Places.{Base}
 use Rattle.gix_ref_store.specs.Readings.{Reading, Stands, Absent, Faulty, loose_reading, packed_reading, read_by, reading_among, loose_text_at, packed_text_in, records_of, told_by, reading, first_met, met_or, IsFaulty, Met}

@@ -1,12 +1,8 @@
 -- The first of several names that doesn't read as absent.
-use Rattle.std.proofs.Common.{◌≡◌, ◌∙◌, refl, sym, ap, subst, ℕ, List, [], ◌∷◌, Option, Some, None, option_map}
+use Rattle.std.proofs.Common.{◌≡◌, ◌∙◌, sym, ap, subst, ℕ, List, [], ◌∷◌, Option, Some, None, option_map}
 use Rattle.std.specs.Prelude.{Result, Ok, Err, MatchResult}
-use Rattle.gix_hash.specs.Id.{Id, id_of}
-use Rattle.gix_hash.specs.declared.kind.Kind.{Kind}
-use Rattle.gix_ref_name.specs.Targets.{Points, target_view}
-use Rattle.gix_ref_name.specs.declared.target.Target.{Target}
-use Rattle.gix_ref_store.specs.Readings.{Reading, Stands, Absent, Faulty, Met, met_or, first_met, IsFaulty, read_by}
-use Rattle.gix_ref_store.specs.Finds.{met_of, reading_of, LookupFault, TellsReading, TellsFile}
+use Rattle.gix_ref_store.specs.Readings.{Reading, Absent, met_or, first_met}
+use Rattle.gix_ref_store.specs.Finds.{met_of, reading_of, LookupFault, TellsReading}
 use Rattle.gix_ref_store.specs.Searches.{Finds}
 use Rattle.gix_ref_store.specs.declared.reference.Reference.{Reference}
 use Rattle.gix_ref_store.specs.declared.store.file.find.Error.{Error}

@@ -1,9 +1,7 @@
 -- Folders that a store may be of.
-use Rattle.std.specs.Prelude.{ℕ, ◌≡◌, ◌+◌, Bool, true, false, not, ◌&&◌, ◌||◌, List, [], ◌∷◌, length, drop, codes, if◌then◌else◌, Option, Some, None, option_map, bytes_eq, Vec, IsTrue, IsFalse}
-use Rattle.std.specs.declared.alloc.Global.{Global}
+use Rattle.std.specs.Prelude.{ℕ, ◌≡◌, ◌+◌, Bool, true, not, ◌&&◌, ◌||◌, List, [], ◌∷◌, length, drop, codes, if◌then◌else◌, Option, Some, None, option_map, bytes_eq, IsTrue, IsFalse}
 use Rattle.gix_object_lines.specs.NameTest.{begins}
 use Rattle.gix_ref_file.specs.Tree.{is_path}
-use Rattle.gix_ref_store.specs.Stores.{shared_folder}
 use Rattle.gix_ref_store.specs.declared.options.Options.{Options}
 use Rattle.gix_ref_store.specs.declared.store.file.Store.{Store}
 use Rattle.gix_ref_store.specs.declared.store.file.init.FolderError.{FolderError}

@@ -6,7 +6,6 @@ use Rattle.gix_ref_file.specs.declared.files.FileError.TheVariants as files
 use Rattle.gix_ref_format.specs.LogLine.{split_lines}
 use Rattle.gix_ref_format.specs.LogForward.{Lines}
 use Rattle.gix_ref_format.specs.LogBackward.{Stand, StandsAt}
-use Rattle.gix_ref_format.specs.declared.log.iter.error.IoError.{IoError}
 use Rattle.gix_ref_format.specs.declared.log.iter.error.IoError.TheVariants as io
 use Rattle.gix_ref_store.specs.declared.store.file.log.Error.{Error}
 use Rattle.gix_ref_store.specs.declared.store.file.log.Error.TheVariants.{Io, Memory}

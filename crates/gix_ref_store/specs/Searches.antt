@@ -1,5 +1,5 @@
 -- What a search of the code reads and finds.
-use Rattle.std.specs.Prelude.{ℕ, ◌≡◌, ◌∷◌, List, Option, option_map, Result, MatchResult}
+use Rattle.std.specs.Prelude.{ℕ, ◌≡◌, List, Option, option_map, Result, MatchResult}
 use Rattle.gix_ref_file.specs.Tree.{Tree}
 use Rattle.gix_ref_store.specs.Readings.{Reading, reading_among, first_met}
 use Rattle.gix_ref_store.specs.Stores.{base_of}

@@ -1,9 +1,9 @@
-use Rattle.std.proofs.Common.{◌∙◌, sym, subst, ap, [], ◌∷◌, append-nil}
+use Rattle.std.proofs.Common.{◌∙◌, sym, []}
 use Rattle.std.specs.Prelude.{codes}
 use Rattle.std.proofs.lemmas.Result.{err_from_is_err_and}
 use Rattle.gix_ref_format.specs.Lookup.{placed, tag_names}
-use Rattle.gix_ref_store.specs.Searches.{reads_in, Finds}
-use Rattle.gix_ref_store.proofs.MetLemmas.{found_first, fault_first, on_to_rest}
+use Rattle.gix_ref_store.specs.Searches.{reads_in}
+use Rattle.gix_ref_store.proofs.MetLemmas.{fault_first, on_to_rest}
 use Rattle.gix_ref_store.proofs.Among.{complete_finds, word_finds, word_fault}
 use Rattle.gix_ref_store.proofs.store.file.search.Search.named.Goals as goal
 
