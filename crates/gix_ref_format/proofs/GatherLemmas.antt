@@ -5,7 +5,7 @@ use Rattle.gix_ref_format.specs.Packed.{Record, Item, Good, Bad, BadHeader, all_
 use Rattle.gix_ref_format.specs.PackedBuffer.{entry_record, entry_records, first_bad, GatherFault, ItemFault}
 use Rattle.gix_ref_format.specs.declared.packed.buffer.Entry.{Entry}
 use Rattle.gix_ref_format.specs.declared.packed.buffer.Error.{Error}
-use Rattle.gix_ref_format.specs.declared.packed.buffer.Error.TheVariants.{Iter, HeaderParsing, Memory}
+use Rattle.gix_ref_format.specs.declared.packed.buffer.Error.TheVariants.{Iter, HeaderParsing, Io, Memory}
 
 -- the items of these records, and those that are left
 abbrev pub gathered : List Record → List Item → List Item
@@ -44,4 +44,5 @@ pub gathered_fault : (all : List Item) (rs : List Record) (item : Item) (left le
 gathered_fault all rs item left left' (Iter n) before first bad =
     ap first_bad (before ∙ ap (gathered rs) first) ∙ bad_behind rs (item ∷ left') ∙ bad_first item left' n bad
 gathered_fault all rs item left left' HeaderParsing before first bad = absurd bad
+gathered_fault all rs item left left' Io before first bad = absurd bad
 gathered_fault all rs item left left' Memory before first bad = tt

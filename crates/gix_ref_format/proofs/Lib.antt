@@ -3,6 +3,7 @@ pub mod LineLemmas
 pub mod SpaceLemmas
 pub mod PackedLemmas
 pub mod SortLemmas
+pub mod PrefixLemmas
 pub mod GatherLemmas
 pub mod WordLemmas
 pub mod WrittenLemmas

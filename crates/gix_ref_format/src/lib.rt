@@ -5,5 +5,6 @@ mod ids;
 pub mod laws;
 mod lines;
 pub mod log;
+pub mod lookup;
 pub mod loose;
 pub mod packed;

@@ -12,6 +12,7 @@ mod open;
 mod records;
 
 pub use crate::packed::buffer::Buffer;
+pub use crate::packed::find::FindError;
 pub use crate::packed::iter::Iter;
 pub use crate::packed::records::Records;
 use gix_hash::ObjectId;

@@ -96,6 +96,7 @@ fn opened(alloc: Global, bytes: &[u8]) -> Result<String, AllocError> {
         Ok(_) => format!(in alloc; "opened"),
         Err(buffer::Error::Iter { line_number }) => format!(in alloc; "bad {line_number}"),
         Err(buffer::Error::HeaderParsing) => format!(in alloc; "no header"),
+        Err(buffer::Error::Io) => format!(in alloc; "io"),
         Err(buffer::Error::Memory) => format!(in alloc; "memory"),
     }
 }

@@ -21,6 +21,9 @@ pub enum Error {
     /// The first line begins with `#` and is no header.
     #[error("the header of the packed references can't be read")]
     HeaderParsing,
+    /// The file couldn't be read.
+    #[error("the packed references can't be read")]
+    Io,
     /// No memory is left.
     #[error("no memory is left")]
     Memory,

@@ -1,22 +1,44 @@
 //! Lookups in `packed-refs`.
 
-ghost use Rattle.std.specs.Prelude.{◌≡◌, ◌++◌, ◌∷◌, [], Some, IfOk, option_map};
+ghost use Rattle.std.specs.Prelude.{◌≡◌, ◌++◌, ◌∷◌, [], Some, None, IfOk, IsErrOf, option_map};
 ghost use Rattle.gix_ref_name.specs.Names.{name_of, part_of};
-ghost use Rattle.gix_ref_format.specs.Lookup as spec;
-ghost use Rattle.gix_ref_format.specs.Lookup.{packed_key, packed_hit, first_hit, lookup_names, word_names, tag_names, branch_names, remote_names, in_worktree, key_by};
+ghost use Rattle.gix_ref_format.specs.Lookup.{packed_hit, first_hit, lookup_names, word_names, tag_names, branch_names, remote_names};
 ghost use Rattle.gix_ref_format.specs.Packed.{record_of};
 ghost use Rattle.gix_ref_format.specs.PackedBuffer.{entry_record, hit};
 ghost use Rattle.gix_ref_format.specs.PackedKept.{kept};
+ghost use Rattle.gix_ref_format.specs.declared.packed.find.FindError.TheVariants.{NotFound};
 
+use crate::lookup::{is_complete, key_of};
 use crate::packed::Reference;
 use crate::packed::buffer::{Buffer, Entry, name_of};
-use gix_object_lines::cut::split_once;
-use gix_object_lines::lines::is_capitals;
 use gix_ref_name::{FullNameRef, PartialNameRef};
 use std::alloc::{AllocError, Global};
 use std::cmp::Ordering;
+use thiserror::Error;
+
+/// Why no record is found.
+#[derive(Debug, Clone, Copy, PartialEq, Eq, Error)]
+pub enum FindError {
+    /// There is none.
+    #[error("there is no packed reference of this name")]
+    NotFound,
+    /// No memory is left.
+    #[error("no memory is left")]
+    Memory,
+}
 
 impl Buffer {
+    /// The record that this name stands for, as `try_find` has it; `NotFound` where there is none.
+    pub fn find(&self, alloc: Global, name: PartialNameRef<'_>) -> Result<Reference<'_>, FindError>
+        ensures found { IfOk result (λ r. first_hit (kept self.now) (lookup_names (part_of name.entry)) ≡ Some (record_of r)) }
+        ensures absent { IsErrOf result NotFound → first_hit (kept self.now) (lookup_names (part_of name.entry)) ≡ None }
+    {
+        match self.try_find(alloc, name) {
+            Ok(found) => found.ok_or(FindError::NotFound),
+            Err(_) => Err(FindError::Memory),
+        }
+    }
+
     /// The record that this name stands for: of a name that begins `refs/`, one of another worktree and one of capital letters
     /// its own; else the first of those below `refs/`, `refs/tags/`, `refs/heads/` and `refs/remotes/`, and of its `HEAD` below
     /// the last. `None` where there is none, as for names of which each worktree has its own.
@@ -150,69 +172,4 @@ impl Entry {
             object: self.object,
         }
     }
-}
-
-// Whether no rule completes the name.
-fn is_complete(word: &[u8]) -> bool
-    ensures { result ≡ spec.is_complete word.now }
-{
-    word.starts_with(b"refs/")
-        || word.starts_with(b"main-worktree/")
-        || word.starts_with(b"worktrees/")
-        || is_capitals(word)
-}
-
-// Whether each worktree has its own reference of this name.
-fn is_own(name: &[u8]) -> bool
-    ensures { result ≡ spec.is_own name.now }
-{
-    is_capitals(name)
-        || name.starts_with(b"refs/bisect/")
-        || name.starts_with(b"refs/rewritten/")
-        || name.starts_with(b"refs/worktree/")
-}
-
-// The name by which a record may stand for a full name; `None` where each worktree has its own.
-fn key_of(name: &[u8]) -> Option<&[u8]>
-    ensures { option_map (λ key. key.now) result ≡ packed_key name.now }
-{
-    match rest_in_worktree(name) {
-        Some(rest) => key_in_worktree(name, rest),
-        None if is_own(name) => None,
-        None => Some(name),
-    }
-}
-
-// The same for a name that stands behind a worktree's front.
-fn key_in_worktree<'a>(name: &'a [u8], rest: &'a [u8]) -> Option<&'a [u8]>
-    ensures { option_map (λ key. key.now) result ≡ key_by name.now (Some rest.now) }
-{
-    if is_own(rest) {
-        None
-    } else if rest.starts_with(b"refs/") {
-        Some(rest)
-    } else {
-        Some(name)
-    }
-}
-
-// What stands behind the front of a worktree.
-fn rest_in_worktree(name: &[u8]) -> Option<&[u8]>
-    ensures { option_map (λ rest. rest.now) result ≡ in_worktree name.now }
-{
-    if name.starts_with(b"main-worktree/") {
-        return Some(&name[14..]);
-    }
-    if name.starts_with(b"worktrees/") {
-        return behind_slash(&name[10..]);
-    }
-    None
-}
-
-// What stands behind the first slash.
-fn behind_slash(text: &[u8]) -> Option<&[u8]>
-    ensures { option_map (λ rest. rest.now) result ≡ spec.behind_slash text.now }
-{
-    let (_, rest) = split_once(text, b'/')?;
-    Some(rest)
 }

@@ -1,15 +1,18 @@
 //! Opening `packed-refs`.
 
-ghost use Rattle.std.specs.Prelude.{◌≡◌, Some, IfOk, MatchResult};
+ghost use Rattle.std.specs.Prelude.{◌≡◌, Some, IfOk, IsErrOf, MatchResult, option_map};
+ghost use Rattle.gix_ref_file.specs.Tree.{node_at, bytes_of};
 ghost use Rattle.gix_ref_format.specs.Packed.{Good, item_view, packed_records, all_good};
-ghost use Rattle.gix_ref_format.specs.PackedBuffer.{entry_record, entry_records, IsInOrder, Holds, Keeps, OpenFault, GatherFault, ItemFault};
+ghost use Rattle.gix_ref_format.specs.PackedBuffer.{entry_record, entry_records, IsInOrder, Holds, Keeps, KeepsFile, OpenFault, FileFault, GatherFault, ItemFault};
 ghost use Rattle.gix_ref_format.specs.PackedIter.{items_left};
 ghost use Rattle.gix_ref_format.specs.PackedKept.{kept};
+ghost use Rattle.gix_ref_format.specs.declared.packed.buffer.Error.TheVariants.{Io};
 
 use crate::packed::Reference;
 use crate::packed::buffer::{Buffer, Entry, Error, name_of};
 use crate::packed::iter::{self, Iter};
 use gix_hash::Kind;
+use gix_ref_file::{FileError, Files};
 use std::alloc::{AllocError, Global};
 
 impl Buffer {
@@ -21,6 +24,28 @@ impl Buffer {
     {
         let entries = sorted(collect(alloc, &bytes, kind)?)?;
         Ok(Buffer { bytes, entries })
+    }
+
+    /// The buffer of the file at this path, with ids of this kind; `None` where no file stands. `Io` where the file couldn't be
+    /// read, else the reasons of `from_bytes`.
+    pub fn open<F: Files>(
+        alloc: Global,
+        files: &F,
+        path: &[u8],
+        kind: Kind,
+    ) -> Result<Option<Buffer>, Error>
+        ensures kept { F.is_honest files.now → MatchResult result
+            (λ found. KeepsFile kind (bytes_of (node_at (F.history files.now).tree path.now)) (option_map kept found))
+            (FileFault kind (bytes_of (node_at (F.history files.now).tree path.now))) }
+        ensures failed { IsErrOf result Io → F.reading_may_fail }
+    {
+        let mut bytes = Vec::new(alloc);
+        match files.read(path, &mut bytes) {
+            Ok(Some(_)) => Ok(Some(Buffer::from_bytes(alloc, bytes, kind)?)),
+            Ok(None) => Ok(None),
+            Err(FileError::Failed) => Err(Error::Io),
+            Err(FileError::Memory) => Err(Error::Memory),
+        }
     }
 }
 

@@ -1,6 +1,6 @@
 use Rattle.std.proofs.Common.{sym}
 use Rattle.gix_ref_format.proofs.WordLemmas.{no_slash, slash_at}
-use Rattle.gix_ref_format.proofs.packed.find.behind_slash.Goals as goal
+use Rattle.gix_ref_format.proofs.lookup.behind_slash.Goals as goal
 
 pub returns-in_err-rest : goal.returns-in_err-rest
 returns-in_err-rest c = rw c.from_residual.ensures (sym (no_slash c.args.text.now c.in_err-rest.ensures))

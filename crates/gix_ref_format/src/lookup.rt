@@ -1,0 +1,73 @@
+//! Names as they are looked up: which of them no rule completes, and which of them each worktree has of its own.
+
+ghost use Rattle.std.specs.Prelude.{◌≡◌, Some, option_map};
+ghost use Rattle.gix_ref_format.specs.Lookup as spec;
+ghost use Rattle.gix_ref_format.specs.Lookup.{packed_key, in_worktree, key_by};
+
+use gix_object_lines::cut::split_once;
+use gix_object_lines::lines::is_capitals;
+
+/// Whether no rule completes the name: it begins `refs/` or with a worktree's front, or is of capital letters and `_` alone.
+pub fn is_complete(word: &[u8]) -> bool
+    ensures { result ≡ spec.is_complete word.now }
+{
+    word.starts_with(b"refs/")
+        || word.starts_with(b"main-worktree/")
+        || word.starts_with(b"worktrees/")
+        || is_capitals(word)
+}
+
+/// Whether each worktree has its own reference of this name.
+pub fn is_own(name: &[u8]) -> bool
+    ensures { result ≡ spec.is_own name.now }
+{
+    is_capitals(name)
+        || name.starts_with(b"refs/bisect/")
+        || name.starts_with(b"refs/rewritten/")
+        || name.starts_with(b"refs/worktree/")
+}
+
+/// The name by which a record may stand for a full name; `None` where each worktree has its own.
+pub fn key_of(name: &[u8]) -> Option<&[u8]>
+    ensures { option_map (λ key. key.now) result ≡ packed_key name.now }
+{
+    match rest_in_worktree(name) {
+        Some(rest) => key_in_worktree(name, rest),
+        None if is_own(name) => None,
+        None => Some(name),
+    }
+}
+
+// The same for a name that stands behind a worktree's front.
+fn key_in_worktree<'a>(name: &'a [u8], rest: &'a [u8]) -> Option<&'a [u8]>
+    ensures { option_map (λ key. key.now) result ≡ key_by name.now (Some rest.now) }
+{
+    if is_own(rest) {
+        None
+    } else if rest.starts_with(b"refs/") {
+        Some(rest)
+    } else {
+        Some(name)
+    }
+}
+
+// What stands behind the front of a worktree.
+fn rest_in_worktree(name: &[u8]) -> Option<&[u8]>
+    ensures { option_map (λ rest. rest.now) result ≡ in_worktree name.now }
+{
+    if name.starts_with(b"main-worktree/") {
+        return Some(&name[14..]);
+    }
+    if name.starts_with(b"worktrees/") {
+        return behind_slash(&name[10..]);
+    }
+    None
+}
+
+/// What stands behind the first slash; `None` where there is none.
+pub fn behind_slash(text: &[u8]) -> Option<&[u8]>
+    ensures { option_map (λ rest. rest.now) result ≡ spec.behind_slash text.now }
+{
+    let (_, rest) = split_once(text, b'/')?;
+    Some(rest)
+}

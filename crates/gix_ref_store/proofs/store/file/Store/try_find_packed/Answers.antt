@@ -1,0 +1,11 @@
+use Rattle.std.proofs.Common.{subst}
+use Rattle.gix_ref_format.specs.Lookup.{lookup_names}
+use Rattle.gix_ref_store.specs.Readings.{reading_among}
+use Rattle.gix_ref_store.specs.Stores.{base_of}
+use Rattle.gix_ref_store.specs.Finds.{records_in}
+use Rattle.gix_ref_store.specs.Searches.{Finds}
+use Rattle.gix_ref_store.proofs.store.file.Store.try_find_packed.Goals as goal
+
+pub returns-clause-found : goal.returns-clause-found
+returns-clause-found g c = λ honest.
+    subst (λ w. Finds (reading_among (base_of c.args.self.now) (g.F.Files.history c.args.self.now.files).tree (records_in c.args.packed)) (lookup_names w) c.named.result) c.to_partial_path.ensures (c.named.ensures.found honest)

@@ -1,0 +1,81 @@
+-- What a full name reads as in a tree of files: its own file wins over a packed record (gitrepository-layout, "refs" and
+-- "packed-refs").
+use Rattle.std.specs.Prelude.{ℕ, ◌≡◌, is_some, List, [], ◌∷◌, if◌then◌else◌, Option, Some, None}
+use Rattle.gix_hash.specs.Id.{Id}
+use Rattle.gix_hash.specs.declared.kind.Kind.{Kind}
+use Rattle.gix_object_lines.specs.NameTest.{is_full_name}
+use Rattle.gix_ref_file.specs.Tree.{Tree, node_at, bytes_of}
+use Rattle.gix_ref_name.specs.Targets.{Points, ToObject}
+use Rattle.gix_ref_format.specs.Loose.{loose_target}
+use Rattle.gix_ref_format.specs.Packed.{Record, packed_records}
+use Rattle.gix_ref_format.specs.Lookup.{packed_key, packed_hit}
+use Rattle.gix_ref_store.specs.Places.{Base, place, packed_place}
+
+-- what a name points to, with the peeled id that its record tells; or it doesn't stand, or can't be read
+pub data Reading : Type 0 where
+  Stands : Points → Option Id → Reading
+  Absent : Reading
+  Faulty : Reading
+
+abbrev pub loose_reading : Option Points → Reading
+loose_reading (Some points) = Stands points None
+loose_reading None = Faulty
+
+abbrev pub packed_reading : Option Record → Reading
+packed_reading (Some r) = Stands (ToObject r.target) r.peeled
+packed_reading None = Absent
+
+-- the file of its own, else what the records tell
+abbrev pub read_by : Kind → Option (List ℕ) → Reading → Reading
+read_by kind (Some text) packed = loose_reading (loose_target kind text)
+read_by kind None packed = packed
+
+-- the text of the file of its own
+abbrev pub loose_text_at : Base → Tree → List ℕ → Option (List ℕ)
+loose_text_at b tree name = bytes_of (node_at tree (place b name))
+
+-- what a name reads as where these records are packed
+abbrev pub reading_among : Base → Tree → List Record → List ℕ → Reading
+reading_among b tree records name =
+    if is_full_name name then read_by b.kind (loose_text_at b tree name) (packed_reading (packed_hit records name)) else Absent
+
+-- the text of the packed records
+abbrev pub packed_text_in : Base → Tree → Option (List ℕ)
+packed_text_in b tree = bytes_of (node_at tree (packed_place b))
+
+-- the records of a text, none where there is no text; the whole is `None` where a line can't be read
+abbrev pub records_of : Kind → Option (List ℕ) → Option (List Record)
+records_of kind None = Some []
+records_of kind (Some text) = packed_records kind text
+
+-- what these records tell of a name; names of which each worktree has its own have none
+abbrev pub told_by : Option (List Record) → List ℕ → Reading
+told_by (Some records) name = packed_reading (packed_hit records name)
+told_by None name = if is_some (packed_key name) then Faulty else Absent
+
+-- what a name reads as
+abbrev pub reading : Base → Tree → List ℕ → Reading
+reading b tree name =
+    if is_full_name name then read_by b.kind (loose_text_at b tree name) (told_by (records_of b.kind (packed_text_in b tree)) name)
+    else Absent
+
+-- ---- lookups
+
+-- a name, and what it reads as
+pub record Met : Type 0 where
+  pub name : List ℕ
+  pub reading : Reading
+
+abbrev pub met_or : List ℕ → Reading → Option Met → Option Met
+met_or name Absent later = later
+met_or name (Stands points peeled) later = Some (record { name = name; reading = Stands points peeled })
+met_or name Faulty later = Some (record { name = name; reading = Faulty })
+
+-- the first of the names that stands or can't be read
+abbrev pub first_met : (List ℕ → Reading) → List (List ℕ) → Option Met
+first_met read [] = None
+first_met read (name ∷ names) = met_or name (read name) (first_met read names)
+
+-- that one can't be read
+abbrev pub IsFaulty : Option Met → Type 0
+IsFaulty met = (name : List ℕ) × (met ≡ Some (record { name = name; reading = Faulty }))

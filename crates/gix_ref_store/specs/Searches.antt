@@ -1,0 +1,17 @@
+-- What a search of the code reads and finds.
+use Rattle.std.specs.Prelude.{ℕ, ◌≡◌, List, Option, option_map, Result, MatchResult}
+use Rattle.gix_ref_file.specs.Tree.{Tree}
+use Rattle.gix_ref_store.specs.Readings.{Reading, reading_among, first_met}
+use Rattle.gix_ref_store.specs.Stores.{base_of}
+use Rattle.gix_ref_store.specs.Finds.{met_of, records_in, LookupFault}
+use Rattle.gix_ref_store.specs.declared.reference.Reference.{Reference}
+use Rattle.gix_ref_store.specs.declared.store.file.find.Error.{Error}
+use Rattle.gix_ref_store.specs.declared.store.file.search.Search.{Search}
+
+-- what a name reads as in this tree, with the records that a search has
+abbrev pub reads_in : {F : Type 0} → Tree → Search F → List ℕ → Reading
+reads_in tree search = reading_among (base_of search.store.now) tree (records_in search.packed)
+
+-- what a search over these names answers
+abbrev pub Finds : (List ℕ → Reading) → List (List ℕ) → Result (Option Reference) Error → Type 0
+Finds read names result = MatchResult result (λ found. option_map met_of found ≡ first_met read names) (LookupFault (first_met read names))

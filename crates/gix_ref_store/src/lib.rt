@@ -1,0 +1,9 @@
+//! References as files hold them: what they read as, how they are found and listed, and their logs, after the crate `gix-ref` 0.67.
+#![tactic(auto)]
+
+mod options;
+mod reference;
+pub mod store;
+
+pub use crate::options::{Options, WriteReflog};
+pub use crate::reference::Reference;

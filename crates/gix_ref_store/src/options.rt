@@ -1,0 +1,39 @@
+//! What a store is told of its repository.
+
+ghost use Rattle.gix_ref_store.specs.Stores.{IsUsual};
+
+use gix_hash::Kind;
+
+/// Which updates are written to logs.
+#[derive(Debug, Clone, Copy, PartialEq, Eq, PartialOrd, Ord, Hash)]
+pub enum WriteReflog {
+    /// Those of every name.
+    Always,
+    /// Those of HEAD, of branches, notes and a worktree's own names, and of names whose log stands.
+    Normal,
+    /// None.
+    Disable,
+}
+
+/// What a store is told of its repository.
+#[derive(Debug, Clone, Copy, PartialEq, Eq)]
+pub struct Options {
+    /// Which updates are written to logs.
+    pub write_reflog: WriteReflog,
+    /// The hash function of its ids.
+    pub object_hash: Kind,
+    /// Whether names are written with their characters composed.
+    pub precompose_unicode: bool,
+}
+
+impl Default for Options {
+    ghost is_default = { IsUsual };
+
+    fn default() -> Options {
+        Options {
+            write_reflog: WriteReflog::Normal,
+            object_hash: Kind::Sha1,
+            precompose_unicode: false,
+        }
+    }
+}

@@ -1,0 +1,3 @@
+//! Stores of references.
+
+pub mod file;

@@ -1,0 +1,192 @@
+//! Lookups of references.
+
+ghost use Rattle.std.specs.Prelude.{◌≡◌, ◌&&◌, [], not, is_some, Some, None, MatchResult, option_map};
+ghost use Rattle.gix_ref_name.specs.Names.{part_of};
+ghost use Rattle.gix_ref_format.specs.Lookup.{lookup_names, is_complete, packed_key};
+ghost use Rattle.gix_ref_store.specs.Readings.{reading, reading_among, first_met};
+ghost use Rattle.gix_ref_store.specs.Stores.{base_of};
+ghost use Rattle.gix_ref_store.specs.Finds.{met_of, loose_met, records_in, LookupFault, FindFault, FindsOpened, MayTell, OnExisting};
+ghost use Rattle.gix_ref_store.specs.declared.store.file.find.Error.TheVariants.{Memory};
+
+use crate::reference::Reference;
+use crate::store::file::Store;
+use crate::store::file::search::Search;
+use gix_ref_file::Files;
+use gix_ref_format::lookup::{is_complete, key_of};
+use gix_ref_format::loose;
+use gix_ref_format::packed::{Buffer, buffer};
+use gix_ref_name::PartialNameRef;
+use std::alloc::{AllocError, Global};
+use thiserror::Error;
+
+/// Why a lookup gives up.
+#[derive(Debug, Clone, Copy, PartialEq, Eq, Error)]
+pub enum Error {
+    /// The file of a reference couldn't be read.
+    #[error("the file of a reference couldn't be read")]
+    ReadFileContents,
+    /// The text of a reference's file tells no target.
+    #[error(transparent)]
+    ReferenceCreation(loose::Error),
+    /// The packed references couldn't be opened.
+    #[error(transparent)]
+    PackedOpen(buffer::Error),
+    /// No memory is left.
+    #[error("no memory is left")]
+    Memory,
+}
+
+impl From<AllocError> for Error {
+    ghost from_gives = { λ _ e. e ≡ Memory };
+
+    fn from(_: AllocError) -> Self {
+        Error::Memory
+    }
+}
+
+/// Why no reference is found.
+#[derive(Debug, Clone, Copy, PartialEq, Eq, Error)]
+pub enum ExistingError {
+    /// The lookup gave up.
+    #[error(transparent)]
+    Find(Error),
+    /// There is none.
+    #[error("there is no reference of this name")]
+    NotFound,
+}
+
+impl<F: Files> Store<F> {
+    /// The reference that a name stands for, `None` where there is none: of a name that begins `refs/`, one of another worktree
+    /// and one of capital letters its own; else the first that stands of those below `refs/`, `refs/tags/`, `refs/heads/` and
+    /// `refs/remotes/`, and of its `HEAD` below the last. A file of a reference's own wins over its packed record.
+    ///
+    /// `ReferenceCreation` where the file of the first of these names that doesn't read as absent tells no target. Packed
+    /// references are opened unless a file stands at the first name: `PackedOpen` where that isn't possible. Nothing changes.
+    pub fn try_find(
+        &self,
+        alloc: Global,
+        name: PartialNameRef<'_>,
+    ) -> Result<Option<Reference>, Error>
+        ensures found { F.is_honest self.now.files → let met = first_met (reading (base_of self.now) (F.history self.now.files).tree) (lookup_names (part_of name.entry)) in
+            MatchResult result (λ found. option_map met_of found ≡ met)
+            (FindFault (base_of self.now) (F.history self.now.files).tree (lookup_names (part_of name.entry)) met) }
+        ensures failed { MatchResult result (λ _. Unit {0}) (MayTell F.reading_may_fail) }
+    {
+        let word = name.to_partial_path();
+        let loose = Search {
+            alloc,
+            store: self,
+            packed: None,
+        };
+        match loose.first(word)? {
+            Some(found) => Ok(Some(found)),
+            None if is_unpacked(word) => Ok(None),
+            None => self.find_opened(alloc, name),
+        }
+    }
+
+    // The reference that a name stands for, by the packed references as they are now.
+    fn find_opened(
+        &self,
+        alloc: Global,
+        name: PartialNameRef<'_>,
+    ) -> Result<Option<Reference>, Error>
+        ensures found { F.is_honest self.now.files → FindsOpened (base_of self.now) (F.history self.now.files).tree (lookup_names (part_of name.entry)) result }
+        ensures failed { MatchResult result (λ _. Unit {0}) (MayTell F.reading_may_fail) }
+    {
+        match self.open_packed_buffer(alloc) {
+            Ok(Some(packed)) => self.try_find_packed(alloc, name, Some(&packed)),
+            Ok(None) => self.try_find_packed(alloc, name, None),
+            Err(error) => Err(Error::PackedOpen(error)),
+        }
+    }
+
+    /// The reference that a name stands for, as `try_find` has it, with these packed references; without any, `None`, only those
+    /// with files of their own are found.
+    pub fn try_find_packed(
+        &self,
+        alloc: Global,
+        name: PartialNameRef<'_>,
+        packed: Option<&Buffer>,
+    ) -> Result<Option<Reference>, Error>
+        ensures found { F.is_honest self.now.files → let met = first_met (reading_among (base_of self.now) (F.history self.now.files).tree (records_in packed.entry)) (lookup_names (part_of name.entry)) in
+            MatchResult result (λ found. option_map met_of found ≡ met) (LookupFault met) }
+        ensures failed { MatchResult result (λ _. Unit {0}) (MayTell F.reading_may_fail) }
+    {
+        let search = Search {
+            alloc,
+            store: self,
+            packed,
+        };
+        search.named(name.to_partial_path())
+    }
+
+    /// The reference with a file of its own that a name stands for, as `try_find` has it.
+    pub fn try_find_loose(
+        &self,
+        alloc: Global,
+        name: PartialNameRef<'_>,
+    ) -> Result<Option<loose::Reference>, Error>
+        ensures found { F.is_honest self.now.files → let met = first_met (reading_among (base_of self.now) (F.history self.now.files).tree []) (lookup_names (part_of name.entry)) in
+            MatchResult result (λ found. option_map loose_met found ≡ met) (LookupFault met) }
+        ensures failed { MatchResult result (λ _. Unit {0}) (MayTell F.reading_may_fail) }
+    {
+        match self.try_find_packed(alloc, name, None)? {
+            Some(Reference { name, target, .. }) => Ok(Some(loose::Reference { name, target })),
+            None => Ok(None),
+        }
+    }
+
+    /// The reference that a name stands for, as `try_find` has it; `NotFound` where there is none.
+    pub fn find(&self, alloc: Global, name: PartialNameRef<'_>) -> Result<Reference, ExistingError>
+        ensures found { F.is_honest self.now.files → let met = first_met (reading (base_of self.now) (F.history self.now.files).tree) (lookup_names (part_of name.entry)) in
+            MatchResult result (λ r. met ≡ Some (met_of r))
+            (OnExisting (met ≡ None) (FindFault (base_of self.now) (F.history self.now.files).tree (lookup_names (part_of name.entry)) met)) }
+        ensures failed { MatchResult result (λ _. Unit {0}) (OnExisting (Unit {0}) (MayTell F.reading_may_fail)) }
+    {
+        match self.try_find(alloc, name) {
+            Ok(found) => found.ok_or(ExistingError::NotFound),
+            Err(error) => Err(ExistingError::Find(error)),
+        }
+    }
+
+    /// The reference that a name stands for, as `try_find_packed` has it; `NotFound` where there is none.
+    pub fn find_packed(
+        &self,
+        alloc: Global,
+        name: PartialNameRef<'_>,
+        packed: Option<&Buffer>,
+    ) -> Result<Reference, ExistingError>
+        ensures found { F.is_honest self.now.files → let met = first_met (reading_among (base_of self.now) (F.history self.now.files).tree (records_in packed.entry)) (lookup_names (part_of name.entry)) in
+            MatchResult result (λ r. met ≡ Some (met_of r)) (OnExisting (met ≡ None) (LookupFault met)) }
+        ensures failed { MatchResult result (λ _. Unit {0}) (OnExisting (Unit {0}) (MayTell F.reading_may_fail)) }
+    {
+        match self.try_find_packed(alloc, name, packed) {
+            Ok(found) => found.ok_or(ExistingError::NotFound),
+            Err(error) => Err(ExistingError::Find(error)),
+        }
+    }
+
+    /// The reference with a file of its own that a name stands for, as `try_find_loose` has it; `NotFound` where there is none.
+    pub fn find_loose(
+        &self,
+        alloc: Global,
+        name: PartialNameRef<'_>,
+    ) -> Result<loose::Reference, ExistingError>
+        ensures found { F.is_honest self.now.files → let met = first_met (reading_among (base_of self.now) (F.history self.now.files).tree []) (lookup_names (part_of name.entry)) in
+            MatchResult result (λ r. met ≡ Some (loose_met r)) (OnExisting (met ≡ None) (LookupFault met)) }
+        ensures failed { MatchResult result (λ _. Unit {0}) (OnExisting (Unit {0}) (MayTell F.reading_may_fail)) }
+    {
+        match self.try_find_loose(alloc, name) {
+            Ok(found) => found.ok_or(ExistingError::NotFound),
+            Err(error) => Err(ExistingError::Find(error)),
+        }
+    }
+}
+
+// Whether the name is a full one of which each worktree has its own, so that no record stands for it.
+fn is_unpacked(word: &[u8]) -> bool
+    ensures { result ≡ (is_complete word.now && not (is_some (packed_key word.now))) }
+{
+    is_complete(word) && key_of(word).is_none()
+}

@@ -1,0 +1,135 @@
+//! Logs of references.
+
+ghost use Rattle.std.specs.Prelude.{◌≡◌, is_some, length, option_map, IfOk, IfErr, IfSome};
+ghost use Rattle.gix_ref_file.specs.Tree.{node_at, bytes_of, bytes_at};
+ghost use Rattle.gix_ref_name.specs.Names.{name_of};
+ghost use Rattle.gix_ref_format.specs.LogForward.{lines_of};
+ghost use Rattle.gix_ref_format.specs.LogReverse.{stand_of};
+ghost use Rattle.gix_ref_store.specs.Places.{log_place};
+ghost use Rattle.gix_ref_store.specs.Stores.{base_of};
+ghost use Rattle.gix_ref_store.specs.Logs.{ReadsForward, ReadsBackward, MayTell, told_of};
+ghost use Rattle.gix_ref_store.specs.declared.store.file.log.Error.TheVariants.{Memory};
+
+use crate::store::file::Store;
+use gix_ref_file::{FileError, Files, Place};
+use gix_ref_format::log::iter::{Forward, IoError, ReadAt, Reverse, forward, reverse};
+use gix_ref_name::FullNameRef;
+use std::alloc::{AllocError, Global};
+use thiserror::Error;
+
+/// Why a log isn't read.
+#[derive(Debug, Clone, Copy, PartialEq, Eq, Error)]
+pub enum Error {
+    /// The log couldn't be read, or the buffer is empty.
+    #[error(transparent)]
+    Io(IoError),
+    /// No memory is left.
+    #[error("no memory is left")]
+    Memory,
+}
+
+impl From<AllocError> for Error {
+    ghost from_gives = { λ _ e. e ≡ Memory };
+
+    fn from(_: AllocError) -> Self {
+        Error::Memory
+    }
+}
+
+impl From<FileError> for Error {
+    ghost from_gives = { λ e told. told ≡ told_of e };
+
+    fn from(error: FileError) -> Self {
+        match error {
+            FileError::Failed => Error::Io(IoError::Reader(FileError::Failed)),
+            FileError::Memory => Error::Memory,
+        }
+    }
+}
+
+/// The file of a log.
+#[derive(Debug, Drop)]
+pub struct LogFile<'s, F> {
+    pub(crate) files: &'s F,
+    pub(crate) path: Vec<u8>,
+}
+
+impl<F: Files> ReadAt for LogFile<'_, F> {
+    ghost contents = { λ log. bytes_at (F.history log.files.now).tree log.path.items };
+
+    ghost is_honest = { λ log. F.is_honest log.files.now };
+
+    ghost may_fail = { F.reading_may_fail };
+
+    fn len(&self) -> Result<u64, FileError> {
+        match self.files.kind_of(&self.path)? {
+            Place::File(len) => Ok(len),
+            Place::Absent | Place::Folder => Ok(0),
+        }
+    }
+
+    fn read_at(&self, at: u64, buffer: &mut [u8]) -> Result<usize, FileError> {
+        Ok(self.files.read_at(&self.path, at, buffer)?.unwrap_or(0))
+    }
+}
+
+impl<F: Files> Store<F> {
+    /// Whether a name has a log.
+    pub fn reflog_exists(&self, alloc: Global, name: FullNameRef<'_>) -> Result<bool, Error>
+        ensures exists { F.is_honest self.now.files → IfOk result (λ found. found ≡ is_some (bytes_of (node_at (F.history self.now.files).tree (log_place (base_of self.now) (name_of name.entry))))) }
+        ensures failed { IfErr result (MayTell F.reading_may_fail) }
+    {
+        let path = self.home(name.to_path()).log_place(alloc)?;
+        match self.files.kind_of(&path)? {
+            Place::File(_) => Ok(true),
+            Place::Absent | Place::Folder => Ok(false),
+        }
+    }
+
+    /// Reads a name's log from its beginning, whose bytes come into the buffer in the place of what stands there; `None` where the
+    /// name has no log.
+    pub fn reflog_iter<'b>(
+        &self,
+        alloc: Global,
+        name: FullNameRef<'_>,
+        buffer: &'b mut Vec<u8>,
+    ) -> Result<Option<Forward<'b>>, Error>
+        ensures lines { F.is_honest self.now.files → IfOk result (λ found. ReadsForward (bytes_of (node_at (F.history self.now.files).tree (log_place (base_of self.now) (name_of name.entry)))) (option_map lines_of found)) }
+        ensures failed { IfErr result (MayTell F.reading_may_fail) }
+    {
+        let path = self.home(name.to_path()).log_place(alloc)?;
+        buffer.clear();
+        match self.files.read(&path, buffer)? {
+            Some(_) => Ok(Some(forward(buffer))),
+            None => Ok(None),
+        }
+    }
+
+    /// Reads a name's log from its end, through a buffer of any size above zero; `None` where the name has no log. An empty buffer
+    /// is `NoBuffer`.
+    pub fn reflog_iter_rev<'s, 'b>(
+        &'s self,
+        alloc: Global,
+        name: FullNameRef<'_>,
+        buffer: &'b mut [u8],
+    ) -> Result<Option<Reverse<'b, LogFile<'s, F>>>, Error>
+        ensures lines { F.is_honest self.now.files → IfOk result (λ found. ReadsBackward (bytes_of (node_at (F.history self.now.files).tree (log_place (base_of self.now) (name_of name.entry)))) (option_map stand_of found)) }
+        ensures file { F.is_honest self.now.files → IfOk result (λ found. IfSome found (λ reader. (reader.log.files.now ≡ self.now.files) × (reader.log.path.items ≡ log_place (base_of self.now) (name_of name.entry)))) }
+        ensures begun { IfOk result (λ found. IfSome found (λ reader. (reader.given ≡ 0) × (length reader.buffer.now ≡ length buffer.old))) }
+        ensures failed { IfErr result (MayTell F.reading_may_fail) }
+    {
+        if !self.reflog_exists(alloc, name)? {
+            return Ok(None);
+        }
+        let path = self.home(name.to_path()).log_place(alloc)?;
+        let log = LogFile {
+            files: &self.files,
+            path,
+        };
+        match reverse(alloc, log, buffer) {
+            Ok(lines) => Ok(Some(lines)),
+            Err(IoError::Reader(FileError::Memory)) => Err(Error::Memory),
+            Err(error) => Err(Error::Io(error)),
+        }
+    }
+}

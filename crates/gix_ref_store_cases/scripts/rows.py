@@ -1,0 +1,236 @@
+"""Writes ../stdin and ../stdout: files of repositories that git made, and what git says of their references.
+
+Each answer comes from `git for-each-ref`, `git symbolic-ref`, `git rev-parse` and `git log -g` over the very files, or, where it says
+so, from a rule of git's documents; none from the program.
+"""
+import os
+import subprocess
+import tempfile
+
+rows = []
+base = tempfile.mkdtemp()
+env = dict(os.environ, GIT_AUTHOR_NAME="A", GIT_AUTHOR_EMAIL="a@b", GIT_AUTHOR_DATE="@1 +0000", GIT_COMMITTER_NAME="A",
+           GIT_COMMITTER_EMAIL="a@b", GIT_COMMITTER_DATE="@1 +0000", GIT_CONFIG_GLOBAL="/dev/null", GIT_CONFIG_NOSYSTEM="1", HOME=base)
+
+
+def run(folder, *words, ok=True, **more):
+    return subprocess.run(["git", *words], cwd=folder, env=env, check=ok, capture_output=True, text=True, **more)
+
+
+class Repository:
+    def __init__(self, name):
+        self.folder = os.path.join(base, name)
+        os.mkdir(self.folder)
+        self.git("init", "-q", "-b", "main")
+        tree = self.git("mktree", input="")
+        self.commits = []
+        for k in range(4):
+            parents = ["-p", self.commits[-1]] if self.commits else []
+            self.commits.append(self.git("commit-tree", tree, "-m", f"c{k}", *parents))
+
+    def git(self, *words, **more):
+        return run(self.folder, *words, **more).stdout.strip()
+
+    def path(self, path):
+        return os.path.join(self.folder, ".git", path)
+
+    def write(self, path, text):
+        os.makedirs(os.path.dirname(self.path(path)), exist_ok=True)
+        with open(self.path(path), "w") as file:
+            file.write(text)
+
+    def files(self, logs=False):
+        """The files of references, or of them and of logs, as the program reads them."""
+        found = []
+        for place, _, names in sorted(os.walk(self.path(""))):
+            for name in sorted(names):
+                path = os.path.relpath(os.path.join(place, name), self.path(""))
+                inner = path.split("/", 2)[2] if path.startswith("worktrees/") else path
+                if inner.split("/")[0] in (["logs"] if logs else ["refs", "packed-refs"]) or inner.endswith("HEAD") and "/" not in inner:
+                    with open(os.path.join(place, name), "rb") as file:
+                        found.append(f"{path}={file.read().hex()}")
+        return ";".join(found)
+
+    def target(self, name, folder=None):
+        """What git says that a full name points to."""
+        folder = folder or self.folder
+        symbolic = run(folder, "symbolic-ref", "-q", name, ok=False)
+        if symbolic.returncode == 0:
+            return "ref: " + symbolic.stdout.strip()
+        return run(folder, "rev-parse", "--verify", name).stdout.strip()
+
+    def peeled(self, name):
+        """The id that a tag's record tells: of a tag without a file of its own, what it points to in the end."""
+        if os.path.exists(self.path(name)) or self.git("cat-file", "-t", name) != "tag":
+            return ""
+        return " ^" + self.git("rev-parse", name + "^{}")
+
+    def shown(self, name):
+        return f"{name} {self.target(name)}{self.peeled(name)}"
+
+    def names(self):
+        return self.git("for-each-ref", "--format=%(refname)").split()
+
+    def ask(self, operation, asked, answer, folder="-"):
+        if operation in ("all", "prefixed", "files", "pseudo"):
+            return
+        rows.append((f"{operation} {folder} {asked or '-'} {self.files(operation == 'log')}", answer))
+
+    def list(self, prefix):
+        """Lists by prefix: the lines of `git for-each-ref` that begin so, in its order."""
+        names = [name for name in self.names() if name.startswith(prefix)]
+        self.ask("prefixed", prefix, "".join(self.shown(name) + ";" for name in names))
+        loose = [name for name in names if os.path.exists(self.path(name))]
+        self.ask("files", prefix, "".join(f"{name} {self.target(name)};" for name in loose))
+
+    def find(self, word, name=None, operation="find"):
+        """A word: git says its full name, but for a symbolic one, where the caller gives it by the rules of gitrevisions."""
+        if name is None:
+            name = self.git("rev-parse", "--symbolic-full-name", word)
+        self.ask(operation, word, self.shown(name) if operation != "loose" else f"{name} {self.target(name)}")
+
+    def lacks(self, word, operation="find"):
+        assert run(self.folder, "rev-parse", "--verify", "-q", word, ok=False).returncode != 0, word
+        self.ask(operation, word, "none")
+
+
+PREFIXES = ["", "refs/", "refs/heads/", "refs/heads/fe", "refs/heads/a", "refs/heads/a/", "refs/heads/a.", "refs/heads/feature", "refs/heads/zz",
+            "refs/tags/", "refs/tags/v", "refs/remotes/origin", "re", "heads/", "refs/heads", "refs/bisect/", "refs/worktree/", "refs//", "x"]
+
+
+def fill(repository):
+    one, two, three, four = repository.commits
+    for name, id in [("heads/main", four), ("heads/feature", one), ("heads/fe/x", two), ("heads/a/b", one), ("heads/a.b", two),
+                     ("heads/ab", three), ("tags/light", two), ("remotes/origin/main", three), ("notes/n", one), ("heads/both", one), ("tags/both", two),
+                     ("bisect/bad", one), ("worktree/own", two), ("heads/main2", one)]:
+        repository.git("update-ref", "--create-reflog", "-m", "made", "refs/" + name, id)
+    repository.git("tag", "-a", "-m", "x", "v1", three)
+    repository.git("tag", "-a", "-m", "x", "v2", "v1")
+    repository.git("symbolic-ref", "refs/heads/sym", "refs/heads/feature")
+    repository.git("symbolic-ref", "refs/remotes/origin/HEAD", "refs/remotes/origin/main")
+    repository.git("update-ref", "ORIG_HEAD", one)
+    repository.git("update-ref", "-m", "moved", "refs/heads/feature", two)
+
+
+def look(repository):
+    repository.ask("all", "", "".join(repository.shown(name) + ";" for name in repository.names()))
+    for prefix in PREFIXES:
+        repository.list(prefix)
+    for word in ["feature", "heads/feature", "refs/heads/feature", "light", "tags/light", "v1", "v2", "fe/x", "a.b", "origin/main",
+                 "refs/notes/n", "notes/n", "refs/bisect/bad", "bisect/bad", "refs/worktree/own", "ORIG_HEAD"]:
+        repository.find(word)
+    repository.find("both", "refs/tags/both")
+    for word, name in [("HEAD", "HEAD"), ("sym", "refs/heads/sym"), ("refs/heads/sym", "refs/heads/sym"), ("origin", "refs/remotes/origin/HEAD")]:
+        repository.find(word, name)
+    for word in ["nosuch", "refs/heads/nosuch", "refs/feature", "heads", "NO_HEAD", "fe", "refs/heads/fe"]:
+        repository.lacks(word)
+    names = ["HEAD", "ORIG_HEAD"]
+    repository.ask("pseudo", "", "".join(f"{name} {repository.target(name)};" for name in names))
+    for name in ["refs/heads/feature", "refs/heads/main", "refs/tags/light"]:
+        ids = repository.git("log", "-g", "--format=%H", name).split()
+        repository.ask("log", name, "".join(id + " " for id in reversed(ids)) + "/" + "".join(" " + id for id in ids))
+    repository.ask("log", "refs/heads/nosuch", "none")
+
+
+plain = Repository("plain")
+fill(plain)
+look(plain)
+plain.write("refs/heads/main.lock", "")
+plain.write("refs/heads/fe/y.lock", plain.commits[0] + "\n")
+plain.list("refs/heads/")
+os.remove(plain.path("refs/heads/main.lock"))
+os.remove(plain.path("refs/heads/fe/y.lock"))
+
+packed = Repository("packed")
+fill(packed)
+packed.git("pack-refs", "--all")
+look(packed)
+packed.find("feature", operation="packed")
+packed.lacks("nosuch", operation="packed")
+# Names that stand loose again hide their records, which still hold the older ids.
+packed.git("update-ref", "refs/heads/feature", packed.commits[3])
+packed.git("update-ref", "refs/heads/new", packed.commits[0])
+packed.git("update-ref", "refs/tags/v1", packed.commits[0])
+look(packed)
+packed.find("new", operation="loose")
+packed.ask("loose", "light", "none")
+for word in ["v1", "v2", "feature", "light"]:
+    packed.find(word, operation="packed")
+
+# By gitrepository-layout each worktree has its own names below refs/bisect, refs/worktree and refs/rewritten: no record is one of them.
+record = packed.commits[0] + " refs/bisect/only\n"
+with open(packed.path("packed-refs"), "a") as file:
+    file.write("")
+hand = Repository("hand")
+hand.git("update-ref", "refs/heads/main", hand.commits[0])
+hand.write("packed-refs", f"# pack-refs with: peeled fully-peeled sorted \n{hand.commits[0]} refs/bisect/only\n{hand.commits[1]} refs/heads/p\n")
+hand.ask("find", "refs/bisect/only", "none")
+hand.ask("packed", "refs/bisect/only", "none")
+hand.ask("prefixed", "refs/", f"refs/heads/main {hand.commits[0]};refs/heads/p {hand.commits[1]};")
+hand.find("p")
+
+# Records that no header calls sorted.
+hand.write("packed-refs", f"{hand.commits[1]} refs/heads/z\n{hand.commits[2]} refs/heads/b\n{hand.commits[3]} refs/heads/k\n")
+hand.list("refs/heads/")
+for word in ["z", "b", "k", "main"]:
+    hand.find(word)
+hand.lacks("c")
+
+# A file that tells no target: git calls the reference broken, and lists the others.
+hand.write("refs/heads/c", "no id\n")
+told = run(hand.folder, "for-each-ref", "--format=%(refname)")
+assert "broken ref refs/heads/c" in told.stderr, told.stderr
+good = {name: hand.shown(name) for name in told.stdout.split()}
+hand.ask("prefixed", "refs/heads/", "".join(good.get(name, "!") + ";" for name in sorted([*good, "refs/heads/c"])))
+hand.ask("find", "refs/heads/c", "broken")
+hand.ask("find", "c", "broken")
+os.remove(hand.path("refs/heads/c"))
+
+# A file `packed-refs` that git refuses: names with files are read without it.
+hand.write("packed-refs", "no record\n")
+assert run(hand.folder, "rev-parse", "--verify", "refs/heads/z", ok=False).returncode != 0
+rows.append((f"find - refs/heads/main {hand.files()}", f"refs/heads/main {hand.commits[0]}"))
+hand.ask("find", "refs/heads/z", "packed broken")
+hand.ask("all", "", "packed broken")
+
+# A linked worktree: its own HEAD, private names and logs, and the shared names.
+tree = Repository("tree")
+fill(tree)
+tree.git("reset", "-q", "--hard")
+tree.git("worktree", "add", "-q", "-b", "side", os.path.join(base, "linked"))
+linked = os.path.join(base, "linked")
+run(linked, "update-ref", "refs/bisect/mine", tree.commits[2])
+run(linked, "update-ref", "refs/worktree/mine", tree.commits[1])
+
+
+def look_linked():
+    for name in ["HEAD", "refs/heads/feature", "refs/bisect/mine", "refs/worktree/mine", "main-worktree/HEAD", "main-worktree/refs/bisect/bad",
+                 "worktrees/linked/HEAD", "worktrees/linked/refs/bisect/mine"]:
+        tree.ask("find", name, f"{name} {tree.target(name, linked)}", "worktrees/linked")
+    # By the categories of names, a shared name behind a worktree's front is the shared one; git 2.39 finds none.
+    for front in ["main-worktree/", "worktrees/linked/", "worktrees/other/"]:
+        tree.ask("find", front + "refs/heads/feature", f"{front}refs/heads/feature {tree.target('refs/heads/feature')}", "worktrees/linked")
+    for name in ["refs/bisect/bad", "refs/worktree/own", "main-worktree/refs/bisect/mine", "worktrees/other/HEAD"]:
+        assert run(linked, "rev-parse", "--verify", "-q", name, ok=False).returncode != 0, name
+        tree.ask("find", name, "none", "worktrees/linked")
+    names = run(linked, "for-each-ref", "--format=%(refname)").stdout.split()
+    for prefix in ["", "refs/bisect/", "refs/heads/", "refs/worktree/"]:
+        chosen = [name for name in names if name.startswith(prefix)]
+        tree.ask("prefixed", prefix, "".join(f"{name} {tree.target(name, linked)}{tree.peeled(name) if not os.path.exists(tree.path('worktrees/linked/' + name)) else ''};" for name in chosen), "worktrees/linked")
+    for name in ["worktrees/linked/HEAD", "worktrees/linked/refs/bisect/mine"]:
+        tree.ask("find", name, f"{name} {tree.target(name)}")
+    ids = run(linked, "log", "-g", "--format=%H", "HEAD").stdout.split()
+    tree.ask("log", "HEAD", "".join(id + " " for id in reversed(ids)) + "/" + "".join(" " + id for id in ids), "worktrees/linked")
+    tree.ask("log", "worktrees/linked/HEAD", "".join(id + " " for id in reversed(ids)) + "/" + "".join(" " + id for id in ids))
+
+
+look_linked()
+tree.git("pack-refs", "--all")
+look_linked()
+
+here = os.path.dirname(os.path.abspath(__file__))
+with open(os.path.join(here, "../stdin"), "w") as file:
+    file.writelines(asked + "\n" for asked, _ in rows)
+with open(os.path.join(here, "../stdout"), "w") as file:
+    file.writelines(answer + "\n" for _, answer in rows)
+print(len(rows), "rows")

@@ -1,0 +1,168 @@
+//! One case to one line.
+
+use crate::files;
+use gix_ref_file::MemoryFiles;
+use gix_ref_name::{FullNameRef, PartialNameRef};
+use gix_ref_store::store::file::{Store, find};
+use gix_ref_store::{Options, Reference};
+use std::alloc::{AllocError, Global};
+
+const MEMORY: &str = "memory";
+
+// The store of these files: of the root, or of the worktree with this folder.
+fn store(
+    alloc: Global,
+    files: MemoryFiles,
+    folder: &str,
+) -> Result<Option<Store<MemoryFiles>>, AllocError> {
+    let root = Vec::new(alloc);
+    let made = if folder == "-" {
+        Store::at(files, root)
+    } else {
+        let git_dir = folder.as_bytes().to_vec(alloc)?;
+        Store::for_linked_worktree_opts(files, git_dir, root, Options::default())
+    };
+    Ok(made.ok())
+}
+
+// Its name, its target, and the peeled id that its record tells.
+fn shown(alloc: Global, reference: &Reference) -> Result<String, AllocError> {
+    let Reference {
+        name,
+        target,
+        peeled,
+    } = reference;
+    match peeled {
+        Some(id) => format!(in alloc; "{name} {target} ^{id}"),
+        None => format!(in alloc; "{name} {target}"),
+    }
+}
+
+fn found(
+    alloc: Global,
+    res: Result<Reference, find::ExistingError>,
+) -> Result<String, AllocError> {
+    match res {
+        Ok(reference) => shown(alloc, &reference),
+        Err(find::ExistingError::NotFound) => format!(in alloc; "none"),
+        Err(find::ExistingError::Find(error)) => fault(alloc, error),
+    }
+}
+
+fn fault(alloc: Global, error: find::Error) -> Result<String, AllocError> {
+    match error {
+        find::Error::ReadFileContents => format!(in alloc; "unread"),
+        find::Error::ReferenceCreation(_) => format!(in alloc; "broken"),
+        find::Error::PackedOpen(_) => format!(in alloc; "packed broken"),
+        find::Error::Memory => format!(in alloc; "{MEMORY}"),
+    }
+}
+
+// A word looked up.
+fn find_word(
+    alloc: Global,
+    store: &Store<MemoryFiles>,
+    word: &str,
+    operation: &str,
+) -> Result<String, AllocError> {
+    let Ok(name) = PartialNameRef::new(word.as_bytes()) else {
+        return format!(in alloc; "no name");
+    };
+    match operation {
+        "find" => found(alloc, store.find(alloc, name)),
+        "loose" => found_loose(alloc, store, name),
+        _ => found_packed(alloc, store, name),
+    }
+}
+
+fn found_loose(
+    alloc: Global,
+    store: &Store<MemoryFiles>,
+    name: PartialNameRef<'_>,
+) -> Result<String, AllocError> {
+    match store.find_loose(alloc, name) {
+        Ok(reference) => format!(in alloc; "{} {}", reference.name, reference.target),
+        Err(find::ExistingError::NotFound) => format!(in alloc; "none"),
+        Err(find::ExistingError::Find(error)) => fault(alloc, error),
+    }
+}
+
+fn found_packed(
+    alloc: Global,
+    store: &Store<MemoryFiles>,
+    name: PartialNameRef<'_>,
+) -> Result<String, AllocError> {
+    match store.open_packed_buffer(alloc) {
+        Ok(packed) => found(alloc, store.find_packed(alloc, name, packed.as_ref())),
+        Err(_) => format!(in alloc; "packed broken"),
+    }
+}
+
+// The new ids of a log's lines, from its beginning and from its end.
+fn log(alloc: Global, store: &Store<MemoryFiles>, name: &str) -> Result<String, AllocError> {
+    let Ok(name) = FullNameRef::new(name.as_bytes()) else {
+        return format!(in alloc; "no name");
+    };
+    let mut text = String::new(alloc);
+    let mut bytes = Vec::new(alloc);
+    match store.reflog_iter(alloc, name, &mut bytes) {
+        Ok(Some(lines)) => {
+            for line in lines {
+                match line {
+                    Ok(line) => text.push_str(&format!(in alloc; "{} ", line.new_oid)?)?,
+                    Err(error) => text.push_str(&format!(in alloc; "!{} ", error.line)?)?,
+                }
+            }
+        }
+        Ok(None) => return format!(in alloc; "none"),
+        Err(error) => return format!(in alloc; "{error}"),
+    }
+    backwards(alloc, store, name, text)
+}
+
+fn backwards(
+    alloc: Global,
+    store: &Store<MemoryFiles>,
+    name: FullNameRef<'_>,
+    mut text: String,
+) -> Result<String, AllocError> {
+    let mut buffer = [0u8; 512];
+    text.push_str("/")?;
+    match store.reflog_iter_rev(alloc, name, &mut buffer) {
+        Ok(Some(lines)) => {
+            for line in lines {
+                match line {
+                    Ok(line) => text.push_str(&format!(in alloc; " {}", line.new_oid.to_hex())?)?,
+                    Err(error) => text.push_str(&format!(in alloc; " {error}")?)?,
+                }
+            }
+            Ok(text)
+        }
+        Ok(None) => format!(in alloc; "none"),
+        Err(error) => format!(in alloc; "{error}"),
+    }
+}
+
+/// What the operation of the line gives.
+pub fn answer(alloc: Global, line: &str) -> Result<String, AllocError> {
+    let Some((operation, rest)) = line.split_once(' ') else {
+        return format!(in alloc; "no case");
+    };
+    let Some((folder, rest)) = rest.split_once(' ') else {
+        return format!(in alloc; "no folder");
+    };
+    let Some((asked, text)) = rest.split_once(' ') else {
+        return format!(in alloc; "nothing asked");
+    };
+    let Some(files) = files::read(alloc, text)? else {
+        return format!(in alloc; "no files");
+    };
+    let Some(store) = store(alloc, files, folder)? else {
+        return format!(in alloc; "no store");
+    };
+    match operation {
+        "find" | "loose" | "packed" => find_word(alloc, &store, asked, operation),
+        "log" => log(alloc, &store, asked),
+        _ => format!(in alloc; "no operation"),
+    }
+}
