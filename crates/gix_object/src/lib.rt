@@ -126,11 +126,22 @@ pub mod tag {
 
 /// Trees.
 pub mod tree {
+    /// Editing a tree and the trees below it.
+    pub mod editor {
+        /// Writing the trees of an editor.
+        pub mod write {
+            pub use gix_object_editor::tree::editor::write::Error;
+        }
+
+        pub use gix_object_editor::tree::editor::Error;
+    }
+
     /// Writing trees.
     pub mod write {
         pub use gix_object_lines::write::FilenameError as Error;
     }
 
+    pub use gix_object_editor::tree::editor::Editor;
     pub use gix_object_entries::tree::{Entry, EntryKind, EntryMode, EntryRef, name_order};
 }
 

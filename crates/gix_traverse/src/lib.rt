@@ -1,0 +1,47 @@
+//! Walks over commits and trees, after the crate `gix-traverse` 0.61. It stands in parts, whose public items are gathered here
+//! under the names of that crate.
+#![tactic(auto)]
+
+/// Walks over commits.
+pub mod commit {
+    /// Walks that keep little: in breadth order.
+    pub mod simple {
+        pub use gix_traverse_commit::simple::{Error, HiddenGraphError};
+    }
+
+    /// Walks in which each commit comes after all its children.
+    pub mod topo {
+        pub use gix_traverse_topo::{Builder, Error, Sorting};
+    }
+
+    pub use gix_traverse_commit::{
+        Accept, All, Either, GENERATION_LIMIT, Graph, Info, ParentIds, Parents, Row, RowsError,
+        Simple, find,
+    };
+    pub use gix_traverse_topo::Topo;
+}
+
+/// Walks over trees.
+pub mod tree {
+    /// Level by level.
+    pub mod breadthfirst {
+        pub use gix_traverse_tree::breadthfirst::{Error, State, breadthfirst};
+    }
+
+    /// Each entry before what lies in it.
+    pub mod depthfirst {
+        pub use gix_traverse_tree::depthfirst::{Error, State, depthfirst};
+    }
+
+    /// What is recorded of an entry.
+    pub mod recorder {
+        pub use gix_traverse_tree::recorder::{Entry, Location};
+    }
+
+    /// What a delegate answers.
+    pub mod visit {
+        pub use gix_traverse_tree::visit::{Action, Error};
+    }
+
+    pub use gix_traverse_tree::{Recorder, Visit};
+}
