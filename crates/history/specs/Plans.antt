@@ -8,10 +8,10 @@ use Rattle.history_model.specs.Repository.{id_at}
 use Rattle.history_model.specs.Forms.{title}
 use Rattle.history_model.specs.Commands.{CommitCommand, Commit}
 use Rattle.history_model.specs.CommandParts.{put_contents}
-use Rattle.history_model.specs.Meaning.{branch_or_name, new_commit, read_actor, stored_by, takes_id}
+use Rattle.history_model.specs.Meaning.{after, branch_or_name, new_commit, read_actor, takes_id}
 use Rattle.history_model.specs.Causes.{first_cause}
 use Rattle.history_model.specs.TreeSteps.{move_entry}
-use Rattle.history_model.specs.CommitSteps.{PutsAll}
+use Rattle.history_model.specs.TreeHalves.{HoldsValues}
 use Rattle.history_model.specs.declared.Fault.TheVariants.{Memory, File, IdTaken}
 use Rattle.history_store.specs.Formats.{entry_of}
 use Rattle.history.specs.Acts.{IsReadingFault}
@@ -38,11 +38,11 @@ Plans MayFail r order (Ok plan) = (first_cause r (Commit order) ≡ None) × IsP
 Plans MayFail r order (Err (Refused cause)) = first_cause r (Commit order) ≡ Some cause
 Plans MayFail r order (Err (Fault fault)) = IsReadingFault MayFail (Fault fault)
 
--- The objects are put, and the name is still to move; else the first cause is told, or a fault was met.
-abbrev pub StoresObjects : Type 0 → Tree → Tree → plain.Repository → CommitCommand → Result Moves Stopped → Type 0
-StoresObjects CallFailed old new r order (Ok moves) = (first_cause r (Commit order) ≡ None) × IsFalse (takes_id r (Commit order))
-    × PutsAll r.kind (stored_by r (Commit order)) old new × IsMove r order moves
-StoresObjects CallFailed old new r order (Err (Refused cause)) = first_cause r (Commit order) ≡ Some cause
-StoresObjects CallFailed old new r order (Err (Fault Memory)) = ⊤
-StoresObjects CallFailed old new r order (Err (Fault File)) = CallFailed
-StoresObjects CallFailed old new r order (Err (Fault IdTaken)) = (first_cause r (Commit order) ≡ None) × IsTrue (takes_id r (Commit order))
+-- The objects are those after the command, and the name is still to move; else the first cause is told, or a fault was met.
+abbrev pub StoresObjects : Type 0 → Tree → plain.Repository → CommitCommand → Result Moves Stopped → Type 0
+StoresObjects CallFailed new r order (Ok moves) = (first_cause r (Commit order) ≡ None) × IsFalse (takes_id r (Commit order))
+    × HoldsValues r.kind new (after r (Commit order)).objects × IsMove r order moves
+StoresObjects CallFailed new r order (Err (Refused cause)) = first_cause r (Commit order) ≡ Some cause
+StoresObjects CallFailed new r order (Err (Fault Memory)) = ⊤
+StoresObjects CallFailed new r order (Err (Fault File)) = CallFailed
+StoresObjects CallFailed new r order (Err (Fault IdTaken)) = (first_cause r (Commit order) ≡ None) × IsTrue (takes_id r (Commit order))
