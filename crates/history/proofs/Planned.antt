@@ -1,7 +1,6 @@
 -- What a commit is to store, and how its name is to move, read from its command.
-use Rattle.std.proofs.Common.{◌≡◌, ℕ, ◌<◌, ◌≤◌, refl, sym, ◌∙◌, ap, subst, Bool, true, false, ◌||◌, List, [], ◌∷◌, ◌++◌, map, length, Vec, codes}
+use Rattle.std.proofs.Common.{◌≡◌, ℕ, ◌<◌, ◌≤◌, refl, sym, ◌∙◌, ap, subst, Bool, true, false, ◌||◌, List, [], ◌∷◌, ◌++◌, map, length, append_assoc}
 use Rattle.std.specs.Prelude.{Option, Some, None, option_map, option_and_then, option_to_list, unwrap_or, IfSome, IsSome, Result, Err}
-use Rattle.std.specs.declared.alloc.Global.{Global}
 use Rattle.std.specs.List.{list_any}
 use Rattle.std.proofs.lemmas.List.{map-append}
 use Rattle.std.proofs.lemmas.List.Folds.{list_any-append}
@@ -28,6 +27,8 @@ use Rattle.history_model.proofs.OfferedReads.{main_holds_a_commit, commits_follo
 use Rattle.history_model.proofs.OfferedSteps.{first_flat}
 use Rattle.history_store.specs.Formats.{actor_of, entry_of}
 use Rattle.history_store.specs.Commits.{IsCommitOf}
+use Rattle.history_store.specs.Stores.{AreObjectsOf}
+use Rattle.history_store.specs.declared.object.NewObject.{NewObject}
 use Rattle.history_store.specs.Trees.{Folder, IsTreeOf, folder_content}
 use Rattle.history_store.specs.declared.commit.Commit as stored
 use Rattle.gix_hash.specs.declared.object_id.ObjectId.{ObjectId}
@@ -36,12 +37,12 @@ use Rattle.history_store.proofs.FlatTrees.{flat_content}
 use Rattle.history.specs.Acts.{IsReadingFault, Gives}
 use Rattle.history.specs.CommitCauses.{first_among, name_causes, is_long, IsParent, HasTimes}
 use Rattle.history.specs.Files.{files_of, HasEdited}
-use Rattle.history.specs.Plans.{Plans}
+use Rattle.history.specs.Plans.{IsMade, Plans}
 use Rattle.history.specs.declared.causes.Times.{Times}
 use Rattle.history.specs.declared.planning.Plan.{Plan}
 use Rattle.history.specs.declared.stopped.Stopped.{Stopped}
 use Rattle.history.specs.declared.stopped.Stopped.TheVariants.{Refused, Fault}
-use Rattle.history.proofs.Edits.{files_after}
+use Rattle.history.proofs.Edits.{files_after, objects_joined}
 use Rattle.history.proofs.FieldLemmas.{within, beyond}
 use Rattle.history.proofs.FirstCauses.{passed, here, refused_by_name, refused_by_size, good_paths}
 use Rattle.history.proofs.Storing.{bytes_put}
@@ -113,7 +114,7 @@ module _ (r : plain.Repository) (order : CommitCommand) (o : IsOffered r) (w : H
   before_flat = first_flat r o (option_to_list (id_at r (branch_or_name r order.name)))
 
   -- so the tree's bytes are those of their folder
-  pub tree_content : (kind : Kind) (blobs : List (Vec ℕ Global)) (tree : Folder) → kind ≡ r.kind → HasEdited r kind before order.edits blobs tree
+  pub tree_content : (kind : Kind) (blobs : List NewObject) (tree : Folder) → kind ≡ r.kind → HasEdited r kind before order.edits blobs tree
       → folder_content tree ≡ root r.kind (new_commit r order).files
   tree_content kind blobs tree same h =
       let there : IsTreeOf r.kind tree (new_commit r order).files =
@@ -163,20 +164,40 @@ module _ (r : plain.Repository) (order : CommitCommand) (o : IsOffered r) (w : H
   before_is parent null at is_null =
       before_told parent null ∙ (λ i. unwrap_or (at i) (is_null i))
 
-  pub commit_is : (commit : stored.Commit) (kind : Kind) (tree : Bytes) → kind ≡ r.kind → id_of commit.tree ≡ digest kind (object_text kinds.Tree tree) → tree ≡ root r.kind (new_commit r order).files
+  pub commit_is : (commit : stored.Commit) (kind : Kind) (tree : NewObject) → kind ≡ r.kind → IsMade kind kinds.Tree (root r.kind (new_commit r order).files) tree → commit.tree ≡ tree.id
       → map id_of commit.parents.items ≡ parents_of r order → actor_of commit.author ≡ read_actor order.author → actor_of commit.committer ≡ read_actor order.committer → commit.message.items ≡ order.message
       → IsCommitOf r.kind commit (new_commit r order)
-  commit_is commit kind tree same id is_tree parents author committer message = record {
-    tree = id ∙ (λ i. digest (same i) (object_text kinds.Tree (is_tree i)));
+  commit_is commit kind tree same made at parents author committer message = record {
+    tree = ap id_of at ∙ made.id ∙ ap (λ k. digest k (object_text kinds.Tree (root r.kind (new_commit r order).files))) same;
     parents = parents;
     author = author;
     committer = committer;
     message = message;
   }
 
-  pub entry_is : (entry : LogEntry) (kind : Kind) (commit : Bytes) → kind ≡ r.kind → id_of entry.before ≡ unwrap_or (id_at r (branch_or_name r order.name)) (null_id r.kind)
-      → id_of entry.after ≡ digest kind (object_text kinds.Commit commit) → commit ≡ commit_content r.kind (new_commit r order) → actor_of entry.actor ≡ read_actor order.committer → entry.message.items ≡ title order.message
+  pub entry_is : (entry : LogEntry) (kind : Kind) (commit : NewObject) → kind ≡ r.kind → id_of entry.before ≡ unwrap_or (id_at r (branch_or_name r order.name)) (null_id r.kind)
+      → IsMade kind kinds.Commit (commit_content r.kind (new_commit r order)) commit → entry.after ≡ commit.id → actor_of entry.actor ≡ read_actor order.committer → entry.message.items ≡ title order.message
       → entry_of entry ≡ move_entry r (branch_or_name r order.name) (value_id r.kind (StoredCommit (new_commit r order))) (read_actor order.committer) (title order.message)
-  entry_is entry kind commit same before after is_commit actor message =
-      let after_is = after ∙ (λ i. digest (same i) (object_text kinds.Commit (is_commit i))) in
+  entry_is entry kind commit same before made at actor message =
+      let after_is = ap id_of at ∙ made.id ∙ ap (λ k. digest k (object_text kinds.Commit (commit_content r.kind (new_commit r order)))) same in
       λ i. record { before = before i; after = after_is i; actor = actor i; message = message i }
+
+  -- ---- the objects
+
+  abbrev last_values : List Value
+  last_values = StoredFolder (new_commit r order).files ∷ StoredCommit (new_commit r order) ∷ []
+
+  pub objects_are : (kind : Kind) (blobs objects : List NewObject) (tree commit : NewObject) → kind ≡ r.kind → list_any is_bad_path (paths_in (Commit order)) ≡ false
+      → AreObjectsOf kind (map StoredBytes (contents_in (Commit order))) blobs
+      → IsMade kind kinds.Tree (root r.kind (new_commit r order).files) tree → IsMade kind kinds.Commit (commit_content r.kind (new_commit r order)) commit
+      → objects ≡ (blobs ++ tree ∷ []) ++ commit ∷ [] → AreObjectsOf r.kind (stored_by r (Commit order)) objects
+  objects_are kind blobs objects tree commit same good are tree_made commit_made is =
+      let contents = map StoredBytes (contents_in (Commit order)) in
+      let last : AreObjectsOf r.kind last_values (tree ∷ commit ∷ []) = (
+        record { id = tree_made.id ∙ ap (λ k. digest k (object_text kinds.Tree (root r.kind (new_commit r order).files))) same; kind = tree_made.kind_is; content = tree_made.content_is },
+        record { id = commit_made.id ∙ ap (λ k. digest k (object_text kinds.Commit (commit_content r.kind (new_commit r order)))) same; kind = commit_made.kind_is; content = commit_made.content_is },
+        tt,
+      ) in
+      subst (AreObjectsOf r.kind (stored_by r (Commit order))) (sym (is ∙ append_assoc blobs (tree ∷ []) (commit ∷ [])))
+      (subst (λ values. AreObjectsOf r.kind values (blobs ++ tree ∷ commit ∷ [])) (sym (commits_store_flat r order o good ∙ ap (λ values. values ++ last_values) (bytes_put r order.edits)))
+      (objects_joined r.kind contents last_values blobs (tree ∷ commit ∷ []) (subst (λ k. AreObjectsOf k contents blobs) same are) last))

@@ -4,6 +4,7 @@ pub mod Creation
 pub mod Face
 pub mod Formats
 pub mod Ids
+pub mod ObjectTexts
 pub mod Parts
 pub mod References
 pub mod Stores

@@ -22,7 +22,7 @@ pub use gix_object::Kind as ObjectKind;
 pub use id_text::hex_digits;
 pub use log_entry::LogEntry;
 pub use names::Names;
-pub use object::object_id;
+pub use object::NewObject;
 pub use objects::{Object, Objects, PutError};
 pub use parts::{Part, Stray, survey};
 pub use tree::{Tree, TreeEntry};
