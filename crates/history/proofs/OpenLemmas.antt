@@ -8,12 +8,12 @@ use Rattle.gix_ref_file.specs.declared.files.Place.{Place}
 use Rattle.gix_ref_file.specs.declared.files.Place.TheVariants.{File}
 use Rattle.std.specs.FinMap.{get, contains_key, empty, get-empty}
 use Rattle.history_model.specs.Bytes.{Bytes, begins}
-use Rattle.history_model.specs.Offered.{main_name}
+use Rattle.history_model.specs.Offered.{IsOfStage}
 use Rattle.gix_hash.specs.Id.{Id}
 use Rattle.history_model.specs.Objects.{by_id}
 use Rattle.history_model.specs.Places.{file_at, head_place, packed_place}
 use Rattle.history_model.specs.StandsFor.{head_text}
-use Rattle.history_model.specs.Repository.{fresh}
+use Rattle.history_model.specs.Repository.{fresh, first_branch}
 use Rattle.gix_hash.specs.declared.kind.Kind.{Kind}
 use Rattle.history_model.proofs.OfferedSteps.{fresh_is_offered}
 use Rattle.history_store.proofs.FreshParts.{new_stands_whole}
@@ -26,7 +26,7 @@ use Rattle.std.specs.declared.alloc.Global.{Global}
 use Rattle.history.specs.declared.open.OpenError.{OpenError}
 use Rattle.history.specs.declared.repository.Repository.{Repository}
 use Rattle.history.specs.Face.{objects_part, names_part, known_ids}
-use Rattle.history.specs.Stands.{Stands}
+use Rattle.history.specs.Stands.{Stands, pair_of}
 use Rattle.history.specs.Opening.{HeadIs}
 
 -- ---- HEAD
@@ -77,7 +77,7 @@ begins_parts (b ∷ front) (c ∷ text) e =
     ap (λ x. x ∷ text) (sym (same_byte b c tests.0)) ∙ ap (λ xs. b ∷ xs) (begins_parts front text tests.1)
 
 -- HEAD names a branch that isn't a new repository's
-pub other_branch : (names : Tree) (branch : Bytes) → (nat_lt 11 (length branch) && begins (codes "refs/heads/") branch) ≡ true → branch ≢ main_name → HeadIs names branch
+pub other_branch : (names : Tree) (branch : Bytes) → (nat_lt 11 (length branch) && begins (codes "refs/heads/") branch) ≡ true → branch ≢ first_branch → HeadIs names branch
     → (rest : Bytes) × (rest ≢ []) × (rest ≢ codes "main") × HeadIs names (codes "refs/heads/" ++ rest)
 other_branch names branch e other head =
     let tests = either_test (nat_lt 11 (length branch)) (begins (codes "refs/heads/") branch) e in
@@ -121,7 +121,7 @@ no_object : (objects : Tree) → IsClear Objects [] objects → (path : Bytes) �
 no_object objects h [] = refl
 no_object objects h (b ∷ path) = no_file Objects [] objects h (b ∷ path) (λ e. cc)
 
-pub new_parts : (objects names : Tree) → IsClear Objects [] objects → IsClear Names head_place names → HeadIs names main_name → IsNew objects names
+pub new_parts : (objects names : Tree) → IsClear Objects [] objects → IsClear Names head_place names → HeadIs names first_branch → IsNew objects names
 new_parts objects names h k head = record {
   no_object = no_object objects h;
   object_folders = λ path is. clear_folder Objects [] path (get objects path) (h path) is;
@@ -131,14 +131,14 @@ new_parts objects names h k head = record {
 }
 
 -- and the branch that HEAD names
-pub found_first : (objects names : Tree) (result : Result (Vec ℕ Global) OpenError) → (HeadIs names main_name → IsNew objects names)
-    → IfOk result (λ branch. (branch.items ≡ main_name) × HeadIs names main_name) → IfOk result (λ branch. (branch.items ≡ main_name) × IsNew objects names)
+pub found_first : (objects names : Tree) (result : Result (Vec ℕ Global) OpenError) → (HeadIs names first_branch → IsNew objects names)
+    → IfOk result (λ branch. (branch.items ≡ first_branch) × HeadIs names first_branch) → IfOk result (λ branch. (branch.items ≡ first_branch) × IsNew objects names)
 found_first objects names (Ok branch) new h = (h.0, new h.1)
 found_first objects names (Err error) new h = h
 
 -- a repository over the parts of a new one stands for the repository without names and objects
 pub opened_stands : {F : Type 0} (IsHonest : F → Type 0) (history : F → History) (repository : Repository F) (kind : Kind) → IsHonest (objects_part repository) → IsHonest (names_part repository)
-    → repository.objects.kind ≡ kind → repository.names.kind ≡ kind → repository.branch.items ≡ main_name → known_ids repository ≡ empty
+    → repository.objects.kind ≡ kind → repository.names.kind ≡ kind → repository.branch.items ≡ first_branch → known_ids repository ≡ empty
     → IsNew (history (objects_part repository)).tree (history (names_part repository)).tree → Stands IsHonest history repository (fresh kind)
 opened_stands IsHonest history repository kind objects names of_kind names_kind branch none new = record {
   honest_objects = objects;
@@ -148,9 +148,12 @@ opened_stands IsHonest history repository kind objects names of_kind names_kind 
   names_kind = names_kind;
   branch = branch;
   known = λ id. ap (λ ids. contains_key ids id) none ∙ ap is_some (get-empty by_id id) ∙ sym (no_object_known id);
-  offered = fresh_is_offered kind;
-  unpacked = new.no_other packed_place (λ e. cc);
 }
   where
     no_object_known : (id : Id) → contains_key (fresh kind).objects id ≡ false
     no_object_known id = ap is_some (get-empty by_id id)
+
+-- and that is one of this stage
+pub opened_of_stage : {F : Type 0} (history : F → History) (repository : Repository F) (kind : Kind)
+    → IsNew (history (objects_part repository)).tree (history (names_part repository)).tree → IsOfStage (fresh kind) (pair_of history repository)
+opened_of_stage history repository kind new = record { offered = fresh_is_offered kind; unpacked = new.no_other packed_place (λ e. cc) }

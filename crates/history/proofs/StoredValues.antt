@@ -10,7 +10,7 @@ use Rattle.history_model.specs.FileMap.{FileMap, IsFileMap}
 use Rattle.history_model.specs.Forms.{is_commit_form}
 use Rattle.history_model.specs.Objects.{CommitValue, Value, StoredCommit, StoredFolder, object_kind, content_of, value_text, object_text}
 use Rattle.gix_hash.specs.Id.{Id}
-use Rattle.history_model.specs.Offered.{is_flat}
+use Rattle.history_model.specs.Offered.{IsOffered, is_flat}
 use Rattle.history_model.specs.Places.{file_at, object_place}
 use Rattle.history_model.specs.Repository as plain
 use Rattle.history_model.specs.TreeHalves.{HoldsValues, HaveOwnIds}
@@ -48,8 +48,8 @@ module _ {F : Type 0} (IsHonest : F → Type 0) (history : F → History) (repos
     pub folder_paths : (files : FileMap) → get r.objects id ≡ Some (StoredFolder files) → IsFileMap files
     folder_paths files at = ((stands.whole.written.values id (StoredFolder files) at).0).map
 
-    pub folder_flat : (files : FileMap) → get r.objects id ≡ Some (StoredFolder files) → IsTrue (is_flat files)
-    folder_flat files at = stands.offered.values id (StoredFolder files) at
+    pub folder_flat : IsOffered r → (files : FileMap) → get r.objects id ≡ Some (StoredFolder files) → IsTrue (is_flat files)
+    folder_flat offered files at = offered.values id (StoredFolder files) at
 
 -- ---- an object that is read
 

@@ -1,5 +1,5 @@
 -- What a commit is to store and how its name is to move, as the plain repository has it.
-use Rattle.std.specs.Prelude.{◌≡◌, ⊤, Some, None, Result, Ok, Err, IsTrue, IsFalse}
+use Rattle.std.specs.Prelude.{◌≡◌, ◌↔◌, ⊤, List, Contains, Some, None, Result, Ok, Err, IsTrue, IsFalse}
 use Rattle.gix_hash.specs.Id as object_id
 use Rattle.gix_hash.specs.declared.kind.Kind.{Kind}
 use Rattle.gix_object_lines.specs.declared.kind.Kind.{Kind as ObjectKind}
@@ -7,15 +7,16 @@ use Rattle.history_model.specs.Bytes.{Bytes}
 use Rattle.history_store.specs.Stores.{AreObjectsOf}
 use Rattle.history_store.specs.declared.object.NewObject.{NewObject}
 use Rattle.gix_ref_file.specs.Tree.{Tree}
-use Rattle.history_model.specs.Objects.{StoredCommit, digest, object_text, id_of}
+use Rattle.history_model.specs.Objects.{Value, StoredCommit, digest, object_text, id_of}
 use Rattle.history_model.specs.Repository as plain
 use Rattle.history_model.specs.Repository.{id_at}
 use Rattle.history_model.specs.Forms.{title}
 use Rattle.history_model.specs.Commands.{CommitCommand, Commit}
-use Rattle.history_model.specs.Meaning.{branch_or_name, new_commit, read_actor, stored_by, takes_id}
+use Rattle.history_model.specs.Meaning.{after, branch_or_name, new_commit, read_actor, stored_by, takes_id}
 use Rattle.history_model.specs.Causes.{first_cause}
 use Rattle.history_model.specs.TreeSteps.{move_entry}
-use Rattle.history_model.specs.CommitSteps.{PutsAll}
+use Rattle.history_model.specs.Passing.{StoresWhole}
+use Rattle.history_model.specs.TreeHalves.{HoldsValues}
 use Rattle.history_model.specs.declared.Fault.TheVariants.{Memory, File, IdTaken}
 use Rattle.history_store.specs.Formats.{entry_of}
 use Rattle.history.specs.Acts.{IsReadingFault}
@@ -35,9 +36,13 @@ pub record IsMade (digests : Kind) (kind : ObjectKind) (content : Bytes) (object
   pub kind_is : object.kind ≡ kind
   pub content_is : object.content.items ≡ content
 
--- the objects are those that the command stores, in their order, and the name moves to the commit
+-- The objects are those of what the command stores, in an order of which each beginning leaves a whole store, and the name moves
+-- to the commit.
 pub record IsPlan (r : plain.Repository) (order : CommitCommand) (plan : Plan) : Type 0 where
-  pub objects : AreObjectsOf r.kind (stored_by r (Commit order)) plan.objects.items
+  pub values : List Value
+  pub all : (value : Value) → Contains values value ↔ Contains (stored_by r (Commit order)) value
+  pub whole : StoresWhole r values
+  pub objects : AreObjectsOf r.kind values plan.objects.items
   pub moves : IsMove r order plan.moves
 
 -- A plan is made where no cause holds; else the first cause is told, or a fault was met.
@@ -46,11 +51,11 @@ Plans MayFail r order (Ok plan) = (first_cause r (Commit order) ≡ None) × IsP
 Plans MayFail r order (Err (Refused cause)) = first_cause r (Commit order) ≡ Some cause
 Plans MayFail r order (Err (Fault fault)) = IsReadingFault MayFail (Fault fault)
 
--- The objects are put, and the name is still to move; else the first cause is told, or a fault was met.
-abbrev pub StoresObjects : Type 0 → Tree → Tree → plain.Repository → CommitCommand → Result Moves Stopped → Type 0
-StoresObjects CallFailed old new r order (Ok moves) = (first_cause r (Commit order) ≡ None) × IsFalse (takes_id r (Commit order))
-    × PutsAll r.kind (stored_by r (Commit order)) old new × IsMove r order moves
-StoresObjects CallFailed old new r order (Err (Refused cause)) = first_cause r (Commit order) ≡ Some cause
-StoresObjects CallFailed old new r order (Err (Fault Memory)) = ⊤
-StoresObjects CallFailed old new r order (Err (Fault File)) = CallFailed
-StoresObjects CallFailed old new r order (Err (Fault IdTaken)) = (first_cause r (Commit order) ≡ None) × IsTrue (takes_id r (Commit order))
+-- The objects are those after the command, and the name is still to move; else the first cause is told, or a fault was met.
+abbrev pub StoresObjects : Type 0 → Tree → plain.Repository → CommitCommand → Result Moves Stopped → Type 0
+StoresObjects CallFailed new r order (Ok moves) = (first_cause r (Commit order) ≡ None) × IsFalse (takes_id r (Commit order))
+    × HoldsValues r.kind new (after r (Commit order)).objects × IsMove r order moves
+StoresObjects CallFailed new r order (Err (Refused cause)) = first_cause r (Commit order) ≡ Some cause
+StoresObjects CallFailed new r order (Err (Fault Memory)) = ⊤
+StoresObjects CallFailed new r order (Err (Fault File)) = CallFailed
+StoresObjects CallFailed new r order (Err (Fault IdTaken)) = (first_cause r (Commit order) ≡ None) × IsTrue (takes_id r (Commit order))

@@ -2,7 +2,9 @@
 
 ghost use Rattle.std.specs.Prelude.{◌≡◌, ◌&&◌, nat_lt, length, [], false, codes, IfOk, OnOk, IfErr};
 ghost use Rattle.history_model.specs.Bytes.{begins};
-ghost use Rattle.history_model.specs.Offered.{main_name};
+ghost use Rattle.history_model.specs.Offered.{IsOfStage};
+ghost use Rattle.history_model.specs.Repository as plain;
+ghost use Rattle.history_model.specs.Repository.{first_branch};
 ghost use Rattle.history_model.specs.Places.{head_place};
 ghost use Rattle.history_store.specs.Creation.{IsNew};
 ghost use Rattle.history_store.specs.Parts.{IsClear};
@@ -88,8 +90,10 @@ fn refuse_others<F: Files>(
     part: Part,
     permitted: &[u8],
 ) -> Result<(), OpenError>
-    ensures clear { F.is_honest files.now → OnOk result (IsClear part permitted.now (F.history files.now).tree) }
-    ensures wrong { F.is_honest files.now → IfErr result (IsWrongPart F.reading_may_fail part permitted.now (F.history files.now).tree) }
+    ensures clear { F.is_honest files.now
+        → OnOk result (IsClear part permitted.now (F.history files.now).tree) }
+    ensures wrong { F.is_honest files.now
+        → IfErr result (IsWrongPart F.reading_may_fail part permitted.now (F.history files.now).tree) }
 {
     match survey(alloc, files, part, permitted)? {
         Some(stray) => Err(refusal_of(stray)),
@@ -106,8 +110,11 @@ fn is_branch(name: &[u8]) -> bool
 
 /// HEAD's branch, where that is a new repository's.
 fn first_branch<F: Files>(alloc: Global, names: &Names<F>) -> Result<Vec<u8>, OpenError>
-    ensures first { F.is_honest names.now.files → IfOk result (λ branch. (branch.items ≡ main_name) × HeadIs (F.history names.now.files).tree main_name) }
-    ensures wrong { F.is_honest names.now.files → IfErr result (IsWrongHead F.reading_may_fail (F.history names.now.files).tree) }
+    ensures first { F.is_honest names.now.files
+        → IfOk result (λ branch. (branch.items ≡ first_branch)
+        × HeadIs (F.history names.now.files).tree first_branch) }
+    ensures wrong { F.is_honest names.now.files
+        → IfErr result (IsWrongHead F.reading_may_fail (F.history names.now.files).tree) }
 {
     if !matches!(names.files().kind_of(HEAD_PLACE)?, Place::File(_)) {
         return Err(OpenError::NoHead);
@@ -131,7 +138,8 @@ fn fresh_branch<F: Files>(
     names: &Names<F>,
 ) -> Result<Vec<u8>, OpenError>
     ensures first { F.is_honest objects.now → F.is_honest names.now.files
-        → IfOk result (λ branch. (branch.items ≡ main_name) × IsNew (F.history objects.now).tree (F.history names.now.files).tree) }
+        → IfOk result (λ branch. (branch.items ≡ first_branch)
+        × IsNew (F.history objects.now).tree (F.history names.now.files).tree) }
     ensures wrong { F.is_honest objects.now → F.is_honest names.now.files
         → IfErr result (IsNotNew F.reading_may_fail (F.history objects.now).tree (F.history names.now.files).tree) }
 {
@@ -143,7 +151,7 @@ fn fresh_branch<F: Files>(
 impl<F: Files> Repository<F> {
     ghost use Rattle.history_model.specs.Repository.{fresh};
     ghost use Rattle.history.specs.Face.{objects_part, names_part, has_failed};
-    ghost use Rattle.history.specs.Stands.{Stands};
+    ghost use Rattle.history.specs.Stands.{Stands, pair_of};
 
     /// Opens a repository as [`create`](crate::create) leaves it. No file is changed.
     ///
@@ -156,11 +164,23 @@ impl<F: Files> Repository<F> {
         names: F,
         kind: Kind,
     ) -> Result<Repository<F>, OpenRefusal<F>>
-        ensures ok { IfOk result (λ opened. (objects_part opened ≡ objects) × (names_part opened ≡ names) × (has_failed opened ≡ false)) }
-        ensures stands { F.is_honest objects → F.is_honest names → IfOk result (λ opened. Stands F.is_honest F.history opened (fresh kind)) }
+        ensures ok { IfOk result (λ opened. (objects_part opened ≡ objects)
+            × (names_part opened ≡ names) × (has_failed opened ≡ false)) }
+        // What is opened stands for a repository of this kind, whole and in its written form.
+        ensures stands { F.is_honest objects → F.is_honest names
+            → IfOk result (λ opened. (r : plain.Repository) × (r.kind ≡ kind)
+            × Stands F.is_honest F.history opened r × IsOfStage r (pair_of F.history opened)) }
+        // Of a new folder it is the one without names and objects, on `refs/heads/main`.
+        ensures fresh { F.is_honest objects → F.is_honest names
+            → IsNew (F.history objects).tree (F.history names).tree
+            → IfOk result (λ opened. Stands F.is_honest F.history opened (fresh kind)) }
+        // At this stage no other folder is opened.
+        ensures stage { F.is_honest objects → F.is_honest names
+            → OnOk result (IsNew (F.history objects).tree (F.history names).tree) }
         ensures refused { F.is_honest objects → F.is_honest names
             → IfErr result (λ refusal. IsNotNew F.reading_may_fail (F.history objects).tree (F.history names).tree refusal.error) }
-        ensures handed_back { IfErr result (λ refusal. (refusal.objects ≡ objects) × (refusal.names ≡ names)) }
+        ensures handed_back { IfErr result (λ refusal. (refusal.objects ≡ objects)
+            × (refusal.names ≡ names)) }
     {
         let names = Names::new(names, kind);
         match fresh_branch(alloc, &objects, &names) {

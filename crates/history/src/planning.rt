@@ -1,23 +1,22 @@
 //! What a `commit` is to store, and how its name is to move.
 
-ghost use Rattle.std.specs.Prelude.{◌≡◌, ◌≤◌, ◌<◌, List, ◌∷◌, [], IfOk, IsTrue, MatchResult, option_map, option_to_list, length};
+ghost use Rattle.std.specs.Prelude.{◌≡◌, ◌≤◌, ◌<◌, List, ◌∷◌, [], IfOk, IfSome, IsTrue, MatchResult, option_map, option_to_list, length};
 ghost use Rattle.history_model.specs.FileMap.{FileMap};
 ghost use Rattle.history_model.specs.Forms.{max_content};
 ghost use Rattle.history_model.specs.Repository as plain;
-ghost use Rattle.history_model.specs.Repository.{id_at};
-ghost use Rattle.history_model.specs.Stage.{is_offered};
+ghost use Rattle.history_model.specs.Repository.{HoldsCommit};
 ghost use Rattle.history_model.specs.Commands as orders;
-ghost use Rattle.history_model.specs.Commands.{Commit as CommitOf};
-ghost use Rattle.history_model.specs.Offered.{is_flat, main_name};
+ghost use Rattle.history_model.specs.Offered.{is_flat};
 ghost use Rattle.history_model.specs.declared.Cause.TheVariants.{TooLarge};
-ghost use Rattle.history_word.specs.Commands.{IsCommit, IsEdit, AreEdits};
+ghost use Rattle.history_word.specs.Commands.{IsEdit, AreEdits};
 ghost use Rattle.history_word.specs.declared.command.Edit.TheVariants as edits;
 ghost use Rattle.history_store.specs.Trees.{IsTreeOf};
 ghost use Rattle.history_store.specs.Face.{kind_of_objects};
+ghost use Rattle.history.specs.Asked.{AskedCommit};
 ghost use Rattle.history.specs.Acts.{Gives};
-ghost use Rattle.history.specs.Files.{files_of_main, AreWithin, HasEdited};
+ghost use Rattle.history.specs.Files.{files_of, AreWithin, HasEdited};
 ghost use Rattle.history.specs.Plans.{IsMade, Plans};
-ghost use Rattle.history.specs.Stands.{Stands};
+ghost use Rattle.history.specs.Stands.{Serves};
 ghost use Rattle.gix_hash.specs.Id.{id_of};
 
 use crate::actors::actor_at;
@@ -65,7 +64,8 @@ impl<F: Files> Repository<F> {
     /// An object of this content, where that is within the limit.
     fn new_object(&self, kind: ObjectKind, content: Vec<u8>) -> Result<NewObject, Cause>
         ensures { MatchResult result
-            (λ made. IsMade (kind_of_objects self.now.objects) kind content.items made × (length content.items ≤ max_content))
+            (λ made. IsMade (kind_of_objects self.now.objects) kind content.items made
+            × (length content.items ≤ max_content))
             (λ cause. (cause ≡ TooLarge) × (max_content < length content.items)) }
     {
         if content.len() > MAX_CONTENT {
@@ -76,8 +76,9 @@ impl<F: Files> Repository<F> {
 
     /// The files of a commit's parent, none without one.
     fn files_before(&self, alloc: Global, parent: Option<ObjectId>) -> Result<Tree, Stopped>
-        ensures { (r : plain.Repository) → Stands F.is_honest F.history self.now r → option_map id_of parent ≡ id_at r main_name
-            → Gives F.reading_may_fail (λ tree. IsTreeOf r.kind tree (files_of_main r)) result }
+        ensures { (r : plain.Repository) → Serves F.is_honest F.history self.now r
+            → IfSome parent (λ id. HoldsCommit r (id_of id))
+            → Gives F.reading_may_fail (λ tree. IsTreeOf r.kind tree (files_of r (option_map id_of parent))) result }
     {
         match parent {
             Some(id) => {
@@ -90,7 +91,9 @@ impl<F: Files> Repository<F> {
 
     /// Puts a file, and gives the object of its content.
     fn put_file(&self, alloc: Global, tree: &mut Tree, put: Put) -> Result<NewObject, AllocError>
-        ensures { (r : plain.Repository) (files : FileMap) (line : orders.EditLine) → IsEdit (edits.Put put) line → AreWithin (line ∷ []) → IsTrue (is_flat files) → IsTreeOf (kind_of_objects self.now.objects) tree.old files
+        ensures { (r : plain.Repository) (files : FileMap) (line : orders.EditLine)
+            → IsEdit (edits.Put put) line → AreWithin (line ∷ []) → IsTrue (is_flat files)
+            → IsTreeOf (kind_of_objects self.now.objects) tree.old files
             → IfOk result (λ blob. HasEdited r (kind_of_objects self.now.objects) files (line ∷ []) (blob ∷ []) tree.new) }
     {
         let content = into_kept(put.content);
@@ -110,7 +113,9 @@ impl<F: Files> Repository<F> {
         tree: &mut Tree,
         edits: Vec<Edit>,
     ) -> Result<Vec<NewObject>, AllocError>
-        ensures { (r : plain.Repository) (files : FileMap) (lines : List orders.EditLine) → AreEdits edits.items lines → AreWithin lines → IsTrue (is_flat files) → IsTreeOf (kind_of_objects self.now.objects) tree.old files
+        ensures { (r : plain.Repository) (files : FileMap) (lines : List orders.EditLine)
+            → AreEdits edits.items lines → AreWithin lines → IsTrue (is_flat files)
+            → IsTreeOf (kind_of_objects self.now.objects) tree.old files
             → IfOk result (λ blobs. HasEdited r (kind_of_objects self.now.objects) files lines blobs.items tree.new) }
     {
         let mut blobs = Vec::with_capacity(alloc, edits.len())?;
@@ -123,7 +128,8 @@ impl<F: Files> Repository<F> {
 
     /// Tests every cause, and makes all that is to be stored. It changes nothing.
     pub(crate) fn plan(&self, alloc: Global, command: CommitCommand) -> Result<Plan, Stopped>
-        ensures { (r : plain.Repository) (order : orders.CommitCommand) → Stands F.is_honest F.history self.now r → IsCommit command order → IsTrue (is_offered (CommitOf order))
+        ensures { (r : plain.Repository) (order : orders.CommitCommand)
+            → AskedCommit F.is_honest F.history self.now command r order
             → Plans F.reading_may_fail r order result }
     {
         let name = self.name_of(alloc, &command.name)?;
