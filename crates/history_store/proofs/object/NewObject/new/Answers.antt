@@ -14,4 +14,4 @@ own_id digests kind content id is =
     is ∙ ap (λ k. object_id k kind content) (sym (ap (λ i. i.kind) is ∙ (has_kind digests _ (digest_is_id digests (object_text kind content))).of_kind))
 
 pub invariant_of-result : goal.invariant_of-result
-invariant_of-result c = own_id c.args.digests c.args.kind c.args.content.items _ (c.object_id-id.ensures ∙ ap (object_id c.args.digests c.args.kind) c.deref.ensures.value)
+invariant_of-result c = record { named = own_id c.args.digests c.args.kind c.args.content.items _ (c.object_id-id.ensures ∙ ap (object_id c.args.digests c.args.kind) c.deref.ensures.value) }

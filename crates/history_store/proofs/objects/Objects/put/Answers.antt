@@ -22,8 +22,8 @@ use Rattle.history_store.proofs.objects.Objects.put.Goals as goal
 use Rattle.history_store.proofs.objects.Objects.put.Goals.{then-branch+in_ok-holds+else-not-branch, else-branch+in_ok-write}
 use Rattle.gix_hash.specs.Id.{id_of}
 
-spelled : (object : ObjectKind) (content header : Bytes) → header ≡ header_text object (length content) → header ++ content ≡ object_text object content
-spelled object content header is = ap (λ h. h ++ content) is
+spelled : (object : NewObject) (content header : Bytes) → content ≡ object.content.items → header ≡ header_text object.kind (length content) → header ++ content ≡ text_of object
+spelled object content header same is = ap (λ h. h ++ content) is ∙ ap (object_text object.kind) same
 
 told : (written place joined text : Bytes) (old new : History) → written ≡ place → joined ≡ text → Adds (MayStand written joined old.tree) old new → Adds (MayStand place text old.tree) old new
 told written place joined text old new same_place same_text adds =
@@ -34,7 +34,7 @@ returns-then-not-branch-clause-refused g c = λ id is honest.
     let tree = (g.F.Files.history c.args.self.now.files).tree in
     let place = c.in_ok-place.place.items in
     let header = c.loose_header-header.result.items in
-    let content = c.args.object.now.content.items in
+    let content = c.as_slice-content.result.now in
     inr (taken_by_other tree place _ header content _
     c.in_ok-place.ensures
     (ap (is_file_at tree) (sym c.deref.ensures.value) ∙ sym (c.in_ok-is_file.ensures.told honest) ∙ c.if-branch.true)
@@ -42,7 +42,7 @@ returns-then-not-branch-clause-refused g c = λ id is honest.
     let found = (c.in_ok-holds.ensures.same honest).1 (ap (bytes_at tree) c.deref-then-branch.ensures.value ∙ equal ∙ ap (λ h. h ++ content) (sym c.deref-then-branch-2.ensures.0)) in
     let unlike = c.if-not-branch.true in
     cc)
-    (sym (spelled c.args.object.now.kind content header c.loose_header-header.ensures)))
+    (sym (spelled c.args.object.now content header c.as_slice-content.ensures.value c.loose_header-header.ensures)))
 
 file_fault : (e : FileError) → put_fault e ≡ errors.File → e ≡ files.Failed
 file_fault files.Failed is = refl
@@ -61,14 +61,14 @@ returns-in_err-write-clause-failed g c = λ honest part failed.
 pub returns-clause-free : goal.returns-clause-free
 returns-clause-free g c = λ honest.
     let object = c.args.object.now in
-    let content = object.content.items in
+    let content = c.as_slice-content.result.now in
     let tree = (g.F.Files.history c.args.self.now.files).tree in
     let free = untaken object tree c.is_reserved.result c.is_reserved.ensures c.if-is_reserved.false in
     elim c.if-branch.branch [
       | then-branch+in_ok-holds+else-not-branch w ↦
           free (same_other tree c.in_ok-place.place.items _ c.loose_header-header.result.items content _ c.in_ok-place.ensures
           (ap (bytes_at tree) (sym w.deref-then-branch.ensures.value) ∙ (w.in_ok-holds.ensures.same honest).0 w.if-not-branch.false ∙ ap (λ h. h ++ content) w.deref-then-branch-2.ensures.0)
-          (sym (spelled object.kind content _ c.loose_header-header.ensures)))
+          (sym (spelled object content _ c.as_slice-content.ensures.value c.loose_header-header.ensures)))
       | else-branch+in_ok-write w ↦
           free (none_other tree c.deref.result.now _ _ (c.deref.ensures.value ∙ c.in_ok-place.ensures) (sym (c.in_ok-is_file.ensures.told honest) ∙ w.if-branch.false))
     ]
@@ -84,13 +84,13 @@ pub returns-clause-moments : goal.returns-clause-moments
 returns-clause-moments g c = λ honest.
     let old = g.F.Files.history c.args.self.now.files in
     let object = c.args.object.now in
-    let content = object.content.items in
+    let content = c.as_slice-content.result.now in
     elim c.if-branch.branch [
       | then-branch+in_ok-holds+else-not-branch w ↦ subst (λ s. Adds (MayPut object old.tree) old (g.F.Files.history s.files)) (sym w.self-is) (adds_nothing old)
       | else-branch+in_ok-write w ↦
           subst (λ s. Adds (MayPut object old.tree) old (g.F.Files.history s.files)) (sym w.self-is)
           (put_at object _ _ old _ (w.deref-else-branch.ensures.value ∙ c.in_ok-place.ensures)
-          (ap (λ h. h ++ content) w.deref-else-branch-2.ensures.0 ∙ spelled object.kind content _ c.loose_header-header.ensures)
+          (ap (λ h. h ++ content) w.deref-else-branch-2.ensures.0 ∙ spelled object content _ c.as_slice-content.ensures.value c.loose_header-header.ensures)
           (w.write.ensures.moments honest) (w.write.ensures.folders honest) (w.write.ensures.stay honest))
     ]
 
@@ -98,13 +98,13 @@ pub returns-in_err-insert-clause-moments : goal.returns-in_err-insert-clause-mom
 returns-in_err-insert-clause-moments g c = λ honest.
     let old = g.F.Files.history c.args.self.now.files in
     let object = c.args.object.now in
-    let content = object.content.items in
+    let content = c.as_slice-content.result.now in
     elim c.if-branch.branch [
       | then-branch+in_ok-holds+else-not-branch w ↦ subst (λ s. Adds (MayPut object old.tree) old (g.F.Files.history s.files)) (sym w.self-is) (adds_nothing old)
       | else-branch+in_ok-write w ↦
           subst (λ s. Adds (MayPut object old.tree) old (g.F.Files.history s.files)) (sym w.self-is)
           (put_at object _ _ old _ (w.deref-else-branch.ensures.value ∙ c.in_ok-place.ensures)
-          (ap (λ h. h ++ content) w.deref-else-branch-2.ensures.0 ∙ spelled object.kind content _ c.loose_header-header.ensures)
+          (ap (λ h. h ++ content) w.deref-else-branch-2.ensures.0 ∙ spelled object content _ c.as_slice-content.ensures.value c.loose_header-header.ensures)
           (w.write.ensures.moments honest) (w.write.ensures.folders honest) (w.write.ensures.stay honest))
     ]
 
@@ -112,7 +112,7 @@ pub returns-in_err-write-clause-moments : goal.returns-in_err-write-clause-momen
 returns-in_err-write-clause-moments g c = λ honest.
     let old = g.F.Files.history c.args.self.now.files in
     let object = c.args.object.now in
-    let content = object.content.items in
+    let content = c.as_slice-content.result.now in
     put_at object _ _ old _ (c.deref-else-branch.ensures.value ∙ c.in_ok-place.ensures)
-    (ap (λ h. h ++ content) c.deref-else-branch-2.ensures.0 ∙ spelled object.kind content _ c.loose_header-header.ensures)
+    (ap (λ h. h ++ content) c.deref-else-branch-2.ensures.0 ∙ spelled object content _ c.as_slice-content.ensures.value c.loose_header-header.ensures)
     (c.write.ensures.moments honest) (c.write.ensures.folders honest) (c.write.ensures.stay honest)
