@@ -97,9 +97,8 @@ module _ (kind : Kind) where
       same : {X : Type 0} {x y : X} → Some x ≡ Some y → x ≡ y
       same e = cc
 
-  fits_from : (more : List Value) (base : Values) → some_taken kind base more ≡ false → Fits base more
-  fits_from [] base free = record { unkept = λ value i. absurd i; base_agrees = λ value found i at. absurd i; agree = λ value other i j e. absurd i }
-  fits_from (first ∷ more) base free = record {
+  fits_both : (base : Values) (first : Value) (more : List Value) → (is_kept first ≡ false) × (is_unlike first (get base (id_of kind first)) ≡ false) → Fits (store_one kind base first) more → Fits base (first ∷ more)
+  fits_both base first more first_free rest = record {
     unkept = λ value i. elim i [ inl e ↦ ap is_kept e ∙ first_free.0 | inr j ↦ rest.unkept value j ];
     base_agrees = λ value found i at. elim i [
       | inl e ↦ ap (value_text kind) e ∙ alike_found first (get base (id_of kind first)) first_free.1 found (ap (λ v. get base (id_of kind v)) (sym e) ∙ at)
@@ -117,19 +116,16 @@ module _ (kind : Kind) where
     ];
   }
     where
-      halves : (is_taken kind base first ≡ false) × (some_taken kind (store_one kind base first) more ≡ false)
-      halves = either_false (is_taken kind base first) (some_taken kind (store_one kind base first) more) free
-
-      first_free : (is_kept first ≡ false) × (is_unlike first (get base (id_of kind first)) ≡ false)
-      first_free = either_false (is_kept first) (is_unlike first (get base (id_of kind first))) halves.0
-
-      rest : Fits (store_one kind base first) more
-      rest = fits_from more (store_one kind base first) halves.1
-
       with_first : (other : Value) → In other more → id_of kind first ≡ id_of kind other → value_text kind first ≡ value_text kind other
       with_first other l same =
           let stood = stands_then base first first_free.1 in
           stood.2 ∙ sym (rest.base_agrees other stood.0 l (ap (get (store_one kind base first)) (sym same) ∙ stood.1))
+
+  fits_from : (more : List Value) (base : Values) → some_taken kind base more ≡ false → Fits base more
+  fits_from [] base free = record { unkept = λ value i. absurd i; base_agrees = λ value found i at. absurd i; agree = λ value other i j e. absurd i }
+  fits_from (first ∷ more) base free =
+      let halves = either_false (is_taken kind base first) (some_taken kind (store_one kind base first) more) free in
+      fits_both base first more (either_false (is_kept first) (is_unlike first (get base (id_of kind first))) halves.0) (fits_from more (store_one kind base first) halves.1)
 
   not_unlike : (value : Value) (o : Option Value) → ((found : Value) → o ≡ Some found → value_text kind value ≡ value_text kind found) → is_unlike value o ≡ false
   not_unlike value None same = refl
