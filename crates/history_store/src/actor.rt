@@ -8,6 +8,7 @@ ghost use Rattle.history_store.specs.Actors.{IsFormed, IsNoTime, IsOffsetOf, IsP
 use bstr::BStr;
 use gix_object::lines::{ActorRef, Time, read_actor, read_time, write_actor_parts, write_time};
 use gix_object_lines::cut::split_once;
+use gix_object_lines::decimal::read_unsigned;
 use smallvec::SmallVec;
 use std::alloc::{AllocError, Global};
 
@@ -169,9 +170,8 @@ fn parse_seconds(word: &[u8]) -> Option<i64>
         ((seconds : ℕ) → seconds ≤ max_seconds → word.now ≢ decimal seconds)
         (λ seconds. IsSecondsOf word.now seconds) }
 {
-    let seconds = std::str::from_utf8(word).ok()?.parse::<u64>().ok()?;
-    let mut digits = itoa::Buffer::new();
-    if digits.format(seconds).as_bytes() == word && seconds <= MAX_SECONDS {
+    let seconds = read_unsigned(word)?;
+    if seconds <= MAX_SECONDS {
         Some(seconds as i64)
     } else {
         None

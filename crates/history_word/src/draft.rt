@@ -9,7 +9,7 @@ ghost use Rattle.history_word.specs.Fields.{Keeps};
 ghost use Rattle.history_word.specs.Commands.{IsExpect, IsEdit, AreEdits, IsActor, IsCommit, StandsFor, max_path, max_actor_part, max_content};
 ghost use Rattle.history_word.specs.Drafts.{IsCommitDraft, IsDraft, role_of, with_actor, with_edit, with_message};
 
-use crate::command::{ActorLine, Command, Commit, Edit, Expect, Field, Put, Show};
+use crate::command::{ActorLine, Command, CommitCommand, Edit, Expect, Field, Put, Show};
 use crate::heading::Role;
 use history_model::FileKind;
 use std::alloc::Global;
@@ -56,10 +56,10 @@ impl CommitDraft {
         self.edits = pushed(self.edits.take(), edit);
     }
 
-    fn finish(self) -> Option<Commit>
+    fn finish(self) -> Option<CommitCommand>
         ensures { (order : model.CommitCommand) → IsCommitDraft self order → IfSome result (λ commit. IsCommit commit order) }
     {
-        Some(Commit {
+        Some(CommitCommand {
             name: self.name?,
             expect: self.expect?,
             edits: self.edits?,
