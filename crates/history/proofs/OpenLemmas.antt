@@ -1,6 +1,7 @@
 -- What an opened repository stands for.
 use Rattle.std.proofs.Common.{◌≡◌, false, is_some, sym, ap, ◌∙◌}
 use Rattle.gix_ref_file.specs.History.{History}
+use Rattle.gix_ref_file.specs.Tree.{Tree}
 use Rattle.std.specs.FinMap.{contains_key, empty, get-empty}
 use Rattle.history_model.specs.Offered.{IsOfStage}
 use Rattle.gix_hash.specs.Id.{Id}
@@ -13,7 +14,7 @@ use Rattle.history_store.proofs.FreshParts.{new_stands_whole}
 use Rattle.history_store.specs.Creation.{IsNew}
 use Rattle.history.specs.declared.repository.Repository.{Repository}
 use Rattle.history.specs.Face.{objects_part, names_part, known_ids}
-use Rattle.history.specs.Stands.{Stands, pair_of}
+use Rattle.history.specs.Stands.{Stands}
 
 -- a repository over the parts of a new one stands for the repository without names and objects
 pub opened_stands : {F : Type 0} (IsHonest : F → Type 0) (history : F → History) (repository : Repository F) (kind : Kind) → IsHonest (objects_part repository) → IsHonest (names_part repository)
@@ -33,6 +34,5 @@ opened_stands IsHonest history repository kind objects names of_kind names_kind 
     no_object_known id = ap is_some (get-empty by_id id)
 
 -- and that is one of this stage
-pub opened_of_stage : {F : Type 0} (history : F → History) (repository : Repository F) (kind : Kind)
-    → IsNew (history (objects_part repository)).tree (history (names_part repository)).tree → IsOfStage (fresh kind) (pair_of history repository)
-opened_of_stage history repository kind new = record { offered = fresh_is_offered kind; unpacked = new.no_other packed_place (λ e. cc) }
+pub opened_of_stage : (kind : Kind) (objects names : Tree) → IsNew objects names → IsOfStage (fresh kind) (record { objects = objects; names = names })
+opened_of_stage kind objects names new = record { offered = fresh_is_offered kind; unpacked = new.no_other packed_place (λ e. cc) }

@@ -80,7 +80,8 @@ fn refuse_stray<F: Files>(
     ensures clear { F.is_honest files.now
         → OnOk result (IsClear part permitted.now (F.history files.now).tree) }
     ensures wrong { F.is_honest files.now
-        → IfErr result (IsWrongPart F.reading_may_fail part permitted.now (F.history files.now).tree) }
+        → IfErr result (IsWrongPart F.reading_may_fail part permitted.now
+        (F.history files.now).tree) }
 {
     match survey(alloc, files, part, permitted)? {
         Some(stray) => Err(refusal_of(stray)),
@@ -128,7 +129,8 @@ pub fn new_branch<F: Files>(
         → IfOk result (λ branch. (branch.items ≡ first_branch)
         × IsNew (F.history objects.now).tree (F.history names.now.files).tree) }
     ensures wrong { F.is_honest objects.now → F.is_honest names.now.files
-        → IfErr result (IsNotNew F.reading_may_fail (F.history objects.now).tree (F.history names.now.files).tree) }
+        → IfErr result (IsNotNew F.reading_may_fail (F.history objects.now).tree
+        (F.history names.now.files).tree) }
 {
     refuse_stray(alloc, objects, Part::Objects, b"")?;
     refuse_stray(alloc, names.files(), Part::Names, HEAD)?;
