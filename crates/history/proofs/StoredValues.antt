@@ -18,7 +18,7 @@ use Rattle.gix_hash.specs.declared.kind.Kind.{Kind}
 use Rattle.history_model.proofs.TreePlaces.{values_have_ids}
 use Rattle.history_model.proofs.TreePuts.{halves_stand, places_tell_values}
 use Rattle.history_model.proofs.WholeTexts.{object_same}
-use Rattle.history_store.specs.Stores.{IsNoObject}
+use Rattle.history_store.specs.ObjectTexts.{IsNoObject}
 use Rattle.gix_object_lines.specs.declared.kind.Kind.{Kind as ObjectKind}
 use Rattle.history_store.specs.declared.objects.Object.{Object}
 use Rattle.history.specs.Acts.{Gives, IsReadingFault}

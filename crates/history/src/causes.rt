@@ -22,7 +22,7 @@ use gix_hash::ObjectId;
 use gix_object::lines::Time;
 use gix_ref_file::Files;
 use history_model::Cause;
-use history_word::{Commit, Edit, Expect};
+use history_word::{CommitCommand, Edit, Expect};
 use std::alloc::{AllocError, Global};
 
 /// The most bytes of a title.
@@ -87,7 +87,7 @@ fn have_long_content(edits: &[Edit]) -> bool
 }
 
 /// Tests what the command says by itself, in the order of the causes.
-pub(crate) fn read_times(command: &Commit) -> Result<Times, Cause>
+pub(crate) fn read_times(command: &CommitCommand) -> Result<Times, Cause>
     ensures { (r : plain.Repository) (order : CommitOrder) → IsCommit command.now order
         → AreTimes r order result }
 {

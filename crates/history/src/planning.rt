@@ -28,7 +28,7 @@ use gix_hash::ObjectId;
 use gix_ref_file::Files;
 use history_model::Cause;
 use history_store::{Commit, LogEntry, NewObject, ObjectKind, Tree, TreeEntry};
-use history_word::{Commit as CommitCommand, Edit, Put};
+use history_word::{CommitCommand, Edit, Put};
 use std::alloc::{AllocError, Global};
 
 /// The most bytes of a file's content, and of any object's.

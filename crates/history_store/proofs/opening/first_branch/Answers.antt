@@ -1,8 +1,8 @@
 use Rattle.std.proofs.Common.{◌≡◌, ◌≢◌, None, rules}
 use Rattle.history_model.specs.Repository.{first_branch}
-use Rattle.history.proofs.OpenLemmas.{head_stands, no_branch, branch_read, other_branch, bad_branch}
-use Rattle.history.proofs.open.first_branch.Goals as goal
-use Rattle.history.proofs.open.first_branch.Goals.{in-File, in_default}
+use Rattle.history_store.proofs.OpenLemmas.{head_stands, no_branch, branch_read, other_branch, bad_branch}
+use Rattle.history_store.proofs.opening.first_branch.Goals as goal
+use Rattle.history_store.proofs.opening.first_branch.Goals.{in-File, in_default}
 
 pub returns-in_default-2-clause-wrong : goal.returns-in_default-2-clause-wrong
 returns-in_default-2-clause-wrong g c = λ honest.
