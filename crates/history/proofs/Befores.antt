@@ -25,11 +25,11 @@ module _ (r : plain.Repository) (store : IsWholeStore r) (id : Id) (holds : Hold
   held_commit = of_value (get r.objects id) refl holds
     where
       of_value : (o : Option Value) → get r.objects id ≡ o → IsSome (option_and_then as_commit o) → (commit : CommitValue) × (get r.objects id ≡ Some (StoredCommit commit))
-      of_value None e h = absurd h
+      of_value None e h = absurd cc
       of_value (Some (StoredCommit commit)) e h = (commit, e)
-      of_value (Some (StoredTag tag)) e h = absurd h
-      of_value (Some (StoredBytes bytes)) e h = absurd h
-      of_value (Some (StoredFolder files)) e h = absurd h
+      of_value (Some (StoredTag tag)) e h = absurd cc
+      of_value (Some (StoredBytes bytes)) e h = absurd cc
+      of_value (Some (StoredFolder files)) e h = absurd cc
 
   pub held_files : files_of r (Some id) ≡ (held_commit.0).files
   held_files = ap (λ (found : Option Value). unwrap_or (option_map (λ (commit : CommitValue). commit.files) (option_and_then as_commit found)) empty) held_commit.1

@@ -39,7 +39,7 @@ use Rattle.history_model.proofs.WholeSteps.{steps_keep_sound}
 use Rattle.history.specs.Face.{objects_part, names_part, KeepsAllButObjects, KeepsAllButNames}
 use Rattle.history.specs.Halves.{objects_tree, names_tree, ObjectsStand, NamesStand, FitsAmong, KnowsIds}
 use Rattle.history.specs.Plans.{IsMove}
-use Rattle.history.specs.Stands.{pair_of, Serves}
+use Rattle.history.specs.Stands.{pair_of, Serves, Stands}
 use Rattle.history.specs.declared.planning.Moves.{Moves}
 use Rattle.history.specs.declared.repository.Repository.{Repository}
 
@@ -80,12 +80,12 @@ accepted r order none free = record { no_cause = none; not_taken = free; answer 
 
 module _ {F : Type 0} (IsHonest : F → Type 0) (history : F → History) where
   -- what stands for a repository stands in each part
-  pub objects_stand : (repository : Repository F) (r : plain.Repository) → Serves IsHonest history repository r → ObjectsStand IsHonest history repository r.objects
+  pub objects_stand : (repository : Repository F) (r : plain.Repository) → Stands IsHonest history repository r → ObjectsStand IsHonest history repository r.objects
   objects_stand repository r h =
-      let same = sym h.stands.objects_kind in record {
-        honest = h.stands.honest_objects;
-        holds = subst (λ kind. HoldsValues kind (objects_tree history repository) r.objects) same ((halves_stand r.kind (pair_of history repository) r).0 (h.stands.whole).stands).1;
-        own_ids = subst (λ kind. HaveOwnIds kind r.objects) same (((h.stands.whole).whole).store).own_ids;
+      let same = sym h.objects_kind in record {
+        honest = h.honest_objects;
+        holds = subst (λ kind. HoldsValues kind (objects_tree history repository) r.objects) same ((halves_stand r.kind (pair_of history repository) r).0 h.whole.stands).1;
+        own_ids = subst (λ kind. HaveOwnIds kind r.objects) same (h.whole.whole.store).own_ids;
       }
 
   pub names_stand : (old mid : Repository F) (r : plain.Repository) → Serves IsHonest history old r → KeepsAllButObjects old mid → NamesStand IsHonest history mid r

@@ -104,7 +104,7 @@ module _ (r : plain.Repository) (order : CommitCommand) (o : IsOffered r) (w : H
   parent_holds None at = tt
   parent_holds (Some id) at =
       let held = main_holds_a_commit r (id_of id) o w (of_main ∙ sym at) in
-      subst (λ (found : Option Value). IsSome (option_and_then as_commit found)) (sym held.1) tt
+      subst (λ (found : Option Value). IsSome (option_and_then as_commit found)) (sym held.1) refl
 
   -- the new files are those of the parent after the edits
   new_files : (new_commit r order).files ≡ files_after r before order.edits
@@ -195,8 +195,10 @@ module _ (r : plain.Repository) (order : CommitCommand) (o : IsOffered r) (w : H
       let contents = map StoredBytes (contents_in (Commit order)) in
       let last : AreObjectsOf r.kind last_values (tree ∷ commit ∷ []) = (
         record { id = tree_made.id ∙ ap (λ k. digest k (object_text kinds.Tree (root r.kind (new_commit r order).files))) same; kind = tree_made.kind_is; content = tree_made.content_is },
-        record { id = commit_made.id ∙ ap (λ k. digest k (object_text kinds.Commit (commit_content r.kind (new_commit r order)))) same; kind = commit_made.kind_is; content = commit_made.content_is },
-        tt,
+        (
+          record { id = commit_made.id ∙ ap (λ k. digest k (object_text kinds.Commit (commit_content r.kind (new_commit r order)))) same; kind = commit_made.kind_is; content = commit_made.content_is },
+          tt,
+        ),
       ) in
       subst (AreObjectsOf r.kind (stored_by r (Commit order))) (sym (is ∙ append_assoc blobs (tree ∷ []) (commit ∷ [])))
       (subst (λ values. AreObjectsOf r.kind values (blobs ++ tree ∷ commit ∷ [])) (sym (commits_store_flat r order o good ∙ ap (λ values. values ++ last_values) (bytes_put r order.edits)))

@@ -52,7 +52,7 @@ returns-in_err-content g c = λ r word bytes s reads kept.
     let file = file_at r.kind c.in_ok-tree.tree read.0.files bytes tree c.in-Some.entry here in
     let stored = bytes_at r.kind c.in_ok-tree.tree read.0.files bytes tree r refl s.stands.whole.whole.store (id_of c.in_ok-commit.commit.tree) folder c.in-Some.entry file.0 file.1 file.2 in
     handed_on g.F.Files.reading_may_fail r order c.from_residual-in_err-content.result _ c.from_residual-in_err-content.ensures.1
-    (reading_fault g.F.Files.reading_may_fail r order _ (c.in_err-content.ensures r (StoredBytes file.0.bytes) s stored refl))
+    (reading_fault g.F.Files.reading_may_fail r order _ (c.in_err-content.ensures r (StoredBytes file.0.bytes) s.stands stored refl))
 
 pub returns : goal.returns
 returns g c = λ r word bytes s reads kept.
@@ -65,6 +65,6 @@ returns g c = λ r word bytes s reads kept.
     let here : get c.in_ok-tree.tree bytes ≡ Some c.in-Some.entry = sym (c.in-Some.ensures ∙ ap (get c.in_ok-tree.tree) path) in
     let file = file_at r.kind c.in_ok-tree.tree read.0.files bytes tree c.in-Some.entry here in
     let stored = bytes_at r.kind c.in_ok-tree.tree read.0.files bytes tree r refl s.stands.whole.whole.store (id_of c.in_ok-commit.commit.tree) folder c.in-Some.entry file.0 file.1 file.2 in
-    let content = c.in_ok-content.ensures r (StoredBytes file.0.bytes) s stored refl in
+    let content = c.in_ok-content.ensures r (StoredBytes file.0.bytes) s.stands stored refl in
     content_answered r s.stage.offered s.stands.whole.whole.names g.F.Files.reading_may_fail word bytes (id_of c.args.id.now) read.0 c.in-Some.entry file.0 c.deref.result.now c.in_ok-content_text.field-0
     reads read.1 good file.1 file.2 (c.deref.ensures.value ∙ content) c.in_ok-content_text.ensures
