@@ -22,7 +22,7 @@ begins_well b path is = ap (λ x. is_path (x ∷ path)) is ∙ never (nat_le (su
     never false = refl
 
 -- in the root a path is its name
-root_name : (path : List ℕ) → IsTrue (is_path path) → parent path ≡ [] → after_last is_slash path ≡ path
+pub root_name : (path : List ℕ) → IsTrue (is_path path) → parent path ≡ [] → after_last is_slash path ≡ path
 root_name path is root = by_len (length path - suffix_len inside path) refl
   where
     by_len : (k : ℕ) → length path - suffix_len inside path ≡ k → drop k path ≡ path

@@ -1,8 +1,8 @@
 -- How histories go on.
-use Rattle.std.proofs.Common.{◌≡◌, inl, inr, ℕ, zero, suc, List, [], ◌∷◌, ◌++◌, length, take, drop, ◌+◌, ◌≤◌, refl, sym, ◌∙◌, ap, arith, append_assoc, length-append}
+use Rattle.std.proofs.Common.{◌≡◌, inl, inr, ℕ, zero, suc, List, [], ◌∷◌, ◌++◌, length, take, drop, ◌+◌, ◌≤◌, refl, sym, ◌∙◌, ap, subst, arith, append_assoc, length-append}
 use Rattle.std.specs.Prelude.{Result, Ok, Err, OnOk, IsTrue}
 use Rattle.std.specs.FinMap.{insert}
-use Rattle.std.proofs.lemmas.List.{append-nil, take_all, drop_at, take-append-le}
+use Rattle.std.proofs.lemmas.List.{append_cancel_left, append-nil, take_all, drop_at, take-append-le}
 use Rattle.std.specs.List.{AllByRecursion}
 use Rattle.gix_ref_file.specs.declared.files.FileError.{FileError}
 use Rattle.gix_ref_file.specs.Tree.{Tree, file, bytes_at}
@@ -29,6 +29,18 @@ adds_joined old mid new first second = record {
 
 pub adds_nothing : {P : Tree → Type 0} (old : History) → Adds P old old
 adds_nothing old = record { during = []; added = sym (append-nil (trees old)); all = tt }
+
+all_both : (P Q : Tree → Type 0) (ts : List Tree) → AllByRecursion P ts → AllByRecursion Q ts → AllByRecursion (λ t. P t × Q t) ts
+all_both P Q [] p q = tt
+all_both P Q (t ∷ ts) p q = ((p.0, q.0), all_both P Q ts p.1 q.1)
+
+-- each tree that came has what each has
+pub adds_both : {P Q : Tree → Type 0} (old new : History) → Adds P old new → Adds Q old new → Adds (λ t. P t × Q t) old new
+adds_both {P = P} {Q = Q} old new a b = record {
+  during = a.during;
+  added = a.added;
+  all = all_both P Q a.during a.all (subst (AllByRecursion Q) (append_cancel_left (trees old) b.during a.during (sym b.added ∙ a.added)) b.all);
+}
 
 -- ---- changes that are made at once
 on_ok : {T E : Type 0} (P : Type 0) (r : Result T E) → P → OnOk r P

@@ -1,4 +1,5 @@
 pub mod Below
+pub mod Calls
 pub mod Changes
 pub mod Fuse
 pub mod History

@@ -68,40 +68,58 @@ pub trait Files {
 
     /// Answers what stands at a path, and a file's length in bytes.
     fn kind_of(&self, path: &[u8]) -> Result<Place, FileError>
-        ensures place { is_honest self.now → IfOk result (λ place. place ≡ place_of (node_at (history self.now).tree path.now)) }
+        ensures place { is_honest self.now
+            → IfOk result (λ place. place ≡ place_of (node_at (history self.now).tree path.now)) }
         ensures failed { IsErrOf result Failed → reading_may_fail };
 
     /// Appends a file's bytes to `out` and answers how many they are, or `None` where no file stands. After an error `out` is
     /// as it was.
     fn read(&self, path: &[u8], out: &mut Vec<u8>) -> Result<Option<usize>, FileError>
-        ensures count { is_honest self.now → IfOk result (λ count. count ≡ option_map length (bytes_of (node_at (history self.now).tree path.now))) }
-        ensures bytes { is_honest self.now → OnOk result (out.new.items ≡ out.old.items ++ bytes_at (history self.now).tree path.now) }
+        ensures count { is_honest self.now
+            → IfOk result (λ count.
+            count ≡ option_map length (bytes_of (node_at (history self.now).tree path.now))) }
+        ensures bytes { is_honest self.now
+            → OnOk result (out.new.items
+            ≡ out.old.items ++ bytes_at (history self.now).tree path.now) }
         ensures front { take (length out.old.items) out.new.items ≡ out.old.items }
-        ensures grown { IfOk result (λ count. length out.new.items ≡ length out.old.items + unwrap_or count 0) }
+        ensures grown { IfOk result (λ count. length out.new.items
+            ≡ length out.old.items + unwrap_or count 0) }
         ensures err { OnErr result (out.new.items ≡ out.old.items) }
         ensures failed { IsErrOf result Failed → reading_may_fail };
 
     /// Puts what stands in a file from byte `at` on into the beginning of `buffer`, as much as fits, and answers how many bytes
     /// that is, or `None` where no file stands.
     fn read_at(&self, path: &[u8], at: u64, buffer: &mut [u8]) -> Result<Option<usize>, FileError>
-        ensures count { is_honest self.now → IfOk result (λ count. count ≡ option_map (λ bytes. length (part bytes at (length buffer.old))) (bytes_of (node_at (history self.now).tree path.now))) }
-        ensures bytes { is_honest self.now → OnOk result (buffer.new ≡ overwritten buffer.old (part (bytes_at (history self.now).tree path.now) at (length buffer.old))) }
+        ensures count { is_honest self.now
+            → IfOk result (λ count.
+            count ≡ option_map (λ bytes. length (part bytes at (length buffer.old)))
+            (bytes_of (node_at (history self.now).tree path.now))) }
+        ensures bytes { is_honest self.now
+            → OnOk result (buffer.new
+            ≡ overwritten buffer.old
+            (part (bytes_at (history self.now).tree path.now) at (length buffer.old))) }
         ensures fits { IfOk result (λ count. IfSome count (λ n. n ≤ length buffer.new)) }
         ensures len { length buffer.new ≡ length buffer.old }
         ensures failed { IsErrOf result Failed → reading_may_fail };
 
     /// Answers the names of the files and folders that stand right in a folder, ascending by bytes, none where no folder stands.
     fn list(&self, alloc: Global, folder: &[u8]) -> Result<Vec<Vec<u8>>, FileError>
-        ensures names { is_honest self.now → IfOk result (λ names. map (λ name. name.items) names.items ≡ names_at (history self.now).tree folder.now) }
+        ensures names { is_honest self.now
+            → IfOk result (λ names. map (λ name. name.items) names.items
+            ≡ names_at (history self.now).tree folder.now) }
         ensures failed { IsErrOf result Failed → reading_may_fail };
 
     /// Makes an empty file and answers true, or false where something stands already. `Failed` where nothing stands and no file
     /// may.
     fn create_new(&mut self, alloc: Global, path: &[u8]) -> Result<bool, FileError>
         ensures honest { is_honest self.old → is_honest self.new }
-        ensures is_new { is_honest self.old → IfOk result (λ made. made ≡ is_none (node_at (history self.old).tree path.now)) }
-        ensures change { is_honest self.old → Makes (to_create path.now) (history self.old) (history self.new) result }
-        ensures cause { is_honest self.old → HasCause (allows (history self.old).tree (to_create path.now)) (failures self.old) (failures self.new) result }
+        ensures is_new { is_honest self.old
+            → IfOk result (λ made. made ≡ is_none (node_at (history self.old).tree path.now)) }
+        ensures change { is_honest self.old
+            → Makes (to_create path.now) (history self.old) (history self.new) result }
+        ensures cause { is_honest self.old
+            → HasCause (allows (history self.old).tree (to_create path.now))
+            (failures self.old) (failures self.new) result }
         ensures later { failures self.old ≤ failures self.new }
         ensures unfailed { OnOk result (failures self.new ≡ failures self.old) }
         ensures atomic { is_atomic → OnErr result (history self.new ≡ history self.old) };
@@ -109,8 +127,11 @@ pub trait Files {
     /// Makes a file of these bytes, in the place of a file that stands there. `Failed` where no file may stand.
     fn write(&mut self, alloc: Global, path: &[u8], bytes: &[u8]) -> Result<(), FileError>
         ensures honest { is_honest self.old → is_honest self.new }
-        ensures change { is_honest self.old → Makes (to_write path.now bytes.now) (history self.old) (history self.new) result }
-        ensures cause { is_honest self.old → HasCause (allows (history self.old).tree (to_write path.now bytes.now)) (failures self.old) (failures self.new) result }
+        ensures change { is_honest self.old
+            → Makes (to_write path.now bytes.now) (history self.old) (history self.new) result }
+        ensures cause { is_honest self.old
+            → HasCause (allows (history self.old).tree (to_write path.now bytes.now))
+            (failures self.old) (failures self.new) result }
         ensures later { failures self.old ≤ failures self.new }
         ensures unfailed { OnOk result (failures self.new ≡ failures self.old) }
         ensures atomic { is_atomic → OnErr result (history self.new ≡ history self.old) };
@@ -118,8 +139,11 @@ pub trait Files {
     /// Puts these bytes behind those of a file, or makes a file of them. `Failed` where no file may stand.
     fn append(&mut self, alloc: Global, path: &[u8], bytes: &[u8]) -> Result<(), FileError>
         ensures honest { is_honest self.old → is_honest self.new }
-        ensures change { is_honest self.old → Makes (to_append path.now bytes.now) (history self.old) (history self.new) result }
-        ensures cause { is_honest self.old → HasCause (allows (history self.old).tree (to_append path.now bytes.now)) (failures self.old) (failures self.new) result }
+        ensures change { is_honest self.old
+            → Makes (to_append path.now bytes.now) (history self.old) (history self.new) result }
+        ensures cause { is_honest self.old
+            → HasCause (allows (history self.old).tree (to_append path.now bytes.now))
+            (failures self.old) (failures self.new) result }
         ensures later { failures self.old ≤ failures self.new }
         ensures unfailed { OnOk result (failures self.new ≡ failures self.old) }
         ensures atomic { is_atomic → OnErr result (history self.new ≡ history self.old) };
@@ -128,8 +152,11 @@ pub trait Files {
     /// `to`.
     fn rename(&mut self, alloc: Global, from: &[u8], to: &[u8]) -> Result<(), FileError>
         ensures honest { is_honest self.old → is_honest self.new }
-        ensures change { is_honest self.old → Makes (to_rename from.now to.now) (history self.old) (history self.new) result }
-        ensures cause { is_honest self.old → HasCause (allows (history self.old).tree (to_rename from.now to.now)) (failures self.old) (failures self.new) result }
+        ensures change { is_honest self.old
+            → Makes (to_rename from.now to.now) (history self.old) (history self.new) result }
+        ensures cause { is_honest self.old
+            → HasCause (allows (history self.old).tree (to_rename from.now to.now))
+            (failures self.old) (failures self.new) result }
         ensures later { failures self.old ≤ failures self.new }
         ensures unfailed { OnOk result (failures self.new ≡ failures self.old) }
         ensures atomic { is_atomic → OnErr result (history self.new ≡ history self.old) };
@@ -137,8 +164,11 @@ pub trait Files {
     /// Removes a file. `Failed` where none stands.
     fn remove_file(&mut self, alloc: Global, path: &[u8]) -> Result<(), FileError>
         ensures honest { is_honest self.old → is_honest self.new }
-        ensures change { is_honest self.old → Makes (to_remove_file path.now) (history self.old) (history self.new) result }
-        ensures cause { is_honest self.old → HasCause (allows (history self.old).tree (to_remove_file path.now)) (failures self.old) (failures self.new) result }
+        ensures change { is_honest self.old
+            → Makes (to_remove_file path.now) (history self.old) (history self.new) result }
+        ensures cause { is_honest self.old
+            → HasCause (allows (history self.old).tree (to_remove_file path.now))
+            (failures self.old) (failures self.new) result }
         ensures later { failures self.old ≤ failures self.new }
         ensures unfailed { OnOk result (failures self.new ≡ failures self.old) }
         ensures atomic { is_atomic → OnErr result (history self.new ≡ history self.old) };
@@ -146,8 +176,11 @@ pub trait Files {
     /// Makes a folder. `Failed` where something stands, or no file might.
     fn make_folder(&mut self, alloc: Global, path: &[u8]) -> Result<(), FileError>
         ensures honest { is_honest self.old → is_honest self.new }
-        ensures change { is_honest self.old → Makes (to_make_folder path.now) (history self.old) (history self.new) result }
-        ensures cause { is_honest self.old → HasCause (allows (history self.old).tree (to_make_folder path.now)) (failures self.old) (failures self.new) result }
+        ensures change { is_honest self.old
+            → Makes (to_make_folder path.now) (history self.old) (history self.new) result }
+        ensures cause { is_honest self.old
+            → HasCause (allows (history self.old).tree (to_make_folder path.now))
+            (failures self.old) (failures self.new) result }
         ensures later { failures self.old ≤ failures self.new }
         ensures unfailed { OnOk result (failures self.new ≡ failures self.old) }
         ensures atomic { is_atomic → OnErr result (history self.new ≡ history self.old) };
@@ -155,8 +188,11 @@ pub trait Files {
     /// Removes a folder. `Failed` where none stands, at the root, and where something stands in it.
     fn remove_empty_folder(&mut self, alloc: Global, path: &[u8]) -> Result<(), FileError>
         ensures honest { is_honest self.old → is_honest self.new }
-        ensures change { is_honest self.old → Makes (to_remove_folder path.now) (history self.old) (history self.new) result }
-        ensures cause { is_honest self.old → HasCause (allows (history self.old).tree (to_remove_folder path.now)) (failures self.old) (failures self.new) result }
+        ensures change { is_honest self.old
+            → Makes (to_remove_folder path.now) (history self.old) (history self.new) result }
+        ensures cause { is_honest self.old
+            → HasCause (allows (history self.old).tree (to_remove_folder path.now))
+            (failures self.old) (failures self.new) result }
         ensures later { failures self.old ≤ failures self.new }
         ensures unfailed { OnOk result (failures self.new ≡ failures self.old) }
         ensures atomic { is_atomic → OnErr result (history self.new ≡ history self.old) };

@@ -12,28 +12,40 @@ pub fn names_ascend()
 
 /// What stands has a path of at most 4,096 bytes.
 pub fn paths_are_short()
-    ensures { (tree : Tree) (path : List ℕ) → IsRooted tree → IsSome (node_at tree path) → length path ≤ 4096 }
+    ensures { (tree : Tree) (path : List ℕ) → IsRooted tree → IsSome (node_at tree path)
+        → length path ≤ 4096 }
 {}
 
 /// A change leaves what stands at paths that it doesn't name.
 pub fn other_paths_stay()
-    ensures { (change : Change) (tree : Tree) (path : List ℕ) → IsFalse (list_any (same_path path) (paths_of change)) → node_at (after change tree) path ≡ node_at tree path }
+    ensures { (change : Change) (tree : Tree) (path : List ℕ)
+        → IsFalse (list_any (same_path path) (paths_of change))
+        → node_at (after change tree) path ≡ node_at tree path }
 {}
 
 /// What was written, appended or renamed is read, and nothing stands at a file's old path.
 pub fn changes_are_read()
-    ensures written { (tree : Tree) (path bytes : List ℕ) → IsTrue (allows tree (to_write path bytes)) → bytes_at (after (to_write path bytes) tree) path ≡ bytes }
-    ensures appended { (tree : Tree) (path bytes : List ℕ) → IsTrue (allows tree (to_append path bytes)) → bytes_at (after (to_append path bytes) tree) path ≡ bytes_at tree path ++ bytes }
-    ensures renamed { (tree : Tree) (from to : List ℕ) → IsTrue (allows tree (to_rename from to)) → bytes_at (after (to_rename from to) tree) to ≡ bytes_at tree from }
-    ensures moved { (tree : Tree) (from to : List ℕ) → IsTrue (allows tree (to_rename from to)) → IsFalse (same_path from to) → node_at (after (to_rename from to) tree) from ≡ None }
+    ensures written { (tree : Tree) (path bytes : List ℕ)
+        → IsTrue (allows tree (to_write path bytes))
+        → bytes_at (after (to_write path bytes) tree) path ≡ bytes }
+    ensures appended { (tree : Tree) (path bytes : List ℕ)
+        → IsTrue (allows tree (to_append path bytes))
+        → bytes_at (after (to_append path bytes) tree) path ≡ bytes_at tree path ++ bytes }
+    ensures renamed { (tree : Tree) (from to : List ℕ) → IsTrue (allows tree (to_rename from to))
+        → bytes_at (after (to_rename from to) tree) to ≡ bytes_at tree from }
+    ensures moved { (tree : Tree) (from to : List ℕ) → IsTrue (allows tree (to_rename from to))
+        → IsFalse (same_path from to) → node_at (after (to_rename from to) tree) from ≡ None }
 {}
 
 /// The trees that stood between two moments are the same ones after later changes.
 pub fn past_stays()
-    ensures { (old new : History) (during : List Tree) (from to : ℕ) → trees new ≡ trees old ++ during → to ≤ moment old → stood_between new from to ≡ stood_between old from to }
+    ensures { (old new : History) (during : List Tree) (from to : ℕ)
+        → trees new ≡ trees old ++ during → to ≤ moment old
+        → stood_between new from to ≡ stood_between old from to }
 {}
 
 /// While trees are added, the tree before them and they stood, and no others.
 pub fn added_trees_stood()
-    ensures { (old new : History) (during : List Tree) → trees new ≡ trees old ++ during → stood_between new (moment old) (moment new) ≡ old.tree ∷ during }
+    ensures { (old new : History) (during : List Tree) → trees new ≡ trees old ++ during
+        → stood_between new (moment old) (moment new) ≡ old.tree ∷ during }
 {}

@@ -52,7 +52,8 @@ impl MemoryFiles {
     }
 
     fn is_in_folder(&self, path: &[u8]) -> bool
-        ensures { result ≡ (is_path path.now && is_folder (node_at self.now.nodes (parent path.now))) }
+        ensures { result
+            ≡ (is_path path.now && is_folder (node_at self.now.nodes (parent path.now))) }
     {
         is_path(path) && self.place(parent(path)) == Place::Folder
     }
@@ -64,7 +65,8 @@ impl MemoryFiles {
     }
 
     fn file(&self, path: &[u8]) -> Option<&Vec<u8>>
-        ensures { option_map (λ bytes. bytes.now.items) result ≡ bytes_of (node_at self.now.nodes path.now) }
+        ensures { option_map (λ bytes. bytes.now.items) result
+            ≡ bytes_of (node_at self.now.nodes path.now) }
     {
         if path.is_empty() {
             return None;

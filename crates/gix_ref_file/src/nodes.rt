@@ -23,8 +23,10 @@ impl Entry {
     // Puts bytes behind those of a file, and answers how many stood there.
     fn append(&mut self, bytes: &[u8]) -> Result<usize, AllocError>
         requires { IsSome (bytes_of (Some (node_of self.old))) }
-        ensures before { IfOk result (λ len. len ≡ length (unwrap_or (bytes_of (Some (node_of self.old))) [])) }
-        ensures ok { OnOk result (node_of self.new ≡ file (unwrap_or (bytes_of (Some (node_of self.old))) [] ++ bytes.now)) }
+        ensures before { IfOk result (λ len.
+            len ≡ length (unwrap_or (bytes_of (Some (node_of self.old))) [])) }
+        ensures ok { OnOk result (node_of self.new
+            ≡ file (unwrap_or (bytes_of (Some (node_of self.old))) [] ++ bytes.now)) }
         ensures err { OnErr result (node_of self.new ≡ node_of self.old) }
     {
         let Entry::File(stored) = self else {
@@ -71,7 +73,8 @@ impl Nodes {
 
     /// Puts an entry in, and answers the one that stood there.
     pub fn insert(&mut self, path: Vec<u8>, entry: Entry) -> Result<Option<Entry>, AllocError>
-        ensures before { IfOk result (λ before. option_map node_of before ≡ map.get self.old path.items) }
+        ensures before { IfOk result (λ before. option_map node_of before
+            ≡ map.get self.old path.items) }
         ensures ok { OnOk result (self.new ≡ map.insert self.old path.items (node_of entry)) }
         ensures err { OnErr result (self.new ≡ self.old) }
     {
@@ -88,7 +91,8 @@ impl Nodes {
     /// Puts an entry in the place of the one that stands there, and answers that one.
     pub fn replace(&mut self, path: &[u8], entry: Entry) -> Option<Entry>
         ensures before { option_map node_of result ≡ map.get self.old path.now }
-        ensures replaced { IsSome (map.get self.old path.now) → self.new ≡ map.insert self.old path.now (node_of entry) }
+        ensures replaced { IsSome (map.get self.old path.now)
+            → self.new ≡ map.insert self.old path.now (node_of entry) }
         ensures absent { IfNone result (self.new ≡ self.old) }
     {
         let slot = self.entries.get_mut(path)?;
@@ -104,8 +108,10 @@ impl Nodes {
     ) -> Result<Option<Entry>, AllocError>
         requires there { IsSome (map.get self.old from.now) }
         requires apart { IsFalse (same_path from.now to.now) }
-        ensures before { IfOk result (λ before. option_map node_of before ≡ map.get self.old to.now) }
-        ensures ok { OnOk result (self.new ≡ with_node (map.remove self.old from.now) to.now (map.get self.old from.now)) }
+        ensures before { IfOk result (λ before. option_map node_of before
+            ≡ map.get self.old to.now) }
+        ensures ok { OnOk result (self.new
+            ≡ with_node (map.remove self.old from.now) to.now (map.get self.old from.now)) }
         ensures err { OnErr result (self.new ≡ self.old) }
     {
         // With this place made nothing fails any more.
@@ -120,8 +126,11 @@ impl Nodes {
     /// Puts bytes behind those of a file, and answers how many stood there.
     pub fn append(&mut self, path: &[u8], bytes: &[u8]) -> Result<usize, AllocError>
         requires { IsSome (bytes_of (map.get self.old path.now)) }
-        ensures before { IfOk result (λ len. len ≡ length (unwrap_or (bytes_of (map.get self.old path.now)) [])) }
-        ensures ok { OnOk result (self.new ≡ map.insert self.old path.now (file (unwrap_or (bytes_of (map.get self.old path.now)) [] ++ bytes.now))) }
+        ensures before { IfOk result (λ len.
+            len ≡ length (unwrap_or (bytes_of (map.get self.old path.now)) [])) }
+        ensures ok { OnOk result (self.new
+            ≡ map.insert self.old path.now
+            (file (unwrap_or (bytes_of (map.get self.old path.now)) [] ++ bytes.now))) }
         ensures err { OnErr result (self.new ≡ self.old) }
     {
         let Some(entry) = self.entries.get_mut(path) else {
@@ -132,7 +141,8 @@ impl Nodes {
 
     /// Whether something stands right in a folder.
     pub fn has_children(&self, alloc: Global, folder: &[u8]) -> Result<bool, AllocError>
-        ensures { IfOk result (λ found. found ≡ list_any (λ path. same_path (parent path) folder.now) (map.keys self.now)) }
+        ensures { IfOk result (λ found.
+            found ≡ list_any (λ path. same_path (parent path) folder.now) (map.keys self.now)) }
     {
         let below = below(alloc, folder)?;
         Ok(
@@ -144,7 +154,8 @@ impl Nodes {
 
     /// The names right in a folder, ascending. What stands deeper is passed over, a subfolder at a time.
     pub fn names(&self, alloc: Global, folder: &[u8]) -> Result<Vec<Vec<u8>>, AllocError>
-        ensures { IfOk result (λ names. list_map (λ name. name.items) names.items ≡ filter_map (name_in folder.now) (map.keys self.now)) }
+        ensures { IfOk result (λ names. list_map (λ name. name.items) names.items
+            ≡ filter_map (name_in folder.now) (map.keys self.now)) }
     {
         let (mut start, end) = below(alloc, folder)?;
         let mut found = Vec::new(alloc);

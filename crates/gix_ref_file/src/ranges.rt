@@ -38,7 +38,8 @@ pub fn behind(alloc: Global, folder: &[u8], path: &[u8]) -> Result<Bound<Vec<u8>
 
 // Where the first slash stands from a place on.
 fn slash_from(path: &[u8], from: usize) -> Option<usize>
-    ensures { IfSome result (λ at. (from ≤ at) × (at < length path.now) × (slice_index path.now at ≡ 47)) }
+    ensures { IfSome result (λ at. (from ≤ at) × (at < length path.now)
+        × (slice_index path.now at ≡ 47)) }
 {
     (from..path.len()).find(|at| path[*at] == b'/')
 }

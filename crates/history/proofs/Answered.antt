@@ -14,7 +14,8 @@ use Rattle.history_model.specs.Commands.{Command, Files, Show}
 use Rattle.history_model.specs.Replies.{FileLine, FilesAre, ShowsCommit, ShowsContent, reply_text}
 use Rattle.history_model.specs.Answers.{StandsForCommit, files_shown, commit_shown, content_shown}
 use Rattle.history_model.specs.Causes.{is_unknown, is_unborn, is_bad_path, word_files, first_cause}
-use Rattle.history_model.specs.Offered.{IsOffered, main_name}
+use Rattle.history_model.specs.Offered.{IsOffered}
+use Rattle.history_model.specs.Stage.{main_name}
 use Rattle.history_model.specs.OfferedWords.{main_words}
 use Rattle.history_model.specs.declared.FileKind.{FileKind}
 use Rattle.gix_hash.specs.declared.kind.Kind.{Kind}

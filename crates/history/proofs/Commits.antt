@@ -1,29 +1,34 @@
 -- A commit on the two parts: its values are put, and then its name moves.
 use Rattle.std.proofs.Common.{◌≡◌, refl, sym, ◌∙◌, ap, subst, true, [], ◌∷◌, ◌++◌, None, codes}
-use Rattle.std.specs.Prelude.{IsTrue, IsFalse}
+use Rattle.std.specs.Prelude.{IsTrue, IsFalse, Option, Some, is_some, Bool, not, ◌&&◌}
 use Rattle.std.specs.Char.{encode_utf8}
 use Rattle.std.specs.Str.{is_utf8, chars}
 use Rattle.std.proofs.lemmas.List.{append-nil}
 use Rattle.gix_ref_file.specs.History.{History}
 use Rattle.history_model.specs.Bytes.{Bytes}
-use Rattle.std.specs.FinMap.{contains_key}
+use Rattle.std.specs.FinMap.{contains_key, get}
 use Rattle.history_model.specs.Objects.{StoredCommit, hex}
 use Rattle.history_model.specs.Objects.{id_of as value_id}
 use Rattle.gix_hash.specs.Id.{Id, id_of}
 use Rattle.history_model.specs.Repository as plain
-use Rattle.history_model.specs.Forms.{is_name}
+use Rattle.history_model.specs.Forms.{IsWritten, is_name, is_private, is_reference}
+use Rattle.history_model.specs.Repository.{Reference, stands}
+use Rattle.history_model.specs.TreeSteps.{MovesName}
+use Rattle.history_store.specs.Formats.{entry_of}
+use Rattle.gix_ref_file.specs.Tree.{Tree}
+use Rattle.history_store.proofs.NameFolders.{both_true}
 use Rattle.history_model.specs.Commands.{CommitCommand, Commit}
 use Rattle.history_model.specs.Replies.{Committed, reply_text}
 use Rattle.history_model.specs.Spelling.{Line, part_text}
 use Rattle.history_model.specs.Meaning.{branch_or_name, new_commit, stored_by, store_all, takes_id, after}
-use Rattle.history_model.specs.Offered.{main_name}
-use Rattle.history_model.specs.Stage.{is_offered}
-use Rattle.history_model.specs.Causes.{first_cause}
+use Rattle.history_model.specs.Offered.{IsOffered}
+use Rattle.history_model.specs.Stage.{main_name, is_offered}
+use Rattle.history_model.specs.Causes.{first_cause, do_collide}
 use Rattle.history_model.specs.Steps.{Accepts}
 use Rattle.history_model.specs.Places.{file_at, packed_place}
 use Rattle.history_model.specs.StandsFor.{StandsFor}
 use Rattle.history_model.specs.TreeHalves.{HoldsValues, HoldsNames, HaveOwnIds}
-use Rattle.history_model.specs.CommitSteps.{PutsAll, MovesToCommit}
+use Rattle.history_model.specs.CommitSteps.{MovesToCommit}
 use Rattle.history_model.specs.Wholeness.{IsSound}
 use Rattle.history_model.proofs.CommitStands.{commits_stand}
 use Rattle.history_model.proofs.OfferedReads.{commits_name_main}
@@ -32,9 +37,9 @@ use Rattle.history_model.proofs.TreeMoves.{packed_apart, packed_no_log}
 use Rattle.history_model.proofs.TreePuts.{halves_stand}
 use Rattle.history_model.proofs.WholeSteps.{steps_keep_sound}
 use Rattle.history.specs.Face.{objects_part, names_part, KeepsAllButObjects, KeepsAllButNames}
-use Rattle.history.specs.Halves.{objects_tree, names_tree, ObjectsStand, NamesStand, KnowsIds}
+use Rattle.history.specs.Halves.{objects_tree, names_tree, ObjectsStand, NamesStand, FitsAmong, KnowsIds}
 use Rattle.history.specs.Plans.{IsMove}
-use Rattle.history.specs.Stands.{pair_of, Stands}
+use Rattle.history.specs.Stands.{pair_of, Serves, Stands}
 use Rattle.history.specs.declared.planning.Moves.{Moves}
 use Rattle.history.specs.declared.repository.Repository.{Repository}
 
@@ -45,6 +50,28 @@ main_is_name = refl
 -- the name that moves is one
 pub moved_is_name : (r : plain.Repository) (order : CommitCommand) → branch_or_name r order.name ≡ main_name → is_name (branch_or_name r order.name) ≡ true
 moved_is_name r order is = ap is_name is ∙ main_is_name
+
+-- a name that stands is one
+name_formed : (r : plain.Repository) → IsWritten r → (name : Bytes) → stands r name ≡ true → is_name name ≡ true
+name_formed r written name stood = of_ref (get r.names name) refl stood
+  where
+    of_ref : (o : Option Reference) → get r.names name ≡ o → is_some o ≡ true → is_name name ≡ true
+    of_ref None e there = cc
+    of_ref (Some ref) e there = (both_true (is_name name) (not (is_private name)) (both_true (is_name name && not (is_private name)) (is_reference r.kind ref) (written.names name ref e)).0).0
+
+-- The name of a commit may stand: no other stands.
+pub commit_fits : (r : plain.Repository) (order : CommitCommand) (moves : Moves) → IsOffered r → IsTrue (is_offered (Commit order)) → IsMove r order moves → FitsAmong r moves.name.items
+commit_fits r order moves o offered is =
+    let main = is.name ∙ commits_name_main r order o offered in
+    record {
+      named = ap is_name main ∙ main_is_name;
+      apart = λ other stood. (λ i. do_collide (main i) (o.names other stood i));
+    }
+
+-- the name that moves is the commit's
+to_commit : (r : plain.Repository) (order : CommitCommand) (moves : Moves) → IsMove r order moves → (old new : Tree) → MovesName moves.name.items (entry_of moves.entry) old new → MovesToCommit r order old new
+to_commit r order moves is old new moved =
+    subst (λ entry. MovesName (branch_or_name r order.name) entry old new) is.entry (subst (λ n. MovesName n (entry_of moves.entry) old new) is.name moved)
 
 -- an accepted commit
 pub accepted : (r : plain.Repository) (order : CommitCommand) → first_cause r (Commit order) ≡ None → IsFalse (takes_id r (Commit order))
@@ -57,54 +84,59 @@ module _ {F : Type 0} (IsHonest : F → Type 0) (history : F → History) where
   objects_stand repository r h =
       let same = sym h.objects_kind in record {
         honest = h.honest_objects;
-        holds = subst (λ kind. HoldsValues kind (objects_tree history repository) r.objects) same ((halves_stand r.kind (pair_of history repository) r).0 (h.whole).stands).1;
-        own_ids = subst (λ kind. HaveOwnIds kind r.objects) same (((h.whole).whole).store).own_ids;
+        holds = subst (λ kind. HoldsValues kind (objects_tree history repository) r.objects) same ((halves_stand r.kind (pair_of history repository) r).0 h.whole.stands).1;
+        own_ids = subst (λ kind. HaveOwnIds kind r.objects) same (h.whole.whole.store).own_ids;
       }
 
-  pub names_stand : (old mid : Repository F) (r : plain.Repository) → Stands IsHonest history old r → KeepsAllButObjects old mid → NamesStand IsHonest history mid r
+  pub names_stand : (old mid : Repository F) (r : plain.Repository) → Serves IsHonest history old r → KeepsAllButObjects old mid → NamesStand IsHonest history mid r
   names_stand old mid r h kept =
       let same = sym kept.names in record {
-        honest = subst (λ names. IsHonest names.files) same h.honest_names;
-        holds = subst (λ names. HoldsNames (history names.files).tree r) same ((halves_stand r.kind (pair_of history old) r).0 (h.whole).stands).2;
-        offered = h.offered;
-        unpacked = subst (λ names. file_at (history names.files).tree packed_place ≡ None) same h.unpacked;
+        honest = subst (λ names. IsHonest names.files) same h.stands.honest_names;
+        holds = subst (λ names. HoldsNames (history names.files).tree r) same ((halves_stand r.kind (pair_of history old) r).0 (h.stands.whole).stands).2;
+        named = λ name stood. name_formed r h.stands.whole.written name stood;
+        unpacked = subst (λ names. file_at (history names.files).tree packed_place ≡ None) same h.stage.unpacked;
       }
 
   -- The values are put, the names stay; then the name moves, and the objects stay.
-  module _ (old mid new : Repository F) (r : plain.Repository) (order : CommitCommand) (h : Stands IsHonest history old r) (offered : IsTrue (is_offered (Commit order)))
+  module _ (old mid new : Repository F) (r : plain.Repository) (order : CommitCommand) (h : Serves IsHonest history old r) (offered : IsTrue (is_offered (Commit order)))
       (none : first_cause r (Commit order) ≡ None) (free : IsFalse (takes_id r (Commit order)))
       (kept : KeepsAllButObjects old mid) (honest : IsHonest (objects_part mid)) (kind : mid.objects.kind ≡ old.objects.kind)
-      (puts : PutsAll r.kind (stored_by r (Commit order)) (objects_tree history old) (objects_tree history mid))
+      (held : HoldsValues r.kind (objects_tree history mid) (after r (Commit order)).objects)
       (known : KnowsIds mid (store_all r.kind r.objects (stored_by r (Commit order))))
       (kept_then : KeepsAllButNames mid new) (honest_then : IsHonest (names_part new)) (kind_then : new.names.kind ≡ mid.names.kind)
-      (moves : MovesToCommit r order (names_tree history mid) (names_tree history new)) where
+      (moves : Moves) (is : IsMove r order moves) (moved : MovesName moves.name.items (entry_of moves.entry) (names_tree history mid) (names_tree history new)) where
     is_main : branch_or_name r order.name ≡ main_name
-    is_main = commits_name_main r order h.offered offered
+    is_main = commits_name_main r order h.stage.offered offered
 
     from_old : MovesToCommit r order (names_tree history old) (names_tree history new)
-    from_old = subst (λ names. MovesToCommit r order (history names.files).tree (names_tree history new)) kept.names moves
+    from_old = subst (λ names. MovesToCommit r order (history names.files).tree (names_tree history new)) kept.names
+        (to_commit r order moves is (names_tree history mid) (names_tree history new) moved)
 
-    to_new : PutsAll r.kind (stored_by r (Commit order)) (objects_tree history old) (objects_tree history new)
-    to_new = subst (λ objects. PutsAll r.kind (stored_by r (Commit order)) (objects_tree history old) (history objects.files).tree) (sym kept_then.objects) puts
+    to_new : HoldsValues r.kind (objects_tree history new) (after r (Commit order)).objects
+    to_new = subst (λ objects. HoldsValues r.kind (history objects.files).tree (after r (Commit order)).objects) (sym kept_then.objects) held
 
     stands_after : StandsFor r.kind (pair_of history new) (after r (Commit order))
-    stands_after = commits_stand r.kind (pair_of history old) (pair_of history new) r order (h.whole).stands (((h.whole).whole).store).own_ids (moved_is_name r order is_main) free h.unpacked to_new from_old
+    stands_after = commits_stand r.kind (pair_of history old) (pair_of history new) r order (h.stands.whole).stands (moved_is_name r order is_main) h.stage.unpacked to_new from_old
 
     sound_after : IsSound (after r (Commit order))
     sound_after = steps_keep_sound r (after r (Commit order)) (Commit order) (Committed (value_id r.kind (StoredCommit (new_commit r order)))) (accepted r order none free)
-        (record { whole = (h.whole).whole; written = (h.whole).written })
+        (record { whole = (h.stands.whole).whole; written = (h.stands.whole).written })
 
-    pub commit_stands : Stands IsHonest history new (after r (Commit order))
+    pub commit_stands : Serves IsHonest history new (after r (Commit order))
     commit_stands = record {
-      honest_objects = subst (λ objects. IsHonest objects.files) (sym kept_then.objects) honest;
-      honest_names = honest_then;
-      whole = record { stands = stands_after; written = sound_after.written; whole = sound_after.whole };
-      objects_kind = ap (λ objects. objects.kind) kept_then.objects ∙ kind ∙ h.objects_kind;
-      names_kind = kind_then ∙ ap (λ names. names.kind) kept.names ∙ h.names_kind;
-      branch = ap (λ branch. branch.items) (kept_then.branch ∙ kept.branch) ∙ h.branch;
-      known = λ id. ap (λ objects. contains_key objects.ids id) kept_then.objects ∙ known id;
-      offered = offered_stays r (Commit order) h.offered offered none;
-      unpacked = from_old.others packed_place (packed_apart (branch_or_name r order.name) (moved_is_name r order is_main)) (packed_no_log (branch_or_name r order.name)) ∙ h.unpacked;
+      stands = record {
+        honest_objects = subst (λ objects. IsHonest objects.files) (sym kept_then.objects) honest;
+        honest_names = honest_then;
+        whole = record { stands = stands_after; written = sound_after.written; whole = sound_after.whole };
+        objects_kind = ap (λ objects. objects.kind) kept_then.objects ∙ kind ∙ h.stands.objects_kind;
+        names_kind = kind_then ∙ ap (λ names. names.kind) kept.names ∙ h.stands.names_kind;
+        branch = ap (λ branch. branch.items) (kept_then.branch ∙ kept.branch) ∙ h.stands.branch;
+        known = λ id. ap (λ objects. contains_key objects.ids id) kept_then.objects ∙ known id;
+      };
+      stage = record {
+        offered = offered_stays r (Commit order) h.stage.offered offered none;
+        unpacked = from_old.others packed_place (packed_apart (branch_or_name r order.name) (moved_is_name r order is_main)) (packed_no_log (branch_or_name r order.name)) ∙ h.stage.unpacked;
+      };
     }
 
 -- the reply of a commit, to the id that its name moves to

@@ -1,7 +1,6 @@
 -- The edits of a commit, one after another, on its files and on their tree.
-use Rattle.std.proofs.Common.{◌≡◌, refl, sym, ◌∙◌, ap, subst, ℕ, Bool, true, false, not, ◌&&◌, List, [], ◌∷◌, ◌++◌, map, length, nat_lt, Vec}
+use Rattle.std.proofs.Common.{◌≡◌, refl, sym, ◌∙◌, ap, subst, Bool, true, false, not, ◌&&◌, List, [], ◌∷◌, ◌++◌, map, length, nat_lt}
 use Rattle.std.specs.Prelude.{IsTrue}
-use Rattle.std.specs.declared.alloc.Global.{Global}
 use Rattle.std.specs.FinMap.{insert}
 use Rattle.std.specs.List.{list_any, flat_map, AllZip}
 use Rattle.std.proofs.lemmas.Grind.{flat_map-append}
@@ -10,7 +9,8 @@ use Rattle.std.proofs.lemmas.List.Folds.{list_any-append}
 use Rattle.history_model.specs.Bytes.{Bytes}
 use Rattle.history_model.specs.FileMap.{FileMap, Content, Edit, Put, edited, edited_by, is_path}
 use Rattle.history_model.specs.Stage.{is_offered_path}
-use Rattle.history_model.specs.Objects.{blob_id}
+use Rattle.history_model.specs.Objects.{Value, StoredBytes, blob_id}
+use Rattle.gix_object_lines.specs.declared.kind.Kind.TheVariants as kinds
 use Rattle.history_model.specs.Repository as plain
 use Rattle.history_model.specs.Forms.{max_content, max_path}
 use Rattle.history_model.specs.Commands.{EditLine, PutLine, RemoveLine, RemoveFileLine}
@@ -23,7 +23,9 @@ use Rattle.history_model.proofs.OfferedFiles.{edits_flat, flat_puts}
 use Rattle.history_word.specs.Commands.{IsEdit}
 use Rattle.history_word.specs.declared.command.Edit.TheVariants as sent
 use Rattle.history_word.specs.declared.command.Put as sent_put
+use Rattle.history_store.specs.Stores.{AreObjectsOf}
 use Rattle.history_store.specs.Trees.{Folder, IsTreeOf}
+use Rattle.history_store.specs.declared.object.NewObject.{NewObject}
 use Rattle.history_store.specs.declared.tree.TreeEntry.{TreeEntry}
 use Rattle.history_store.proofs.FlatTrees.{flat_insert}
 use Rattle.history.specs.CommitCauses.{is_long}
@@ -39,19 +41,20 @@ path_offered path good =
 
 -- ---- one edit
 
-module _ (r : plain.Repository) (kind : Kind) (files : FileMap) (old new : Folder) (put : sent_put.Put) (blob : Vec ℕ Global) (entry : TreeEntry) (flat : IsTrue (is_flat files)) (tree : IsTreeOf kind old files)
-    (whole : blob.items ≡ kept_bytes put.content) (is_kind : entry.kind ≡ put.kind) (is_id : id_of entry.id ≡ blob_id kind blob.items) (is_new : new ≡ insert old (kept_bytes put.path) entry) where
+module _ (r : plain.Repository) (kind : Kind) (files : FileMap) (old new : Folder) (put : sent_put.Put) (blob : NewObject) (entry : TreeEntry) (flat : IsTrue (is_flat files)) (tree : IsTreeOf kind old files)
+    (whole : blob.content.items ≡ kept_bytes put.content) (is_blob : blob.kind ≡ kinds.Blob) (blob_has : id_of blob.id ≡ blob_id kind blob.content.items) (is_kind : entry.kind ≡ put.kind) (is_id : entry.id ≡ blob.id) (is_new : new ≡ insert old (kept_bytes put.path) entry) where
   pub file_put : (line : EditLine) → IsEdit (sent.Put put) line → AreWithin (line ∷ []) → HasEdited r kind files (line ∷ []) (blob ∷ []) new
   file_put (RemoveLine path) is within = absurd is
   file_put (RemoveFileLine path) is within = absurd is
   file_put (PutLine its_kind path bytes) is within =
       let good = (either_false (is_bad_path path) false within.paths).0 in
       let path_is = whole_path put.path path is.1 good in
-      let bytes_are : blob.items ≡ bytes = whole ∙ whole_content max_content put.content bytes is.2 (either_false (is_long bytes) false within.contents).0 in
+      let bytes_are : blob.content.items ≡ bytes = whole ∙ whole_content max_content put.content bytes is.2 (either_false (is_long bytes) false within.contents).0 in
       let content : Content = record { kind = its_kind; bytes = bytes } in
-      let there : IsTreeOf kind (insert old path entry) (insert files path content) = flat_insert kind old files path entry content tree (is_kind ∙ is.0) (is_id ∙ ap (blob_id kind) bytes_are) in
+      let its_id = blob_has ∙ ap (blob_id kind) bytes_are in
+      let there : IsTreeOf kind (insert old path entry) (insert files path content) = flat_insert kind old files path entry content tree (is_kind ∙ is.0) (ap id_of is_id ∙ its_id) in
       record {
-        blobs_are = ap (λ b. b ∷ []) bytes_are;
+        blobs_are = (record { id = its_id; kind = is_blob; content = bytes_are }, tt);
         tree = subst (λ those. IsTreeOf kind new those) (sym (flat_puts files path content flat (path_offered path good)))
             (subst (λ this. IsTreeOf kind this (insert files path content)) (sym (is_new ∙ ap (λ p. insert old p entry) path_is)) there);
         flat = edits_flat files (Put its_kind path bytes ∷ []) (ap (λ b. b && true) (path_offered path good)) flat;
@@ -69,13 +72,21 @@ files_after r files lines = edited_by files (map (read_edit r) lines)
 files_after-append : (r : plain.Repository) (files : FileMap) (a b : List EditLine) → files_after r files (a ++ b) ≡ files_after r (files_after r files a) b
 files_after-append r files a b = ap (edited_by files) (map-append (read_edit r) a b) ∙ edited_by-append files (map (read_edit r) a) (map (read_edit r) b)
 
-pub edited_none : (r : plain.Repository) (kind : Kind) (files : FileMap) (blobs : List (Vec ℕ Global)) (tree : Folder) → blobs ≡ [] → IsTrue (is_flat files) → IsTreeOf kind tree files → HasEdited r kind files [] blobs tree
-edited_none r kind files blobs tree none flat is = record { blobs_are = ap (map (λ (blob : Vec ℕ Global). blob.items)) none; tree = is; flat = flat }
+pub edited_none : (r : plain.Repository) (kind : Kind) (files : FileMap) (blobs : List NewObject) (tree : Folder) → blobs ≡ [] → IsTrue (is_flat files) → IsTreeOf kind tree files → HasEdited r kind files [] blobs tree
+edited_none r kind files blobs tree none flat is = record { blobs_are = subst (AreObjectsOf kind []) (sym none) tt; tree = is; flat = flat }
 
-pub edited_then : (r : plain.Repository) (kind : Kind) (files : FileMap) (a b : List EditLine) (blobs more : List (Vec ℕ Global)) (mid new : Folder) → HasEdited r kind files a blobs mid
+pub objects_joined : (kind : Kind) (a b : List Value) (blobs more : List NewObject) → AreObjectsOf kind a blobs → AreObjectsOf kind b more → AreObjectsOf kind (a ++ b) (blobs ++ more)
+objects_joined kind [] b [] more first second = second
+objects_joined kind [] b (blob ∷ blobs) more first second = absurd first
+objects_joined kind (value ∷ a) b [] more first second = absurd first
+objects_joined kind (value ∷ a) b (blob ∷ blobs) more first second = (first.0, objects_joined kind a b blobs more first.1 second)
+
+pub edited_then : (r : plain.Repository) (kind : Kind) (files : FileMap) (a b : List EditLine) (blobs more : List NewObject) (mid new : Folder) → HasEdited r kind files a blobs mid
     → HasEdited r kind (files_after r files a) b more new → HasEdited r kind files (a ++ b) (blobs ++ more) new
 edited_then r kind files a b blobs more mid new first second = record {
-  blobs_are = map-append (λ (blob : Vec ℕ Global). blob.items) blobs more ∙ (λ i. first.blobs_are i ++ second.blobs_are i) ∙ sym (flat_map-append put_contents a b);
+  blobs_are = subst (λ values. AreObjectsOf kind values (blobs ++ more))
+      (sym (map-append StoredBytes (flat_map put_contents a) (flat_map put_contents b)) ∙ ap (map StoredBytes) (sym (flat_map-append put_contents a b)))
+      (objects_joined kind (map StoredBytes (flat_map put_contents a)) (map StoredBytes (flat_map put_contents b)) blobs more first.blobs_are second.blobs_are);
   tree = subst (λ those. IsTreeOf kind new those) (sym (files_after-append r files a b)) second.tree;
   flat = ap is_flat (files_after-append r files a b) ∙ second.flat;
 }

@@ -1,13 +1,16 @@
 -- What the files of names tell of the ids that they hold.
 use Rattle.std.proofs.Common.{◌≡◌, ◌≢◌, ◌-◌, Bool, true, false, cond, ◌&&◌, ◌||◌, [], ◌∷◌, ◌++◌, length, take, drop, refl, sym, ◌∙◌, ap, arith, tests, take-append-drop, length-append, nat_eq, Option, Some, None, option_map, is_some, unwrap_or, bytes_eq, codes}
-use Rattle.std.specs.Prelude.{MatchOption}
+use Rattle.std.specs.Prelude.{MatchOption, nat_le}
 use Rattle.std.specs.FinMap.{get}
 use Rattle.std.proofs.Math.Seq.{take-append_seam, drop-append_seam}
 use Rattle.gix_ref_file.specs.History.{History}
 use Rattle.history_model.specs.Bytes.{Bytes, begins, ends, line}
 use Rattle.gix_hash.specs.Id.{Id, id_of}
 use Rattle.history_model.specs.Repository.{Repository, Reference, id_at, stands}
-use Rattle.history_model.specs.Forms.{is_name}
+use Rattle.history_model.specs.Forms.{is_name, max_name}
+use Rattle.gix_object_lines.specs.NameTest.{is_partial_name}
+use Rattle.std.specs.Str.{is_utf8}
+use Rattle.history.proofs.FieldLemmas.{both_true}
 use Rattle.history_model.specs.PackedNames.{id_from_hex, line_text}
 use Rattle.history_model.specs.Places.{Pair, file_at, packed_place, head_place, is_log_place}
 use Rattle.history_model.specs.Readings.{Reading, Holds, Symbolic, Absent, Faulty, reading, loose_reading, loose_line, packed_text_reading}
@@ -16,7 +19,7 @@ use Rattle.gix_hash.specs.declared.kind.Kind.{Kind}
 use Rattle.history_model.proofs.TreePlaces.{one_text, texts_apart}
 use Rattle.history_store.specs.References.{SpellsId, NameHolds}
 use Rattle.gix_hash.specs.declared.object_id.ObjectId.{ObjectId}
-use Rattle.history.specs.Stands.{Stands, pair_of}
+use Rattle.history.specs.Stands.{Serves, pair_of}
 use Rattle.history.specs.Face.{names_part}
 use Rattle.history.specs.declared.repository.Repository as own
 
@@ -137,12 +140,19 @@ module _ (pair : Pair) (r : Repository) (stand : StandsFor r.kind pair r) (unpac
       by_file (Some text) e (Some id) spells =
           id_held (id_of id) (name_stands text front e) (λ found at. of_name (is_name name) text found (ap loose (sym e) ∙ reads found at) (spelled r.kind text spells.0 (id_of id) found spells.1 spells.2))
 
+-- a name begins with `refs/`
+refs_front : (name : Bytes) → is_name name ≡ true → begins (codes "refs/") name ≡ true
+refs_front name h =
+    (both_true (is_partial_name name) (begins (codes "refs/") name)
+    (both_true (is_partial_name name && begins (codes "refs/") name) (is_utf8 name)
+    (both_true (is_partial_name name && begins (codes "refs/") name && is_utf8 name) (nat_le (length name) max_name) h).0).0).1
+
 -- ---- a repository with its files
 
-module _ {F : Type 0} (IsHonest : F → Type 0) (history : F → History) (repository : own.Repository F) (r : Repository) (stand : Stands IsHonest history repository r) where
+module _ {F : Type 0} (IsHonest : F → Type 0) (history : F → History) (repository : own.Repository F) (r : Repository) (stand : Serves IsHonest history repository r) where
   -- what the file of a name tells is what the name holds
   pub held : (name : Bytes) → begins (codes "refs/") name ≡ true → (found : Option ObjectId) → NameHolds r.kind (history (names_part repository)).tree name found → option_map id_of found ≡ id_at r name
-  held name front found holds = name_tells (pair_of history repository) r stand.whole.stands stand.unpacked name front found holds
+  held name front found holds = name_tells (pair_of history repository) r stand.stands.whole.stands stand.stage.unpacked name front found holds
 
   pub branch_is_name : begins (codes "refs/") repository.branch.items ≡ true
-  branch_is_name = ap (begins (codes "refs/")) (stand.branch ∙ stand.offered.branch)
+  branch_is_name = ap (begins (codes "refs/")) stand.stands.branch ∙ refs_front r.branch (both_true (is_name r.branch) (begins (codes "refs/heads/") r.branch) stand.stands.whole.written.branch).0

@@ -1,144 +1,24 @@
--- What opening a repository finds.
-use Rattle.std.proofs.Common.{◌≡◌, ◌≢◌, ◌<◌, ◌==◌, ◌&&◌, nat_lt, ℕ, Bool, true, false, [], ◌∷◌, ◌++◌, length, drop, Option, Some, None, is_some, MatchOption, Result, Ok, Err, IfOk, Vec, refl, sym, ap, subst, ◌∙◌, IsTrue, codes, arith}
-use Rattle.std.proofs.lemmas.List.{append_cancel_left, append_cancel_right, length-drop}
-use Rattle.std.proofs.lemmas.Bool.Decides.{nat_tests}
-use Rattle.gix_ref_file.specs.Tree.{Tree, Node, file, folder, node_at, bytes_of, is_folder, place_of}
+-- What an opened repository stands for.
+use Rattle.std.proofs.Common.{◌≡◌, false, is_some, sym, ap, ◌∙◌}
 use Rattle.gix_ref_file.specs.History.{History}
-use Rattle.gix_ref_file.specs.declared.files.Place.{Place}
-use Rattle.gix_ref_file.specs.declared.files.Place.TheVariants.{File}
-use Rattle.std.specs.FinMap.{get, contains_key, empty, get-empty}
-use Rattle.history_model.specs.Bytes.{Bytes, begins}
-use Rattle.history_model.specs.Offered.{main_name}
+use Rattle.gix_ref_file.specs.Tree.{Tree}
+use Rattle.std.specs.FinMap.{contains_key, empty, get-empty}
+use Rattle.history_model.specs.Offered.{IsOfStage}
 use Rattle.gix_hash.specs.Id.{Id}
 use Rattle.history_model.specs.Objects.{by_id}
-use Rattle.history_model.specs.Places.{file_at, head_place, packed_place}
-use Rattle.history_model.specs.StandsFor.{head_text}
-use Rattle.history_model.specs.Repository.{fresh}
+use Rattle.history_model.specs.Places.{packed_place}
+use Rattle.history_model.specs.Repository.{fresh, first_branch}
 use Rattle.gix_hash.specs.declared.kind.Kind.{Kind}
 use Rattle.history_model.proofs.OfferedSteps.{fresh_is_offered}
 use Rattle.history_store.proofs.FreshParts.{new_stands_whole}
 use Rattle.history_store.specs.Creation.{IsNew}
-use Rattle.history_store.specs.Parts.{IsClear, IsClearAt, may_hold_folder}
-use Rattle.history_store.specs.References.{SpellsBranch}
-use Rattle.history_store.specs.declared.parts.Part.{Part}
-use Rattle.history_store.specs.declared.parts.Part.TheVariants.{Objects, Names}
-use Rattle.std.specs.declared.alloc.Global.{Global}
-use Rattle.history.specs.declared.open.OpenError.{OpenError}
 use Rattle.history.specs.declared.repository.Repository.{Repository}
 use Rattle.history.specs.Face.{objects_part, names_part, known_ids}
 use Rattle.history.specs.Stands.{Stands}
-use Rattle.history.specs.Opening.{HeadIs}
-
--- ---- HEAD
-
-bytes_stand : (node : Option Node) (n : ℕ) → place_of node ≡ File n → (text : Bytes) × (bytes_of node ≡ Some text)
-bytes_stand None n e = cc
-bytes_stand (Some (file bytes)) n e = (bytes, refl)
-bytes_stand (Some folder) n e = cc
-
--- a file HEAD stands, where a reading said so
-pub head_stands : {F : Type 0} (IsHonest : F → Type 0) (history : F → History) (files known : F) (place : Place) (n : ℕ) → files ≡ known → IsHonest known
-    → (IsHonest files → place ≡ place_of (node_at (history files).tree head_place)) → place ≡ File n → (text : Bytes) × (file_at (history known).tree head_place ≡ Some text)
-head_stands IsHonest history files known place n e honest told is =
-    let told_here = subst (λ f. IsHonest f → place ≡ place_of (node_at (history f).tree head_place)) e told in
-    bytes_stand (node_at (history known).tree head_place) n (sym (told_here honest) ∙ is)
-
--- what a reading of HEAD's text gives
-abbrev HeadSpells : Option Bytes → Option Bytes → Type 0
-HeadSpells o branch = MatchOption o (branch ≡ None) (λ t. SpellsBranch t branch)
-
--- HEAD was read as no branch's
-pub no_branch : (o : Option Bytes) (text : Bytes) → o ≡ Some text → HeadSpells o None
-    → (rest : Bytes) → rest ≢ [] → text ≢ head_text (codes "refs/heads/" ++ rest)
-no_branch o text e h =
-    let spells = subst (λ x. HeadSpells x None) e h in
-    λ rest some. spells (codes "refs/heads/" ++ rest)
-
--- or as this one's
-pub branch_read : (o : Option Bytes) (branch : Bytes) → HeadSpells o (Some branch) → o ≡ Some (head_text branch)
-branch_read None branch h = absurd cc
-branch_read (Some text) branch h = ap Some h
-
-same_head : (a b : Bytes) → head_text a ≡ head_text b → a ≡ b
-same_head a b e = append_cancel_left (codes "ref: ") a b (append_cancel_right (codes "ref: " ++ a) (codes "ref: " ++ b) (10 ∷ []) e)
-
-either_test : (a b : Bool) → (a && b) ≡ true → (a ≡ true) × (b ≡ true)
-either_test true b e = (refl, e)
-either_test false b e = cc
-
-same_byte : (b c : ℕ) → (b == c) ≡ true → b ≡ c
-same_byte b c e = grind (arith, nat_tests)
-
-begins_parts : (front text : Bytes) → begins front text ≡ true → text ≡ front ++ drop (length front) text
-begins_parts [] text e = refl
-begins_parts (b ∷ front) [] e = cc
-begins_parts (b ∷ front) (c ∷ text) e =
-    let tests = either_test (b == c) (begins front text) e in
-    ap (λ x. x ∷ text) (sym (same_byte b c tests.0)) ∙ ap (λ xs. b ∷ xs) (begins_parts front text tests.1)
-
--- HEAD names a branch that isn't a new repository's
-pub other_branch : (names : Tree) (branch : Bytes) → (nat_lt 11 (length branch) && begins (codes "refs/heads/") branch) ≡ true → branch ≢ main_name → HeadIs names branch
-    → (rest : Bytes) × (rest ≢ []) × (rest ≢ codes "main") × HeadIs names (codes "refs/heads/" ++ rest)
-other_branch names branch e other head =
-    let tests = either_test (nat_lt 11 (length branch)) (begins (codes "refs/heads/") branch) e in
-    let long : 11 < length branch = grind (arith, nat_tests, tests.0) in
-    let whole = begins_parts (codes "refs/heads/") branch tests.1 in (
-      drop 11 branch,
-      λ none. omega (arith, ap length none, length-drop 11 branch),
-      λ main. other (whole ∙ ap (λ rest. codes "refs/heads/" ++ rest) main),
-      subst (HeadIs names) whole head,
-    )
-
--- or none
-pub bad_branch : (names : Tree) (branch : Bytes) → (nat_lt 11 (length branch) && begins (codes "refs/heads/") branch) ≡ false → HeadIs names branch
-    → (text : Bytes) × (file_at names head_place ≡ Some text) × ((rest : Bytes) → rest ≢ [] → text ≢ head_text (codes "refs/heads/" ++ rest))
-bad_branch names branch e head =
-    (head_text branch, head, λ rest some same. absurd (cc (e, is_branch rest some, ap (λ b. nat_lt 11 (length b) && begins (codes "refs/heads/") b) (same_head branch (codes "refs/heads/" ++ rest) same))))
-  where
-    is_branch : (rest : Bytes) → rest ≢ [] → (nat_lt 11 (length (codes "refs/heads/" ++ rest)) && begins (codes "refs/heads/") (codes "refs/heads/" ++ rest)) ≡ true
-    is_branch [] some = absurd (some refl)
-    is_branch (b ∷ rest) some =
-        let long : nat_lt 11 (length (codes "refs/heads/" ++ b ∷ rest)) ≡ true = grind (arith, nat_tests) in
-        ap (λ t. t && true) long
-
--- ---- the two parts
-
-clear_file : (part : Part) (permitted path : Bytes) (node : Option Node) → IsClearAt part permitted path node → path ≢ permitted → bytes_of node ≡ None
-clear_file part permitted path None h other = refl
-clear_file part permitted path (Some (file bytes)) h other = absurd (other h)
-clear_file part permitted path (Some folder) h other = refl
-
-clear_folder : (part : Part) (permitted path : Bytes) (node : Option Node) → IsClearAt part permitted path node → IsTrue (is_folder node) → IsTrue (may_hold_folder part path)
-clear_folder part permitted path None h is = cc
-clear_folder part permitted path (Some (file bytes)) h is = cc
-clear_folder part permitted path (Some folder) h is = h
-
-no_file : (part : Part) (permitted : Bytes) (tree : Tree) → IsClear part permitted tree → (path : Bytes) → path ≢ permitted → file_at tree path ≡ None
-no_file part permitted tree h [] other = refl
-no_file part permitted tree h (b ∷ path) other = clear_file part permitted (b ∷ path) (get tree (b ∷ path)) (h (b ∷ path)) other
-
-no_object : (objects : Tree) → IsClear Objects [] objects → (path : Bytes) → file_at objects path ≡ None
-no_object objects h [] = refl
-no_object objects h (b ∷ path) = no_file Objects [] objects h (b ∷ path) (λ e. cc)
-
-pub new_parts : (objects names : Tree) → IsClear Objects [] objects → IsClear Names head_place names → HeadIs names main_name → IsNew objects names
-new_parts objects names h k head = record {
-  no_object = no_object objects h;
-  object_folders = λ path is. clear_folder Objects [] path (get objects path) (h path) is;
-  head = head;
-  no_other = no_file Names head_place names k;
-  name_folders = λ path is. clear_folder Names head_place path (get names path) (k path) is;
-}
-
--- and the branch that HEAD names
-pub found_first : (objects names : Tree) (result : Result (Vec ℕ Global) OpenError) → (HeadIs names main_name → IsNew objects names)
-    → IfOk result (λ branch. (branch.items ≡ main_name) × HeadIs names main_name) → IfOk result (λ branch. (branch.items ≡ main_name) × IsNew objects names)
-found_first objects names (Ok branch) new h = (h.0, new h.1)
-found_first objects names (Err error) new h = h
 
 -- a repository over the parts of a new one stands for the repository without names and objects
 pub opened_stands : {F : Type 0} (IsHonest : F → Type 0) (history : F → History) (repository : Repository F) (kind : Kind) → IsHonest (objects_part repository) → IsHonest (names_part repository)
-    → repository.objects.kind ≡ kind → repository.names.kind ≡ kind → repository.branch.items ≡ main_name → known_ids repository ≡ empty
+    → repository.objects.kind ≡ kind → repository.names.kind ≡ kind → repository.branch.items ≡ first_branch → known_ids repository ≡ empty
     → IsNew (history (objects_part repository)).tree (history (names_part repository)).tree → Stands IsHonest history repository (fresh kind)
 opened_stands IsHonest history repository kind objects names of_kind names_kind branch none new = record {
   honest_objects = objects;
@@ -148,9 +28,11 @@ opened_stands IsHonest history repository kind objects names of_kind names_kind 
   names_kind = names_kind;
   branch = branch;
   known = λ id. ap (λ ids. contains_key ids id) none ∙ ap is_some (get-empty by_id id) ∙ sym (no_object_known id);
-  offered = fresh_is_offered kind;
-  unpacked = new.no_other packed_place (λ e. cc);
 }
   where
     no_object_known : (id : Id) → contains_key (fresh kind).objects id ≡ false
     no_object_known id = ap is_some (get-empty by_id id)
+
+-- and that is one of this stage
+pub opened_of_stage : (kind : Kind) (objects names : Tree) → IsNew objects names → IsOfStage (fresh kind) (record { objects = objects; names = names })
+opened_of_stage kind objects names new = record { offered = fresh_is_offered kind; unpacked = new.no_other packed_place (λ e. cc) }

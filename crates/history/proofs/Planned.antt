@@ -1,33 +1,34 @@
 -- What a commit is to store, and how its name is to move, read from its command.
-use Rattle.std.proofs.Common.{◌≡◌, ℕ, ◌<◌, ◌≤◌, refl, sym, ◌∙◌, ap, subst, Bool, true, false, ◌||◌, List, [], ◌∷◌, ◌++◌, map, length, Vec, codes}
-use Rattle.std.specs.Prelude.{Option, Some, None, option_map, option_to_list, unwrap_or, Result, Err}
-use Rattle.std.specs.declared.alloc.Global.{Global}
+use Rattle.std.proofs.Common.{◌≡◌, ℕ, ◌<◌, ◌≤◌, refl, sym, ◌∙◌, ap, subst, Bool, true, false, ◌||◌, List, [], ◌∷◌, ◌++◌, map, length, append_assoc}
+use Rattle.std.specs.Prelude.{Option, Some, None, option_map, option_and_then, option_to_list, unwrap_or, IfSome, IsSome, Result, Err}
 use Rattle.std.specs.List.{list_any}
 use Rattle.std.proofs.lemmas.List.{map-append}
 use Rattle.std.proofs.lemmas.List.Folds.{list_any-append}
 use Rattle.history_model.specs.Bytes.{Bytes}
 use Rattle.history_model.specs.FileMap.{FileMap, edited_by}
-use Rattle.history_model.specs.Objects.{StoredBytes, StoredFolder, StoredCommit, digest, object_text, content_of, root, commit_content}
+use Rattle.history_model.specs.Objects.{Value, StoredBytes, StoredFolder, StoredCommit, digest, object_text, content_of, root, commit_content}
 use Rattle.history_model.specs.Objects.{id_of as value_id}
-use Rattle.gix_hash.specs.Id.{null_id, id_of}
+use Rattle.gix_hash.specs.Id.{Id, null_id, id_of}
 use Rattle.history_model.specs.Repository as plain
-use Rattle.history_model.specs.Repository.{HasWholeNames, id_at}
+use Rattle.history_model.specs.Repository.{HasWholeNames, HoldsCommit, id_at, as_commit}
 use Rattle.history_model.specs.Forms.{title, max_content}
 use Rattle.history_model.specs.Commands.{CommitCommand, Commit}
 use Rattle.history_model.specs.CommandParts.{paths_in, contents_in}
 use Rattle.history_model.specs.Meaning.{branch_or_name, first_files, parents_of, edits_of, new_commit, read_actor, stored_by}
 use Rattle.history_model.specs.Causes.{first_cause, is_bad_path, is_too_large}
-use Rattle.history_model.specs.Stage.{is_offered}
-use Rattle.history_model.specs.Offered.{IsOffered, is_flat, main_name}
+use Rattle.history_model.specs.Stage.{main_name, is_offered}
+use Rattle.history_model.specs.Offered.{IsOffered, is_flat}
 use Rattle.history_model.specs.TreeSteps.{move_entry}
 use Rattle.history_model.specs.declared.Cause.{Cause}
 use Rattle.history_model.specs.declared.Cause.TheVariants.{TooLarge}
 use Rattle.gix_hash.specs.declared.kind.Kind.{Kind}
 use Rattle.gix_object_lines.specs.declared.kind.Kind.TheVariants as kinds
-use Rattle.history_model.proofs.OfferedReads.{commits_follow_main, commits_name_main, commits_store_flat}
+use Rattle.history_model.proofs.OfferedReads.{main_holds_a_commit, commits_follow_main, commits_name_main, commits_store_flat}
 use Rattle.history_model.proofs.OfferedSteps.{first_flat}
 use Rattle.history_store.specs.Formats.{actor_of, entry_of}
 use Rattle.history_store.specs.Commits.{IsCommitOf}
+use Rattle.history_store.specs.Stores.{AreObjectsOf}
+use Rattle.history_store.specs.declared.object.NewObject.{NewObject}
 use Rattle.history_store.specs.Trees.{Folder, IsTreeOf, folder_content}
 use Rattle.history_store.specs.declared.commit.Commit as stored
 use Rattle.gix_hash.specs.declared.object_id.ObjectId.{ObjectId}
@@ -35,13 +36,13 @@ use Rattle.history_store.specs.declared.log_entry.LogEntry.{LogEntry}
 use Rattle.history_store.proofs.FlatTrees.{flat_content}
 use Rattle.history.specs.Acts.{IsReadingFault, Gives}
 use Rattle.history.specs.CommitCauses.{first_among, name_causes, is_long, IsParent, HasTimes}
-use Rattle.history.specs.Files.{files_of_main, HasEdited}
-use Rattle.history.specs.Plans.{Plans}
+use Rattle.history.specs.Files.{files_of, HasEdited}
+use Rattle.history.specs.Plans.{IsMade, Plans}
 use Rattle.history.specs.declared.causes.Times.{Times}
 use Rattle.history.specs.declared.planning.Plan.{Plan}
 use Rattle.history.specs.declared.stopped.Stopped.{Stopped}
 use Rattle.history.specs.declared.stopped.Stopped.TheVariants.{Refused, Fault}
-use Rattle.history.proofs.Edits.{files_after}
+use Rattle.history.proofs.Edits.{files_after, objects_joined}
 use Rattle.history.proofs.FieldLemmas.{within, beyond}
 use Rattle.history.proofs.FirstCauses.{passed, here, refused_by_name, refused_by_size, good_paths}
 use Rattle.history.proofs.Storing.{bytes_put}
@@ -91,15 +92,29 @@ module _ (r : plain.Repository) (order : CommitCommand) (o : IsOffered r) (w : H
       by_case (Refused cause) h = refused_by_name r order o w offered cause h
       by_case (Fault fault) h = h
 
-  -- the new files are those of the parent after the edits
-  new_files : (new_commit r order).files ≡ files_after r (files_of_main r) order.edits
-  new_files = ap (λ ids. edited_by (first_files r ids) (edits_of r order)) (commits_follow_main r order o w offered)
+  -- the files of what the name holds
+  abbrev pub before : FileMap
+  before = files_of r (id_at r (branch_or_name r order.name))
 
-  pub main_flat : is_flat (files_of_main r) ≡ true
-  main_flat = first_flat r o (option_to_list (id_at r main_name))
+  of_main : id_at r main_name ≡ id_at r (branch_or_name r order.name)
+  of_main = ap (id_at r) (sym (commits_name_main r order o offered))
+
+  -- that is a stored commit
+  pub parent_holds : (parent : Option ObjectId) → option_map id_of parent ≡ id_at r (branch_or_name r order.name) → IfSome parent (λ id. HoldsCommit r (id_of id))
+  parent_holds None at = tt
+  parent_holds (Some id) at =
+      let held = main_holds_a_commit r (id_of id) o w (of_main ∙ sym at) in
+      subst (λ (found : Option Value). IsSome (option_and_then as_commit found)) (sym held.1) refl
+
+  -- the new files are those of the parent after the edits
+  new_files : (new_commit r order).files ≡ files_after r before order.edits
+  new_files = ap (λ ids. edited_by (first_files r ids) (edits_of r order)) (commits_follow_main r order o w offered ∙ ap option_to_list of_main)
+
+  pub before_flat : is_flat before ≡ true
+  before_flat = first_flat r o (option_to_list (id_at r (branch_or_name r order.name)))
 
   -- so the tree's bytes are those of their folder
-  pub tree_content : (kind : Kind) (blobs : List (Vec ℕ Global)) (tree : Folder) → kind ≡ r.kind → HasEdited r kind (files_of_main r) order.edits blobs tree
+  pub tree_content : (kind : Kind) (blobs : List NewObject) (tree : Folder) → kind ≡ r.kind → HasEdited r kind before order.edits blobs tree
       → folder_content tree ≡ root r.kind (new_commit r order).files
   tree_content kind blobs tree same h =
       let there : IsTreeOf r.kind tree (new_commit r order).files =
@@ -137,33 +152,54 @@ module _ (r : plain.Repository) (order : CommitCommand) (o : IsOffered r) (w : H
   parents_told None = refl
   parents_told (Some id) = refl
 
-  pub parents_are : (parent : Option ObjectId) (parents : List ObjectId) → option_map id_of parent ≡ id_at r main_name → parents ≡ option_to_list parent → map id_of parents ≡ parents_of r order
-  parents_are parent parents at are = ap (map id_of) are ∙ parents_told parent ∙ ap option_to_list at ∙ sym (commits_follow_main r order o w offered)
+  pub parents_are : (parent : Option ObjectId) (parents : List ObjectId) → option_map id_of parent ≡ id_at r (branch_or_name r order.name) → parents ≡ option_to_list parent → map id_of parents ≡ parents_of r order
+  parents_are parent parents at are = ap (map id_of) are ∙ parents_told parent ∙ ap option_to_list (at ∙ sym of_main) ∙ sym (commits_follow_main r order o w offered)
 
   before_told : (parent : Option ObjectId) (null : ObjectId) → id_of (unwrap_or parent null) ≡ unwrap_or (option_map id_of parent) (id_of null)
   before_told None null = refl
   before_told (Some id) null = refl
 
-  pub before_is : (parent : Option ObjectId) (null : ObjectId) → option_map id_of parent ≡ id_at r main_name → id_of null ≡ null_id r.kind
+  pub before_is : (parent : Option ObjectId) (null : ObjectId) → option_map id_of parent ≡ id_at r (branch_or_name r order.name) → id_of null ≡ null_id r.kind
       → id_of (unwrap_or parent null) ≡ unwrap_or (id_at r (branch_or_name r order.name)) (null_id r.kind)
   before_is parent null at is_null =
-      before_told parent null
-      ∙ (λ i. unwrap_or (at i) (is_null i)) ∙ ap (λ name. unwrap_or (id_at r name) (null_id r.kind)) (sym (commits_name_main r order o offered))
+      before_told parent null ∙ (λ i. unwrap_or (at i) (is_null i))
 
-  pub commit_is : (commit : stored.Commit) (kind : Kind) (tree : Bytes) → kind ≡ r.kind → id_of commit.tree ≡ digest kind (object_text kinds.Tree tree) → tree ≡ root r.kind (new_commit r order).files
+  pub commit_is : (commit : stored.Commit) (kind : Kind) (tree : NewObject) → kind ≡ r.kind → IsMade kind kinds.Tree (root r.kind (new_commit r order).files) tree → commit.tree ≡ tree.id
       → map id_of commit.parents.items ≡ parents_of r order → actor_of commit.author ≡ read_actor order.author → actor_of commit.committer ≡ read_actor order.committer → commit.message.items ≡ order.message
       → IsCommitOf r.kind commit (new_commit r order)
-  commit_is commit kind tree same id is_tree parents author committer message = record {
-    tree = id ∙ (λ i. digest (same i) (object_text kinds.Tree (is_tree i)));
+  commit_is commit kind tree same made at parents author committer message = record {
+    tree = ap id_of at ∙ made.id ∙ ap (λ k. digest k (object_text kinds.Tree (root r.kind (new_commit r order).files))) same;
     parents = parents;
     author = author;
     committer = committer;
     message = message;
   }
 
-  pub entry_is : (entry : LogEntry) (kind : Kind) (commit : Bytes) → kind ≡ r.kind → id_of entry.before ≡ unwrap_or (id_at r (branch_or_name r order.name)) (null_id r.kind)
-      → id_of entry.after ≡ digest kind (object_text kinds.Commit commit) → commit ≡ commit_content r.kind (new_commit r order) → actor_of entry.actor ≡ read_actor order.committer → entry.message.items ≡ title order.message
+  pub entry_is : (entry : LogEntry) (kind : Kind) (commit : NewObject) → kind ≡ r.kind → id_of entry.before ≡ unwrap_or (id_at r (branch_or_name r order.name)) (null_id r.kind)
+      → IsMade kind kinds.Commit (commit_content r.kind (new_commit r order)) commit → entry.after ≡ commit.id → actor_of entry.actor ≡ read_actor order.committer → entry.message.items ≡ title order.message
       → entry_of entry ≡ move_entry r (branch_or_name r order.name) (value_id r.kind (StoredCommit (new_commit r order))) (read_actor order.committer) (title order.message)
-  entry_is entry kind commit same before after is_commit actor message =
-      let after_is = after ∙ (λ i. digest (same i) (object_text kinds.Commit (is_commit i))) in
+  entry_is entry kind commit same before made at actor message =
+      let after_is = ap id_of at ∙ made.id ∙ ap (λ k. digest k (object_text kinds.Commit (commit_content r.kind (new_commit r order)))) same in
       λ i. record { before = before i; after = after_is i; actor = actor i; message = message i }
+
+  -- ---- the objects
+
+  abbrev last_values : List Value
+  last_values = StoredFolder (new_commit r order).files ∷ StoredCommit (new_commit r order) ∷ []
+
+  pub objects_are : (kind : Kind) (blobs objects : List NewObject) (tree commit : NewObject) → kind ≡ r.kind → list_any is_bad_path (paths_in (Commit order)) ≡ false
+      → AreObjectsOf kind (map StoredBytes (contents_in (Commit order))) blobs
+      → IsMade kind kinds.Tree (root r.kind (new_commit r order).files) tree → IsMade kind kinds.Commit (commit_content r.kind (new_commit r order)) commit
+      → objects ≡ (blobs ++ tree ∷ []) ++ commit ∷ [] → AreObjectsOf r.kind (stored_by r (Commit order)) objects
+  objects_are kind blobs objects tree commit same good are tree_made commit_made is =
+      let contents = map StoredBytes (contents_in (Commit order)) in
+      let last : AreObjectsOf r.kind last_values (tree ∷ commit ∷ []) = (
+        record { id = tree_made.id ∙ ap (λ k. digest k (object_text kinds.Tree (root r.kind (new_commit r order).files))) same; kind = tree_made.kind_is; content = tree_made.content_is },
+        (
+          record { id = commit_made.id ∙ ap (λ k. digest k (object_text kinds.Commit (commit_content r.kind (new_commit r order)))) same; kind = commit_made.kind_is; content = commit_made.content_is },
+          tt,
+        ),
+      ) in
+      subst (AreObjectsOf r.kind (stored_by r (Commit order))) (sym (is ∙ append_assoc blobs (tree ∷ []) (commit ∷ [])))
+      (subst (λ values. AreObjectsOf r.kind values (blobs ++ tree ∷ commit ∷ [])) (sym (commits_store_flat r order o good ∙ ap (λ values. values ++ last_values) (bytes_put r order.edits)))
+      (objects_joined r.kind contents last_values blobs (tree ∷ commit ∷ []) (subst (λ k. AreObjectsOf k contents blobs) same are) last))

@@ -10,7 +10,7 @@ use Rattle.history_model.specs.FileMap.{FileMap, IsFileMap}
 use Rattle.history_model.specs.Forms.{is_commit_form}
 use Rattle.history_model.specs.Objects.{CommitValue, Value, StoredCommit, StoredFolder, object_kind, content_of, value_text, object_text}
 use Rattle.gix_hash.specs.Id.{Id}
-use Rattle.history_model.specs.Offered.{is_flat}
+use Rattle.history_model.specs.Offered.{IsOffered, is_flat}
 use Rattle.history_model.specs.Places.{file_at, object_place}
 use Rattle.history_model.specs.Repository as plain
 use Rattle.history_model.specs.TreeHalves.{HoldsValues, HaveOwnIds}
@@ -18,7 +18,7 @@ use Rattle.gix_hash.specs.declared.kind.Kind.{Kind}
 use Rattle.history_model.proofs.TreePlaces.{values_have_ids}
 use Rattle.history_model.proofs.TreePuts.{halves_stand, places_tell_values}
 use Rattle.history_model.proofs.WholeTexts.{object_same}
-use Rattle.history_store.specs.Stores.{IsNoObject}
+use Rattle.history_store.specs.ObjectTexts.{IsNoObject}
 use Rattle.gix_object_lines.specs.declared.kind.Kind.{Kind as ObjectKind}
 use Rattle.history_store.specs.declared.objects.Object.{Object}
 use Rattle.history.specs.Acts.{Gives, IsReadingFault}
@@ -48,8 +48,8 @@ module _ {F : Type 0} (IsHonest : F → Type 0) (history : F → History) (repos
     pub folder_paths : (files : FileMap) → get r.objects id ≡ Some (StoredFolder files) → IsFileMap files
     folder_paths files at = ((stands.whole.written.values id (StoredFolder files) at).0).map
 
-    pub folder_flat : (files : FileMap) → get r.objects id ≡ Some (StoredFolder files) → IsTrue (is_flat files)
-    folder_flat files at = stands.offered.values id (StoredFolder files) at
+    pub folder_flat : IsOffered r → (files : FileMap) → get r.objects id ≡ Some (StoredFolder files) → IsTrue (is_flat files)
+    folder_flat offered files at = offered.values id (StoredFolder files) at
 
 -- ---- an object that is read
 

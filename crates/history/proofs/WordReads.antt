@@ -9,7 +9,7 @@ use Rattle.history_model.specs.Words.{ReadsAs, Unknown, word_reading, name_readi
 use Rattle.gix_ref_file.specs.History.{History}
 use Rattle.history_store.specs.References.{NameHolds}
 use Rattle.gix_hash.specs.declared.object_id.ObjectId.{ObjectId}
-use Rattle.history.specs.Stands.{Stands}
+use Rattle.history.specs.Stands.{Serves}
 use Rattle.history.specs.Face.{names_part}
 use Rattle.history.specs.declared.repository.Repository as own
 use Rattle.history.proofs.FieldLemmas.{both_true}
@@ -111,9 +111,9 @@ stands_so r name held e = by_ref (get r.names name) ∙ ap is_some e
 
 -- ---- a repository with its files
 
-module _ {F : Type 0} (IsHonest : F → Type 0) (history : F → History) (repository : own.Repository F) (r : Repository) (stand : Stands IsHonest history repository r) where
+module _ {F : Type 0} (IsHonest : F → Type 0) (history : F → History) (repository : own.Repository F) (r : Repository) (stand : Serves IsHonest history repository r) where
   of_one_kind : (place : Bytes) (found : Option ObjectId) → NameHolds repository.names.kind (history (names_part repository)).tree place found → NameHolds r.kind (history (names_part repository)).tree place found
-  of_one_kind place found holds = subst (λ kind. NameHolds kind (history (names_part repository)).tree place found) stand.names_kind holds
+  of_one_kind place found holds = subst (λ kind. NameHolds kind (history (names_part repository)).tree place found) stand.stands.names_kind holds
 
   -- what the file of a candidate tells is what the candidate holds
   pub candidate_held : (place name : Bytes) → place ≡ name → may_mean name ≡ true → (found : Option ObjectId) → NameHolds repository.names.kind (history (names_part repository)).tree place found → id_at r name ≡ option_map id_of found
@@ -125,4 +125,4 @@ module _ {F : Type 0} (IsHonest : F → Type 0) (history : F → History) (repos
       → name_reading (option_map id_of found) ≡ word_reading r word
   branch_reads word place is same found holds =
       ap name_reading (held IsHonest history repository r stand place (ap (begins (codes "refs/")) same ∙ branch_is_name IsHonest history repository r stand) found (of_one_kind place found holds))
-      ∙ ap (λ n. name_reading (id_at r n)) (same ∙ stand.branch) ∙ sym (reads_branch r word is)
+      ∙ ap (λ n. name_reading (id_at r n)) (same ∙ stand.stands.branch) ∙ sym (reads_branch r word is)

@@ -7,8 +7,8 @@ use Rattle.history_model.specs.Forms.{is_seconds, is_offset, max_content}
 use Rattle.history_model.specs.Bytes.{Bytes, digits_value}
 use Rattle.history_model.specs.Commands.{Command, Commit, CommitCommand, ActorLine}
 use Rattle.history_model.specs.CommandParts.{contents_in}
+use Rattle.history_model.specs.Meaning.{branch_or_name}
 use Rattle.history_model.specs.Causes.{holds}
-use Rattle.history_model.specs.Offered.{main_name}
 use Rattle.history_model.specs.declared.Cause.{Cause}
 use Rattle.history_model.specs.declared.Cause.TheVariants.{UnknownWord, UnbornHead, Taken, BadPath, NoSuchPath, BadActor, BadTime, BadMessage, TooLarge}
 use Rattle.gix_hash.specs.declared.object_id.ObjectId.{ObjectId}
@@ -32,9 +32,9 @@ name_causes = UnknownWord ∷ UnbornHead ∷ Taken ∷ []
 abbrev pub form_causes : List Cause
 form_causes = BadPath ∷ NoSuchPath ∷ BadActor ∷ BadTime ∷ BadMessage ∷ []
 
--- The parent is what the one name holds, where that is as expected; else the first cause is told, or a fault was met.
+-- The parent is what the commit's name holds, where that is as expected; else the first cause is told, or a fault was met.
 abbrev pub IsParent : Type 0 → plain.Repository → CommitCommand → Result (Option ObjectId) Stopped → Type 0
-IsParent MayFail r order (Ok parent) = (option_map id_of parent ≡ id_at r main_name) × (first_among name_causes r (Commit order) ≡ None)
+IsParent MayFail r order (Ok parent) = (option_map id_of parent ≡ id_at r (branch_or_name r order.name)) × (first_among name_causes r (Commit order) ≡ None)
 IsParent MayFail r order (Err (Refused cause)) = first_among name_causes r (Commit order) ≡ Some cause
 IsParent MayFail r order (Err (Fault fault)) = IsReadingFault MayFail (Fault fault)
 

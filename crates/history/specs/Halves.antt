@@ -1,15 +1,17 @@
--- What stands in each of the two parts, and what the steps of a commit make of it.
+-- What stands in each of the two parts, and what storing values and moving a name make of it.
 use Rattle.std.specs.Prelude.{◌≡◌, ⊤, List, None, Result, Ok, Err, IsTrue, IsFalse}
 use Rattle.gix_ref_file.specs.History.{History}
 use Rattle.gix_ref_file.specs.Tree.{Tree}
 use Rattle.history_model.specs.Objects.{Value}
 use Rattle.history_model.specs.Repository as plain
-use Rattle.history_model.specs.Commands.{CommitCommand}
-use Rattle.history_model.specs.Meaning.{some_taken}
-use Rattle.history_model.specs.Offered.{IsOffered}
+use Rattle.history_model.specs.Repository.{stands}
+use Rattle.history_model.specs.Bytes.{Bytes}
+use Rattle.history_model.specs.Forms.{is_name}
+use Rattle.history_model.specs.Causes.{do_collide}
+use Rattle.history_model.specs.Meaning.{some_taken, store_all}
 use Rattle.history_model.specs.Places.{file_at, packed_place}
 use Rattle.history_model.specs.TreeHalves.{Values, HoldsValues, HoldsNames, HaveOwnIds}
-use Rattle.history_model.specs.CommitSteps.{PutsAll, MovesToCommit}
+use Rattle.history_model.specs.TreeSteps.{MovesName}
 use Rattle.gix_hash.specs.declared.kind.Kind.{Kind}
 use Rattle.history_model.specs.declared.Fault.TheVariants.{Memory, File, IdTaken}
 use Rattle.std.specs.FinMap.{contains_key}
@@ -19,6 +21,8 @@ use Rattle.history.specs.declared.repository.Repository.{Repository}
 use Rattle.history.specs.declared.stopped.Stopped.{Stopped}
 use Rattle.history.specs.declared.stopped.Stopped.TheVariants.{Refused, Fault}
 use Rattle.history_store.specs.Face.{kind_of_objects}
+use Rattle.history_store.specs.Formats.{entry_of}
+use Rattle.history.specs.declared.planning.Moves.{Moves}
 
 -- the tree that stands in a part
 abbrev pub objects_tree : {F : Type 0} → (F → History) → Repository F → Tree
@@ -41,21 +45,27 @@ KnowsIds repository values = (id : Id) → contains_key (known_ids repository) i
 pub record NamesStand {F : Type 0} (IsHonest : F → Type 0) (history : F → History) (repository : Repository F) (r : plain.Repository) : Type 0 where
   pub honest : IsHonest (names_part repository)
   pub holds : HoldsNames (names_tree history repository) r
-  pub offered : IsOffered r
+  pub named : (name : Bytes) → IsTrue (stands r name) → IsTrue (is_name name)
   pub unpacked : file_at (names_tree history repository) packed_place ≡ None
 
--- No id is taken, and the values are put; or one is taken, or a fault was met.
-abbrev pub StoresValues : Type 0 → Kind → Values → List Value → Tree → Tree → Result (Unit {0}) Stopped → Type 0
-StoresValues CallFailed kind values more old new (Ok done) = IsFalse (some_taken kind values more) × PutsAll kind more old new
-StoresValues CallFailed kind values more old new (Err (Refused cause)) = ⊥
-StoresValues CallFailed kind values more old new (Err (Fault Memory)) = ⊤
-StoresValues CallFailed kind values more old new (Err (Fault File)) = CallFailed
-StoresValues CallFailed kind values more old new (Err (Fault IdTaken)) = IsTrue (some_taken kind values more)
+-- No id is taken, and the tree holds these values beside those that stood; or one is taken, or a fault was met.
+abbrev pub StoresValues : Type 0 → Kind → Values → List Value → Tree → Result (Unit {0}) Stopped → Type 0
+StoresValues CallFailed kind values more new (Ok done) =
+    IsFalse (some_taken kind values more) × HoldsValues kind new (store_all kind values more)
+StoresValues CallFailed kind values more new (Err (Refused cause)) = ⊥
+StoresValues CallFailed kind values more new (Err (Fault Memory)) = ⊤
+StoresValues CallFailed kind values more new (Err (Fault File)) = CallFailed
+StoresValues CallFailed kind values more new (Err (Fault IdTaken)) = IsTrue (some_taken kind values more)
 
--- The name moves to the commit, or a fault was met.
-abbrev pub MovesNames : Type 0 → Tree → Tree → plain.Repository → CommitCommand → Result (Unit {0}) Stopped → Type 0
-MovesNames CallFailed old new r order (Ok done) = MovesToCommit r order old new
-MovesNames CallFailed old new r order (Err (Refused cause)) = ⊥
-MovesNames CallFailed old new r order (Err (Fault Memory)) = ⊤
-MovesNames CallFailed old new r order (Err (Fault File)) = CallFailed
-MovesNames CallFailed old new r order (Err (Fault IdTaken)) = ⊥
+-- A name may come to stand beside those of the repository: it is one, and none of these is a folder of it or lies below it.
+pub record FitsAmong (r : plain.Repository) (name : Bytes) : Type 0 where
+  pub named : IsTrue (is_name name)
+  pub apart : (other : Bytes) → IsTrue (stands r other) → IsFalse (do_collide name other)
+
+-- The name moves as its entry tells, or a fault was met.
+abbrev pub MovesNames : Type 0 → Tree → Tree → Moves → Result (Unit {0}) Stopped → Type 0
+MovesNames CallFailed old new moves (Ok done) = MovesName moves.name.items (entry_of moves.entry) old new
+MovesNames CallFailed old new moves (Err (Refused cause)) = ⊥
+MovesNames CallFailed old new moves (Err (Fault Memory)) = ⊤
+MovesNames CallFailed old new moves (Err (Fault File)) = CallFailed
+MovesNames CallFailed old new moves (Err (Fault IdTaken)) = ⊥

@@ -17,7 +17,8 @@ use history_store::{Actor, is_actor_part, parse_time};
 use history_word::{ActorLine, Field};
 
 fn is_name(field: &Field) -> bool
-    ensures { (name : Bytes) → Keeps max_actor_part field.now name → result ≡ (not (is_empty name) && is_actor_part name) }
+    ensures { (name : Bytes) → Keeps max_actor_part field.now name
+        → result ≡ (not (is_empty name) && is_actor_part name) }
 {
     match field {
         Field::Whole(name) => !name.is_empty() && is_actor_part(name),
@@ -26,7 +27,8 @@ fn is_name(field: &Field) -> bool
 }
 
 fn is_email(field: &Field) -> bool
-    ensures { (email : Bytes) → Keeps max_actor_part field.now email → result ≡ is_actor_part email }
+    ensures { (email : Bytes) → Keeps max_actor_part field.now email
+        → result ≡ is_actor_part email }
 {
     match field {
         Field::Whole(email) => is_actor_part(email),
@@ -50,7 +52,8 @@ pub(crate) fn time_of(line: &ActorLine) -> Option<Time>
 
 /// The actor of a line, who acted at this time; `None` where the parts can't stand in an actor's line.
 pub(crate) fn actor_at(line: ActorLine, time: Time) -> Option<Actor>
-    ensures { (order : ActorOrder) → IsActor line order → IsFalse (is_bad_actor order) → IsTime order time
+    ensures { (order : ActorOrder) → IsActor line order → IsFalse (is_bad_actor order)
+        → IsTime order time
         → MatchOption result ⊥ (λ actor. actor_of actor ≡ read_actor order) }
 {
     Actor::new(into_kept(line.name), into_kept(line.email), time)

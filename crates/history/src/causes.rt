@@ -11,7 +11,7 @@ ghost use Rattle.history_model.specs.Stage.{is_offered};
 ghost use Rattle.history_model.specs.Commands.{CommitCommand as CommitOrder, EditLine, Commit as CommitOf};
 ghost use Rattle.history_word.specs.Commands.{AreEdits, IsCommit, IsEdit, IsExpect};
 ghost use Rattle.history.specs.CommitCauses.{AreTimes, IsParent, is_long};
-ghost use Rattle.history.specs.Stands.{Stands};
+ghost use Rattle.history.specs.Stands.{Serves, Stands};
 
 use crate::actors::{has_good_names, time_of};
 use crate::fields::{is_bad_path, is_too_long, kept};
@@ -22,7 +22,7 @@ use gix_hash::ObjectId;
 use gix_object::lines::Time;
 use gix_ref_file::Files;
 use history_model::Cause;
-use history_word::{Commit, Edit, Expect};
+use history_word::{CommitCommand, Edit, Expect};
 use std::alloc::{AllocError, Global};
 
 /// The most bytes of a title.
@@ -57,34 +57,39 @@ fn is_bad_title(title: &[u8]) -> bool
 }
 
 fn has_bad_path(edit: &Edit) -> bool
-    ensures { (line : EditLine) → IsEdit edit.now line → result ≡ list_any is_bad_path (edit_paths line) }
+    ensures { (line : EditLine) → IsEdit edit.now line
+        → result ≡ list_any is_bad_path (edit_paths line) }
 {
     let Edit::Put(put) = edit;
     is_bad_path(&put.path)
 }
 
 fn has_long_content(edit: &Edit) -> bool
-    ensures { (line : EditLine) → IsEdit edit.now line → result ≡ list_any is_long (put_contents line) }
+    ensures { (line : EditLine) → IsEdit edit.now line
+        → result ≡ list_any is_long (put_contents line) }
 {
     let Edit::Put(put) = edit;
     is_too_long(&put.content)
 }
 
 fn have_bad_path(edits: &[Edit]) -> bool
-    ensures { (lines : List EditLine) → AreEdits edits.now lines → result ≡ list_any is_bad_path (flat_map edit_paths lines) }
+    ensures { (lines : List EditLine) → AreEdits edits.now lines
+        → result ≡ list_any is_bad_path (flat_map edit_paths lines) }
 {
     edits.iter().any(|edit| has_bad_path(edit))
 }
 
 fn have_long_content(edits: &[Edit]) -> bool
-    ensures { (lines : List EditLine) → AreEdits edits.now lines → result ≡ list_any is_long (flat_map put_contents lines) }
+    ensures { (lines : List EditLine) → AreEdits edits.now lines
+        → result ≡ list_any is_long (flat_map put_contents lines) }
 {
     edits.iter().any(|edit| has_long_content(edit))
 }
 
 /// Tests what the command says by itself, in the order of the causes.
-pub(crate) fn read_times(command: &Commit) -> Result<Times, Cause>
-    ensures { (r : plain.Repository) (order : CommitOrder) → IsCommit command.now order → AreTimes r order result }
+pub(crate) fn read_times(command: &CommitCommand) -> Result<Times, Cause>
+    ensures { (r : plain.Repository) (order : CommitOrder) → IsCommit command.now order
+        → AreTimes r order result }
 {
     if have_bad_path(&command.edits) {
         return Err(Cause::BadPath);
@@ -119,8 +124,10 @@ impl<F: Files> Repository<F> {
         name: &[u8],
         expect: &Expect,
     ) -> Result<Option<ObjectId>, Stopped>
-        ensures { (r : plain.Repository) (order : CommitOrder) → Stands F.is_honest F.history self.now r → IsTrue (is_offered (CommitOf order))
-            → name.now ≡ branch_or_name r order.name → IsExpect expect.now order.expect → IsParent F.reading_may_fail r order result }
+        ensures { (r : plain.Repository) (order : CommitOrder)
+            → Serves F.is_honest F.history self.now r → IsTrue (is_offered (CommitOf order))
+            → name.now ≡ branch_or_name r order.name → IsExpect expect.now order.expect
+            → IsParent F.reading_may_fail r order result }
     {
         match expect {
             Expect::Any => Ok(self.names.read(alloc, name)?),

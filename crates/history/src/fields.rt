@@ -22,7 +22,8 @@ pub(crate) fn is_bad_path(path: &Field) -> bool
 
 /// Whether the field is over its limit.
 pub(crate) fn is_too_long(field: &Field) -> bool
-    ensures { (limit : ℕ) (bytes : Bytes) → Keeps limit field.now bytes → result ≡ nat_lt limit (length bytes) }
+    ensures { (limit : ℕ) (bytes : Bytes) → Keeps limit field.now bytes
+        → result ≡ nat_lt limit (length bytes) }
 {
     matches!(field, Field::TooLong(_))
 }

@@ -27,8 +27,8 @@ pub mod files {
 
 pub use gix_hash::Kind;
 pub use history_model::{Cause, End, Fault};
-pub use history_store::{CreateError, create};
+pub use history_store::{CreateError, OpenError, create};
 pub use history_word::{Broken, Bytes, Collected, Sink, Source, Stream};
-pub use open::{OpenError, OpenRefusal};
+pub use open::OpenRefusal;
 pub use repository::Repository;
 pub use running::{RunError, run};

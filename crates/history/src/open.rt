@@ -1,58 +1,16 @@
 //! Opening a repository.
 
-ghost use Rattle.std.specs.Prelude.{◌≡◌, ◌&&◌, nat_lt, length, [], false, codes, IfOk, OnOk, IfErr};
-ghost use Rattle.history_model.specs.Bytes.{begins};
-ghost use Rattle.history_model.specs.Offered.{main_name};
-ghost use Rattle.history_model.specs.Places.{head_place};
+ghost use Rattle.std.specs.Prelude.{◌≡◌, false, IfOk, OnOk, IfErr};
+ghost use Rattle.history_model.specs.Offered.{IsOfStage};
+ghost use Rattle.history_model.specs.Repository as plain;
 ghost use Rattle.history_store.specs.Creation.{IsNew};
-ghost use Rattle.history_store.specs.Parts.{IsClear};
-ghost use Rattle.history.specs.Opening.{open_fault, stray_error, HeadIs, IsWrongPart, IsWrongHead, IsNotNew};
-ghost use Rattle.history.specs.declared.open.OpenError.TheVariants.{Memory};
+ghost use Rattle.history_store.specs.Opening.{IsNotNew};
 
 use crate::repository::Repository;
 use gix_hash::Kind;
-use gix_ref_file::{FileError, Files, Place};
-use history_store::{Names, Objects, Part, Stray, survey};
-use std::alloc::{AllocError, Global};
-use thiserror::Error;
-
-/// Why a folder isn't opened. A path is in bytes, whole from the part's root.
-#[derive(Debug, Drop, PartialEq, Eq, Error)]
-pub enum OpenError {
-    #[error("no HEAD stands")]
-    NoHead,
-    #[error("HEAD doesn't name a branch")]
-    BadHead,
-    /// Something that isn't a repository's stands there.
-    #[error("stray: {0:?}")]
-    Stray(Vec<u8>),
-    /// A file stands there that only a repository with a history has, which isn't opened yet.
-    #[error("not yet: {0:?}")]
-    NotYet(Vec<u8>),
-    #[error("a call of the files failed")]
-    File,
-    #[error("a growth was refused")]
-    Memory,
-}
-
-impl From<FileError> for OpenError {
-    ghost from_gives = { λ error refusal. refusal ≡ open_fault error };
-
-    fn from(error: FileError) -> OpenError {
-        match error {
-            FileError::Failed => OpenError::File,
-            FileError::Memory => OpenError::Memory,
-        }
-    }
-}
-
-impl From<AllocError> for OpenError {
-    ghost from_gives = { λ _ refusal. refusal ≡ Memory };
-
-    fn from(_: AllocError) -> OpenError {
-        OpenError::Memory
-    }
-}
+use gix_ref_file::Files;
+use history_store::{Names, Objects, OpenError, new_branch};
+use std::alloc::Global;
 
 /// Why a repository isn't opened, and its two parts, as they were handed in.
 #[derive(Drop)]
@@ -62,88 +20,10 @@ pub struct OpenRefusal<F: Files> {
     pub names: F,
 }
 
-/// Where HEAD's branch stands.
-const HEAD_PLACE: &[u8] = b"HEAD";
-
-/// Where branches stand.
-const BRANCHES: &[u8] = b"refs/heads/";
-
-/// HEAD's branch in a new repository.
-const FIRST_BRANCH: &[u8] = b"refs/heads/main";
-
-/// What stands here and shouldn't.
-fn refusal_of(stray: Stray) -> OpenError
-    ensures { result ≡ stray_error stray }
-{
-    match stray {
-        Stray::File(path) => OpenError::NotYet(path),
-        Stray::Folder(path) => OpenError::Stray(path),
-    }
-}
-
-/// Answers `Ok` where a part holds nothing but folders that it may have, and this file.
-fn refuse_others<F: Files>(
-    alloc: Global,
-    files: &F,
-    part: Part,
-    permitted: &[u8],
-) -> Result<(), OpenError>
-    ensures clear { F.is_honest files.now → OnOk result (IsClear part permitted.now (F.history files.now).tree) }
-    ensures wrong { F.is_honest files.now → IfErr result (IsWrongPart F.reading_may_fail part permitted.now (F.history files.now).tree) }
-{
-    match survey(alloc, files, part, permitted)? {
-        Some(stray) => Err(refusal_of(stray)),
-        None => Ok(()),
-    }
-}
-
-/// Whether the name is a branch's: it lies below `refs/heads/`.
-fn is_branch(name: &[u8]) -> bool
-    ensures { result ≡ (nat_lt 11 (length name.now) && begins (codes "refs/heads/") name.now) }
-{
-    name.len() > BRANCHES.len() && name.starts_with(BRANCHES)
-}
-
-/// HEAD's branch, where that is a new repository's.
-fn first_branch<F: Files>(alloc: Global, names: &Names<F>) -> Result<Vec<u8>, OpenError>
-    ensures first { F.is_honest names.now.files → IfOk result (λ branch. (branch.items ≡ main_name) × HeadIs (F.history names.now.files).tree main_name) }
-    ensures wrong { F.is_honest names.now.files → IfErr result (IsWrongHead F.reading_may_fail (F.history names.now.files).tree) }
-{
-    if !matches!(names.files().kind_of(HEAD_PLACE)?, Place::File(_)) {
-        return Err(OpenError::NoHead);
-    }
-    let Some(branch) = names.head(alloc)? else {
-        return Err(OpenError::BadHead);
-    };
-    if branch.as_slice() == FIRST_BRANCH {
-        return Ok(branch);
-    }
-    if is_branch(&branch) {
-        return Err(OpenError::NotYet(Vec::from_slice(alloc, HEAD_PLACE)?));
-    }
-    Err(OpenError::BadHead)
-}
-
-/// HEAD's branch, where the two parts are a new repository's.
-fn fresh_branch<F: Files>(
-    alloc: Global,
-    objects: &F,
-    names: &Names<F>,
-) -> Result<Vec<u8>, OpenError>
-    ensures first { F.is_honest objects.now → F.is_honest names.now.files
-        → IfOk result (λ branch. (branch.items ≡ main_name) × IsNew (F.history objects.now).tree (F.history names.now.files).tree) }
-    ensures wrong { F.is_honest objects.now → F.is_honest names.now.files
-        → IfErr result (IsNotNew F.reading_may_fail (F.history objects.now).tree (F.history names.now.files).tree) }
-{
-    refuse_others(alloc, objects, Part::Objects, b"")?;
-    refuse_others(alloc, names.files(), Part::Names, HEAD_PLACE)?;
-    first_branch(alloc, names)
-}
-
 impl<F: Files> Repository<F> {
     ghost use Rattle.history_model.specs.Repository.{fresh};
     ghost use Rattle.history.specs.Face.{objects_part, names_part, has_failed};
-    ghost use Rattle.history.specs.Stands.{Stands};
+    ghost use Rattle.history.specs.Stands.{Stands, pair_of};
 
     /// Opens a repository as [`create`](crate::create) leaves it. No file is changed.
     ///
@@ -156,14 +36,26 @@ impl<F: Files> Repository<F> {
         names: F,
         kind: Kind,
     ) -> Result<Repository<F>, OpenRefusal<F>>
-        ensures ok { IfOk result (λ opened. (objects_part opened ≡ objects) × (names_part opened ≡ names) × (has_failed opened ≡ false)) }
-        ensures stands { F.is_honest objects → F.is_honest names → IfOk result (λ opened. Stands F.is_honest F.history opened (fresh kind)) }
+        ensures ok { IfOk result (λ opened. (objects_part opened ≡ objects)
+            × (names_part opened ≡ names) × (has_failed opened ≡ false)) }
+        // What is opened stands for a repository of this kind, whole and in its written form.
+        ensures stands { F.is_honest objects → F.is_honest names
+            → IfOk result (λ opened. (r : plain.Repository) × (r.kind ≡ kind)
+            × Stands F.is_honest F.history opened r × IsOfStage r (pair_of F.history opened)) }
+        // Of a new folder it is the one without names and objects, on `refs/heads/main`.
+        ensures fresh { F.is_honest objects → F.is_honest names
+            → IsNew (F.history objects).tree (F.history names).tree
+            → IfOk result (λ opened. Stands F.is_honest F.history opened (fresh kind)) }
+        // At this stage no other folder is opened.
+        ensures stage { F.is_honest objects → F.is_honest names
+            → OnOk result (IsNew (F.history objects).tree (F.history names).tree) }
         ensures refused { F.is_honest objects → F.is_honest names
             → IfErr result (λ refusal. IsNotNew F.reading_may_fail (F.history objects).tree (F.history names).tree refusal.error) }
-        ensures handed_back { IfErr result (λ refusal. (refusal.objects ≡ objects) × (refusal.names ≡ names)) }
+        ensures handed_back { IfErr result (λ refusal. (refusal.objects ≡ objects)
+            × (refusal.names ≡ names)) }
     {
         let names = Names::new(names, kind);
-        match fresh_branch(alloc, &objects, &names) {
+        match new_branch(alloc, &objects, &names) {
             Ok(branch) => Ok(Repository {
                 objects: Objects::new(alloc, objects, kind),
                 names,

@@ -1,24 +1,22 @@
 //! What a `commit` is to store, and how its name is to move.
 
-ghost use Rattle.std.specs.Prelude.{◌≡◌, ◌≤◌, ◌<◌, List, ◌∷◌, [], IfOk, IsTrue, MatchResult, option_map, option_to_list, length};
-ghost use Rattle.history_model.specs.Objects.{digest, object_text};
+ghost use Rattle.std.specs.Prelude.{◌≡◌, ◌≤◌, ◌<◌, List, ◌∷◌, [], IfOk, IfSome, IsTrue, MatchResult, option_map, option_to_list, length};
 ghost use Rattle.history_model.specs.FileMap.{FileMap};
 ghost use Rattle.history_model.specs.Forms.{max_content};
 ghost use Rattle.history_model.specs.Repository as plain;
-ghost use Rattle.history_model.specs.Repository.{id_at};
-ghost use Rattle.history_model.specs.Stage.{is_offered};
+ghost use Rattle.history_model.specs.Repository.{HoldsCommit};
 ghost use Rattle.history_model.specs.Commands as orders;
-ghost use Rattle.history_model.specs.Commands.{Commit as CommitOf};
-ghost use Rattle.history_model.specs.Offered.{is_flat, main_name};
+ghost use Rattle.history_model.specs.Offered.{is_flat};
 ghost use Rattle.history_model.specs.declared.Cause.TheVariants.{TooLarge};
-ghost use Rattle.history_word.specs.Commands.{IsCommit, IsEdit, AreEdits};
+ghost use Rattle.history_word.specs.Commands.{IsEdit, AreEdits};
 ghost use Rattle.history_word.specs.declared.command.Edit.TheVariants as edits;
 ghost use Rattle.history_store.specs.Trees.{IsTreeOf};
 ghost use Rattle.history_store.specs.Face.{kind_of_objects};
+ghost use Rattle.history.specs.Asked.{AskedCommit};
 ghost use Rattle.history.specs.Acts.{Gives};
-ghost use Rattle.history.specs.Files.{files_of_main, AreWithin, HasEdited};
-ghost use Rattle.history.specs.Plans.{Plans};
-ghost use Rattle.history.specs.Stands.{Stands};
+ghost use Rattle.history.specs.Files.{files_of, AreWithin, HasEdited};
+ghost use Rattle.history.specs.Plans.{IsMade, Plans};
+ghost use Rattle.history.specs.Stands.{Serves};
 ghost use Rattle.gix_hash.specs.Id.{id_of};
 
 use crate::actors::actor_at;
@@ -29,8 +27,8 @@ use crate::stopped::Stopped;
 use gix_hash::ObjectId;
 use gix_ref_file::Files;
 use history_model::Cause;
-use history_store::{Commit, LogEntry, ObjectKind, Tree, TreeEntry, object_id};
-use history_word::{Commit as CommitCommand, Edit, Put};
+use history_store::{Commit, LogEntry, NewObject, ObjectKind, Tree, TreeEntry};
+use history_word::{CommitCommand, Edit, Put};
 use std::alloc::{AllocError, Global};
 
 /// The most bytes of a file's content, and of any object's.
@@ -39,10 +37,8 @@ const MAX_CONTENT: usize = 16_777_216;
 /// What a commit is to store, and how its name is to move.
 #[derive(Drop)]
 pub(crate) struct Plan {
-    /// The content of each `put`.
-    pub(crate) blobs: Vec<Vec<u8>>,
-    pub(crate) tree: Vec<u8>,
-    pub(crate) commit: Vec<u8>,
+    /// The content of each `put`, the tree, the commit.
+    pub(crate) objects: Vec<NewObject>,
     pub(crate) moves: Moves,
 }
 
@@ -51,17 +47,6 @@ pub(crate) struct Plan {
 pub(crate) struct Moves {
     pub(crate) name: Vec<u8>,
     pub(crate) entry: LogEntry,
-}
-
-/// The object's bytes, where they are within the limit.
-fn within_limit(bytes: Vec<u8>) -> Result<Vec<u8>, Cause>
-    ensures { MatchResult result (λ kept. (kept ≡ bytes) × (length bytes.items ≤ max_content)) (λ cause. (cause ≡ TooLarge) × (max_content < length bytes.items)) }
-{
-    if bytes.len() <= MAX_CONTENT {
-        Ok(bytes)
-    } else {
-        Err(Cause::TooLarge)
-    }
 }
 
 /// The parents of a commit: what its name holds.
@@ -76,17 +61,24 @@ fn parents(alloc: Global, parent: Option<ObjectId>) -> Result<Vec<ObjectId>, All
 }
 
 impl<F: Files> Repository<F> {
-    /// The id of this content.
-    fn id_of(&self, object: ObjectKind, content: &[u8]) -> ObjectId
-        ensures { id_of result ≡ digest (kind_of_objects self.now.objects) (object_text object content.now) }
+    /// An object of this content, where that is within the limit.
+    fn new_object(&self, kind: ObjectKind, content: Vec<u8>) -> Result<NewObject, Cause>
+        ensures { MatchResult result
+            (λ made. IsMade (kind_of_objects self.now.objects) kind content.items made
+            × (length content.items ≤ max_content))
+            (λ cause. (cause ≡ TooLarge) × (max_content < length content.items)) }
     {
-        object_id(self.objects.kind(), object, content)
+        if content.len() > MAX_CONTENT {
+            return Err(Cause::TooLarge);
+        }
+        Ok(NewObject::new(self.objects.kind(), kind, content))
     }
 
     /// The files of a commit's parent, none without one.
     fn files_before(&self, alloc: Global, parent: Option<ObjectId>) -> Result<Tree, Stopped>
-        ensures { (r : plain.Repository) → Stands F.is_honest F.history self.now r → option_map id_of parent ≡ id_at r main_name
-            → Gives F.reading_may_fail (λ tree. IsTreeOf r.kind tree (files_of_main r)) result }
+        ensures { (r : plain.Repository) → Serves F.is_honest F.history self.now r
+            → IfSome parent (λ id. HoldsCommit r (id_of id))
+            → Gives F.reading_may_fail (λ tree. IsTreeOf r.kind tree (files_of r (option_map id_of parent))) result }
     {
         match parent {
             Some(id) => {
@@ -97,25 +89,33 @@ impl<F: Files> Repository<F> {
         }
     }
 
-    /// Puts a file, and gives the content to be stored.
-    fn put_file(&self, alloc: Global, tree: &mut Tree, put: Put) -> Result<Vec<u8>, AllocError>
-        ensures { (r : plain.Repository) (files : FileMap) (line : orders.EditLine) → IsEdit (edits.Put put) line → AreWithin (line ∷ []) → IsTrue (is_flat files) → IsTreeOf (kind_of_objects self.now.objects) tree.old files
+    /// Puts a file, and gives the object of its content.
+    fn put_file(&self, alloc: Global, tree: &mut Tree, put: Put) -> Result<NewObject, AllocError>
+        ensures { (r : plain.Repository) (files : FileMap) (line : orders.EditLine)
+            → IsEdit (edits.Put put) line → AreWithin (line ∷ []) → IsTrue (is_flat files)
+            → IsTreeOf (kind_of_objects self.now.objects) tree.old files
             → IfOk result (λ blob. HasEdited r (kind_of_objects self.now.objects) files (line ∷ []) (blob ∷ []) tree.new) }
     {
         let content = into_kept(put.content);
-        let id = self.id_of(ObjectKind::Blob, &content);
-        tree.insert(into_kept(put.path), TreeEntry { kind: put.kind, id })?;
-        Ok(content)
+        let blob = NewObject::new(self.objects.kind(), ObjectKind::Blob, content);
+        let entry = TreeEntry {
+            kind: put.kind,
+            id: blob.id,
+        };
+        tree.insert(into_kept(put.path), entry)?;
+        Ok(blob)
     }
 
-    /// Changes the files by the edits in order, and gives the contents to be stored.
+    /// Changes the files by the edits in order, and gives the objects of their contents.
     fn edit(
         &self,
         alloc: Global,
         tree: &mut Tree,
         edits: Vec<Edit>,
-    ) -> Result<Vec<Vec<u8>>, AllocError>
-        ensures { (r : plain.Repository) (files : FileMap) (lines : List orders.EditLine) → AreEdits edits.items lines → AreWithin lines → IsTrue (is_flat files) → IsTreeOf (kind_of_objects self.now.objects) tree.old files
+    ) -> Result<Vec<NewObject>, AllocError>
+        ensures { (r : plain.Repository) (files : FileMap) (lines : List orders.EditLine)
+            → AreEdits edits.items lines → AreWithin lines → IsTrue (is_flat files)
+            → IsTreeOf (kind_of_objects self.now.objects) tree.old files
             → IfOk result (λ blobs. HasEdited r (kind_of_objects self.now.objects) files lines blobs.items tree.new) }
     {
         let mut blobs = Vec::with_capacity(alloc, edits.len())?;
@@ -128,15 +128,16 @@ impl<F: Files> Repository<F> {
 
     /// Tests every cause, and makes all that is to be stored. It changes nothing.
     pub(crate) fn plan(&self, alloc: Global, command: CommitCommand) -> Result<Plan, Stopped>
-        ensures { (r : plain.Repository) (order : orders.CommitCommand) → Stands F.is_honest F.history self.now r → IsCommit command order → IsTrue (is_offered (CommitOf order))
+        ensures { (r : plain.Repository) (order : orders.CommitCommand)
+            → AskedCommit F.is_honest F.history self.now command r order
             → Plans F.reading_may_fail r order result }
     {
         let name = self.name_of(alloc, &command.name)?;
         let parent = self.parent_of(alloc, &name, &command.expect)?;
         let times = read_times(&command)?;
         let mut tree = self.files_before(alloc, parent)?;
-        let blobs = self.edit(alloc, &mut tree, command.edits)?;
-        let tree = within_limit(tree.to_bytes(alloc)?)?;
+        let mut objects = self.edit(alloc, &mut tree, command.edits)?;
+        let tree = self.new_object(ObjectKind::Tree, tree.to_bytes(alloc)?)?;
 
         let author = actor_at(command.author, times.author).ok_or(Cause::BadActor)?;
         let committer = actor_at(command.committer, times.committer).ok_or(Cause::BadActor)?;
@@ -144,23 +145,23 @@ impl<F: Files> Repository<F> {
         let title = Vec::from_slice(alloc, title(&message))?;
         let log_actor = committer.try_clone()?;
         let commit = Commit {
-            tree: self.id_of(ObjectKind::Tree, &tree),
+            tree: tree.id,
             parents: parents(alloc, parent)?,
             author,
             committer,
             message,
         };
-        let commit = within_limit(commit.to_bytes(alloc)?)?;
+        let commit = self.new_object(ObjectKind::Commit, commit.to_bytes(alloc)?)?;
         let entry = LogEntry {
             before: parent.unwrap_or(ObjectId::null(self.objects.kind())),
-            after: self.id_of(ObjectKind::Commit, &commit),
+            after: commit.id,
             actor: log_actor,
             message: title,
         };
+        objects.push(tree)?;
+        objects.push(commit)?;
         Ok(Plan {
-            blobs,
-            tree,
-            commit,
+            objects,
             moves: Moves { name, entry },
         })
     }

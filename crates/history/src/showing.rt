@@ -128,12 +128,13 @@ impl<F: Files> Repository<F> {
     ghost use Rattle.history_model.specs.Commands.{Show as ShowOf};
     ghost use Rattle.history_word.specs.Commands.{IsPath, max_path};
     ghost use Rattle.history_word.specs.Fields.{Keeps};
-    ghost use Rattle.history.specs.Stands.{Stands};
+    ghost use Rattle.history.specs.Stands.{Serves};
     ghost use Rattle.history.specs.Acts.{AnswersReading};
 
     /// The reply to `show` of a commit.
     fn show_commit(&self, alloc: Global, id: &ObjectId) -> Result<Vec<u8>, Stopped>
-        ensures { (r : plain.Repository) (word : Bytes) → Stands F.is_honest F.history self.now r → word_reading r word ≡ ReadsAs (id_of id.now)
+        ensures { (r : plain.Repository) (word : Bytes) → Serves F.is_honest F.history self.now r
+            → word_reading r word ≡ ReadsAs (id_of id.now)
             → AnswersReading F.reading_may_fail r (ShowOf word None) result }
     {
         let commit = self.read_commit(alloc, id)?;
@@ -142,7 +143,9 @@ impl<F: Files> Repository<F> {
 
     /// The reply to `show` of what a commit has at a path.
     fn show_content(&self, alloc: Global, id: &ObjectId, path: &Field) -> Result<Vec<u8>, Stopped>
-        ensures { (r : plain.Repository) (word bytes : Bytes) → Stands F.is_honest F.history self.now r → word_reading r word ≡ ReadsAs (id_of id.now) → Keeps max_path path.now bytes
+        ensures { (r : plain.Repository) (word bytes : Bytes)
+            → Serves F.is_honest F.history self.now r
+            → word_reading r word ≡ ReadsAs (id_of id.now) → Keeps max_path path.now bytes
             → AnswersReading F.reading_may_fail r (ShowOf word (Some bytes)) result }
     {
         if is_bad_path(path) {
@@ -159,7 +162,8 @@ impl<F: Files> Repository<F> {
 
     /// The reply to `show`: a commit, or what it has at a path.
     pub(crate) fn show(&self, alloc: Global, command: &Show) -> Result<Vec<u8>, Stopped>
-        ensures { (r : plain.Repository) (path : Option Bytes) → Stands F.is_honest F.history self.now r → IsPath command.now.path path
+        ensures { (r : plain.Repository) (path : Option Bytes)
+            → Serves F.is_honest F.history self.now r → IsPath command.now.path path
             → AnswersReading F.reading_may_fail r (ShowOf command.now.word.items path) result }
     {
         let id = self.commit_of(alloc, &command.word)?;

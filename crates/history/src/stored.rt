@@ -19,7 +19,7 @@ use std::alloc::Global;
 // In a whole repository each id that is read names an object of its kind, so only a failed call leads to `fault File`.
 impl<F: Files> Repository<F> {
     ghost use Rattle.history_model.specs.Repository as plain;
-    ghost use Rattle.history.specs.Stands.{Stands};
+    ghost use Rattle.history.specs.Stands.{Serves, Stands};
     ghost use Rattle.history.specs.Acts.{Gives};
 
     /// The content of a stored object.
@@ -29,7 +29,8 @@ impl<F: Files> Repository<F> {
         kind: ObjectKind,
         id: &ObjectId,
     ) -> Result<Vec<u8>, Stopped>
-        ensures { (r : plain.Repository) (value : Value) → Stands F.is_honest F.history self.now r → get r.objects (id_of id.now) ≡ Some value → object_kind value ≡ kind
+        ensures { (r : plain.Repository) (value : Value) → Stands F.is_honest F.history self.now r
+            → get r.objects (id_of id.now) ≡ Some value → object_kind value ≡ kind
             → Gives F.reading_may_fail (λ content. content.items ≡ content_of r.kind value) result }
     {
         match self.objects.read(alloc, id)? {
@@ -40,7 +41,9 @@ impl<F: Files> Repository<F> {
 
     /// A stored commit.
     pub(crate) fn read_commit(&self, alloc: Global, id: &ObjectId) -> Result<Commit, Stopped>
-        ensures { (r : plain.Repository) (value : CommitValue) → Stands F.is_honest F.history self.now r → get r.objects (id_of id.now) ≡ Some (StoredCommit value)
+        ensures { (r : plain.Repository) (value : CommitValue)
+            → Stands F.is_honest F.history self.now r
+            → get r.objects (id_of id.now) ≡ Some (StoredCommit value)
             → Gives F.reading_may_fail (λ commit. IsCommitOf r.kind commit value) result }
     {
         let content = self.content(alloc, ObjectKind::Commit, id)?;
@@ -49,7 +52,9 @@ impl<F: Files> Repository<F> {
 
     /// A stored tree.
     pub(crate) fn read_tree(&self, alloc: Global, id: &ObjectId) -> Result<Tree, Stopped>
-        ensures { (r : plain.Repository) (files : FileMap) → Stands F.is_honest F.history self.now r → get r.objects (id_of id.now) ≡ Some (StoredFolder files)
+        ensures { (r : plain.Repository) (files : FileMap)
+            → Serves F.is_honest F.history self.now r
+            → get r.objects (id_of id.now) ≡ Some (StoredFolder files)
             → Gives F.reading_may_fail (λ tree. IsTreeOf r.kind tree files) result }
     {
         let content = self.content(alloc, ObjectKind::Tree, id)?;

@@ -80,12 +80,13 @@ impl WordReading {
 
 impl<F: Files> Repository<F> {
     ghost use Rattle.history_model.specs.Repository as plain;
-    ghost use Rattle.history.specs.Stands.{Stands};
+    ghost use Rattle.history.specs.Stands.{Serves};
     ghost use Rattle.history.specs.Acts.{Gives, ReadsWord};
 
     /// What a word stands for: HEAD for its branch, else the first candidate that stands.
     pub(crate) fn read_word(&self, alloc: Global, word: &[u8]) -> Result<WordReading, Stopped>
-        ensures { (r : plain.Repository) → Stands F.is_honest F.history self.now r → Gives F.reading_may_fail (λ reading. reading_of reading ≡ word_reading r word.now) result }
+        ensures { (r : plain.Repository) → Serves F.is_honest F.history self.now r
+            → Gives F.reading_may_fail (λ reading. reading_of reading ≡ word_reading r word.now) result }
     {
         if word == HEAD {
             return Ok(match self.names.read(alloc, &self.branch)? {
@@ -106,7 +107,8 @@ impl<F: Files> Repository<F> {
 
     /// The commit that a word stands for.
     pub(crate) fn commit_of(&self, alloc: Global, word: &[u8]) -> Result<ObjectId, Stopped>
-        ensures { (r : plain.Repository) → Stands F.is_honest F.history self.now r → ReadsWord F.reading_may_fail r word.now result }
+        ensures { (r : plain.Repository) → Serves F.is_honest F.history self.now r
+            → ReadsWord F.reading_may_fail r word.now result }
     {
         Ok(self.read_word(alloc, word)?.commit()?)
     }

@@ -3,11 +3,14 @@ pub mod IdLemmas
 mod GrammarLemmas
 mod RestLemmas
 mod EditLemmas
-mod NameLemmas
+pub mod NameTests
+pub mod NameLemmas
 mod RestRowLemmas
 mod RowLemmas
 mod FirstRowLemmas
+mod LogLemmas
 pub mod StepLemmas
+pub mod RunsAgree
 mod RecoveryLemmas
 pub mod FreshLemmas
 mod RecoveredLemmas
@@ -47,6 +50,7 @@ pub mod TreePuts
 pub mod TreeTexts
 pub mod TreeMoves
 pub mod CommitStands
+pub mod AnyOrder
 pub mod OfferedFiles
 pub mod OfferedSteps
 pub mod OfferedCauses

@@ -4,7 +4,9 @@ use Rattle.std.specs.List.{list_any, list_all, slice_split, onto_first}
 use Rattle.std.proofs.lemmas.Slice.Eq.{bytes_eq-Decides}
 use Rattle.history_model.specs.Bytes.{Bytes, begins, ends, has_byte}
 use Rattle.history_model.specs.FileMap.{components}
-use Rattle.history_model.specs.Forms.{is_name, is_partial_name, is_name_component}
+use Rattle.history_model.specs.Forms.{is_name}
+use Rattle.gix_object_lines.specs.NameTest.{is_partial_name}
+use Rattle.history_model.proofs.NameTests.{is_name_component, components_of}
 use Rattle.history_model.specs.Places.{is_log_place, log_place}
 use Rattle.history_model.proofs.PartLemmas.{both_true, either_false}
 
@@ -98,9 +100,6 @@ and_first a b h = (both_true a b h).0
 -- the first of the tests that make a name
 partial_of : (name : Bytes) → is_name name ≡ true → is_partial_name name ≡ true
 partial_of name h = and_first _ _ (and_first _ _ (and_first _ _ h))
-
-components_of : (name : Bytes) → is_partial_name name ≡ true → list_all is_name_component (components name) ≡ true
-components_of name h = and_first _ _ (and_first _ _ (and_first _ _ (and_first _ _ (and_first _ _ h))))
 
 pub name-lock : (name : Bytes) → is_name name ≡ true → ends (codes ".lock") name ≡ false
 unfolding some_part split_slash

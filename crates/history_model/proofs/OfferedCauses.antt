@@ -6,7 +6,7 @@ use Rattle.std.specs.Str.{is_utf8, chars}
 use Rattle.std.specs.FinMap.{get, keys}
 use Rattle.history_model.specs.Bytes.{Bytes, is_empty, has_twice}
 use Rattle.history_model.specs.FileMap.{FileMap, some_refused, edited, has_below, Put}
-use Rattle.history_model.specs.Stage.{is_offered, is_put}
+use Rattle.history_model.specs.Stage.{main_name, is_offered, is_put}
 use Rattle.history_model.specs.Objects.{Value, StoredCommit, StoredTag, StoredBytes, StoredFolder}
 use Rattle.gix_hash.specs.Id.{Id}
 use Rattle.gix_hash.specs.Order.{id_eq}
@@ -17,7 +17,7 @@ use Rattle.history_model.specs.Commands.{Commit, Tag, Move, Rename, Delete, Swit
 use Rattle.history_model.specs.CommandParts.{unless_head, at_word}
 use Rattle.history_model.specs.Meaning.{branch_or_name, name_commit, parents_of, first_files, read_edit}
 use Rattle.history_model.specs.Causes.{holds, in_order, is_unknown, is_unborn, is_ambiguous, is_no_commit, is_at, is_elsewhere, same_id, do_collide, word_files}
-use Rattle.history_model.specs.Offered.{main_name, IsOffered, offered_causes, FirstOfferedCause}
+use Rattle.history_model.specs.Offered.{IsOffered, offered_causes, FirstOfferedCause}
 use Rattle.history_model.specs.declared.Cause.{Cause}
 use Rattle.history_model.specs.declared.Cause.TheVariants.{BadName, PrivateName, NameTwice, UnknownWord, AmbiguousWord, UnbornHead, NotACommit, NoSuchName, Taken, NotExpected, Collides, HoldsTag, TooManyParents, DuplicateParent, BadPath, IsFolder, NoSuchPath, BadActor, BadTime, BadMessage, TooLarge, NothingMoves, OrderWithParents}
 use Rattle.history_model.proofs.IdLemmas.{id_itself}

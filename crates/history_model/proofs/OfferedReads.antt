@@ -3,14 +3,14 @@ use Rattle.std.proofs.Common.{◌≡◌, Bool, true, false, cond, ◌&&◌, ◌|
 use Rattle.std.specs.List.{list_any, list_all, flat_map, filter_map}
 use Rattle.std.specs.FinMap.{get}
 use Rattle.history_model.specs.Bytes.{Bytes, is_among, begins, is_empty}
-use Rattle.history_model.specs.Stage.{is_put}
+use Rattle.history_model.specs.Stage.{main_name, is_put}
 use Rattle.history_model.specs.Objects.{CommitValue, Value, StoredCommit, StoredTag, StoredBytes, StoredFolder}
 use Rattle.gix_hash.specs.Id.{Id}
 use Rattle.history_model.specs.Repository.{Repository, Reference, HasWholeNames, id_at, stands, peeled, peeled_value}
 use Rattle.history_model.specs.Forms.{is_private}
 use Rattle.history_model.specs.Words.{Unknown, word_reading, name_reading, id_reading, candidates, head_word, commit_of, commit_read}
 use Rattle.history_model.specs.Meaning.{branch_or_name, name_commit, edits_of, new_commit, put_bytes}
-use Rattle.history_model.specs.Offered.{main_name, IsOffered}
+use Rattle.history_model.specs.Offered.{IsOffered}
 use Rattle.history_model.specs.OfferedWords.{main_words, WordsMeanMain, CommitsStoreFlat, CommitsNameMain, WordsStandForMain, CommitsFollowMain, MainHoldsACommit}
 use Rattle.history_model.proofs.PartLemmas.{both_true}
 use Rattle.history_model.proofs.TreePlaces.{one_text, text_itself}

@@ -4,7 +4,7 @@ use Rattle.std.specs.List.{list_all, list_any, flat_map, AllByRecursion}
 use Rattle.std.specs.FinMap.{FinMap, get, empty, insert, contains_key, get-empty}
 use Rattle.history_model.specs.Bytes.{Bytes, by_bytes}
 use Rattle.history_model.specs.FileMap.{Edit, Put, Remove, RemoveFile, edit_path, folders_of, is_path}
-use Rattle.history_model.specs.Stage.{is_offered_path}
+use Rattle.history_model.specs.Stage.{main_name, is_offered_path}
 use Rattle.history_model.specs.Objects.{by_id, Value, CommitValue, StoredCommit, StoredTag, StoredBytes, StoredFolder, id_of}
 use Rattle.gix_hash.specs.Id.{Id}
 use Rattle.gix_hash.specs.Order.{id_eq}
@@ -14,7 +14,7 @@ use Rattle.history_model.specs.Commands.{Command, Commit, Tag, Move, Rename, Del
 use Rattle.history_model.specs.CommandParts.{edit_paths, paths_in}
 use Rattle.history_model.specs.Meaning.{after, branch_or_name, parents_of, files_at, first_files, edits_of, read_edit, new_commit, put_bytes, store_one, store_all, stored_by, moved_reference, read_actor}
 use Rattle.history_model.specs.Causes.{holds, first_cause, is_bad_path}
-use Rattle.history_model.specs.Offered.{main_name, is_flat, IsOfferedValue, IsOffered, FreshIsOffered, OfferedStays}
+use Rattle.history_model.specs.Offered.{is_flat, IsOfferedValue, IsOffered, FreshIsOffered, OfferedStays}
 use Rattle.gix_hash.specs.declared.kind.Kind.{Kind}
 use Rattle.history_model.specs.declared.Cause.{Cause}
 use Rattle.history_model.specs.declared.Cause.TheVariants.{BadName, PrivateName, NameTwice, UnknownWord, AmbiguousWord, UnbornHead, NotACommit, NoSuchName, Taken, NotExpected, Collides, HoldsTag, TooManyParents, DuplicateParent, BadPath, IsFolder, NoSuchPath, BadActor, BadTime, BadMessage, TooLarge, NothingMoves, OrderWithParents}

@@ -175,4 +175,6 @@ nothing_given = (
     };
     ends = (refl, tt, refl, refl);
   },
+  refl,
+  refl,
 )

@@ -19,8 +19,9 @@ use Rattle.history_model.specs.Answers.{Answers, StandsForCommit, IsWalk, graph_
 use Rattle.history_model.specs.Walks.{Graph, WalkRequest, Listed, IsListOf}
 use Rattle.history_model.specs.Steps.{Step, is_faulted, Accepts}
 use Rattle.history_model.specs.Stops.{LeftByStop, Between, IsNotLost, is_changing}
-use Rattle.history_model.specs.Laws.{TreesAreCanonical, StepsAreDetermined, ListsTheSame, AreAlike, RepliesTellTheState, RenamesLoseNothing, StopsMayLeaveAll}
+use Rattle.history_model.specs.Laws.{TreesAreCanonical, StepsAreDetermined, ListsAlike, AreAlike, RepliesTellTheState, RenamesLoseNothing, StopsMayLeaveAll}
 use Rattle.history_model.specs.declared.Cause.{Cause}
+use Rattle.history_model.proofs.LogLemmas.{walks_alike}
 use Rattle.history_model.proofs.WholeLists.{In}
 use Rattle.history_model.proofs.WholeSteps.{contains_in, in_contains}
 use Rattle.history_model.specs.declared.Cause.TheVariants.{NameTwice, NoSuchName, Taken}
@@ -106,34 +107,32 @@ walks_same r c paths xs ys h k id = go paths
     go [] = same id
     go (path ∷ paths) = in_kept (differs_at r (path ∷ paths)) xs ys same id
 
-log_same : (r : Repository) (c : LogCommand) (x y : Reply) → Answers r (Log c) x → Answers r (Log c) y → ListsTheSame x y
+log_same : (r : Repository) (c : LogCommand) (x y : Reply) → Answers r (Log c) x → Answers r (Log c) y → ListsAlike r c x y
 log_same r c x y (xs, (walked, h, e), f) (ys, (other, k, g), l) = record {
-  first = xs;
-  second = ys;
-  x_is = f;
-  y_is = l;
-  same = λ id. (
-    λ at. subst (λ ids. Contains ids id) (sym g) (walks_same r c c.paths walked other h k id (subst (λ ids. Contains ids id) e at)),
-    λ at. subst (λ ids. Contains ids id) (sym e) (walks_same r c c.paths other walked k h id (subst (λ ids. Contains ids id) g at)),
-  );
+  walk = walked;
+  other = other;
+  x_is = f ∙ ap LogIs e;
+  y_is = l ∙ ap LogIs g;
+  same = λ id. (λ at. walks_same r c c.paths walked other h k id at, λ at. walks_same r c c.paths other walked k h id at);
+  choice = walks_alike c.order (graph_of r) (walk_request r c) walked other h k;
 }
 
-same_alike : (command : Command) (x y : Reply) → x ≡ y → AreAlike command x y
-same_alike (Commit c) x y e = e
-same_alike (Tag c) x y e = e
-same_alike (Move c) x y e = e
-same_alike (Rename from to) x y e = e
-same_alike (Delete name at) x y e = e
-same_alike (Switch name) x y e = e
-same_alike Pack x y e = e
-same_alike Index x y e = e
-same_alike (Names folder) x y e = e
-same_alike (Past name) x y e = e
-same_alike (Log c) x y e = inl e
-same_alike (Files word) x y e = e
-same_alike (Show word path) x y e = e
+same_alike : (r : Repository) (command : Command) (x y : Reply) → x ≡ y → AreAlike r command x y
+same_alike r (Commit c) x y e = e
+same_alike r (Tag c) x y e = e
+same_alike r (Move c) x y e = e
+same_alike r (Rename from to) x y e = e
+same_alike r (Delete name at) x y e = e
+same_alike r (Switch name) x y e = e
+same_alike r Pack x y e = e
+same_alike r Index x y e = e
+same_alike r (Names folder) x y e = e
+same_alike r (Past name) x y e = e
+same_alike r (Log c) x y e = inl e
+same_alike r (Files word) x y e = e
+same_alike r (Show word path) x y e = e
 
-answers_same : (r : Repository) (command : Command) (x y : Reply) → Answers r command x → Answers r command y → AreAlike command x y
+answers_same : (r : Repository) (command : Command) (x y : Reply) → Answers r command x → Answers r command y → AreAlike r command x y
 answers_same r (Commit c) x y a b = a ∙ sym b
 answers_same r (Tag c) x y a b = a ∙ sym b
 answers_same r (Move c) x y a b = a ∙ sym b
@@ -162,8 +161,8 @@ pub steps_are_determined : StepsAreDetermined
 steps_are_determined old a b command x y fx fy h k = go (outcome old a command x fx h) (outcome old b command y fy k)
   where
     go : ((cause : Cause) × (x ≡ RefusedFor cause) × (first_cause old command ≡ Some cause) × (a ≡ old)) ⊎ Accepts old command x a
-        → ((cause : Cause) × (y ≡ RefusedFor cause) × (first_cause old command ≡ Some cause) × (b ≡ old)) ⊎ Accepts old command y b → AreAlike command x y × (a ≡ b)
-    go (inl (c, e, first, s)) (inl (d, g, second, t)) = (same_alike command x y (e ∙ ap RefusedFor (some_same c d (sym first ∙ second)) ∙ sym g), s ∙ sym t)
+        → ((cause : Cause) × (y ≡ RefusedFor cause) × (first_cause old command ≡ Some cause) × (b ≡ old)) ⊎ Accepts old command y b → AreAlike old command x y × (a ≡ b)
+    go (inl (c, e, first, s)) (inl (d, g, second, t)) = (same_alike old command x y (e ∙ ap RefusedFor (some_same c d (sym first ∙ second)) ∙ sym g), s ∙ sym t)
     go (inl (c, e, first, s)) (inr v) = none_some c (sym first ∙ v.no_cause)
     go (inr u) (inl (d, g, second, t)) = none_some d (sym second ∙ u.no_cause)
     go (inr u) (inr v) = (answers_same old command x y u.answer v.answer, u.result ∙ sym v.result)

@@ -133,6 +133,8 @@ first_gives = (
     };
     ends = (refl, tt, refl, refl);
   },
+  refl,
+  refl,
 )
 
 -- ---- empty
@@ -227,6 +229,8 @@ empty_file_gives = (
     };
     ends = (refl, tt, refl, refl);
   },
+  refl,
+  refl,
 )
 
 -- ---- hello
@@ -327,4 +331,6 @@ hello_gives = (
     };
     ends = (refl, tt, refl, refl);
   },
+  refl,
+  refl,
 )

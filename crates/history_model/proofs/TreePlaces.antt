@@ -142,16 +142,21 @@ module _ (kind : Kind) where
         let found = found_at path (entries values) (ap is_some (sym (files_found path) ∙ h)) in
         (found.0, all_ids found.0 found.1, found.2)
 
-  -- two stores with one value under each id that a path is the place of have one file there
-  pub same_file : (m n : Values) → HaveOwnIds kind m → HaveOwnIds kind n → (path : Bytes) → ((id : Id) → is_id kind id ≡ true → path ≡ object_place id → get m id ≡ get n id)
+  -- two stores with one text under each id that a path is the place of have one file there
+  pub alike_file : (m n : Values) → HaveOwnIds kind m → HaveOwnIds kind n → (path : Bytes) → ((id : Id) → is_id kind id ≡ true → path ≡ object_place id → option_map (value_text kind) (get m id) ≡ option_map (value_text kind) (get n id))
       → get (value_files kind m) path ≡ get (value_files kind n) path
-  same_file m n own_m own_n path same = go (get (value_files kind m) path) refl (get (value_files kind n) path) refl
+  alike_file m n own_m own_n path same = go (get (value_files kind m) path) refl (get (value_files kind n) path) refl
     where
       at_one : (id : Id) → is_id kind id ≡ true → path ≡ object_place id → get (value_files kind m) path ≡ get (value_files kind n) path
-      at_one id h is = ap (get (value_files kind m)) is ∙ file_at_id m own_m id h ∙ ap (option_map (value_text kind)) (same id h is)
+      at_one id h is = ap (get (value_files kind m)) is ∙ file_at_id m own_m id h ∙ same id h is
           ∙ sym (file_at_id n own_n id h) ∙ ap (get (value_files kind n)) (sym is)
 
       go : (a : Option Bytes) → get (value_files kind m) path ≡ a → (b : Option Bytes) → get (value_files kind n) path ≡ b → get (value_files kind m) path ≡ get (value_files kind n) path
       go None e None f = e ∙ sym f
       go (Some t) e b f = let found = file_has_id m own_m path t e in at_one found.0 found.1 found.2
       go None e (Some t) f = let found = file_has_id n own_n path t f in at_one found.0 found.1 found.2
+
+  -- so have two stores with one value under each
+  pub same_file : (m n : Values) → HaveOwnIds kind m → HaveOwnIds kind n → (path : Bytes) → ((id : Id) → is_id kind id ≡ true → path ≡ object_place id → get m id ≡ get n id)
+      → get (value_files kind m) path ≡ get (value_files kind n) path
+  same_file m n own_m own_n path same = alike_file m n own_m own_n path (λ id h is. ap (option_map (value_text kind)) (same id h is))

@@ -5,7 +5,8 @@ use Rattle.std.specs.Char.{is_ascii_digit}
 use Rattle.std.specs.Str.{is_utf8}
 use Rattle.std.specs.FinMap.{get, contains_key}
 use Rattle.history_model.specs.Bytes.{Bytes, begins, ends, has_byte, has_pair, has_twice, is_empty, is_decimal, digits_value}
-use Rattle.history_model.specs.FileMap.{FileMap, IsFileMap, components}
+use Rattle.gix_object_lines.specs.NameTest.{is_partial_name}
+use Rattle.history_model.specs.FileMap.{FileMap, IsFileMap}
 use Rattle.history_model.specs.Objects.{Actor, CommitValue, TagValue, Value, StoredCommit, StoredTag, StoredBytes, StoredFolder, content_of}
 use Rattle.gix_hash.specs.Id.{Id}
 use Rattle.gix_hash.specs.Kind.{hex_len, kind_number}
@@ -38,19 +39,7 @@ max_parents = 64
 
 -- ---- names of references (git-check-ref-format)
 
--- a byte that no name holds
-abbrev pub is_barred : ℕ → Bool
-is_barred b = nat_lt b 32 || b == 127 || has_byte b (codes " ~^:?*[\\")
-
-abbrev pub is_name_component : Bytes → Bool
-is_name_component part = not (is_empty part) && not (begins (codes ".") part) && not (ends (codes ".lock") part)
-
--- a partial name, as a tag's name is
-abbrev pub is_partial_name : Bytes → Bool
-is_partial_name name = list_all is_name_component (components name) && not (list_any is_barred name)
-    && not (has_pair 46 46 name) && not (has_pair 64 123 name) && not (ends (codes ".") name) && not (bytes_eq name (codes "@"))
-
--- a name that a repository may hold, or a private one
+-- a name that a repository may hold, or a private one: by the rules of names, below `refs/`, in UTF-8, and within the limit
 abbrev pub is_name : Bytes → Bool
 is_name name = is_partial_name name && begins (codes "refs/") name && is_utf8 name && nat_le (length name) max_name
 

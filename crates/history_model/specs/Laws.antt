@@ -1,5 +1,5 @@
 -- What the laws say.
-use Rattle.std.specs.Prelude.{◌≡◌, ◌⊎◌, Bool, false, List, [], ◌∷◌, ◌++◌, map, Some, None, option_map, IsTrue, IsFalse, ◌↔◌, Contains, bytes_eq, codes, if◌then◌else◌}
+use Rattle.std.specs.Prelude.{ℕ, ⊤, take, true, not, MatchBool, ◌≡◌, ◌⊎◌, Bool, false, List, [], ◌∷◌, ◌++◌, map, Some, None, option_map, IsTrue, IsFalse, ◌↔◌, Contains, bytes_eq, codes, if◌then◌else◌}
 use Rattle.std.specs.List.{list_all, flat_map}
 use Rattle.std.specs.List.Sorted.{IsStrictlySortedBy}
 use Rattle.std.specs.FinMap.{get, empty, insert}
@@ -9,8 +9,10 @@ use Rattle.history_model.specs.Bytes.{Bytes, by_bytes}
 use Rattle.history_model.specs.FileMap.{FileMap, Edit, cut_to, IsFileMap, edited_by, edit_path, is_path}
 use Rattle.history_model.specs.Objects.{StoredFolder, entry_at}
 use Rattle.gix_hash.specs.Id.{Id}
-use Rattle.history_model.specs.Repository.{Repository, IsWhole, id_at, moves_at, fresh}
-use Rattle.history_model.specs.Commands.{Command, Rename, Pack, Files, Log}
+use Rattle.history_model.specs.Repository.{Repository, IsWhole, id_at, moves_at, first_branch, fresh}
+use Rattle.history_model.specs.Commands.{Command, Rename, Pack, Files, Log, LogCommand, Order, Breadth, Topological}
+use Rattle.history_model.specs.Answers.{kept, time_at}
+use Rattle.history_model.specs.Walks.{IsAtIndex}
 use Rattle.history_model.specs.Replies.{Reply, FileLine, FilesAre, LogIs, reply_text}
 use Rattle.history_model.specs.Causes.{first_cause}
 use Rattle.history_model.specs.Places.{Pair, file_at, head_place, is_log_place, is_object_folder, is_name_folder}
@@ -25,6 +27,7 @@ use Rattle.history_model.specs.Moments.{Moment, IsRunPair, Traces}
 use Rattle.history_model.specs.Rounds.{HasWritten, Round, IsRunOf, AreRounds, last_left, Outcomes}
 use Rattle.gix_hash.specs.declared.kind.Kind.{Kind}
 use Rattle.history_model.specs.declared.End.{End}
+use Rattle.history_model.specs.declared.End.TheVariants.{Input}
 
 -- ---- trees and files
 
@@ -55,28 +58,85 @@ FilesAscend = (old new : Repository) (word : Bytes) (files : List FileLine)
 
 -- ---- steps
 
--- two lists of a log, of the same commits
-pub record ListsTheSame (x y : Reply) : Type 0 where
-  pub first : List Id
-  pub second : List Id
-  pub x_is : x ≡ LogIs first
-  pub y_is : y ≡ LogIs second
-  pub same : (id : Id) → Contains first id ↔ Contains second id
+-- where two lists first differ, if they do, the two commits have one time
+abbrev pub DifferAtOneTime : (Id → ℕ) → List Id → List Id → Type 0
+DifferAtOneTime time xs ys =
+    (k : ℕ) (x y : Id) → take k xs ≡ take k ys → IsAtIndex xs k x → IsAtIndex ys k y → time x ≡ time y
+
+-- whether an order leaves a choice, which is one among equal times
+abbrev pub leaves_choice : Order → Bool
+leaves_choice Breadth = false
+leaves_choice Topological = false
+leaves_choice _ = true
+
+-- Two replies to one log, each made of a walk: both of the same commits. Breadth and topology leave one walk alone; in an order
+-- by time two walks first differ, if they do, at two commits of one time.
+pub record ListsAlike (r : Repository) (c : LogCommand) (x y : Reply) : Type 0 where
+  pub walk : List Id
+  pub other : List Id
+  pub x_is : x ≡ LogIs (kept r c.paths walk)
+  pub y_is : y ≡ LogIs (kept r c.paths other)
+  pub same : (id : Id) → Contains (kept r c.paths walk) id ↔ Contains (kept r c.paths other) id
+  pub choice : MatchBool (leaves_choice c.order) (DifferAtOneTime (time_at r) walk other) (walk ≡ other)
 
 -- one reply; a log may choose among equal times
-abbrev pub AreAlike : Command → Reply → Reply → Type 0
-AreAlike (Log c) x y = (x ≡ y) ⊎ ListsTheSame x y
-AreAlike _ x y = x ≡ y
+abbrev pub AreAlike : Repository → Command → Reply → Reply → Type 0
+AreAlike r (Log c) x y = (x ≡ y) ⊎ ListsAlike r c x y
+AreAlike r _ x y = x ≡ y
 
--- The reply that is no fault, and the state after it, are a function of state and command, but for the order of a log's commits.
+-- The reply that is no fault, and the state after it, are a function of state and command, but for a log's choice among equal times.
 abbrev pub StepsAreDetermined : Type 0
 StepsAreDetermined = (old a b : Repository) (command : Command) (x y : Reply) → IsFalse (is_faulted x) → IsFalse (is_faulted y)
-    → Step old command x a → Step old command y b → AreAlike command x y × (a ≡ b)
+    → Step old command x a → Step old command y b → AreAlike old command x y × (a ≡ b)
+
+-- ---- runs
+
+-- no reply is a fault
+abbrev pub have_no_fault : List Reply → Bool
+have_no_fault replies = list_all (λ reply. not (is_faulted reply)) replies
+
+-- whether the command has one reply alone, faults apart
+abbrev pub is_sure : Command → Bool
+is_sure (Log c) = not (leaves_choice c.order)
+is_sure _ = true
+
+-- the replies to commands in a row, from two runs
+abbrev pub AreAllAlike : Repository → List Command → List Reply → List Reply → Type 0
+AreAllAlike r [] [] [] = ⊤
+AreAllAlike r (command ∷ commands) (x ∷ xs) (y ∷ ys) = AreAlike r command x y × AreAllAlike (next r command x) commands xs ys
+AreAllAlike _ _ _ _ = ⊥
+
+-- what two runs over one input have in common
+pub record RunAlike (old : Repository) (commands others : List Command) (replies answers : List Reply) (output written : Bytes) (new end : Repository) : Type 0 where
+  pub commands_are : others ≡ commands
+  pub new_is : end ≡ new
+  pub alike : AreAllAlike old commands replies answers
+  -- the same bytes, but for a log's choice among equal times
+  pub bytes : IsTrue (list_all is_sure commands) → written ≡ output
+
+-- Two runs over one input from one repository that both end with the input, and tell no fault.
+abbrev pub RunsAgree : Type 0
+RunsAgree = (old new end : Repository) (commands others : List Command) (replies answers : List Reply) (input output written : Bytes)
+    → Runs (Unit {0}) (Unit {0}) old commands replies input output Input false new → IsTrue (have_no_fault replies)
+    → Runs (Unit {0}) (Unit {0}) old others answers input written Input false end → IsTrue (have_no_fault answers)
+    → RunAlike old commands others replies answers output written new end
 
 -- The state after a step is told by the reply, where the run goes on.
 abbrev pub RepliesTellTheState : Type 0
 RepliesTellTheState = (old new : Repository) (command : Command) (reply : Reply)
     → Step old command reply new → IsTrue (goes_on command reply) → new ≡ next old command reply
+
+-- What was written are replies, of which one is a fault.
+abbrev pub HasFault : Bytes → Type 0
+HasFault written = (replies : List Reply) × IsFalse (have_no_fault replies) × (written ≡ flat_map reply_text replies)
+
+-- Where a run over the whole input tells no fault and has no choice, each run that ends over it, or over a beginning of it and
+-- before the rest, writes the same, or tells a fault.
+abbrev pub RunsGive : Type 0
+RunsGive = (old new end : Repository) (commands others : List Command) (replies answers : List Reply) (input output read rest written : Bytes) (ends : End) (failed : Bool)
+    → Runs (Unit {0}) (Unit {0}) old commands replies input output Input false new → IsTrue (have_no_fault replies) → IsTrue (list_all is_sure commands)
+    → input ≡ read ++ rest → Runs (rest ≡ []) (Unit {0}) old others answers read written ends failed end
+    → (written ≡ output) ⊎ HasFault written
 
 -- ---- stops
 
@@ -172,12 +232,12 @@ RecoveredStands = (kind : Kind) (pair : Pair) (r : Repository) → StandsFor kin
 pub record IsFresh (pair : Pair) : Type 0 where
   pub objects : (path : Bytes) → file_at pair.objects path ≡ None
   pub object_folders : (path : Bytes) → get pair.objects path ≡ Some folder → IsTrue (is_object_folder path)
-  pub names : (path : Bytes) → file_at pair.names path ≡ (if bytes_eq path head_place then Some (head_text (codes "refs/heads/main")) else None)
+  pub names : (path : Bytes) → file_at pair.names path ≡ (if bytes_eq path head_place then Some (head_text first_branch) else None)
   pub folders : (path : Bytes) → get pair.names path ≡ Some folder → IsTrue (is_name_folder path)
 
 -- the smallest one
 abbrev pub fresh_pair : Pair
-fresh_pair = record { objects = empty; names = insert empty head_place (file (head_text (codes "refs/heads/main"))) }
+fresh_pair = record { objects = empty; names = insert empty head_place (file (head_text first_branch)) }
 
 -- It stands for the repository without names and objects, and that is whole.
 abbrev pub FreshStands : Type 0

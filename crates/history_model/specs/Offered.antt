@@ -1,23 +1,20 @@
 -- The repositories of this stage: what its commands leave, from a new one on.
-use Rattle.std.specs.Prelude.{◌≡◌, ⊤, Bool, List, [], ◌∷◌, Some, None, find, codes, IsTrue}
+use Rattle.std.specs.Prelude.{◌≡◌, ⊤, Bool, List, [], ◌∷◌, Some, None, find, IsTrue}
 use Rattle.std.specs.List.{list_all, flat_map}
 use Rattle.std.specs.FinMap.{entries, keys, get, insert}
 use Rattle.history_model.specs.Bytes.{Bytes}
 use Rattle.history_model.specs.FileMap.{FileMap, Content, folders_of, put_at}
-use Rattle.history_model.specs.Stage.{is_offered, is_offered_path}
+use Rattle.history_model.specs.Stage.{main_name, is_offered, is_offered_path}
 use Rattle.history_model.specs.Objects.{Value, StoredCommit, StoredTag, StoredBytes, StoredFolder, entry_text, mode_of, blob_id, root}
 use Rattle.gix_hash.specs.Id.{Id}
 use Rattle.history_model.specs.Repository.{Repository, IsStored, IsWholeStore, HasWholeNames, stands, fresh}
 use Rattle.history_model.specs.Commands.{Command}
 use Rattle.history_model.specs.Meaning.{after}
 use Rattle.history_model.specs.Causes.{holds, first_cause}
+use Rattle.history_model.specs.Places.{Pair, file_at, packed_place}
 use Rattle.gix_hash.specs.declared.kind.Kind.{Kind}
 use Rattle.history_model.specs.declared.Cause.{Cause}
 use Rattle.history_model.specs.declared.Cause.TheVariants.{UnknownWord, UnbornHead, Taken, BadPath, NoSuchPath, BadActor, BadTime, BadMessage, TooLarge}
-
--- the one name, and HEAD's branch
-abbrev pub main_name : Bytes
-main_name = codes "refs/heads/main"
 
 -- no folders: each path has one component
 abbrev pub is_flat : FileMap → Bool
@@ -34,6 +31,11 @@ pub record IsOffered (r : Repository) : Type 0 where
   pub values : (id : Id) (value : Value) → get r.objects id ≡ Some value → IsOfferedValue value
   pub names : (name : Bytes) → IsTrue (stands r name) → name ≡ main_name
   pub branch : r.branch ≡ main_name
+
+-- What is true at this stage, beside that the pair stands for the repository: its commands have left it, and pack no names.
+pub record IsOfStage (r : Repository) (pair : Pair) : Type 0 where
+  pub offered : IsOffered r
+  pub unpacked : file_at pair.names packed_place ≡ None
 
 -- ---- flat files
 

@@ -3,7 +3,7 @@ use Rattle.std.specs.Prelude.{◌≡◌, ◌&&◌, ◌||◌, List, [], ◌∷◌
 use Rattle.std.specs.List.{list_any, flat_map}
 use Rattle.std.specs.FinMap.{get}
 use Rattle.history_model.specs.Bytes.{Bytes, is_among}
-use Rattle.history_model.specs.Stage.{is_offered}
+use Rattle.history_model.specs.Stage.{main_name, is_offered}
 use Rattle.history_model.specs.Objects.{CommitValue, StoredCommit, StoredFolder}
 use Rattle.gix_hash.specs.Id.{Id}
 use Rattle.history_model.specs.Repository.{Repository, HasWholeNames, id_at, stands}
@@ -12,7 +12,7 @@ use Rattle.history_model.specs.Commands.{Commit, CommitCommand}
 use Rattle.history_model.specs.CommandParts.{paths_in}
 use Rattle.history_model.specs.Meaning.{branch_or_name, parents_of, edits_of, new_commit, put_bytes, stored_by}
 use Rattle.history_model.specs.Causes.{is_bad_path}
-use Rattle.history_model.specs.Offered.{IsOffered, main_name}
+use Rattle.history_model.specs.Offered.{IsOffered}
 
 -- the words of which the one name is a candidate
 abbrev pub main_words : List Bytes

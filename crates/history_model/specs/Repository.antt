@@ -119,6 +119,10 @@ pub record IsWhole (r : Repository) : Type 0 where
   pub store : IsWholeStore r
   pub names : HasWholeNames r
 
+-- HEAD's branch in a new folder
+abbrev pub first_branch : Bytes
+first_branch = codes "refs/heads/main"
+
 -- what a new folder stands for
 abbrev pub fresh : Kind → Repository
-fresh kind = record { kind = kind; names = empty; branch = codes "refs/heads/main"; objects = empty }
+fresh kind = record { kind = kind; names = empty; branch = first_branch; objects = empty }

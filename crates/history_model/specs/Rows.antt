@@ -1,6 +1,6 @@
 -- Worked examples: streams, and what a run over them writes on a fresh repository.
-use Rattle.std.specs.Prelude.{ℕ, ◌++◌, false, List, [], ◌∷◌, codes, replicate}
-use Rattle.std.specs.List.{flat_map}
+use Rattle.std.specs.Prelude.{ℕ, ◌++◌, false, List, [], ◌∷◌, codes, replicate, IsTrue}
+use Rattle.std.specs.List.{flat_map, list_all}
 use Rattle.std.specs.FinMap.{empty}
 use Rattle.history_model.specs.Bytes.{Bytes, line}
 use Rattle.history_model.specs.FileMap.{Content}
@@ -9,6 +9,7 @@ use Rattle.history_model.specs.Repository.{Repository, fresh}
 use Rattle.history_model.specs.Commands.{ActorLine, Command, CommitCommand, New}
 use Rattle.history_model.specs.Replies.{Reply}
 use Rattle.history_model.specs.Runs.{Runs}
+use Rattle.history_model.specs.Laws.{have_no_fault, is_sure}
 use Rattle.gix_hash.specs.declared.kind.Kind.TheVariants.{Sha1}
 use Rattle.history_model.specs.declared.FileKind.TheVariants.{File, Exec}
 use Rattle.history_model.specs.declared.End.TheVariants.{Input, Refused as ByRefusal}
@@ -16,10 +17,11 @@ use Rattle.history_model.specs.declared.End.TheVariants.{Input, Refused as ByRef
 -- ---- what a stream gives
 
 -- A run over the whole stream, from a fresh repository, writes the output and ends at the end of the input. No call of the
--- files failed.
+-- files failed, no reply is a fault, and each command has one reply alone.
 abbrev pub Gives : Bytes → Bytes → Type 0
 Gives stream output = (commands : List Command) × (replies : List Reply) × (new : Repository)
     × Runs (Unit {0}) ⊥ (fresh Sha1) commands replies stream output Input false new
+    × IsTrue (have_no_fault replies) × IsTrue (list_all is_sure commands)
 
 -- It is refused before any command, and the repository is as it was.
 abbrev pub Refuses : Bytes → Bytes → Type 0

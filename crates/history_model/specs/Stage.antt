@@ -3,15 +3,20 @@
 use Rattle.std.specs.Prelude.{Bool, true, false, not, ◌&&◌, ◌||◌, bytes_eq, codes}
 use Rattle.std.specs.List.{list_all}
 use Rattle.history_model.specs.Bytes.{Bytes, is_empty, has_byte}
+use Rattle.history_model.specs.Repository.{first_branch}
 use Rattle.history_model.specs.Commands.{Command, Commit, Files, Show, EditLine, PutLine}
 
 abbrev pub is_put : EditLine → Bool
 is_put (PutLine kind path content) = true
 is_put _ = false
 
+-- the one name that stands
+abbrev pub main_name : Bytes
+main_name = first_branch
+
 -- the names that a commit may move
 abbrev pub is_commit_name : Bytes → Bool
-is_commit_name name = bytes_eq name (codes "refs/heads/main") || bytes_eq name (codes "HEAD")
+is_commit_name name = bytes_eq name main_name || bytes_eq name (codes "HEAD")
 
 -- A commit on the first branch without parent lines, whose edits are all `put`, and the readings `files` and `show`.
 -- In a stream any other line is one that the grammar doesn't allow.

@@ -1,5 +1,5 @@
 -- What a step of one tree does to the half that it holds.
-use Rattle.std.specs.Prelude.{◌≡◌, ◌≢◌, Bool, false, not, ◌&&◌, ◌||◌, ◌++◌, Some, None, option_map, unwrap_or, bytes_eq, IsTrue, IsFalse}
+use Rattle.std.specs.Prelude.{List, Contains, ◌↔◌, ◌≡◌, ◌≢◌, Bool, false, not, ◌&&◌, ◌||◌, ◌++◌, Some, None, option_map, unwrap_or, bytes_eq, IsTrue, IsFalse}
 use Rattle.std.specs.FinMap.{get, contains_key, empty}
 use Rattle.gix_ref_file.specs.Tree.{Tree, folder, bytes_at}
 use Rattle.history_model.specs.Bytes.{Bytes, line}
@@ -8,7 +8,7 @@ use Rattle.gix_hash.specs.Order.{id_eq}
 use Rattle.gix_hash.specs.Id.{Id, null_id}
 use Rattle.history_model.specs.Repository.{Repository, LogEntry, id_at}
 use Rattle.history_model.specs.Forms.{is_id, is_name}
-use Rattle.history_model.specs.Meaning.{store_one, is_taken, is_other, with_name}
+use Rattle.history_model.specs.Meaning.{store_one, store_all, some_taken, is_taken, is_other, with_name}
 use Rattle.history_model.specs.Places.{file_at, object_place, unfinished_place, is_object_folder, packed_place, log_place, is_name_folder}
 use Rattle.history_model.specs.Logs.{log_line}
 use Rattle.history_model.specs.TreeHalves.{Values, HoldsValues, HoldsNames, HaveOwnIds}
@@ -53,6 +53,18 @@ TreesTellTaken = (kind : Kind) (tree : Tree) (values : Values) (value : Value) �
 -- What stores a value keeps each value under its own id.
 abbrev pub OwnIdsStay : Type 0
 OwnIdsStay = (kind : Kind) (values : Values) (value : Value) → HaveOwnIds kind values → HaveOwnIds kind (store_one kind values value)
+
+-- The order of values tells nothing: not whether an id of them is taken, and where none is, neither the files nor the ids.
+pub record StoresAlike (kind : Kind) (values : Values) (more others : List Value) : Type 0 where
+  pub taken : some_taken kind values others ≡ some_taken kind values more
+  pub holds : (tree : Tree) → IsFalse (some_taken kind values more)
+      → HoldsValues kind tree (store_all kind values more) → HoldsValues kind tree (store_all kind values others)
+  pub ids : (id : Id) → IsFalse (some_taken kind values more)
+      → contains_key (store_all kind values others) id ≡ contains_key (store_all kind values more) id
+
+abbrev pub StoresInAnyOrder : Type 0
+StoresInAnyOrder = (kind : Kind) (values : Values) (more others : List Value) → HaveOwnIds kind values
+    → ((value : Value) → Contains more value ↔ Contains others value) → StoresAlike kind values more others
 
 -- No file stands where an object is written before it is renamed to its place.
 abbrev pub NoneUnfinished : Type 0

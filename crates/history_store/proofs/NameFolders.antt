@@ -10,7 +10,9 @@ use Rattle.gix_ref_file.specs.Tree.{Tree, folder}
 use Rattle.gix_ref_file.proofs.Rooted.{adds_now}
 use Rattle.history_model.specs.Bytes.{Bytes, begins, ends}
 use Rattle.history_model.specs.FileMap.{components}
-use Rattle.history_model.specs.Forms.{is_name, is_partial_name, is_name_component}
+use Rattle.history_model.specs.Forms.{is_name}
+use Rattle.gix_object_lines.specs.NameTest.{is_partial_name}
+use Rattle.history_model.proofs.NameTests.{is_name_component, components_of}
 use Rattle.history_model.specs.Places.{is_name_folder, log_place}
 use Rattle.history_store.specs.Stores.{IsAbove}
 use Rattle.history_store.specs.References.{FoldersOfName}
@@ -90,9 +92,6 @@ and_first a b h = (both_true a b h).0
 
 pub partial_of : (name : Bytes) → is_name name ≡ true → is_partial_name name ≡ true
 partial_of name h = and_first _ _ (and_first _ _ (and_first _ _ h))
-
-pub components_of : (name : Bytes) → is_partial_name name ≡ true → list_all is_name_component (components name) ≡ true
-components_of name h = and_first _ _ (and_first _ _ (and_first _ _ (and_first _ _ (and_first _ _ h))))
 
 no_lock_above : (name place rest : Bytes) → is_name name ≡ true → name ≡ place ++ 47 ∷ rest → ends (codes ".lock") place ≡ false
 no_lock_above name place rest h is = go (ends (codes ".lock") place) refl

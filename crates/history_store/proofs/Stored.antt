@@ -10,13 +10,12 @@ use Rattle.gix_ref_file.specs.History.{History, Adds}
 use Rattle.gix_ref_file.proofs.Histories.{adds_weaker, adds_joined}
 use Rattle.gix_ref_file.proofs.Rooted.{adds_now}
 use Rattle.gix_ref_file.proofs.Trees.{get-inserted, get-removed, get_inserted, one_path}
-use Rattle.history_model.specs.Objects.{object_text}
 use Rattle.history_model.specs.Bytes.{Bytes}
-use Rattle.gix_hash.specs.Id.{Id}
-use Rattle.history_model.specs.Places.{file_at, object_place, unfinished_place}
-use Rattle.gix_hash.specs.declared.kind.Kind.{Kind}
-use Rattle.history_store.specs.Stores.{SameFiles, KeepsFiles, HoldsFile, MayStand, IsTaken, is_reserved, object_id}
-use Rattle.gix_object_lines.specs.declared.kind.Kind.{Kind as ObjectKind}
+use Rattle.gix_hash.specs.Id.{id_of}
+use Rattle.history_model.specs.Places.{file_at, unfinished_place}
+use Rattle.history_store.specs.ObjectTexts.{is_reserved}
+use Rattle.history_store.specs.Stores.{SameFiles, KeepsFiles, HoldsFile, MayStand, IsTaken, place_of, text_of}
+use Rattle.history_store.specs.declared.object.NewObject.{NewObject}
 
 -- ---- one after another
 pub same_then_same : (old mid new : Tree) → SameFiles old mid → SameFiles mid new → SameFiles old new
@@ -193,7 +192,7 @@ pub same_other : (tree : Tree) (stands place header content bytes : Bytes) → s
 same_other tree stands place header content bytes same text is (other, at, unlike) = unlike (sym (ap (λ o. unwrap_or o []) at) ∙ ap (bytes_at tree) (sym same) ∙ text ∙ sym is)
 
 -- What is not reserved and has no file of other bytes at its place is not taken.
-pub untaken : (kind : Kind) (object : ObjectKind) (content : Bytes) (tree : Tree) (id : Id) (reserved : Bool) → id ≡ object_id kind object content → reserved ≡ is_reserved kind object content id → reserved ≡ false
-    → ((other : Bytes) × (file_at tree (object_place (object_id kind object content)) ≡ Some other) × (other ≢ object_text object content) → ⊥) → IsTaken kind object content tree → ⊥
-untaken kind object content tree id reserved same told free alone (inl taken) = absurd (cc (sym free ∙ told ∙ ap (is_reserved kind object content) same ∙ taken))
-untaken kind object content tree id reserved same told free alone (inr other) = alone other
+pub untaken : (object : NewObject) (tree : Tree) (reserved : Bool) → reserved ≡ is_reserved (id_of object.id) object.kind object.content.items → reserved ≡ false
+    → ((other : Bytes) × (file_at tree (place_of object) ≡ Some other) × (other ≢ text_of object) → ⊥) → IsTaken object tree → ⊥
+untaken object tree reserved told free alone (inl taken) = absurd (cc (sym free ∙ told ∙ taken))
+untaken object tree reserved told free alone (inr other) = alone other

@@ -10,6 +10,7 @@ use Rattle.std.specs.FinMap.{keys, get, contains_key-keys}
 use Rattle.std.proofs.Math.ListN.{get_or}
 use Rattle.std.proofs.lemmas.List.{length-take-le}
 use Rattle.gix_ref_file.specs.declared.files.Place.TheVariants as places
+use Rattle.gix_ref_file.proofs.Ascending.{root_name}
 use Rattle.gix_ref_file.specs.Tree.{Tree, Node, file, folder, same_path, is_slash, is_component, is_path, parent, name_in, names_at, node_at, place_of, is_folder, bytes_of, IsRooted}
 use Rattle.gix_ref_file.specs.Changes.{is_file_at}
 use Rattle.gix_ref_file.proofs.Trees.{one_path, same_path_itself}
@@ -23,25 +24,6 @@ or_true true = refl
 or_true false = refl
 
 -- ---- a path is its folder's with its name
-begins_well : (b : ℕ) (path : Bytes) → b ≡ 47 → IsFalse (is_path (b ∷ path))
-begins_well b path is = ap (λ x. is_path (x ∷ path)) is ∙ never (nat_le (suc (length path)) 4096)
-  where
-    never : (short : Bool) → (short && false) ≡ false
-    never true = refl
-    never false = refl
-
-root_name : (path : Bytes) → IsTrue (is_path path) → parent path ≡ [] → after_last is_slash path ≡ path
-root_name path is root = by_len (length path - suffix_len inside path) refl
-  where
-    by_len : (k : ℕ) → length path - suffix_len inside path ≡ k → drop k path ≡ path
-    by_len zero e = refl
-    by_len (suc zero) e = absurd (not_first path is (ap (λ n. get_or path (n - 1) 0) (sym e) ∙ slash_before path (omega (arith, e))) (omega (arith, e)))
-      where
-        not_first : (p : List ℕ) → IsTrue (is_path p) → get_or p 0 0 ≡ 47 → 0 < length p → ⊥
-        not_first [] is first some = omega (arith, some)
-        not_first (b ∷ p) is first some = cc (is, begins_well b p first)
-    by_len (suc (suc k)) e = absurd (omega (arith, e, ap length root, length-take-le (length path - suffix_len inside path - 1) path (omega arith)))
-
 pub in_folder : (path : Bytes) → IsTrue (is_path path) → path ≡ path_in (parent path) (after_last is_slash path)
 in_folder path is = by_case (parent path) refl
   where

@@ -7,15 +7,16 @@ use Rattle.std.proofs.lemmas.Slice.Eq.{bytes_eq-Decides}
 use Rattle.gix_ref_file.specs.Tree.{Tree, is_slash, is_component, is_path}
 use Rattle.history_model.specs.Bytes.{Bytes, begins}
 use Rattle.history_model.specs.FileMap.{components, is_below}
-use Rattle.history_model.specs.Forms.{is_name, is_name_component, is_barred, max_name}
+use Rattle.history_model.specs.Forms.{is_name, max_name}
+use Rattle.gix_object_lines.specs.NameTest.{is_barred}
+use Rattle.history_model.proofs.NameTests.{is_name_component, components_of, unbarred_of}
 use Rattle.history_model.specs.Places.{file_at, head_place, packed_place, log_place, is_log_place, log_name}
 use Rattle.history_model.specs.Repository.{Repository, stands}
 use Rattle.history_model.specs.TreeHalves.{HoldsNames}
-use Rattle.history_model.specs.Offered.{IsOffered, main_name}
 use Rattle.history_store.specs.Stores.{IsAbove}
 use Rattle.history_store.specs.References.{HasWay, Logs}
 use Rattle.history_store.specs.declared.log_entry.LogEntry.{LogEntry}
-use Rattle.history_store.proofs.NameFolders.{both_true, and_first, partial_of, components_of, refs_of, begins_parts}
+use Rattle.history_store.proofs.NameFolders.{both_true, and_first, partial_of, refs_of}
 
 -- ---- a name is a path, and so is its log's place
 split_free : (p : ℕ → Bool) (text : Bytes) → list_any p text ≡ false → list_all (λ part. not (list_any p part)) (slice_split is_slash text) ≡ true
@@ -72,7 +73,7 @@ all_parts (part ∷ parts) are free =
 pub name_parts : (name : Bytes) → is_name name ≡ true → list_all is_component (slice_split is_slash name) ≡ true
 name_parts name h =
     let partial = partial_of name h in
-    let clean = not_false (list_any is_barred name) (both_true (list_all is_name_component (components name)) (not (list_any is_barred name)) (and_first _ _ (and_first _ _ (and_first _ _ (and_first _ _ partial))))).1 in
+    let clean = unbarred_of name partial in
     all_parts (slice_split is_slash name) (components_of name partial) (split_free (λ b. b == 0) name (no_zero name clean))
 
 within : (n m : ℕ) → nat_le n 1024 ≡ true → m ≤ n + 5 → nat_le m 4096 ≡ true
@@ -101,54 +102,3 @@ way_after_log name entry old new h logs way = record {
     other_part other same (rest, is) =
         let byte : 108 ≡ 114 = ap (λ t. get_or t 0 0) (sym same ∙ is ∙ ap (λ n. n ++ 47 ∷ rest) (refs_of name h)) in
         omega (arith, byte)
-
--- ---- the branch main
-begins_itself : (front rest : Bytes) → begins front (front ++ rest) ≡ true
-begins_itself [] rest = refl
-begins_itself (b ∷ front) rest = λ i. (Decides-eqb b b).1 refl i && begins_itself front rest i
-
-is_below_it : (place path : Bytes) → IsAbove place path → is_below place path ≡ true
-is_below_it place path (rest, is) = ap (begins (place ++ 47 ∷ [])) (is ∙ sym (append_assoc place (47 ∷ []) rest)) ∙ begins_itself (place ++ 47 ∷ []) rest
-
-either_true : (a b : Bool) → (a || b) ≡ true → (a ≡ true) ⊎ (b ≡ true)
-either_true true b h = inl refl
-either_true false b h = inr h
-
-module _ (tree : Tree) (r : Repository) (holds : HoldsNames tree r) (offered : IsOffered r) where
-  -- what is told of the four places of files is told of each file's
-  of_places : (p : Bytes → Bool) → p head_place ≡ false → p packed_place ≡ false → p main_name ≡ false → p (log_place main_name) ≡ false → (path text : Bytes) → file_at tree path ≡ Some text → p path ≡ false
-  of_places p head packed main log path text is = by_four (either_true _ (is_log_place path && stands r (log_name path)) (holds.places path text is))
-    where
-      by_two : (bytes_eq path head_place ≡ true) ⊎ (bytes_eq path packed_place ≡ true) → p path ≡ false
-      by_two (inl same) = ap p ((bytes_eq-Decides path head_place).0 same) ∙ head
-      by_two (inr same) = ap p ((bytes_eq-Decides path packed_place).0 same) ∙ packed
-
-      by_three : ((bytes_eq path head_place || bytes_eq path packed_place) ≡ true) ⊎ (stands r path ≡ true) → p path ≡ false
-      by_three (inl some) = by_two (either_true (bytes_eq path head_place) (bytes_eq path packed_place) some)
-      by_three (inr stood) = ap p (offered.names path stood) ∙ main
-
-      by_four : ((bytes_eq path head_place || bytes_eq path packed_place || stands r path) ≡ true) ⊎ ((is_log_place path && stands r (log_name path)) ≡ true) → p path ≡ false
-      by_four (inl some) = by_three (either_true (bytes_eq path head_place || bytes_eq path packed_place) (stands r path) some)
-      by_four (inr placed) =
-          let parts = both_true (is_log_place path) (stands r (log_name path)) placed in
-          ap p (begins_parts (codes "logs/") path parts.0 ∙ ap log_place (offered.names (log_name path) parts.1)) ∙ log
-
-  none_at : (p : Bytes → Bool) → p head_place ≡ false → p packed_place ≡ false → p main_name ≡ false → p (log_place main_name) ≡ false → (path : Bytes) → p path ≡ true → file_at tree path ≡ None
-  none_at p head packed main log path passes = by_file (file_at tree path) refl
-    where
-      by_file : (o : Option Bytes) → file_at tree path ≡ o → o ≡ None
-      by_file None is = refl
-      by_file (Some text) is = let wrong : true ≡ false = sym passes ∙ of_places p head packed main log path text is in absurd (cc wrong)
-
-  -- Where no other name stands, the files of the branch main have their way.
-  pub main_way : HasWay main_name tree
-  main_way = record {
-    above = λ place above. none_at (λ path. is_below path main_name) refl refl refl refl place (is_below_it place main_name above);
-    below = λ other below. none_at (is_below main_name) refl refl refl refl other (is_below_it main_name other below);
-  }
-
-  pub main_log_way : HasWay (log_place main_name) tree
-  main_log_way = record {
-    above = λ place above. none_at (λ path. is_below path (log_place main_name)) refl refl refl refl place (is_below_it place (log_place main_name) above);
-    below = λ other below. none_at (is_below (log_place main_name)) refl refl refl refl other (is_below_it (log_place main_name) other below);
-  }

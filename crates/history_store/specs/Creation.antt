@@ -25,6 +25,10 @@ pub record HasHead (old new : Tree) : Type 0 where
   pub lock : file_at new head_lock ≡ None
   pub others : (path : Bytes) → path ≢ head_place → path ≢ head_lock → file_at new path ≡ file_at old path
 
+-- HEAD is as before
+abbrev pub SameHead : Tree → Tree → Type 0
+SameHead old new = file_at new head_place ≡ file_at old head_place
+
 -- folders stand where they stood before
 abbrev pub SameFolders : Tree → Tree → Type 0
 SameFolders old new = (path : Bytes) → is_folder (get new path) ≡ is_folder (get old path)
@@ -35,7 +39,7 @@ LeftoverMayGo old tree = KeepsFiles old tree × SameFolders old tree
 
 -- What stands while HEAD is made: HEAD as before, or made; each other file but `HEAD.lock`, and each folder, as before.
 pub record HeadMayStand (old tree : Tree) : Type 0 where
-  pub head : (file_at tree head_place ≡ file_at old head_place) ⊎ HasHead old tree
+  pub head : SameHead old tree ⊎ HasHead old tree
   pub others : (path : Bytes) → path ≢ head_place → path ≢ head_lock → file_at tree path ≡ file_at old path
   pub folders : SameFolders old tree
 

@@ -4,6 +4,8 @@ pub mod Creation
 pub mod Face
 pub mod Formats
 pub mod Ids
+pub mod ObjectTexts
+pub mod Opening
 pub mod Parts
 pub mod References
 pub mod Stores

@@ -1,18 +1,19 @@
 -- What the store of objects does to the files of its part.
-use Rattle.std.specs.Prelude.{◌≡◌, ◌≢◌, ◌⊎◌, Bool, true, false, ◌&&◌, ◌||◌, not, [], ◌∷◌, ◌++◌, Some, None, IsTrue}
+use Rattle.std.specs.Prelude.{◌≡◌, ◌≢◌, ◌⊎◌, true, List, ◌∷◌, ◌++◌, Some, None, IsTrue}
+use Rattle.std.specs.List.{AllZip}
 use Rattle.std.specs.FinMap.{get}
-use Rattle.gix_ref_file.specs.Tree.{Tree, folder, node_at, is_folder}
+use Rattle.gix_ref_file.specs.Tree.{Tree, folder, node_at, is_folder, bytes_at}
 use Rattle.history_model.specs.Bytes.{Bytes}
 use Rattle.gix_ref_file.specs.declared.files.FileError.{FileError}
 use Rattle.gix_ref_file.specs.declared.files.FileError.TheVariants as files
-use Rattle.history_model.specs.Objects.{digest, object_text, empty_tree_id}
-use Rattle.gix_hash.specs.Id.{Id, null_id}
+use Rattle.history_model.specs.Objects.{Value, object_text, object_kind, content_of}
+use Rattle.history_model.specs.Objects.{id_of as value_id}
+use Rattle.gix_hash.specs.Id.{Id, id_of}
 use Rattle.gix_hash.specs.declared.kind.Kind.{Kind}
-use Rattle.gix_object_lines.specs.declared.kind.Kind.{Kind as ObjectKind}
-use Rattle.gix_object_lines.specs.declared.kind.Kind.TheVariants as kinds
+use Rattle.history_store.specs.declared.object.NewObject.{NewObject}
 use Rattle.history_store.specs.declared.objects.PutError.{PutError}
 use Rattle.history_store.specs.declared.objects.PutError.TheVariants as errors
-use Rattle.gix_hash.specs.Order.{id_eq}
+use Rattle.history_store.specs.ObjectTexts.{IsNoObject, is_reserved}
 use Rattle.history_model.specs.Forms.{is_id}
 use Rattle.history_model.specs.Places.{file_at, object_place, unfinished_place, is_object_folder}
 
@@ -73,29 +74,50 @@ pub record IsObjectPart (tree : Tree) : Type 0 where
   pub files : (path text : Bytes) → file_at tree path ≡ Some text → IsObjectPlace path ⊎ (path ≡ unfinished_place)
   pub folders : (path : Bytes) → get tree path ≡ Some folder → IsTrue (is_object_folder path)
 
--- a text that is no object's
-abbrev pub IsNoObject : Bytes → Type 0
-IsNoObject text = (object : ObjectKind) (content : Bytes) → text ≢ object_text object content
+-- no text of an object stands at the place
+abbrev pub HoldsNone : Bytes → Tree → Type 0
+HoldsNone place tree = (file_at tree place ≡ None) ⊎ IsNoObject (bytes_at tree place)
 
-abbrev pub object_id : Kind → ObjectKind → Bytes → Id
-object_id kind object content = digest kind (object_text object content)
+-- nothing is left where an object is written
+abbrev pub IsFinished : Tree → Type 0
+IsFinished tree = file_at tree unfinished_place ≡ None
 
-abbrev pub is_empty_tree : ObjectKind → Bytes → Bool
-is_empty_tree kinds.Tree [] = true
-is_empty_tree kinds.Tree (b ∷ content) = false
-is_empty_tree kinds.Blob content = false
-is_empty_tree kinds.Commit content = false
-is_empty_tree kinds.Tag content = false
+-- ---- what is to be stored
 
--- The null id is no object's, and the empty tree's id is its own alone.
-abbrev pub is_reserved : Kind → ObjectKind → Bytes → Id → Bool
-is_reserved kind object content id = id_eq id (null_id kind) || (id_eq id (empty_tree_id kind) && not (is_empty_tree object content))
+-- the object's text
+abbrev pub text_of : NewObject → Bytes
+text_of object = object_text object.kind object.content.items
 
--- why an object can't have its id: it is reserved, or a file of other bytes stands at its place
-abbrev pub IsTaken : Kind → ObjectKind → Bytes → Tree → Type 0
-IsTaken kind object content tree =
-    (is_reserved kind object content (object_id kind object content) ≡ true)
-    ⊎ ((other : Bytes) × (file_at tree (object_place (object_id kind object content)) ≡ Some other) × (other ≢ object_text object content))
+-- where its file stands
+abbrev pub place_of : NewObject → Bytes
+place_of object = object_place (id_of object.id)
+
+-- its file stands
+abbrev pub Holds : NewObject → Tree → Type 0
+Holds object tree = file_at tree (place_of object) ≡ Some (text_of object)
+
+-- What stands while the object is put: all as before or its file whole, each folder that stood, and no other but those that its file
+-- stands in.
+pub record MayPut (object : NewObject) (old tree : Tree) : Type 0 where
+  pub files : MayStand (place_of object) (text_of object) old tree
+  pub above : FoldersAbove (place_of object) old tree
+  pub stay : KeepsFolders old tree
+
+-- the object is this value's
+pub record IsObjectOf (digests : Kind) (value : Value) (object : NewObject) : Type 0 where
+  pub id : id_of object.id ≡ value_id digests value
+  pub kind : object.kind ≡ object_kind value
+  pub content : object.content.items ≡ content_of digests value
+
+-- the objects are these values', one for each, in their order
+abbrev pub AreObjectsOf : Kind → List Value → List NewObject → Type 0
+AreObjectsOf digests values objects = AllZip (IsObjectOf digests) values objects
+
+-- why the object can't have its id: it is reserved, or a file of other bytes stands at its place
+abbrev pub IsTaken : NewObject → Tree → Type 0
+IsTaken object tree =
+    (is_reserved (id_of object.id) object.kind object.content.items ≡ true)
+    ⊎ ((other : Bytes) × (file_at tree (place_of object) ≡ Some other) × (other ≢ text_of object))
 
 abbrev pub put_fault : FileError → PutError
 put_fault files.Failed = errors.File

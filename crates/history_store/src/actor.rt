@@ -8,6 +8,7 @@ ghost use Rattle.history_store.specs.Actors.{IsFormed, IsNoTime, IsOffsetOf, IsP
 use bstr::BStr;
 use gix_object::lines::{ActorRef, Time, read_actor, read_time, write_actor_parts, write_time};
 use gix_object_lines::cut::split_once;
+use gix_object_lines::decimal::read_unsigned;
 use smallvec::SmallVec;
 use std::alloc::{AllocError, Global};
 
@@ -67,7 +68,8 @@ impl Actor {
 
     /// The actor's parts as lines of objects have them; the text of its time is `time_text`'s.
     pub(crate) fn to_ref<'a>(&'a self, time: &'a [u8]) -> ActorRef<'a>
-        ensures { views.person_of result ≡ record { name = self.now.name.items; email = self.now.email.items; time = time.now } }
+        ensures { views.person_of result
+            ≡ record { name = self.now.name.items; email = self.now.email.items; time = time.now } }
     {
         ActorRef {
             name: BStr::new(&self.name),
@@ -90,7 +92,8 @@ impl Actor {
     pub fn parse(alloc: Global, text: &[u8]) -> Result<Option<Actor>, AllocError>
         ensures { IfOk result (λ found. MatchOption found
             ((actor : model.Actor) → IsTrue (is_actor actor) → text.now ≢ actor_text actor)
-            (λ actor. (text.now ≡ actor_text (actor_of actor)) × IsTrue (is_actor (actor_of actor)))) }
+            (λ actor. (text.now ≡ actor_text (actor_of actor))
+            × IsTrue (is_actor (actor_of actor)))) }
     {
         match read_actor(text) {
             Ok(parts) => Actor::from_ref(alloc, parts),
@@ -101,8 +104,10 @@ impl Actor {
     /// The actor of these parts of a line; `None` where they are none's, as `parse` tells it.
     pub(crate) fn from_ref(alloc: Global, parts: ActorRef<'_>) -> Result<Option<Actor>, AllocError>
         ensures { IfOk result (λ found. MatchOption found
-            ((actor : model.Actor) → IsTrue (is_actor actor) → views.person_of parts.entry ≢ person_of actor)
-            (λ actor. (views.person_of parts.entry ≡ person_of (actor_of actor)) × IsTrue (is_actor (actor_of actor)))) }
+            ((actor : model.Actor) → IsTrue (is_actor actor)
+            → views.person_of parts.entry ≢ person_of actor)
+            (λ actor. (views.person_of parts.entry ≡ person_of (actor_of actor))
+            × IsTrue (is_actor (actor_of actor)))) }
     {
         let Some((seconds, offset)) = split_once(parts.time.as_bytes(), b' ') else {
             return Ok(None);
@@ -156,7 +161,8 @@ fn is_plain(time: Time) -> bool
 /// The time that two words spell: the seconds as a number in decimal without a leading zero, of 9,223,372,036,854,775,807 at most,
 /// and the offset as a sign and four digits, the last two below 60, but not `-0000`. `None` where one of them doesn't.
 pub fn parse_time(seconds: &[u8], offset: &[u8]) -> Option<Time>
-    ensures { MatchOption result (IsNoTime seconds.now offset.now) (IsTimeOf seconds.now offset.now) }
+    ensures { MatchOption result (IsNoTime seconds.now offset.now)
+        (IsTimeOf seconds.now offset.now) }
 {
     let seconds = parse_seconds(seconds)?;
     let offset = parse_offset(offset)?;
@@ -169,9 +175,8 @@ fn parse_seconds(word: &[u8]) -> Option<i64>
         ((seconds : ℕ) → seconds ≤ max_seconds → word.now ≢ decimal seconds)
         (λ seconds. IsSecondsOf word.now seconds) }
 {
-    let seconds = std::str::from_utf8(word).ok()?.parse::<u64>().ok()?;
-    let mut digits = itoa::Buffer::new();
-    if digits.format(seconds).as_bytes() == word && seconds <= MAX_SECONDS {
+    let seconds = read_unsigned(word)?;
+    if seconds <= MAX_SECONDS {
         Some(seconds as i64)
     } else {
         None
@@ -180,7 +185,8 @@ fn parse_seconds(word: &[u8]) -> Option<i64>
 
 // The seconds of a sign and four digits, the last two below 60, but not `-0000`.
 fn parse_offset(word: &[u8]) -> Option<i32>
-    ensures { MatchOption result (IsFalse (is_offset word.now)) (λ offset. IsOffsetOf word.now offset) }
+    ensures { MatchOption result (IsFalse (is_offset word.now))
+        (λ offset. IsOffsetOf word.now offset) }
 {
     let &[sign, a, b, c, d] = word else {
         return None;

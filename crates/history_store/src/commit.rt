@@ -60,10 +60,15 @@ impl Commit {
     /// The commit that a content spells, with ids of this kind; `None` where it spells none: ids are in lower-case hex, both actors
     /// as `Actor` has them, and no encoding and no further headers are told.
     pub fn parse(alloc: Global, kind: Kind, content: &[u8]) -> Result<Option<Commit>, AllocError>
-        ensures spelled { IfOk result (λ found. IfSome found (λ commit. SpellsCommit (hex_len kind) content.now (parts_of commit))) }
-        ensures kinds { IfOk result (λ found. IfSome found (λ commit. IsTrue (has_ids_of kind commit))) }
-        ensures none { IfOk result (λ found. IfNone found ((parts : Parts) → SpellsCommit (hex_len kind) content.now parts → ¬ IsPlain kind parts)) }
-        ensures read { IfOk result (λ found. (value : CommitValue) → IsTrue (is_commit_form kind value) → content.now ≡ commit_content kind value
+        ensures spelled { IfOk result (λ found. IfSome found
+            (λ commit. SpellsCommit (hex_len kind) content.now (parts_of commit))) }
+        ensures kinds { IfOk result (λ found. IfSome found
+            (λ commit. IsTrue (has_ids_of kind commit))) }
+        ensures none { IfOk result (λ found. IfNone found
+            ((parts : Parts) → SpellsCommit (hex_len kind) content.now parts
+            → ¬ IsPlain kind parts)) }
+        ensures read { IfOk result (λ found. (value : CommitValue)
+            → IsTrue (is_commit_form kind value) → content.now ≡ commit_content kind value
             → MatchOption found ⊥ (λ commit. IsCommitOf kind commit value)) }
     {
         match CommitRef::from_bytes(alloc, content, kind) {
@@ -125,7 +130,8 @@ fn hex_text(alloc: Global, id: &ObjectId) -> Result<HexText, AllocError>
 
 // The lower-case hex digits of each id.
 fn hex_texts(alloc: Global, ids: &[ObjectId]) -> Result<SmallVec<HexText, 1>, AllocError>
-    ensures { IfOk result (λ texts. map (λ text. text.items) texts.items ≡ map hex (map id_of ids.now)) }
+    ensures { IfOk result (λ texts. map (λ text. text.items) texts.items
+        ≡ map hex (map id_of ids.now)) }
 {
     let mut texts = SmallVec::new(alloc);
     for id in ids {
@@ -148,7 +154,8 @@ fn lent(alloc: Global, texts: &[HexText]) -> Result<SmallVec<BStr<'_>, 1>, Alloc
 // The commit of these parts; `None` where they aren't all as this crate writes them.
 fn commit_of(alloc: Global, kind: Kind, parts: &CommitRef<'_>) -> Result<Option<Commit>, AllocError>
     ensures { IfOk result (λ found. MatchOption found (¬ IsPlain kind (views.parts_of parts.now))
-        (λ commit. (views.parts_of parts.now ≡ parts_of commit) × IsTrue (has_ids_of kind commit))) }
+        (λ commit. (views.parts_of parts.now ≡ parts_of commit)
+        × IsTrue (has_ids_of kind commit))) }
 {
     if tells_more(parts) {
         return Ok(None);
@@ -188,8 +195,10 @@ fn ids_of(
     texts: &[BStr<'_>],
 ) -> Result<Option<Vec<ObjectId>>, AllocError>
     ensures { IfOk result (λ found. MatchOption found
-        ((ids : List Id) → IsTrue (list_all (is_id kind) ids) → map bstr_bytes texts.now ≢ map hex ids)
-        (λ ids. IsTrue (list_all (is_id kind) (map id_of ids.items)) × (map bstr_bytes texts.now ≡ map hex (map id_of ids.items)))) }
+        ((ids : List Id) → IsTrue (list_all (is_id kind) ids)
+        → map bstr_bytes texts.now ≢ map hex ids)
+        (λ ids. IsTrue (list_all (is_id kind) (map id_of ids.items))
+        × (map bstr_bytes texts.now ≡ map hex (map id_of ids.items)))) }
 {
     let mut ids = Vec::new(alloc);
     for text in texts {

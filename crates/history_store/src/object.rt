@@ -1,15 +1,38 @@
 //! The text of an object: the header of its kind and of its content's length, and the content.
 ghost use Rattle.std.specs.Prelude.{◌≡◌, ◌≤◌, length, drop, IfSome, IfNone};
 ghost use Rattle.history_model.specs.Objects.{digest, object_text};
-ghost use Rattle.history_store.specs.Stores.{IsNoObject};
+ghost use Rattle.history_store.specs.ObjectTexts.{IsNoObject, IsIdOf};
 ghost use Rattle.gix_hash.specs.Id.{id_of};
 
 use gix_hash::hasher::hasher;
 use gix_hash::{Kind, ObjectId};
 use gix_object::{Kind as ObjectKind, decode, encode};
 
+/// An object with its id, which is its text's: it is hashed where it is made, and nowhere else.
+#[derive(Drop, Debug)]
+pub struct NewObject {
+    pub id: ObjectId,
+    pub kind: ObjectKind,
+    pub content: Vec<u8>,
+    pub ghost named: { IsIdOf id kind content.items },
+}
+
+impl NewObject {
+    ghost use Rattle.history_store.specs.ObjectTexts.{object_id};
+
+    /// The object of this content, with its id of this kind of digest.
+    pub fn new(digests: Kind, kind: ObjectKind, content: Vec<u8>) -> Self
+        ensures id { id_of result.id ≡ object_id digests kind content.items }
+        ensures kind { result.kind ≡ kind }
+        ensures content { result.content ≡ content }
+    {
+        let id = object_id(digests, kind, &content);
+        NewObject { id, kind, content }
+    }
+}
+
 /// The id of an object: the digest of its text, which is `<kind> <length>`, a zero byte and the content (Git's object format).
-pub fn object_id(kind: Kind, object: ObjectKind, content: &[u8]) -> ObjectId
+fn object_id(kind: Kind, object: ObjectKind, content: &[u8]) -> ObjectId
     ensures { id_of result ≡ digest kind (object_text object content.now) }
 {
     // The header is fed first and then the content, so that the text stands nowhere whole.

@@ -1,6 +1,7 @@
 //! What stands in a part of the folder.
 ghost use Rattle.std.specs.Prelude.{◌≡◌, ◌&&◌, nat_lt, nat_le, length, IfOk, OnOk, IsErrOf, MatchOption, codes};
 ghost use Rattle.std.specs.List.{list_all};
+ghost use Rattle.gix_ref_file.specs.Calls.{Finds};
 ghost use Rattle.gix_ref_file.specs.declared.files.FileError.TheVariants.{Failed};
 ghost use Rattle.history_model.specs.FileMap.{is_within};
 ghost use Rattle.history_model.specs.Places.{is_lower_hex, is_object_folder, is_name_folder};
@@ -48,7 +49,8 @@ pub fn survey<F: Files>(
     part: Part,
     permitted: &[u8],
 ) -> Result<Option<Stray>, FileError>
-    ensures found { F.is_honest files.now → IfOk result (λ found. MatchOption found (IsClear part permitted.now (F.history files.now).tree) (IsStray part permitted.now (F.history files.now).tree)) }
+    ensures found { Finds F.is_honest F.history files.now (λ tree. IfOk result (λ found.
+        MatchOption found (IsClear part permitted.now tree) (IsStray part permitted.now tree))) }
     ensures failed { IsErrOf result Failed → F.reading_may_fail }
 {
     survey_folder(alloc, files, part, permitted, b"")
@@ -61,7 +63,8 @@ fn survey_folder<F: Files>(
     permitted: &[u8],
     folder: &[u8],
 ) -> Result<Option<Stray>, FileError>
-    ensures found { F.is_honest files.now → IfOk result (λ found. MatchOption found (IsClearBelow part permitted.now folder.now (F.history files.now).tree) (IsStray part permitted.now (F.history files.now).tree)) }
+    ensures found { Finds F.is_honest F.history files.now (λ tree. IfOk result (λ found.
+        MatchOption found (IsClearBelow part permitted.now folder.now tree) (IsStray part permitted.now tree))) }
     ensures failed { IsErrOf result Failed → F.reading_may_fail }
 {
     for name in &files.list(alloc, folder)? {
@@ -85,7 +88,8 @@ fn survey_folder<F: Files>(
 
 /// Whether the path is longer than the folder's, and within the limit.
 pub fn is_deeper(path: &[u8], folder: &[u8]) -> bool
-    ensures { result ≡ nat_lt (length folder.now) (length path.now) && nat_le (length path.now) 4096 }
+    ensures { result ≡ nat_lt (length folder.now) (length path.now)
+        && nat_le (length path.now) 4096 }
 {
     folder.len() < path.len() && path.len() <= MAX_PATH
 }

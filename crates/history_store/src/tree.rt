@@ -97,7 +97,8 @@ impl Tree {
 
     /// The tree that a content spells, with ids of this kind; `None` where it spells none, as where its names don't ascend.
     pub fn parse(alloc: Global, kind: Kind, content: &[u8]) -> Result<Option<Tree>, AllocError>
-        ensures { IfOk result (λ parsed. MatchOption parsed (SpellsNone kind content.now) (λ tree. Spells kind content.now tree)) }
+        ensures { IfOk result (λ parsed. MatchOption parsed (SpellsNone kind content.now)
+            (λ tree. Spells kind content.now tree)) }
     {
         let mut tree = Tree::new(alloc);
         let mut last: &[u8] = b"";
@@ -128,7 +129,8 @@ fn mode(kind: FileKind) -> &'static [u8]
 }
 
 fn parse_mode(word: &[u8]) -> Option<FileKind>
-    ensures { MatchOption result ((kind : FileKind) → word.now ≢ mode_of kind) (λ kind. word.now ≡ mode_of kind) }
+    ensures { MatchOption result ((kind : FileKind) → word.now ≢ mode_of kind)
+        (λ kind. word.now ≡ mode_of kind) }
 {
     if word == b"100644".as_slice() {
         Some(FileKind::File)
@@ -142,7 +144,8 @@ fn parse_mode(word: &[u8]) -> Option<FileKind>
 }
 
 fn write_entry(content: &mut Vec<u8>, name: &[u8], entry: &TreeEntry) -> Result<(), AllocError>
-    ensures { OnOk result (content.new.items ≡ content.old.items ++ entry_text (mode_of entry.now.kind) name.now (id_of entry.now.id)) }
+    ensures { OnOk result (content.new.items
+        ≡ content.old.items ++ entry_text (mode_of entry.now.kind) name.now (id_of entry.now.id)) }
 {
     content.extend_from_slice(mode(entry.kind))?;
     content.push(b' ')?;
@@ -153,7 +156,8 @@ fn write_entry(content: &mut Vec<u8>, name: &[u8], entry: &TreeEntry) -> Result<
 
 // The name and the entry that a text begins with, and the text behind them.
 fn parse_entry(kind: Kind, text: &[u8]) -> Option<(&[u8], TreeEntry, &[u8])>
-    ensures spelled { MatchOption result (BeginsWithNone kind text.now) (λ r. BeginsWith kind text.now r.1.kind r.0.now (id_of r.1.id) r.2.now) }
+    ensures spelled { MatchOption result (BeginsWithNone kind text.now)
+        (λ r. BeginsWith kind text.now r.1.kind r.0.now (id_of r.1.id) r.2.now) }
     ensures shorter { IfSome result (λ r. length r.2.now < length text.now) }
 {
     let (mode, rest) = split_once(text, b' ')?;

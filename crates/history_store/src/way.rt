@@ -1,9 +1,9 @@
 //! The way of a file: the folders that it stands in, and no folder in its place.
-ghost use Rattle.std.specs.Prelude.{◌≡◌, ◌≢◌, ◌≤◌, ◌⊎◌, OnOk, IsErrOf, IsTrue, Some};
+ghost use Rattle.std.specs.Prelude.{◌≡◌, ◌≢◌, ◌≤◌, OnOk, IsErrOf, IsTrue, Some};
 ghost use Rattle.std.specs.FinMap.{get};
 ghost use Rattle.gix_ref_file.specs.Tree.{folder, is_path};
 ghost use Rattle.gix_ref_file.specs.Changes.{may_hold_file};
-ghost use Rattle.gix_ref_file.specs.History.{Adds, HasRisen};
+ghost use Rattle.gix_ref_file.specs.Calls.{Achieves, HasFault, Passes};
 ghost use Rattle.gix_ref_file.specs.declared.files.FileError.TheVariants.{Failed};
 ghost use Rattle.history_store.specs.Stores.{SameFiles, FoldersAbove};
 ghost use Rattle.history_store.specs.References.{ClearsWay, KeepsOtherFolders, HasWay, NoFileBelow};
@@ -16,14 +16,16 @@ use std::alloc::Global;
 /// Makes room for a file: the folder in its place goes, with those below it, and the folders that it stands in are made.
 pub fn make_way<F: Files>(alloc: Global, files: &mut F, path: &[u8]) -> Result<(), FileError>
     ensures honest { F.is_honest files.old → F.is_honest files.new }
-    ensures moments { F.is_honest files.old → Adds (SameFiles (F.history files.old).tree) (F.history files.old) (F.history files.new) }
-    ensures folders { F.is_honest files.old → Adds (FoldersAbove path.now (F.history files.old).tree) (F.history files.old) (F.history files.new) }
-    ensures stay { F.is_honest files.old → Adds (KeepsOtherFolders path.now (F.history files.old).tree) (F.history files.old) (F.history files.new) }
+    ensures moments { Passes F.is_honest F.history files.old files.new SameFiles }
+    ensures folders { Passes F.is_honest F.history files.old files.new (FoldersAbove path.now) }
+    ensures stay { Passes F.is_honest F.history files.old files.new (KeepsOtherFolders path.now) }
     ensures later { F.failures files.old ≤ F.failures files.new }
-    ensures room { F.is_honest files.old → IsTrue (is_path path.now) → HasWay path.now (F.history files.old).tree
+    ensures room { F.is_honest files.old → IsTrue (is_path path.now)
+        → HasWay path.now (F.history files.old).tree
         → OnOk result (IsTrue (may_hold_file (F.history files.new).tree path.now)) }
-    ensures failed { F.is_honest files.old → IsTrue (is_path path.now) → HasWay path.now (F.history files.old).tree
-        → IsErrOf result Failed → HasRisen (F.failures files.old) (F.failures files.new) ⊎ F.reading_may_fail }
+    ensures failed { F.is_honest files.old → IsTrue (is_path path.now)
+        → HasWay path.now (F.history files.old).tree
+        → IsErrOf result Failed → HasFault F.failures F.reading_may_fail files.old files.new }
 {
     clear_way(alloc, files, path)?;
     make_folders(alloc, files, path)
@@ -33,11 +35,12 @@ pub fn make_way<F: Files>(alloc: Global, files: &mut F, path: &[u8]) -> Result<(
 // `Failed` where a file stands below it.
 fn clear_way<F: Files>(alloc: Global, files: &mut F, place: &[u8]) -> Result<(), FileError>
     ensures honest { F.is_honest files.old → F.is_honest files.new }
-    ensures moments { F.is_honest files.old → Adds (ClearsWay place.now (F.history files.old).tree) (F.history files.old) (F.history files.new) }
-    ensures gone { F.is_honest files.old → OnOk result (get (F.history files.new).tree place.now ≢ Some folder) }
+    ensures moments { Passes F.is_honest F.history files.old files.new (ClearsWay place.now) }
+    ensures gone { Achieves F.is_honest F.history files.old files.new result
+        (λ old new. get new place.now ≢ Some folder) }
     ensures later { F.failures files.old ≤ F.failures files.new }
     ensures failed { F.is_honest files.old → NoFileBelow place.now (F.history files.old).tree
-        → IsErrOf result Failed → HasRisen (F.failures files.old) (F.failures files.new) ⊎ F.reading_may_fail }
+        → IsErrOf result Failed → HasFault F.failures F.reading_may_fail files.old files.new }
 {
     if place.is_empty() {
         return Ok(());

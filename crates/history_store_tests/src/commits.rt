@@ -1,8 +1,8 @@
 //! Commits, printed and read.
 
-use crate::common::{actor, all_hold, id, is_id};
+use crate::common::{actor, all_hold, id, is_id, object};
 use gix_hash::{Kind, ObjectId};
-use history_store::{Commit, ObjectKind, object_id};
+use history_store::{Commit, ObjectKind};
 use std::alloc::{AllocError, Global};
 use std::process::Abort;
 
@@ -20,8 +20,9 @@ fn printed(alloc: Global, commit: &Commit) -> Result<Vec<u8>, AllocError> {
     commit.to_bytes(alloc)
 }
 
-fn id_of(kind: Kind, content: &[u8]) -> ObjectId {
-    object_id(kind, ObjectKind::Commit, content)
+fn id_of(alloc: Global, kind: Kind, content: &[u8]) -> Result<ObjectId, AllocError> {
+    let new = object(alloc, kind, ObjectKind::Commit, content)?;
+    Ok(new.id)
 }
 
 fn read<R: Abort>(rt: &R, alloc: Global, kind: Kind, content: &[u8]) -> Result<Commit, AllocError> {
@@ -66,12 +67,12 @@ const SHA256_IDS: Ids = Ids {
 fn check_commits<R: Abort>(rt: &R, alloc: Global, kind: Kind, ids: &Ids) -> Result<(), AllocError> {
     let tree = id(rt, ids.tree);
     let first = commit(alloc, tree, b"one")?;
-    let first = id_of(kind, printed(alloc, &first)?.as_slice());
+    let first = id_of(alloc, kind, printed(alloc, &first)?.as_slice())?;
     assert!(rt; is_id(&first, ids.first));
     let mut second = commit(alloc, tree, b"two\n\nmore\n")?;
     second.parents.push(first)?;
     let content = printed(alloc, &second)?;
-    assert!(rt; is_id(&id_of(kind, content.as_slice()), ids.second));
+    assert!(rt; is_id(&id_of(alloc, kind, content.as_slice())?, ids.second));
     let again = read(rt, alloc, kind, content.as_slice())?;
     all_hold(rt, &comparisons(&second, &again));
     assert!(rt; printed(alloc, &again)?.as_slice() == content.as_slice());

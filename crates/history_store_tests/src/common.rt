@@ -3,7 +3,7 @@
 use gix_hash::{Kind, ObjectId};
 use gix_object::lines::Time;
 use gix_ref_file::{Files, MemoryFiles};
-use history_store::Actor;
+use history_store::{Actor, NewObject, ObjectKind};
 use std::alloc::{AllocError, Global};
 use std::process::Abort;
 
@@ -47,6 +47,16 @@ pub fn id<R: Abort>(rt: &R, digits: &str) -> ObjectId {
 
 pub fn is_id(id: &ObjectId, digits: &str) -> bool {
     ObjectId::from_hex(digits.as_bytes()) == Ok(*id)
+}
+
+// The object of this content, with its id.
+pub fn object(
+    alloc: Global,
+    digests: Kind,
+    kind: ObjectKind,
+    content: &[u8],
+) -> Result<NewObject, AllocError> {
+    Ok(NewObject::new(digests, kind, content.to_vec(alloc)?))
 }
 
 // Stops at the first answer that doesn't hold.

@@ -1,10 +1,12 @@
 //! Each call of the files fails in turn.
 
-use crate::common::{Hello, KINDS, SHA1_HELLO, SHA256_HELLO, holds, id};
+use crate::common::{Hello, KINDS, SHA1_HELLO, SHA256_HELLO, holds, id, object};
 use crate::names::entry;
 use gix_hash::{Kind, ObjectId};
 use gix_ref_file::{FileError, Fuse, MemoryFiles};
-use history_store::{CreateError, LogEntry, Names, ObjectKind, Objects, PutError, create};
+use history_store::{
+    CreateError, LogEntry, Names, NewObject, ObjectKind, Objects, PutError, create,
+};
 use std::alloc::{AllocError, Global};
 use std::process::Abort;
 
@@ -12,11 +14,12 @@ use std::process::Abort;
 fn failing_put(
     alloc: Global,
     kind: Kind,
+    hello: &NewObject,
     call: u64,
-) -> (Result<ObjectId, PutError>, Fuse<MemoryFiles>) {
+) -> (Result<(), PutError>, Fuse<MemoryFiles>) {
     let fuse = Fuse::failing_at(MemoryFiles::new(alloc), call, Some(3));
     let mut objects = Objects::new(alloc, fuse, kind);
-    let stored = objects.put(alloc, ObjectKind::Blob, b"hello");
+    let stored = objects.put(alloc, hello);
     (stored, objects.into_files())
 }
 
@@ -25,43 +28,55 @@ fn is_stored_later(
     alloc: Global,
     kind: Kind,
     files: MemoryFiles,
-    id: ObjectId,
+    new: &NewObject,
     hello: Hello,
 ) -> bool {
     let mut objects = Objects::new(alloc, files, kind);
-    objects.put(alloc, ObjectKind::Blob, b"hello") == Ok(id)
+    objects.put(alloc, new) == Ok(())
         && holds(alloc, objects.files(), hello.place, Some(b"blob 5\0hello"))
 }
 
 // Whether the put has met the failure; then its answer is that a call failed.
-fn put_has_failed<R: Abort>(rt: &R, alloc: Global, kind: Kind, hello: Hello, call: u64) -> bool {
-    let id = id(rt, hello.digits);
-    let (stored, fuse) = failing_put(alloc, kind, call);
+fn put_has_failed<R: Abort>(
+    rt: &R,
+    alloc: Global,
+    kind: Kind,
+    hello: Hello,
+    call: u64,
+) -> Result<bool, AllocError> {
+    let new = object(alloc, kind, ObjectKind::Blob, b"hello")?;
+    let (stored, fuse) = failing_put(alloc, kind, &new, call);
     let has_failed = call <= fuse.calls();
     let wanted = if has_failed {
         Err(PutError::File)
     } else {
-        Ok(id)
+        Ok(())
     };
     assert!(rt; stored == wanted, "at {call}");
     assert!(rt;
-        is_stored_later(alloc, kind, fuse.into_inner(), id, hello),
+        is_stored_later(alloc, kind, fuse.into_inner(), &new, hello),
         "at {call}"
     );
-    has_failed
+    Ok(has_failed)
 }
 
-fn check_put<R: Abort>(rt: &R, alloc: Global, kind: Kind, hello: Hello) {
+fn check_put<R: Abort>(
+    rt: &R,
+    alloc: Global,
+    kind: Kind,
+    hello: Hello,
+) -> Result<(), AllocError> {
     for call in 1..9u64 {
-        assert!(rt; put_has_failed(rt, alloc, kind, hello, call));
+        assert!(rt; put_has_failed(rt, alloc, kind, hello, call)?);
     }
-    assert!(rt; !put_has_failed(rt, alloc, kind, hello, 9));
+    assert!(rt; !put_has_failed(rt, alloc, kind, hello, 9)?);
+    Ok(())
 }
 
 #[test]
-fn each_call_of_a_put_fails_once(rt: HostRuntime) {
-    check_put(&rt, rt.alloc(), Kind::Sha1, SHA1_HELLO);
-    check_put(&rt, rt.alloc(), Kind::Sha256, SHA256_HELLO);
+fn each_call_of_a_put_fails_once(rt: HostRuntime) -> Result<(), AllocError> {
+    check_put(&rt, rt.alloc(), Kind::Sha1, SHA1_HELLO)?;
+    check_put(&rt, rt.alloc(), Kind::Sha256, SHA256_HELLO)
 }
 
 fn failing_move(

@@ -1,9 +1,9 @@
 //! Objects that are stored and read.
 
-use crate::common::{Hello, SHA1_HELLO, SHA256_HELLO, holds, id, is_id};
+use crate::common::{Hello, SHA1_HELLO, SHA256_HELLO, holds, id, is_id, object};
 use gix_hash::{Kind, ObjectId};
 use gix_ref_file::{FileError, Files, MemoryFiles};
-use history_store::{ObjectKind, Objects, PutError, object_id};
+use history_store::{NewObject, ObjectKind, Objects, PutError};
 use std::alloc::{AllocError, Global};
 use std::process::Abort;
 
@@ -15,7 +15,9 @@ fn put(
     kind: ObjectKind,
     content: &[u8],
 ) -> Result<ObjectId, PutError> {
-    objects.put(alloc, kind, content)
+    let new = object(alloc, objects.kind(), kind, content)?;
+    objects.put(alloc, &new)?;
+    Ok(new.id)
 }
 
 fn is_stored(
@@ -94,7 +96,8 @@ fn check_taken_id<R: Abort>(
     assert!(rt; refused == Err(PutError::IdTaken(id(rt, hello.digits))));
     assert!(rt; stands(alloc, &objects, hello, b"blob 5\0jello"));
     let stored = put(alloc, &mut objects, ObjectKind::Blob, b"jello");
-    assert!(rt; stored == Ok(object_id(kind, ObjectKind::Blob, b"jello")));
+    let jello: NewObject = object(alloc, kind, ObjectKind::Blob, b"jello")?;
+    assert!(rt; stored == Ok(jello.id));
     Ok(())
 }
 

@@ -1,9 +1,9 @@
 //! Trees, printed and read.
 
-use crate::common::{SHA1_HELLO_DIGITS, SHA256_HELLO_DIGITS, SHA256_NULL, all_hold, id, is_id};
+use crate::common::{SHA1_HELLO_DIGITS, SHA256_HELLO_DIGITS, SHA256_NULL, all_hold, id, is_id, object};
 use gix_hash::Kind;
 use history_model::FileKind;
-use history_store::{ObjectKind, Tree, TreeEntry, object_id};
+use history_store::{ObjectKind, Tree, TreeEntry};
 use std::alloc::{AllocError, Global};
 use std::process::Abort;
 
@@ -82,8 +82,14 @@ fn read<R: Abort>(rt: &R, alloc: Global, kind: Kind, content: &[u8]) -> Result<T
     }
 }
 
-fn is_of_git(kind: Kind, content: &[u8], digits: &str) -> bool {
-    is_id(&object_id(kind, ObjectKind::Tree, content), digits)
+fn is_of_git(
+    alloc: Global,
+    kind: Kind,
+    content: &[u8],
+    digits: &str,
+) -> Result<bool, AllocError> {
+    let new = object(alloc, kind, ObjectKind::Tree, content)?;
+    Ok(is_id(&new.id, digits))
 }
 
 fn comparisons(tree: &Tree, again: &Tree, hello: TreeEntry) -> [bool; 6] {
@@ -107,7 +113,7 @@ fn check_tree<R: Abort>(
 ) -> Result<(), AllocError> {
     let tree = tree_of(rt, alloc, rows)?;
     let content = printed(alloc, &tree)?;
-    assert!(rt; is_of_git(kind, content.as_slice(), digits));
+    assert!(rt; is_of_git(alloc, kind, content.as_slice(), digits)?);
     let again = read(rt, alloc, kind, content.as_slice())?;
     let hello = TreeEntry {
         kind: FileKind::File,

@@ -11,7 +11,7 @@ use Rattle.history_word.specs.declared.command.Expect.TheVariants.{Any, New, At}
 use Rattle.history_word.specs.declared.command.Edit.{Edit}
 use Rattle.history_word.specs.declared.command.Edit.TheVariants.{Put}
 use Rattle.history_word.specs.declared.command.ActorLine.{ActorLine}
-use Rattle.history_word.specs.declared.command.Commit.{Commit}
+use Rattle.history_word.specs.declared.command.CommitCommand.{CommitCommand}
 use Rattle.history_word.specs.declared.command.Command.{Command}
 use Rattle.history_word.specs.declared.command.Command.TheVariants as command
 use Rattle.history_word.specs.declared.reader.Reading.{Reading}
@@ -46,7 +46,7 @@ pub record IsActor (actor : ActorLine) (line : model.ActorLine) : Type 0 where
   pub seconds : actor.seconds.items ≡ line.seconds
   pub offset : actor.offset.items ≡ line.offset
 
-pub record IsCommit (commit : Commit) (order : model.CommitCommand) : Type 0 where
+pub record IsCommit (commit : CommitCommand) (order : model.CommitCommand) : Type 0 where
   pub name : commit.name.items ≡ order.name
   pub expect : IsExpect commit.expect order.expect
   pub parents : order.parents ≡ []

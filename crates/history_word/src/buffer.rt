@@ -124,7 +124,8 @@ impl Buffer {
         ensures ok { IfOk result (λ is_more. MatchBool is_more
             (length (unread self.old) < length (unread self.new))
             (IsAtEnd (R.left source.new) × (unread self.new ≡ unread self.old))) }
-        ensures err { OnErr result (((R.has_failed source.new ≡ true) × (unread self.new ≡ unread self.old)) ⊎ IsLast self.new) }
+        ensures err { OnErr result (((R.has_failed source.new ≡ true)
+            × (unread self.new ≡ unread self.old)) ⊎ IsLast self.new) }
         ensures once { readings_made self.new ≤ readings_made self.old + 1 }
     {
         let Some(readings) = self.readings.checked_add(1) else {
@@ -150,8 +151,10 @@ impl Buffer {
         ensures ok { IfOk result (λ is_more. MatchBool is_more
             (0 < length (unread self.new))
             ((unread self.new ≡ []) × IsAtEnd (R.left source.new))) }
-        ensures err { OnErr result (((R.has_failed source.new ≡ true) × (unread self.new ≡ [])) ⊎ IsLast self.new) }
-        ensures idle { 0 < length (unread self.old) → (source.new ≡ source.old) × (self.new ≡ self.old) }
+        ensures err { OnErr result (((R.has_failed source.new ≡ true) × (unread self.new ≡ []))
+            ⊎ IsLast self.new) }
+        ensures idle { 0 < length (unread self.old)
+            → (source.new ≡ source.old) × (self.new ≡ self.old) }
         ensures once { readings_made self.new ≤ readings_made self.old + 1 }
     {
         if !self.unread().is_empty() {

@@ -61,7 +61,7 @@ pub struct ActorLine {
 
 /// The edits are made in order. The message has at most 16,777,216 bytes.
 #[derive(Debug, Drop)]
-pub struct Commit {
+pub struct CommitCommand {
     pub name: Vec<u8>,
     pub expect: Expect,
     pub edits: Vec<Edit>,
@@ -80,7 +80,7 @@ pub struct Show {
 /// What a client asks. A word is nonempty, without space or line feed, and a line's words have at most 4,096 bytes.
 #[derive(Debug, Drop)]
 pub enum Command {
-    Commit(Commit),
+    Commit(CommitCommand),
     /// Lists the files of this word's commit.
     Files(Vec<u8>),
     Show(Show),

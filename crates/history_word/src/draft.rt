@@ -9,7 +9,7 @@ ghost use Rattle.history_word.specs.Fields.{Keeps};
 ghost use Rattle.history_word.specs.Commands.{IsExpect, IsEdit, AreEdits, IsActor, IsCommit, StandsFor, max_path, max_actor_part, max_content};
 ghost use Rattle.history_word.specs.Drafts.{IsCommitDraft, IsDraft, role_of, with_actor, with_edit, with_message};
 
-use crate::command::{ActorLine, Command, Commit, Edit, Expect, Field, Put, Show};
+use crate::command::{ActorLine, Command, CommitCommand, Edit, Expect, Field, Put, Show};
 use crate::heading::Role;
 use history_model::FileKind;
 use std::alloc::Global;
@@ -36,8 +36,10 @@ pub(crate) enum Draft {
 
 impl CommitDraft {
     fn new(alloc: Global, name: Option<Vec<u8>>, expect: Option<Expect>) -> Self
-        ensures { (order : model.CommitCommand) → IfSome name (λ word. word.items ≡ order.name) → IfSome expect (λ x. IsExpect x order.expect)
-            → order.parents ≡ [] → IsTrue (is_offered (model.Commit order)) → order.edits ≡ [] → IsCommitDraft result order }
+        ensures { (order : model.CommitCommand) → IfSome name (λ word. word.items ≡ order.name)
+            → IfSome expect (λ x. IsExpect x order.expect)
+            → order.parents ≡ [] → IsTrue (is_offered (model.Commit order)) → order.edits ≡ []
+            → IsCommitDraft result order }
     {
         CommitDraft {
             name,
@@ -50,16 +52,18 @@ impl CommitDraft {
     }
 
     fn add_edit(&mut self, edit: Option<Edit>)
-        ensures { (order : model.CommitCommand) (line : model.EditLine) → IsCommitDraft self.old order → IfSome edit (λ x. IsEdit x line)
+        ensures { (order : model.CommitCommand) (line : model.EditLine)
+            → IsCommitDraft self.old order → IfSome edit (λ x. IsEdit x line)
             → IsTrue (is_put line) → IsCommitDraft self.new (with_edit order line) }
     {
         self.edits = pushed(self.edits.take(), edit);
     }
 
-    fn finish(self) -> Option<Commit>
-        ensures { (order : model.CommitCommand) → IsCommitDraft self order → IfSome result (λ commit. IsCommit commit order) }
+    fn finish(self) -> Option<CommitCommand>
+        ensures { (order : model.CommitCommand) → IsCommitDraft self order
+            → IfSome result (λ commit. IsCommit commit order) }
     {
-        Some(Commit {
+        Some(CommitCommand {
             name: self.name?,
             expect: self.expect?,
             edits: self.edits?,
@@ -72,20 +76,24 @@ impl CommitDraft {
 
 impl Draft {
     pub(crate) fn commit(alloc: Global, name: Option<Vec<u8>>, expect: Option<Expect>) -> Self
-        ensures { (order : model.CommitCommand) → IfSome name (λ word. word.items ≡ order.name) → IfSome expect (λ x. IsExpect x order.expect)
-            → order.parents ≡ [] → IsTrue (is_offered (model.Commit order)) → order.edits ≡ [] → IsDraft result (model.Commit order) }
+        ensures { (order : model.CommitCommand) → IfSome name (λ word. word.items ≡ order.name)
+            → IfSome expect (λ x. IsExpect x order.expect)
+            → order.parents ≡ [] → IsTrue (is_offered (model.Commit order)) → order.edits ≡ []
+            → IsDraft result (model.Commit order) }
     {
         Draft::Commit(CommitDraft::new(alloc, name, expect))
     }
 
     pub(crate) fn show(word: Option<Vec<u8>>) -> Self
-        ensures { (w : Bytes) → IfSome word (λ x. x.items ≡ w) → IsDraft result (model.Show w None) }
+        ensures { (w : Bytes) → IfSome word (λ x. x.items ≡ w)
+            → IsDraft result (model.Show w None) }
     {
         Draft::Show(word.map(|word| Show { word, path: None }))
     }
 
     pub(crate) fn show_path(word: Option<Vec<u8>>, path: Option<Field>) -> Self
-        ensures { (w p : Bytes) → IfSome word (λ x. x.items ≡ w) → IfSome path (λ x. Keeps max_path x p) → IsDraft result (model.Show w (Some p)) }
+        ensures { (w p : Bytes) → IfSome word (λ x. x.items ≡ w)
+            → IfSome path (λ x. Keeps max_path x p) → IsDraft result (model.Show w (Some p)) }
     {
         let (Some(word), Some(path)) = (word, path) else {
             return Draft::Show(None);
@@ -97,7 +105,8 @@ impl Draft {
     }
 
     pub(crate) fn add_put(&mut self, kind: FileKind, path: Option<Field>, content: Option<Field>)
-        ensures { (order : model.CommitCommand) (p c : Bytes) → IsDraft self.old (model.Commit order)
+        ensures { (order : model.CommitCommand) (p c : Bytes)
+            → IsDraft self.old (model.Commit order)
             → IfSome path (λ x. Keeps max_path x p) → IfSome content (λ x. Keeps max_content x c)
             → IsDraft self.new (model.Commit (with_edit order (model.PutLine kind p c))) }
     {
@@ -107,7 +116,8 @@ impl Draft {
     }
 
     pub(crate) fn set_actor(&mut self, role: Role, actor: Option<ActorLine>)
-        ensures { (order : model.CommitCommand) (line : model.ActorLine) → IsDraft self.old (model.Commit order) → IfSome actor (λ x. IsActor x line)
+        ensures { (order : model.CommitCommand) (line : model.ActorLine)
+            → IsDraft self.old (model.Commit order) → IfSome actor (λ x. IsActor x line)
             → IsDraft self.new (model.Commit (with_actor (role_of role) order line)) }
     {
         if let Draft::Commit(commit) = self {
@@ -119,7 +129,8 @@ impl Draft {
     }
 
     pub(crate) fn set_message(&mut self, message: Option<Field>)
-        ensures { (order : model.CommitCommand) (m : Bytes) → IsDraft self.old (model.Commit order) → IfSome message (λ x. Keeps max_content x m)
+        ensures { (order : model.CommitCommand) (m : Bytes) → IsDraft self.old (model.Commit order)
+            → IfSome message (λ x. Keeps max_content x m)
             → IsDraft self.new (model.Commit (with_message order m)) }
     {
         if let Draft::Commit(commit) = self {
@@ -136,7 +147,8 @@ impl Draft {
 
     /// The command, if each of its parts found memory.
     pub(crate) fn finish(self) -> Option<Command>
-        ensures { (order : model.Command) → IsDraft self order → IfSome result (λ command. StandsFor command order) }
+        ensures { (order : model.Command) → IsDraft self order
+            → IfSome result (λ command. StandsFor command order) }
     {
         match self {
             Draft::Empty => None,
@@ -149,7 +161,8 @@ impl Draft {
 
 /// The edits and one more, if there is memory for them.
 fn pushed(edits: Option<Vec<Edit>>, edit: Option<Edit>) -> Option<Vec<Edit>>
-    ensures { (lines : List model.EditLine) (line : model.EditLine) → IfSome edits (λ es. AreEdits es.items lines) → IfSome edit (λ x. IsEdit x line)
+    ensures { (lines : List model.EditLine) (line : model.EditLine)
+        → IfSome edits (λ es. AreEdits es.items lines) → IfSome edit (λ x. IsEdit x line)
         → IfSome result (λ es. AreEdits es.items (lines ++ line ∷ [])) }
 {
     let mut edits = edits?;
@@ -158,7 +171,8 @@ fn pushed(edits: Option<Vec<Edit>>, edit: Option<Edit>) -> Option<Vec<Edit>>
 }
 
 fn put(kind: FileKind, path: Option<Field>, content: Option<Field>) -> Option<Edit>
-    ensures { (p c : Bytes) → IfSome path (λ x. Keeps max_path x p) → IfSome content (λ x. Keeps max_content x c)
+    ensures { (p c : Bytes) → IfSome path (λ x. Keeps max_path x p)
+        → IfSome content (λ x. Keeps max_content x c)
         → IfSome result (λ edit. IsEdit edit (model.PutLine kind p c)) }
 {
     Some(Edit::Put(Put {
@@ -175,8 +189,10 @@ pub(crate) fn actor_line(
     seconds: Option<Vec<u8>>,
     offset: Option<Vec<u8>>,
 ) -> Option<ActorLine>
-    ensures { (line : model.ActorLine) → IfSome name (λ x. Keeps max_actor_part x line.name) → IfSome email (λ x. Keeps max_actor_part x line.email)
-        → IfSome seconds (λ x. x.items ≡ line.seconds) → IfSome offset (λ x. x.items ≡ line.offset) → IfSome result (λ actor. IsActor actor line) }
+    ensures { (line : model.ActorLine) → IfSome name (λ x. Keeps max_actor_part x line.name)
+        → IfSome email (λ x. Keeps max_actor_part x line.email)
+        → IfSome seconds (λ x. x.items ≡ line.seconds) → IfSome offset (λ x. x.items ≡ line.offset)
+        → IfSome result (λ actor. IsActor actor line) }
 {
     Some(ActorLine {
         name: name?,

@@ -13,7 +13,7 @@ mod streams;
 mod words;
 
 pub use buffer::Buffer;
-pub use command::{ActorLine, Command, Commit, Edit, Expect, Field, Put, Show};
+pub use command::{ActorLine, Command, CommitCommand, Edit, Expect, Field, Put, Show};
 pub use memory::{Bytes, Collected};
 pub use reader::{Reading, Stop, read_command};
 pub use stream::Stream;

@@ -20,7 +20,8 @@ pub(crate) enum Place {
 impl Place {
     /// The place behind a line that may stand here.
     pub(crate) fn next(self, heading: &Heading) -> Option<Place>
-        ensures { (h : table.Heading) → IsHeading heading.now h → option_map place_of result ≡ table.next (place_of self) h }
+        ensures { (h : table.Heading) → IsHeading heading.now h
+            → option_map place_of result ≡ table.next (place_of self) h }
     {
         match (self, heading) {
             (Place::Start, Heading::Commit { .. }) => Some(Place::Edits),

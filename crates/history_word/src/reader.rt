@@ -54,7 +54,8 @@ pub enum Reading {
 /// Reads until a whole line stands first, and says how long it is without its line feed.
 fn read_line<R: Source>(buffer: &mut Buffer, source: &mut R) -> Result<usize, Stop>
     ensures { Reads R.left R.has_failed R.readings source.old buffer.old source.new buffer.new
-        (λ n taken. (taken ≡ []) × IsLineOf n (unread buffer.new) × (n < length (unread buffer.old) → source.new ≡ source.old)) IsEndless result }
+        (λ n taken. (taken ≡ []) × IsLineOf n (unread buffer.new)
+        × (n < length (unread buffer.old) → source.new ≡ source.old)) IsEndless result }
 {
     loop {
         if let Some(length) = buffer.line() {
@@ -78,7 +79,9 @@ fn read_heading<R: Source>(
 ) -> Result<(Heading, Place), Stop>
     requires { place_of place ≢ table.Done }
     ensures { Reads R.left R.has_failed R.readings source.old buffer.old source.new buffer.new
-        (λ read taken. TakesLine place read.0 read.1 taken × AsksForMore source.old buffer.old source.new taken) (StopsAt [] (place_of place)) result }
+        (λ read taken. TakesLine place read.0 read.1 taken
+        × AsksForMore source.old buffer.old source.new taken)
+        (StopsAt [] (place_of place)) result }
 {
     let length = read_line(buffer, source)?;
     let Some(heading) = parse(alloc, &buffer.unread()[..length]) else {
@@ -100,7 +103,9 @@ fn read_field<R: Source>(
     limit: u64,
 ) -> Result<Option<Field>, Stop>
     ensures { Reads R.left R.has_failed R.readings source.old buffer.old source.new buffer.new
-        (λ field taken. (bytes : Bytes) × (length bytes ≡ size) × (taken ≡ line bytes) × IfSome field (λ kept. Keeps limit kept bytes) × AsksForMore source.old buffer.old source.new taken) (IsNoField size) result }
+        (λ field taken. (bytes : Bytes) × (length bytes ≡ size) × (taken ≡ line bytes)
+        × IfSome field (λ kept. Keeps limit kept bytes)
+        × AsksForMore source.old buffer.old source.new taken) (IsNoField size) result }
 {
     let mut field = Some(Field::new(alloc, size, limit));
     let mut rest = size;
@@ -125,7 +130,8 @@ fn read_field<R: Source>(
 
 /// The field with its next bytes, if there is memory for them.
 fn added(field: Option<Field>, bytes: &[u8]) -> Option<Field>
-    ensures { (limit size : ℕ) (front : Bytes) → IfSome field (λ kept. KeepsFront limit size kept front)
+    ensures { (limit size : ℕ) (front : Bytes)
+        → IfSome field (λ kept. KeepsFront limit size kept front)
         → IfSome result (λ kept. KeepsFront limit size kept (front ++ bytes.now)) }
 {
     let mut field = field?;
@@ -143,7 +149,9 @@ fn read_part<R: Source>(
 ) -> Result<Place, Stop>
     requires { place_of place ≢ table.Done }
     ensures { Reads R.left R.has_failed R.readings source.old buffer.old source.new buffer.new
-        (λ next taken. TakesParts place draft.old next draft.new taken × AsksForMore source.old buffer.old source.new taken) (StopsFrom [] (place_of place)) result }
+        (λ next taken. TakesParts place draft.old next draft.new taken
+        × AsksForMore source.old buffer.old source.new taken)
+        (StopsFrom [] (place_of place)) result }
 {
     let (heading, next) = read_heading(alloc, buffer, source, place)?;
     match heading {
@@ -194,7 +202,8 @@ pub fn read_command<R: Source>(
     source: &mut R,
 ) -> Result<Reading, Stop>
     ensures { Reads R.left R.has_failed R.readings source.old buffer.old source.new buffer.new
-        (λ reading taken. (order : model.Command) × Spells taken order × IsReading reading order × AsksForMore source.old buffer.old source.new taken) IsCauseOf result }
+        (λ reading taken. (order : model.Command) × Spells taken order × IsReading reading order
+        × AsksForMore source.old buffer.old source.new taken) IsCauseOf result }
 {
     let mut draft = Draft::Empty;
     let mut place = Place::Start;

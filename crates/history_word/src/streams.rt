@@ -51,7 +51,8 @@ pub trait Sink {
 /// Writes all of the bytes. `Broken` is answered where the sink has failed, which may have taken a beginning of them.
 pub fn write_all<W: Sink>(writer: &mut W, bytes: &[u8]) -> Result<(), Broken>
     ensures ok { OnOk result (Appends (W.contents writer.old) (W.contents writer.new) bytes.now) }
-    ensures err { OnErr result ((W.has_failed writer.new ≡ true) × AppendsFront (W.contents writer.old) (W.contents writer.new) bytes.now) }
+    ensures err { OnErr result ((W.has_failed writer.new ≡ true)
+        × AppendsFront (W.contents writer.old) (W.contents writer.new) bytes.now) }
 {
     let mut done = 0;
     while done < bytes.len() {

@@ -6,6 +6,7 @@ ghost use Rattle.history_model.specs.Bytes.{Bytes};
 ghost use Rattle.history_model.specs.LineTable.{number_of, kind_of};
 ghost use Rattle.history_word.specs.Lines.{IsCut, split_words, are_nonempty};
 
+use gix_object_lines::decimal::read_unsigned;
 use history_model::FileKind;
 
 /// The words of a line that are still to come, with one space between.
@@ -81,13 +82,8 @@ pub(crate) fn are_words(line: &[u8]) -> bool
 pub(crate) fn number(word: &[u8]) -> Option<u64>
     ensures { result ≡ number_of word.now }
 {
-    let number: u64 = str::from_utf8(word).ok()?.parse().ok()?;
-    let mut digits = itoa::Buffer::new();
-    if digits.format(number).as_bytes() == word {
-        Some(number)
-    } else {
-        None
-    }
+    let number = read_unsigned(word)?;
+    Some(number)
 }
 
 /// The kind of file that the word names.

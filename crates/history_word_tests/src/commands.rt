@@ -3,7 +3,7 @@
 use crate::common::{COMMIT, cause, is_files, is_whole, path, read, show};
 use history_model::{Cause, FileKind};
 use history_word::{
-    ActorLine, Buffer, Bytes, Command, Commit, Edit, Expect, Put, Reading, Stop, read_command,
+    ActorLine, Buffer, Bytes, Command, CommitCommand, Edit, Expect, Put, Reading, Stop, read_command,
 };
 use std::alloc::Global;
 
@@ -18,7 +18,7 @@ fn is_put(put: &Put) -> bool {
     put.kind == FileKind::File && is_whole(&put.path, b"a") && is_whole(&put.content, b"hello")
 }
 
-fn has_one_put(commit: &Commit) -> bool {
+fn has_one_put(commit: &CommitCommand) -> bool {
     match commit.edits.as_slice() {
         [Edit::Put(put)] => is_put(put),
         _ => false,
@@ -26,7 +26,7 @@ fn has_one_put(commit: &Commit) -> bool {
 }
 
 // Whether it is the commit of `COMMIT`.
-fn is_commit(commit: &Commit) -> bool {
+fn is_commit(commit: &CommitCommand) -> bool {
     commit.name.as_slice() == b"refs/heads/main".as_slice()
         && matches!(commit.expect, Expect::New)
         && has_one_put(commit)

@@ -35,7 +35,8 @@ pub enum Undo {
 impl MemoryFiles {
     // Puts an entry at a path.
     pub fn put(&mut self, alloc: Global, path: &[u8], entry: Entry) -> Result<(), AllocError>
-        ensures ok { OnOk result (Steps (history_of self.old) (history_of self.new) (map.insert self.old.nodes path.now (node_of entry))) }
+        ensures ok { OnOk result (Steps (history_of self.old) (history_of self.new)
+            (map.insert self.old.nodes path.now (node_of entry))) }
         ensures err { OnErr result (history_of self.new ≡ history_of self.old) }
     {
         self.past.reserve(1)?;
@@ -48,7 +49,8 @@ impl MemoryFiles {
 
     // Takes away what stands at a path.
     pub fn take(&mut self, alloc: Global, path: &[u8]) -> Result<(), AllocError>
-        ensures ok { OnOk result (Steps (history_of self.old) (history_of self.new) (map.remove self.old.nodes path.now)) }
+        ensures ok { OnOk result (Steps (history_of self.old) (history_of self.new)
+            (map.remove self.old.nodes path.now)) }
         ensures err { OnErr result (history_of self.new ≡ history_of self.old) }
     {
         self.past.reserve(1)?;
@@ -64,7 +66,8 @@ impl MemoryFiles {
         requires there { IsTrue (is_file_at self.old.nodes from.now) }
         requires path { IsTrue (may_hold_file self.old.nodes to.now) }
         requires apart { IsFalse (same_path from.now to.now) }
-        ensures ok { OnOk result (Steps (history_of self.old) (history_of self.new) (after (to_rename from.now to.now) self.old.nodes)) }
+        ensures ok { OnOk result (Steps (history_of self.old) (history_of self.new)
+            (after (to_rename from.now to.now) self.old.nodes)) }
         ensures err { OnErr result (history_of self.new ≡ history_of self.old) }
     {
         self.past.reserve(1)?;
@@ -82,7 +85,8 @@ impl MemoryFiles {
     // Puts bytes behind those of a file.
     pub fn lengthen(&mut self, alloc: Global, path: &[u8], bytes: &[u8]) -> Result<(), AllocError>
         requires { IsTrue (is_file_at self.old.nodes path.now) }
-        ensures ok { OnOk result (Steps (history_of self.old) (history_of self.new) (after (to_append path.now bytes.now) self.old.nodes)) }
+        ensures ok { OnOk result (Steps (history_of self.old) (history_of self.new)
+            (after (to_append path.now bytes.now) self.old.nodes)) }
         ensures err { OnErr result (history_of self.new ≡ history_of self.old) }
     {
         self.past.reserve(1)?;

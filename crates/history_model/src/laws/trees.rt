@@ -1,8 +1,8 @@
 //! Laws of the trees that stand for a repository, over the definitions alone.
 
 ghost use Rattle.history_model.specs.TreeHalves.{HalvesStand, NamesSpeakOfNoValues, PlacesTellIds, PlacesTellValues, ValuesHaveIds};
-ghost use Rattle.history_model.specs.TreeSteps.{PutsStore, StandingIsStored, StoredStands, TreesTellTaken, OwnIdsStay, MovesMove, NoneUnfinished, RenamesPut};
-ghost use Rattle.history_model.specs.CommitSteps.{PutsStoreAll, CommitsStand};
+ghost use Rattle.history_model.specs.TreeSteps.{PutsStore, StandingIsStored, StoredStands, TreesTellTaken, OwnIdsStay, StoresInAnyOrder, MovesMove, NoneUnfinished, RenamesPut};
+ghost use Rattle.history_model.specs.CommitSteps.{CommitsStand};
 ghost use Rattle.history_model.specs.TreeReads.{ObjectsTellValues, CommitsAreRead, FoldersAreRead, BytesAreRead};
 
 /// A pair stands for a repository exactly where each of its trees holds its half.
@@ -60,12 +60,7 @@ pub fn moves_move()
     ensures { MovesMove }
 {}
 
-/// The puts of several values, one after another, store them all.
-pub fn puts_store_all()
-    ensures { PutsStoreAll }
-{}
-
-/// The puts of what a commit stores and the move of its name leave what stands for the repository after it.
+/// The objects after a commit and the move of its name make what stands for the repository after it.
 pub fn commits_stand()
     ensures { CommitsStand }
 {}
@@ -88,6 +83,11 @@ pub fn folders_are_read()
 /// Where a blob stands, its bytes are stored.
 pub fn bytes_are_read()
     ensures { BytesAreRead }
+{}
+
+/// Values may be stored in any order: it tells neither whether an id is taken, nor the files, nor the ids that are known.
+pub fn stores_in_any_order()
+    ensures { StoresInAnyOrder }
 {}
 
 /// No file stands where an object is written before it is renamed to its place.

@@ -1,5 +1,4 @@
-use Rattle.std.proofs.Common.{◌≡◌, refl, sym, ◌∙◌, ap, subst, arith, ℕ, List, [], ◌∷◌, ◌++◌, map, Vec}
-use Rattle.std.specs.declared.alloc.Global.{Global}
+use Rattle.std.proofs.Common.{◌≡◌, refl, sym, ◌∙◌, ap, subst, arith, List, [], ◌∷◌, ◌++◌, map}
 use Rattle.std.proofs.lemmas.Iterator.Adapters.{YieldsList-from_vec}
 use Rattle.std.proofs.lemmas.Iterator.Consumers.{YieldsList-end}
 use Rattle.history_model.specs.Commands.{EditLine}
@@ -7,6 +6,7 @@ use Rattle.history_word.specs.Commands.{AreEdits, IsEdit}
 use Rattle.history_word.specs.declared.command.Edit.{Edit}
 use Rattle.history_word.specs.declared.command.Edit.TheVariants as sent
 use Rattle.history_word.specs.declared.command.Put.{Put}
+use Rattle.history_store.specs.declared.object.NewObject.{NewObject}
 use Rattle.history.specs.Files.{AreWithin, HasEdited}
 use Rattle.history.proofs.Edits.{files_after, edited_none, edited_then, within_parts, none_zipped, last_zipped}
 use Rattle.history.proofs.repository.Repository.edit.Goals as goal
@@ -28,7 +28,7 @@ loop-edit-preserved g c = λ r files lines are within flat tree.
     let before = c.loop-edit.invariant r files parts.0 parts.3 each.0 flat tree in
     let one = c.in_ok-put_file.ensures r (files_after r files parts.0) parts.1 (edit_as c.in-Some.edit _ parts.1 (cc) parts.4) each.1 before.flat before.tree in
     subst (λ (ls : List EditLine). HasEdited r kind files ls c.push.new.self.items c.put_file.new.tree) (sym parts.2)
-    (subst (λ (blobs : List (Vec ℕ Global)). HasEdited r kind files (parts.0 ++ parts.1 ∷ []) blobs c.put_file.new.tree) (sym c.in_ok-push.ensures.items)
+    (subst (λ (blobs : List NewObject). HasEdited r kind files (parts.0 ++ parts.1 ∷ []) blobs c.put_file.new.tree) (sym c.in_ok-push.ensures.items)
     (edited_then r kind files parts.0 (parts.1 ∷ []) c.loop-edit.blobs.items (c.in_ok-put_file.field-0 ∷ []) c.loop-edit.tree c.put_file.new.tree before one))
 
 all_of : {A : Type 0} (xs : List A) → map (λ x. x) xs ≡ xs

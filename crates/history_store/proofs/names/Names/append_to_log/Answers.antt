@@ -48,7 +48,7 @@ returns-clause-folders g c = λ honest.
     (then_above c.deref.result.now old made new (c.make_way.ensures.folders honest) change.moments (λ x left. appended_brings c.deref-2.result.now c.deref-3.result.now made.tree x left))
 
 pub returns-in_err-make_way-clause-failed : goal.returns-in_err-make_way-clause-failed
-returns-in_err-make_way-clause-failed g c = λ honest named way failed.
+returns-in_err-make_way-clause-failed g c = λ named honest way failed.
     let old = (g.F.Files.history c.args.self.now.files).tree in
     let log : log_place c.args.name.now ≡ c.deref.result.now = sym (c.deref.ensures.value ∙ c.in_ok-log.ensures) in
     let whole = subst (λ p. IsTrue (is_path p)) log (log_path c.args.name.now named) in
@@ -57,7 +57,7 @@ returns-in_err-make_way-clause-failed g c = λ honest named way failed.
     inner (search rules)
 
 pub returns-clause-failed : goal.returns-clause-failed
-returns-clause-failed g c = λ honest named way failed.
+returns-clause-failed g c = λ named honest way failed.
     let old = (g.F.Files.history c.args.self.now.files).tree in
     let made = (g.F.Files.history c.make_way.new.files).tree in
     let log : log_place c.args.name.now ≡ c.deref.result.now = sym (c.deref.ensures.value ∙ c.in_ok-log.ensures) in

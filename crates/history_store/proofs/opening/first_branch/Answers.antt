@@ -1,8 +1,8 @@
 use Rattle.std.proofs.Common.{◌≡◌, ◌≢◌, None, rules}
-use Rattle.history_model.specs.Offered.{main_name}
-use Rattle.history.proofs.OpenLemmas.{head_stands, no_branch, branch_read, other_branch, bad_branch}
-use Rattle.history.proofs.open.first_branch.Goals as goal
-use Rattle.history.proofs.open.first_branch.Goals.{in-File, in_default}
+use Rattle.history_model.specs.Repository.{first_branch}
+use Rattle.history_store.proofs.OpenLemmas.{head_stands, no_branch, branch_read, other_branch, bad_branch}
+use Rattle.history_store.proofs.opening.first_branch.Goals as goal
+use Rattle.history_store.proofs.opening.first_branch.Goals.{in-File, in_default}
 
 pub returns-in_default-2-clause-wrong : goal.returns-in_default-2-clause-wrong
 returns-in_default-2-clause-wrong g c = λ honest.
@@ -19,7 +19,7 @@ pub returns-then-is_branch-clause-wrong : goal.returns-then-is_branch-clause-wro
 returns-then-is_branch-clause-wrong g c = λ honest.
     let found = rw c.in-Some.is at (c.in_ok-branch.ensures.found honest) in
     let head = branch_read _ c.in-Some.branch.items found in
-    let other : c.in-Some.branch.items ≢ main_name = λ same. search rules in
+    let other : c.in-Some.branch.items ≢ first_branch = λ same. search rules in
     (c.in_ok-from_slice.ensures.items, other_branch (g.F.Files.history c.args.names.now.files).tree c.in-Some.branch.items (search rules) other head)
 
 pub returns-clause-wrong : goal.returns-clause-wrong

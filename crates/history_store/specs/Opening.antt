@@ -11,8 +11,8 @@ use Rattle.history_store.specs.declared.parts.Part.{Part}
 use Rattle.history_store.specs.declared.parts.Part.TheVariants.{Objects, Names}
 use Rattle.history_store.specs.declared.parts.Stray.{Stray as AnyStray}
 use Rattle.history_store.specs.declared.parts.Stray.TheVariants as strays
-use Rattle.history.specs.declared.open.OpenError.{OpenError}
-use Rattle.history.specs.declared.open.OpenError.TheVariants.{NoHead, BadHead, Stray, NotYet, File, Memory}
+use Rattle.history_store.specs.declared.opening.OpenError.{OpenError}
+use Rattle.history_store.specs.declared.opening.OpenError.TheVariants.{NoHead, BadHead, Stray, NotYet, File, Memory}
 
 abbrev pub open_fault : FileError → OpenError
 open_fault files.Failed = File
