@@ -1,8 +1,5 @@
-//! Tests of `history`: outside vectors, printed texts, limits, and faults at each call, with each kind of digest; and the stored
-//! run as a contract (`in_memory`).
+//! Tests of `history`: outside vectors, printed texts, limits, and faults at each call, with each kind of digest.
 #![tactic(auto)]
-
-pub mod in_memory;
 
 #[cfg(test)]
 mod common;
