@@ -1,4 +1,4 @@
-use Rattle.std.proofs.Common.{refl, sym, ◌∙◌, ap, subst}
+use Rattle.std.proofs.Common.{refl, sym, subst}
 use Rattle.history_model.specs.Repository.{fresh}
 use Rattle.history_store.specs.Creation.{IsNew}
 use Rattle.history.proofs.OpenLemmas.{opened_stands, opened_of_stage}

@@ -1,7 +1,10 @@
-use Rattle.std.proofs.Common.{◌≡◌, ◌∙◌, refl, subst, MatchOption, IsTrue}
+use Rattle.std.proofs.Common.{◌≡◌, ◌∙◌, ℕ, Vec, Err, ap, refl, subst, MatchOption, IsTrue}
+use Rattle.std.specs.declared.alloc.Global.{Global}
+use Rattle.std.proofs.lemmas.Result.{err_from_is_err_and}
 use Rattle.history_model.specs.Forms.{is_commit_form}
 use Rattle.history_model.specs.Objects.{StoredCommit, commit_content}
 use Rattle.history_store.specs.Commits.{IsCommitOf}
+use Rattle.history.proofs.Befores.{gives_stopped}
 use Rattle.history.proofs.StoredValues.{commit_formed}
 use Rattle.history.proofs.repository.Repository.read_commit.Goals as goal
 use Rattle.gix_hash.specs.Id.{id_of}
@@ -22,3 +25,9 @@ returns-in_err-ok_or g c r value stands at =
     let read = reads (commit_formed _ _ c.args.self.now r stands (id_of c.args.id.now) value at) spelled in
     let none = rw c.in_err-ok_or.ensures.ok_part at read in
     absurd none
+
+pub returns-in_err-content : goal.returns-in_err-content
+returns-in_err-content g c r value stands at =
+    let stopped = err_from_is_err_and c.from_residual.result c.from_residual.ensures.1 in
+    gives_stopped g.F.Files.reading_may_fail (λ (content : Vec ℕ Global). content.items ≡ commit_content r.kind value) (λ commit. IsCommitOf r.kind commit value) c.content.result c.from_residual.result
+    c.in_err-content.field-0.0 c.in_err-content.was (stopped.1 ∙ ap Err stopped.2) (c.content.ensures r (StoredCommit value) stands at refl)
