@@ -50,7 +50,9 @@ fn read_trees(alloc: Global, kind: Kind, words: &str) -> Option<Trees> {
         return Some(trees);
     }
     for word in words.split(',') {
-        trees.add(row_of_content(kind, read_bytes(alloc, word)?)).ok()?;
+        trees
+            .add(row_of_content(kind, read_bytes(alloc, word)?))
+            .ok()?;
     }
     Some(trees)
 }

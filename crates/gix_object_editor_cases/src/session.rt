@@ -128,12 +128,15 @@ fn written_of(alloc: Global, kind: Kind, tree: &Tree) -> Option<Written> {
 // for afterwards.
 fn write(alloc: Global, kind: Kind, editor: &mut Editor<Trees>, page: &mut Page) -> Option<()> {
     let mut trees: Vec<Written> = Vec::new(alloc);
-    let root = editor.write(alloc, &mut |tree: &Tree| -> Result<ObjectId, AllocError> {
-        let written = written_of(alloc, kind, tree).ok_or(AllocError)?;
-        let oid = written.row.oid;
-        trees.push(written)?;
-        Ok(oid)
-    });
+    let root = editor.write(
+        alloc,
+        &mut |tree: &Tree| -> Result<ObjectId, AllocError> {
+            let written = written_of(alloc, kind, tree).ok_or(AllocError)?;
+            let oid = written.row.oid;
+            trees.push(written)?;
+            Ok(oid)
+        },
+    );
     page.value(root.ok()?);
     let mut known = true;
     for written in trees {

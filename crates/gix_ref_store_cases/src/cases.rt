@@ -38,10 +38,7 @@ fn shown(alloc: Global, reference: &Reference) -> Result<String, AllocError> {
     }
 }
 
-fn found(
-    alloc: Global,
-    res: Result<Reference, find::ExistingError>,
-) -> Result<String, AllocError> {
+fn found(alloc: Global, res: Result<Reference, find::ExistingError>) -> Result<String, AllocError> {
     match res {
         Ok(reference) => shown(alloc, &reference),
         Err(find::ExistingError::NotFound) => format!(in alloc; "none"),

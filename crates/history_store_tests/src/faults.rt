@@ -60,12 +60,7 @@ fn put_has_failed<R: Abort>(
     Ok(has_failed)
 }
 
-fn check_put<R: Abort>(
-    rt: &R,
-    alloc: Global,
-    kind: Kind,
-    hello: Hello,
-) -> Result<(), AllocError> {
+fn check_put<R: Abort>(rt: &R, alloc: Global, kind: Kind, hello: Hello) -> Result<(), AllocError> {
     for call in 1..9u64 {
         assert!(rt; put_has_failed(rt, alloc, kind, hello, call)?);
     }

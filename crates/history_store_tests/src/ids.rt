@@ -61,12 +61,7 @@ fn has_id(alloc: Global, kind: Kind, row: Row) -> Result<bool, AllocError> {
     Ok(is_id(&new.id, digits))
 }
 
-fn have_ids<R: Abort>(
-    rt: &R,
-    alloc: Global,
-    kind: Kind,
-    rows: &[Row],
-) -> Result<(), AllocError> {
+fn have_ids<R: Abort>(rt: &R, alloc: Global, kind: Kind, rows: &[Row]) -> Result<(), AllocError> {
     for row in rows {
         assert!(rt; has_id(alloc, kind, *row)?, "at {}", row.2);
     }

@@ -1,6 +1,8 @@
 //! Trees, printed and read.
 
-use crate::common::{SHA1_HELLO_DIGITS, SHA256_HELLO_DIGITS, SHA256_NULL, all_hold, id, is_id, object};
+use crate::common::{
+    SHA1_HELLO_DIGITS, SHA256_HELLO_DIGITS, SHA256_NULL, all_hold, id, is_id, object,
+};
 use gix_hash::Kind;
 use history_model::FileKind;
 use history_store::{ObjectKind, Tree, TreeEntry};
@@ -82,12 +84,7 @@ fn read<R: Abort>(rt: &R, alloc: Global, kind: Kind, content: &[u8]) -> Result<T
     }
 }
 
-fn is_of_git(
-    alloc: Global,
-    kind: Kind,
-    content: &[u8],
-    digits: &str,
-) -> Result<bool, AllocError> {
+fn is_of_git(alloc: Global, kind: Kind, content: &[u8], digits: &str) -> Result<bool, AllocError> {
     let new = object(alloc, kind, ObjectKind::Tree, content)?;
     Ok(is_id(&new.id, digits))
 }

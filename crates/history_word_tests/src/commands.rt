@@ -3,7 +3,8 @@
 use crate::common::{COMMIT, cause, is_files, is_whole, path, read, show};
 use history_model::{Cause, FileKind};
 use history_word::{
-    ActorLine, Buffer, Bytes, Command, CommitCommand, Edit, Expect, Put, Reading, Stop, read_command,
+    ActorLine, Buffer, Bytes, Command, CommitCommand, Edit, Expect, Put, Reading, Stop,
+    read_command,
 };
 use std::alloc::Global;
 
