@@ -95,8 +95,7 @@ impl History {
         }
     }
 
-    // A walk of `Simple`: along which parents, the tips, the hidden commits, the one that is refused, and whether its order is
-    // shown.
+    // A walk of `Simple`: along which parents, the tips, the hidden commits, how it is made, and whether its order is shown.
     fn given(&self, alloc: Global, word: &[&str]) -> Option<String> {
         let parents = if *word.get(1)? == "first" {
             Parents::First
@@ -107,7 +106,7 @@ impl History {
             tips: ids(alloc, *word.get(2)?)?,
             hidden: ids(alloc, *word.get(3)?)?,
             parents,
-            refused: ids(alloc, *word.get(4)?)?.as_slice().first().copied(),
+            filtered: *word.get(4)? == "filtered",
         };
         let found = given(alloc, self.graph.as_ref()?, asked)?;
         if *word.get(5)? == "set" {
