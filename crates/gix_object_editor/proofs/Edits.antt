@@ -1,7 +1,6 @@
 -- Edits below the root, after a walk down.
 use Rattle.std.proofs.Common.{subst, ◌-◌, ◌≤◌, take, ℕ, suc, ◌≡◌, ◌≢◌, ◌<◌, ◌+◌, List, [], ◌∷◌, ◌++◌, Some, None, refl, sym, ap, ◌∙◌, arith, zero, inl, inr, length, get_or, drop, if◌then◌else◌, true, ◌==◌, eqb-true}
-use Rattle.std.specs.Prelude.{is_some, IsTrue}
-use Rattle.gix_object_entries.specs.Mode.{is_tree_value}
+use Rattle.std.specs.Prelude.{is_some}
 use Rattle.std.specs.Borrow.{Bor}
 use Rattle.std.proofs.lemmas.List.{get_or-map, length-drop, take_all}
 use Rattle.std.proofs.lemmas.List.Elements.{All-map}

@@ -1,12 +1,12 @@
 -- Trees with one slot each, put behind the others and then linked.
-use Rattle.std.proofs.Common.{ℕ, zero, suc, ◌≡◌, ◌≢◌, ◌<◌, ◌≤◌, ◌+◌, ◌-◌, ◌⊎◌, Bool, true, false, List, [], ◌∷◌, Option, Some, None, refl, sym, ap, subst, ◌∙◌, inl, inr, arith, length, get_or, drop, if◌then◌else◌}
+use Rattle.std.proofs.Common.{ℕ, suc, ◌≡◌, ◌≢◌, ◌<◌, ◌≤◌, ◌+◌, ◌-◌, true, List, [], ◌∷◌, Some, None, refl, sym, ap, subst, ◌∙◌, inl, inr, arith, length, get_or, drop, if◌then◌else◌}
 use Rattle.std.specs.Prelude.{bytes_eq, is_some}
 use Rattle.std.specs.Borrow.{Bor}
 use Rattle.std.proofs.lemmas.List.{length-drop}
 use Rattle.std.proofs.lemmas.Bool.{cases_lt}
 use Rattle.gix_object_editor.specs.declared.tree.editor.node.Node.{Node}
 use Rattle.gix_object_editor.specs.declared.tree.editor.node.Slot.{Slot}
-use Rattle.gix_object_editor.specs.Files.{Bytes, Path, Leaf, Trees, behind, through, files_of_entry, put, put_at}
+use Rattle.gix_object_editor.specs.Files.{Bytes, Path, Trees, behind, through, files_of_entry, put, put_at}
 use Rattle.gix_object_editor.specs.Nodes.{Slots, slots_of, child_or, child_of, leaf_in, files_of_slot, files_of_node, IsForest, IsFolderAt, IsOnly, IsRung, Way, onto}
 use Rattle.gix_object_editor.proofs.Opening.{same_through, linked_more, at_or_off}
 use Rattle.gix_object_editor.proofs.Paths.{same_name, name_itself, by_test}

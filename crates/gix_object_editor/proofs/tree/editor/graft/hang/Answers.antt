@@ -1,13 +1,11 @@
-use Rattle.std.proofs.Common.{ℕ, List, Some, None, rules, ◌≡◌, ◌∙◌, ◌<◌, ◌≤◌, ◌+◌, ◌-◌, ap, sym, subst, refl, arith, length, drop, take, get_or, []}
+use Rattle.std.proofs.Common.{ℕ, List, Some, None, rules, ◌≡◌, ◌∙◌, ◌<◌, ◌≤◌, ◌+◌, ◌-◌, ap, sym, subst, arith, length, drop, take, []}
 use Rattle.std.specs.Borrow.{Bor}
 use Rattle.std.proofs.lemmas.Result.{err_from_is_err_and}
 use Rattle.std.proofs.lemmas.List.{get_or-map, length-drop, take_all}
 use Rattle.gix_object_editor.specs.declared.tree.editor.node.Node.{Node}
-use Rattle.gix_object_editor.specs.Files.{Bytes}
 use Rattle.gix_object_editor.specs.Nodes.{slots_of, files_of_node, child_or, IsForest}
 use Rattle.gix_object_editor.proofs.Slots.{back, all_slots}
 use Rattle.gix_object_editor.proofs.Ladder.{hung_forest, hung_files}
-use Rattle.gix_object_editor.proofs.Walked.{names}
 use Rattle.gix_object_editor.proofs.tree.editor.graft.hang.Goals as goal
 
 pub returns-clause-forest : goal.returns-clause-forest
