@@ -38,7 +38,7 @@ pub fn read_case(alloc: Global, kind: &str, root: &str, trees: &str) -> Option<C
     let root = TreeRef::from_bytes(alloc, content.as_slice(), kind).ok()?;
     Some(Case {
         kind,
-        root: root.into_owned(alloc).ok()?,
+        root: root.into_owned().ok()?,
         trees: read_trees(alloc, kind, trees)?,
     })
 }
