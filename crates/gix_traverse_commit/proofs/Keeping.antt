@@ -21,7 +21,7 @@ Meets has has' y = (q : ObjectId) → has' q ≡ cond (same_id y q) true (has q)
 abbrev pub Queues : Bool → Bool → List ObjectId → List ObjectId → ObjectId → Type 0
 Queues met kept queue queue' y = queue' ≡ cond met queue (cond kept (queue ++ y ∷ []) queue)
 
-met_itself : (has has' : ObjectId → Bool) (y : ObjectId) → Meets has has' y → has' y ≡ true
+pub met_itself : (has has' : ObjectId → Bool) (y : ObjectId) → Meets has has' y → has' y ≡ true
 met_itself has has' y new = new y ∙ ap (λ (b : Bool). cond b true (has y)) (test_from_same y y refl)
 
 pub met_more : (has has' : ObjectId → Bool) (y q : ObjectId) → Meets has has' y → has q ≡ true → has' q ≡ true
@@ -38,14 +38,14 @@ unmet_before has has' y grown f = go (has y) refl
     go false e = e
     go true e = let g = grown e in let z : ⊥ = cc in absurd z
 
-met_other : (has has' : ObjectId → Bool) (y q : ObjectId) → Meets has has' y → has' q ≡ true → (has q ≡ true → ⊥) → y ≡ q
+pub met_other : (has has' : ObjectId → Bool) (y q : ObjectId) → Meets has has' y → has' q ≡ true → (has q ≡ true → ⊥) → y ≡ q
 met_other has has' y q new h old = go (same_id y q) refl
   where
     go : (b : Bool) → same_id y q ≡ b → y ≡ q
     go true e = same_from_test y q e
     go false e = absurd (old (sym (ap (λ (b : Bool). cond b true (has q)) e) ∙ sym (new q) ∙ h))
 
-contains_push : (xs : List ObjectId) (y x : ObjectId) → Contains xs x → Contains (xs ++ y ∷ []) x
+pub contains_push : (xs : List ObjectId) (y x : ObjectId) → Contains xs x → Contains (xs ++ y ∷ []) x
 contains_push xs y x c = let (k, a) = at_from_contains xs x c in contains_from_at (xs ++ y ∷ []) k x (at_push xs y k x a)
 
 module _ (keep : ObjectId → Bool) where

@@ -14,3 +14,8 @@ pub mod Painting
 pub mod Told
 pub mod Turn
 pub mod Simply
+mod Timely
+mod Chosen
+mod Cutoff
+mod ByTime
+mod Times

@@ -7,10 +7,12 @@ use Rattle.gix_traverse_commit.specs.Order.{At, IsListOf, IsBreadthFirst, IsRead
 use Rattle.gix_traverse_commit.specs.Commits.{Commit, Commits, WalkRequest, asked_parents, Reached, tip, parent, Passes, Hides, Listed}
 use Rattle.gix_traverse_commit.specs.Walks.{InBreadth, FinishedTopologically, FinishedByDate, ByNewest, ByOldest}
 use Rattle.gix_traverse_commit.specs.Slow.{breadth_list}
+use Rattle.gix_traverse_commit.specs.Sorting.{in_time}
 use Rattle.gix_traverse_commit.specs.Check.{is_open, is_ready, newest_first, oldest_first, outranks}
-use Rattle.gix_traverse_commit.specs.Sample.{graph_of, reached_list, keeps, in_time, slow_list, is_list_of, is_distinct, topological_rows, date_rows, newest_rows, oldest_rows}
+use Rattle.gix_traverse_commit.specs.Sample.{graph_of, reached_list, keeps, slow_list, is_list_of, is_distinct, topological_rows, date_rows, newest_rows, oldest_rows}
 use Rattle.gix_traverse_commit.proofs.Lists.{at_from_contains, contains_from_at}
 use Rattle.gix_traverse_commit.proofs.Slow.{TellsApart, contains_from_any, any_from_contains, breadth_list_is}
+use Rattle.gix_traverse_commit.proofs.Cutoff.{in_time_yes, in_time_too}
 use Rattle.gix_traverse_commit.proofs.Listing.{listed_reached}
 use Rattle.gix_traverse_commit.proofs.Check.{T_from, and_left, and_right, pass_at, chosen_from_check, is_open_yes, is_open_too, is_ready_yes, is_ready_too, outranks_yes}
 
@@ -22,9 +24,6 @@ true_from_T : (b : Bool) → T b → b ≡ true
 true_from_T true t = refl
 true_from_T false t = absurd t
 
-le_z_from : (a b : ℤ) → a ≤ℤ b → le_z a b ≡ true
-le_z_from a b h = true_from_T (le_z a b) h.le
-
 not_true : (b : Bool) → not b ≡ true → b ≡ true → ⊥
 not_true true e f = cc
 not_true false e f = cc
@@ -35,14 +34,6 @@ not_false false h = refl
 
 both : (a b : Bool) → a ≡ true → b ≡ true → (a && b) ≡ true
 both a b e f = rw (e, f) refl
-
-in_time_yes : (s : Option ℤ) (t : ℤ) → in_time s t ≡ true → IfSome s (λ seconds. seconds ≤ℤ t)
-in_time_yes None t e = tt
-in_time_yes (Some s) t e = le_z_yes (T_from e)
-
-in_time_too : (s : Option ℤ) (t : ℤ) → IfSome s (λ seconds. seconds ≤ℤ t) → in_time s t ≡ true
-in_time_too None t e = refl
-in_time_too (Some s) t e = le_z_from s t e
 
 module _ (commits : List (Commit ℕ)) (q : WalkRequest ℕ) where
   g : Commits ℕ

@@ -1,5 +1,5 @@
 -- Where a walk over rows and objects stands.
-use Rattle.std.proofs.Common.{◌≡◌, ℕ, suc, ◌+◌, ◌<◌, ◌∙◌, ◌⊎◌, zero, sym, ap, refl, subst, arith, inl, inr, List, [], ◌∷◌, ◌++◌, length, length-append, take, Bool, true, false, cond, add-one}
+use Rattle.std.proofs.Common.{◌≡◌, ℕ, suc, ◌+◌, ◌<◌, ◌∙◌, ◌⊎◌, zero, sym, ap, refl, subst, arith, inl, inr, List, [], ◌∷◌, ◌++◌, length, length-append, take, Bool, true, false, cond, add-one, None, Option}
 use Rattle.std.specs.Prelude.{Contains, IsTrue, not, ◌&&◌, ◌↔◌}
 use Rattle.gix_hash.specs.Id.{Id, id_of}
 use Rattle.gix_hash.specs.declared.object_id.ObjectId.{ObjectId}
@@ -10,13 +10,14 @@ use Rattle.gix_traverse_commit.specs.Numbered.{same_id}
 use Rattle.gix_traverse_commit.specs.Order.{At}
 use Rattle.gix_traverse_commit.specs.Painting.{ReachedFrom}
 use Rattle.gix_traverse_commit.specs.Rows.{AllHeld, Holds}
-use Rattle.gix_traverse_commit.specs.Simply.{Asked, AreAsked, IsKnown, IsTurn, keep_of, request_of}
+use Rattle.gix_traverse_commit.specs.Simply.{Answers, Asked, AreAsked, IsKnown, IsTurn, keep_of, request_in, timing}
 use Rattle.gix_object_find.specs.Table.{Table}
 use Rattle.gix_traverse_commit.specs.Simply.{SimpleFault, StopsFetch}
 use Rattle.gix_traverse_commit.specs.declared.simple.Error.{Error}
 use Rattle.gix_traverse_commit.specs.declared.simple.Error.TheVariants as fault
 use Rattle.gix_traverse_commit.specs.declared.simple.HiddenGraphError.TheVariants as hidden_fault
-use Rattle.gix_traverse_commit.specs.Walks.{InBreadth}
+use Rattle.gix_traverse_commit.specs.Sorting.{InOrder, IsNextIn}
+use Rattle.gix_traverse_commit.specs.declared.simple.sorting.Timing.{Timing}
 use Rattle.gix_traverse_commit.specs.declared.nodes.Marks.{Marks}
 use Rattle.gix_traverse_commit.specs.declared.nodes.Node.{Node}
 use Rattle.gix_traverse_commit.specs.declared.rows.Row.{Row}
@@ -29,7 +30,7 @@ use Rattle.gix_traverse_commit.proofs.Turn.{at_first, next_first}
 
 -- ---- tips are asked
 
-in_push : {I : Type 0} (xs : List I) (y x : I) → Contains (xs ++ y ∷ []) x → Contains xs x ⊎ (x ≡ y)
+pub in_push : {I : Type 0} (xs : List I) (y x : I) → Contains (xs ++ y ∷ []) x → Contains xs x ⊎ (x ≡ y)
 in_push xs y x c = let (k, a) = at_from_contains (xs ++ y ∷ []) x c in elim (at_from_push xs y k x a) [ inl h ↦ inl (contains_from_at xs k x h) | inr e ↦ inr e.1 ]
 
 pub take_push : {I : Type 0} (xs : List I) (i : ℕ) (x : I) → At xs i x → take (i + 1) xs ≡ take i xs ++ x ∷ []
@@ -140,57 +141,57 @@ module _ (nodes nodes' : List Node) (id : ObjectId) (marks : Marks) (new : (q : 
 
 -- ---- the listed set
 
-and_left : (a b : Bool) → (a && b) ≡ true → a ≡ true
+pub and_left : (a b : Bool) → (a && b) ≡ true → a ≡ true
 and_left true b e = refl
 and_left false b e = let z : ⊥ = cc in absurd z
 
-and_right : (a b : Bool) → (a && b) ≡ true → b ≡ true
+pub and_right : (a b : Bool) → (a && b) ≡ true → b ≡ true
 and_right true b e = e
 and_right false b e = let z : ⊥ = cc in absurd z
 
-and_both : (a b : Bool) → a ≡ true → b ≡ true → (a && b) ≡ true
+pub and_both : (a b : Bool) → a ≡ true → b ≡ true → (a && b) ≡ true
 and_both a b e f = rw (e, f) refl
 
-not_from : (a : Bool) → (a ≡ true → ⊥) → not a ≡ true
+pub not_from : (a : Bool) → (a ≡ true → ⊥) → not a ≡ true
 not_from true h = absurd (h refl)
 not_from false h = refl
 
-from_not : (a : Bool) → not a ≡ true → a ≡ true → ⊥
+pub from_not : (a : Bool) → not a ≡ true → a ≡ true → ⊥
 from_not true e f = let z : ⊥ = cc in z
 from_not false e f = let z : ⊥ = cc in z
 
 module _ (g : Commits ObjectId) (a : Asked) (hides : ObjectId → Bool) (painted : (x : ObjectId) → (hides x ≡ true) ↔ ReachedFrom g a.hidden x) where
-  pub to_kept : (x : ObjectId) → Listed g (request_of a) x → Reached (asked_parents a.parents g) (λ q. IsTrue (keep_of hides a.accepts q)) a.tips x
-  to_kept x l = reached_more (asked_parents a.parents g) (Listed g (request_of a)) (λ q. IsTrue (keep_of hides a.accepts q)) a.tips keeps (listed_reached g (request_of a) l.0 l.1)
+  pub to_kept : (x : ObjectId) → Listed g (request_in None a) x → Reached (asked_parents a.parents g) (λ q. IsTrue (keep_of hides a.accepts q)) a.tips x
+  to_kept x l = reached_more (asked_parents a.parents g) (Listed g (request_in None a)) (λ q. IsTrue (keep_of hides a.accepts q)) a.tips keeps (listed_reached g (request_in None a) l.0 l.1)
     where
-      passes : {y : ObjectId} → Reached (asked_parents a.parents g) (Passes g (request_of a)) a.tips y → a.accepts (id_of y) ≡ true
+      passes : {y : ObjectId} → Reached (asked_parents a.parents g) (Passes g (request_in None a)) a.tips y → a.accepts (id_of y) ≡ true
       passes (tip t p) = p.0
       passes (parent r n p) = p.0
 
-      keeps : (y : ObjectId) → Listed g (request_of a) y → keep_of hides a.accepts y ≡ true
+      keeps : (y : ObjectId) → Listed g (request_in None a) y → keep_of hides a.accepts y ≡ true
       keeps y k = and_both (not (hides y)) (a.accepts (id_of y)) (not_from (hides y) (λ h. k.1 ((painted y).0 h))) (passes k.0)
 
-  pub from_kept : (x : ObjectId) → Reached (asked_parents a.parents g) (λ q. IsTrue (keep_of hides a.accepts q)) a.tips x → Listed g (request_of a) x
-  from_kept x r = (reached_more (asked_parents a.parents g) (λ q. IsTrue (keep_of hides a.accepts q)) (Passes g (request_of a)) a.tips (λ y k. (and_right (not (hides y)) (a.accepts (id_of y)) k, tt)) r, λ h. from_not (hides x) (and_left (not (hides x)) (a.accepts (id_of x)) (kept r)) ((painted x).1 h))
+  pub from_kept : (x : ObjectId) → Reached (asked_parents a.parents g) (λ q. IsTrue (keep_of hides a.accepts q)) a.tips x → Listed g (request_in None a) x
+  from_kept x r = (reached_more (asked_parents a.parents g) (λ q. IsTrue (keep_of hides a.accepts q)) (Passes g (request_in None a)) a.tips (λ y k. (and_right (not (hides y)) (a.accepts (id_of y)) k, tt)) r, λ h. from_not (hides x) (and_left (not (hides x)) (a.accepts (id_of x)) (kept r)) ((painted x).1 h))
     where
       kept : {y : ObjectId} → Reached (asked_parents a.parents g) (λ q. IsTrue (keep_of hides a.accepts q)) a.tips y → keep_of hides a.accepts y ≡ true
       kept (tip t k) = k
       kept (parent r n k) = k
 
-  pub kept_breadth : (has : ObjectId → Bool) (listed queue : List ObjectId) → KeptAll (asked_parents a.parents g) a.tips (keep_of hides a.accepts) has (listed ++ queue) (length listed) → queue ≡ [] → InBreadth g (request_of a) listed
-  kept_breadth has listed queue w e = kept_end (asked_parents a.parents g) a.tips (keep_of hides a.accepts) has listed queue w e (Listed g (request_of a)) to_kept from_kept
+  pub kept_breadth : (has : ObjectId → Bool) (listed queue : List ObjectId) → KeptAll (asked_parents a.parents g) a.tips (keep_of hides a.accepts) has (listed ++ queue) (length listed) → queue ≡ [] → timing a ≡ None → Answers g a listed
+  kept_breadth has listed queue w e b = subst (λ (t : Option Timing). InOrder t g (request_in t a) listed) (sym b) (kept_end (asked_parents a.parents g) a.tips (keep_of hides a.accepts) has listed queue w e (Listed g (request_in None a)) to_kept from_kept)
 
   -- the first of the queue comes next
-  pub kept_turn : (has : ObjectId → Bool) (listed queue queue' : List ObjectId) (id : ObjectId) → KeptAll (asked_parents a.parents g) a.tips (keep_of hides a.accepts) has (listed ++ queue) (length listed) → queue ≡ id ∷ queue' → IsTurn g a listed id
-  kept_turn has listed queue queue' id w e =
-      next_first (asked_parents a.parents g) a.tips (λ q. IsTrue (keep_of hides a.accepts q)) listed queue w.count w.kept.read w.all (Listed g (request_of a)) keeps id queue' e
-      (from_kept id (w.kept.read.reached (length listed) id (at_first listed queue queue' id e)))
+  pub kept_turn : (has : ObjectId → Bool) (listed queue queue' : List ObjectId) (id : ObjectId) → KeptAll (asked_parents a.parents g) a.tips (keep_of hides a.accepts) has (listed ++ queue) (length listed) → queue ≡ id ∷ queue' → timing a ≡ None → IsTurn g a listed id
+  kept_turn has listed queue queue' id w e b = subst (λ (t : Option Timing). IsNextIn t g (request_in t a) listed id) (sym b) (
+      next_first (asked_parents a.parents g) a.tips (λ q. IsTrue (keep_of hides a.accepts q)) listed queue w.count w.kept.read w.all (Listed g (request_in None a)) keeps id queue' e
+      (from_kept id (w.kept.read.reached (length listed) id (at_first listed queue queue' id e))))
     where
       kept : {y : ObjectId} → Reached (asked_parents a.parents g) (λ q. IsTrue (keep_of hides a.accepts q)) a.tips y → keep_of hides a.accepts y ≡ true
       kept (tip t k) = k
       kept (parent r n k) = k
 
-      keeps : (y : ObjectId) → Listed g (request_of a) y → keep_of hides a.accepts y ≡ true
+      keeps : (y : ObjectId) → Listed g (request_in None a) y → keep_of hides a.accepts y ≡ true
       keeps y l = kept (to_kept y l)
 
 -- ---- what is known

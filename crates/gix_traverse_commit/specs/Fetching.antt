@@ -2,7 +2,7 @@
 use Rattle.std.specs.Prelude.{ℕ, ◌≡◌, ◌⊎◌, List, [], ◌∷◌, Contains, Option, Some, None, Err, ⊤}
 use Rattle.gix_hash.specs.Id.{Id, id_of}
 use Rattle.gix_hash.specs.declared.object_id.ObjectId.{ObjectId}
-use Rattle.gix_object_commit.specs.ReadingOn.{TellsFirst, parent_told}
+use Rattle.gix_object_commit.specs.ReadingOn.{TellsFirst, TellsNone, committer_told, parent_told}
 use Rattle.gix_object_commit.specs.Tokens.{Place, GivesToken, start}
 use Rattle.gix_object_find.specs.Existing.{Stands, KindFault}
 use Rattle.gix_object_find.specs.Table.{Table}
@@ -51,3 +51,10 @@ FetchFault honest may_fail rows table id (fault.Find error) = (¬ Holds rows id)
 FetchFault honest may_fail rows table id (fault.ObjectDecode error) =
     (¬ Holds rows id) × (honest → (content : List ℕ) × Stands table (id_of id) kinds.Commit content × LacksParents (start (id_of id).kind content) error)
 FetchFault honest may_fail rows table id fault.Memory = ⊤
+
+-- why a commit's time isn't read: it has no row, and its object isn't found or is no commit, or tells no committer
+abbrev pub TimeFault : Type 0 → Type 0 → List Row → Table → ObjectId → FetchError → Type 0
+TimeFault honest may_fail rows table id (fault.Find error) = (¬ Holds rows id) × KindFault honest may_fail table (id_of id) kinds.Commit error
+TimeFault honest may_fail rows table id (fault.ObjectDecode error) =
+    (¬ Holds rows id) × (honest → (content : List ℕ) × Stands table (id_of id) kinds.Commit content × TellsNone committer_told (start (id_of id).kind content) error)
+TimeFault honest may_fail rows table id fault.Memory = ⊤

@@ -16,3 +16,5 @@ pub mod Nodes
 pub mod Keeping
 pub mod Painting
 pub mod Turns
+pub mod Sorting
+pub mod Timely

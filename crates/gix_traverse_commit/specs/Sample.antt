@@ -1,11 +1,11 @@
-use Rattle.std.specs.Prelude.{ℕ, Bool, true, List, [], ◌∷◌, Option, Some, None, slice_get, unwrap_or, pos, nat_eq, not, ℤ, ◌&&◌}
+use Rattle.std.specs.Prelude.{ℕ, Bool, true, List, [], ◌∷◌, Option, Some, None, slice_get, unwrap_or, pos, nat_eq, not, ◌&&◌}
 use Rattle.std.specs.List.{list_any, list_all}
-use Rattle.std.specs.Int.Signed.{le_z}
 use Rattle.gix_traverse_commit.specs.Check.{check_chosen, is_open, is_ready, newest_first, oldest_first, outranks}
 use Rattle.gix_traverse_commit.specs.Commits.{Commit, Commits, WalkRequest, asked_parents}
 use Rattle.gix_traverse_commit.specs.declared.parents.Parents.{Parents}
 use Rattle.gix_traverse_commit.specs.declared.parents.Parents.TheVariants.{All}
 use Rattle.gix_traverse_commit.specs.Slow.{breadth_list}
+use Rattle.gix_traverse_commit.specs.Sorting.{in_time}
 
 abbrev pub graph_of : List (Commit ℕ) → Commits ℕ
 graph_of commits x = unwrap_or (slice_get commits x) (record { parents = []; time = pos 0 })
@@ -28,10 +28,6 @@ request tips hidden parents = record { tips = tips; hidden = hidden; parents = p
 -- what these commits reach, by all parents
 abbrev pub reached_list : List (Commit ℕ) → List ℕ → List ℕ
 reached_list commits tips = unwrap_or (breadth_list nat_eq (λ _. true) (λ x. (graph_of commits x).parents) tips 20) []
-
-abbrev pub in_time : Option ℤ → ℤ → Bool
-in_time None t = true
-in_time (Some s) t = le_z s t
 
 abbrev pub keeps : List (Commit ℕ) → WalkRequest ℕ → ℕ → Bool
 keeps commits q x = q.accepts x && (in_time q.since (graph_of commits x).time && not (list_any (nat_eq x) (reached_list commits q.hidden)))

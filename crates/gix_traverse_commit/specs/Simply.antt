@@ -1,20 +1,21 @@
 -- Where a walk stands, and what it gives.
-use Rattle.std.specs.Prelude.{◌≡◌, ◌⊎◌, ◌↔◌, ◌<◌, ◌≤◌, ◌+◌, ℕ, IfOk, IfErr, IfSome, IfNone, IsNone, OnErr, Bool, true, false, not, ◌&&◌, List, [], ◌∷◌, ◌++◌, length, Option, None, Result, Contains, ⊤}
+use Rattle.std.specs.Prelude.{◌≡◌, ◌⊎◌, ◌↔◌, ◌<◌, ◌≤◌, ◌+◌, ℕ, IfOk, IfErr, IfSome, IfNone, IsNone, OnErr, Bool, true, false, not, ◌&&◌, List, [], ◌∷◌, ◌++◌, length, Option, None, Some, ℤ, Result, Contains, ⊤}
 use Rattle.gix_hash.specs.Id.{Id, id_of}
 use Rattle.gix_hash.specs.declared.object_id.ObjectId.{ObjectId}
 use Rattle.gix_object_find.specs.Existing as object
 use Rattle.gix_object_find.specs.Table.{Table}
 use Rattle.gix_object_lines.specs.declared.kind.Kind.TheVariants as kinds
-use Rattle.gix_traverse_commit.specs.Commits.{Commits, WalkRequest, Listed, asked_parents}
-use Rattle.gix_traverse_commit.specs.Fetching.{FetchFault, HasRowsGeneration}
+use Rattle.gix_traverse_commit.specs.Commits.{Commit, Commits, WalkRequest, asked_parents}
+use Rattle.gix_traverse_commit.specs.Fetching.{FetchFault, TimeFault, HasRowsGeneration}
 use Rattle.gix_traverse_commit.specs.Keeping.{Kept, KeptAll}
 use Rattle.gix_traverse_commit.specs.Nodes.{is_asked, is_hidden, is_met}
 use Rattle.gix_traverse_commit.specs.Painting.{IsUnpainted, ReachedFrom, StopsPainting}
 use Rattle.gix_traverse_commit.specs.Rows.{AllHeld, Holds}
 use Rattle.gix_traverse_commit.specs.Told.{AreTold, rows_of}
 use Rattle.gix_traverse_commit.specs.Standing.{Reads}
-use Rattle.gix_traverse_commit.specs.Turns.{IsNextInBreadth}
-use Rattle.gix_traverse_commit.specs.Walks.{InBreadth}
+use Rattle.gix_traverse_commit.specs.Order.{IsOpen}
+use Rattle.gix_traverse_commit.specs.Sorting.{ComesFirst, InOrder, IsNextIn, cutoff_in, timing_of}
+use Rattle.gix_traverse_commit.specs.Timely.{AllRowed, IsChosenSoFar, IsMetSoFar, keep_since, waiting}
 use Rattle.gix_traverse_commit.specs.declared.fetch.FetchError.{FetchError}
 use Rattle.gix_traverse_commit.specs.declared.fetch.FetchError.TheVariants as fetch
 use Rattle.gix_traverse_commit.specs.declared.info.Info.{Info}
@@ -25,17 +26,32 @@ use Rattle.gix_traverse_commit.specs.declared.simple.Error.{Error}
 use Rattle.gix_traverse_commit.specs.declared.simple.Error.TheVariants as fault
 use Rattle.gix_traverse_commit.specs.declared.simple.HiddenGraphError.TheVariants as hidden_fault
 use Rattle.gix_traverse_commit.specs.declared.simple.Simple.{Simple}
+use Rattle.gix_traverse_commit.specs.declared.simple.sorting.Sorting.{Sorting}
+use Rattle.gix_traverse_commit.specs.declared.simple.sorting.Timing.{Timing}
 
 -- what a walk is asked for
 pub record Asked : Type 0 where
   pub tips : List ObjectId
   pub hidden : List ObjectId
   pub parents : Parents
+  pub sorting : Sorting
   pub accepts : Id → Bool
 
+-- the order by time, where it goes by time
+abbrev pub timing : Asked → Option Timing
+timing a = timing_of a.parents a.sorting
+
 -- the same in the words of all walks
-abbrev pub request_of : Asked → WalkRequest ObjectId
-request_of a = record { tips = a.tips; hidden = a.hidden; parents = a.parents; since = None; accepts = λ x. a.accepts (id_of x) }
+abbrev pub request_in : Option Timing → Asked → WalkRequest ObjectId
+request_in t a = record { tips = a.tips; hidden = a.hidden; parents = a.parents; since = cutoff_in t; accepts = λ x. a.accepts (id_of x) }
+
+-- the list is what the walk is asked for
+abbrev pub Answers : Commits ObjectId → Asked → List ObjectId → Type 0
+Answers g a listed = InOrder (timing a) g (request_in (timing a) a) listed
+
+-- it goes in breadth order, or over a store whose lookups don't fail
+abbrev pub IsSure : Type 0 → Asked → Type 0
+IsSure may_fail a = (timing a ≡ None) ⊎ (¬ may_fail)
 
 -- the tips that the predicate refuses are marked, and no others
 pub record AreAsked (accepts : Id → Bool) (tips : List ObjectId) (nodes : List Node) : Type 0 where
@@ -54,9 +70,23 @@ pub record IsMade {F P : Type 0} (accepts : P → Id → Bool) (a : Asked) (walk
   pub tips : walk.tips.items ≡ a.tips
   pub hidden : walk.hidden.items ≡ a.hidden
   pub parents : walk.parents ≡ a.parents
+  pub sorting : walk.sorting ≡ a.sorting
   pub accepts_same : accepts walk.predicate ≡ a.accepts
   pub asked : AreAsked a.accepts a.tips walk.nodes
   pub empty : walk.queue.items ≡ []
+  pub none_waits : waiting walk.waiting ≡ []
+
+-- the same with its hidden commits painted
+pub record IsPaintedFor {F P : Type 0} (accepts : P → Id → Bool) (g : Commits ObjectId) (a : Asked) (walk : Simple F P) : Type 0 where
+  pub tips : walk.tips.items ≡ a.tips
+  pub parents : walk.parents ≡ a.parents
+  pub sorting : walk.sorting ≡ a.sorting
+  pub accepts_same : accepts walk.predicate ≡ a.accepts
+  pub refused : (x : ObjectId) → is_met walk.nodes x ≡ true → a.accepts (id_of x) ≡ false
+  pub accepted : (x : ObjectId) → Contains a.tips x → is_met walk.nodes x ≡ false → a.accepts (id_of x) ≡ true
+  pub painted : (x : ObjectId) → (is_hidden walk.nodes x ≡ true) ↔ ReachedFrom g a.hidden x
+  pub empty : walk.queue.items ≡ []
+  pub none_waits : waiting walk.waiting ≡ []
 
 -- accepted, and not hidden
 abbrev pub keep_of : (ObjectId → Bool) → (Id → Bool) → ObjectId → Bool
@@ -67,6 +97,8 @@ keep_of hides accepts x = not (hides x) && accepts (id_of x)
 pub record IsGoing {F P : Type 0} (accepts : P → Id → Bool) (ids : List Id) (g : Commits ObjectId) (a : Asked) (listed : List ObjectId) (walk : Simple F P) : Type 0 where
   pub begun : walk.begun ≡ true
   pub parents : walk.parents ≡ a.parents
+  pub sorting : walk.sorting ≡ a.sorting
+  pub in_breadth : timing a ≡ None
   pub accepts_same : accepts walk.predicate ≡ a.accepts
   pub hides : ObjectId → Bool
   pub hidden : (x : ObjectId) → is_hidden walk.nodes x ≡ hides x
@@ -74,14 +106,35 @@ pub record IsGoing {F P : Type 0} (accepts : P → Id → Bool) (ids : List Id) 
   pub known : (x : ObjectId) → Contains listed x → IsKnown (rows_of walk.source.rows) ids x
   pub walked : KeptAll (asked_parents a.parents g) a.tips (keep_of hides a.accepts) (is_met walk.nodes) (listed ++ walk.queue.items) (length listed)
 
+-- the same of a walk by time: of what the list names, the commits that are kept are listed or wait
+pub record IsGoingByTime {F P : Type 0} (accepts : P → Id → Bool) (ids : List Id) (g : Commits ObjectId) (a : Asked) (listed : List ObjectId) (walk : Simple F P) : Type 0 where
+  pub begun : walk.begun ≡ true
+  pub parents : walk.parents ≡ a.parents
+  pub sorting : walk.sorting ≡ a.sorting
+  pub by_time : Timing
+  pub is_by_time : timing a ≡ Some by_time
+  pub accepts_same : accepts walk.predicate ≡ a.accepts
+  pub hides : ObjectId → Bool
+  pub hidden : (x : ObjectId) → is_hidden walk.nodes x ≡ hides x
+  pub painted : (x : ObjectId) → (hides x ≡ true) ↔ ReachedFrom g a.hidden x
+  pub known : (x : ObjectId) → Contains listed x → IsKnown (rows_of walk.source.rows) ids x
+  pub met : IsMetSoFar g (keep_since by_time.since g hides a.accepts) (is_met walk.nodes) (IsOpen (asked_parents a.parents g) a.tips listed) listed (waiting walk.waiting)
+  pub chosen : IsChosenSoFar (asked_parents a.parents g) a.tips (keep_since by_time.since g hides a.accepts) (ComesFirst by_time.order (λ x. (g x).time)) listed
+
+-- a walk that has begun and given this list
+abbrev pub IsUnderWay : {F P : Type 0} → (P → Id → Bool) → List Id → Commits ObjectId → Asked → List ObjectId → Simple F P → Type 0
+IsUnderWay accepts ids g a listed walk = IsGoing accepts ids g a listed walk ⊎ IsGoingByTime accepts ids g a listed walk
+
 -- a walk that was asked for this and has given this list
 abbrev pub Stands : {F P : Type 0} → (P → Id → Bool) → List Id → Commits ObjectId → Asked → List ObjectId → Simple F P → Type 0
-Stands accepts ids g a listed walk = ((listed ≡ []) × IsMade accepts a walk) ⊎ IsGoing accepts ids g a listed walk
+Stands accepts ids g a listed walk = ((listed ≡ []) × IsMade accepts a walk) ⊎ IsUnderWay accepts ids g a listed walk
 
 -- it comes to the parents of this commit, which it gives next
 pub record Enters {F P : Type 0} (accepts : P → Id → Bool) (ids : List Id) (g : Commits ObjectId) (a : Asked) (listed : List ObjectId) (id : ObjectId) (walk : Simple F P) : Type 0 where
   pub begun : walk.begun ≡ true
   pub parents : walk.parents ≡ a.parents
+  pub sorting : walk.sorting ≡ a.sorting
+  pub in_breadth : timing a ≡ None
   pub accepts_same : accepts walk.predicate ≡ a.accepts
   pub hides : ObjectId → Bool
   pub hidden : (x : ObjectId) → is_hidden walk.nodes x ≡ hides x
@@ -90,16 +143,41 @@ pub record Enters {F P : Type 0} (accepts : P → Id → Bool) (ids : List Id) (
   pub walked : Kept (asked_parents a.parents g) a.tips (keep_of hides a.accepts) (is_met walk.nodes) ((listed ++ id ∷ []) ++ walk.queue.items) (length (listed ++ id ∷ [])) 0
   pub reads : Reads ((listed ++ id ∷ []) ++ walk.queue.items) (length (listed ++ id ∷ [])) id
 
+-- the same in a walk by time
+pub record EntersByTime {F P : Type 0} (accepts : P → Id → Bool) (ids : List Id) (g : Commits ObjectId) (a : Asked) (listed : List ObjectId) (id : ObjectId) (walk : Simple F P) : Type 0 where
+  pub begun : walk.begun ≡ true
+  pub parents : walk.parents ≡ a.parents
+  pub sorting : walk.sorting ≡ a.sorting
+  pub by_time : Timing
+  pub is_by_time : timing a ≡ Some by_time
+  pub accepts_same : accepts walk.predicate ≡ a.accepts
+  pub hides : ObjectId → Bool
+  pub hidden : (x : ObjectId) → is_hidden walk.nodes x ≡ hides x
+  pub painted : (x : ObjectId) → (hides x ≡ true) ↔ ReachedFrom g a.hidden x
+  pub known : (x : ObjectId) → Contains listed x → IsKnown (rows_of walk.source.rows) ids x
+  pub met : IsMetSoFar g (keep_since by_time.since g hides a.accepts) (is_met walk.nodes) (IsOpen (asked_parents a.parents g) a.tips listed) (listed ++ id ∷ []) (waiting walk.waiting)
+  pub chosen : IsChosenSoFar (asked_parents a.parents g) a.tips (keep_since by_time.since g hides a.accepts) (ComesFirst by_time.order (λ x. (g x).time)) (listed ++ id ∷ [])
+
+-- it gives this commit next
+abbrev pub IsAtTurn : {F P : Type 0} → (P → Id → Bool) → List Id → Commits ObjectId → Asked → List ObjectId → ObjectId → Simple F P → Type 0
+IsAtTurn accepts ids g a listed id walk = Enters accepts ids g a listed id walk ⊎ EntersByTime accepts ids g a listed id walk
+
 -- it gives nothing more
 pub record IsOver {F P : Type 0} (walk : Simple F P) : Type 0 where
   pub begun : walk.begun ≡ true
   pub empty : walk.queue.items ≡ []
+  pub none_waits : waiting walk.waiting ≡ []
 
--- what is given of a commit in breadth order
-pub record IsInfo (g : Commits ObjectId) (rows : List Row) (parents : Parents) (info : Info) : Type 0 where
+-- the commit's time, where the walk goes by time
+abbrev pub IsTime : Option Timing → Commit ObjectId → Option ℤ → Type 0
+IsTime None commit time = time ≡ None
+IsTime (Some _) commit time = time ≡ Some commit.time
+
+-- what is given of a commit
+pub record IsInfo (g : Commits ObjectId) (rows : List Row) (parents : Parents) (sorting : Sorting) (info : Info) : Type 0 where
   pub parents_asked : info.parent_ids.items ≡ asked_parents parents g info.id
   pub by_row : HasRowsGeneration rows info.id info.generation
-  pub untimed : info.commit_time ≡ None
+  pub timed : IsTime (timing_of parents sorting) (g info.id) info.commit_time
 
 abbrev pub error_of : FetchError → Error
 error_of (fetch.Find error) = fault.Find error
@@ -132,13 +210,21 @@ SimpleFault Turn honest may_fail rows table hidden fault.Memory = ⊤
 
 -- its turn is next
 abbrev pub IsTurn : Commits ObjectId → Asked → List ObjectId → ObjectId → Type 0
-IsTurn g a listed id = IsNextInBreadth (asked_parents a.parents g) a.tips (Listed g (request_of a)) listed id
+IsTurn g a listed id = IsNextIn (timing a) g (request_in (timing a) a) listed id
+
+-- why the time of one of these tips isn't read
+abbrev pub TipFault : Type 0 → Type 0 → List Row → Table → List ObjectId → Error → Type 0
+TipFault honest may_fail rows table tips (fault.Find error) = (id : ObjectId) × Contains tips id × TimeFault honest may_fail rows table id (fetch.Find error)
+TipFault honest may_fail rows table tips (fault.ObjectDecode error) = (id : ObjectId) × Contains tips id × TimeFault honest may_fail rows table id (fetch.ObjectDecode error)
+TipFault honest may_fail rows table tips (fault.HiddenGraph error) = ⊥
+TipFault honest may_fail rows table tips fault.Memory = ⊤
 
 -- all that the walk begins from, hides and has queued has rows
 pub record InRows {F P : Type 0} (walk : Simple F P) : Type 0 where
   pub tips : AllHeld (rows_of walk.source.rows) walk.tips.items
   pub hidden : AllHeld (rows_of walk.source.rows) walk.hidden.items
   pub queue : AllHeld (rows_of walk.source.rows) walk.queue.items
+  pub waiting_rows : AllRowed (rows_of walk.source.rows) (waiting walk.waiting)
 
 -- the content is the commit's where its object told it, and else nothing
 pub record IsContentOf (honest : Type 0) (rows : List Row) (table : Table) (id : ObjectId) (content : List ℕ) : Type 0 where
@@ -147,22 +233,23 @@ pub record IsContentOf (honest : Type 0) (rows : List Row) (table : Table) (id :
 
 -- what the next commit is, after this list
 pub record IsNext {F P : Type 0} (accepts : P → Id → Bool) (ids : List Id) (g : Commits ObjectId) (a : Asked) (listed : List ObjectId) (rows : List Row) (info : Info) (after : Simple F P) : Type 0 where
-  pub told : IsInfo g rows a.parents info
+  pub told : IsInfo g rows a.parents a.sorting info
   pub fewer : length listed < length rows + length ids
-  pub stands : IsGoing accepts ids g a (listed ++ info.id ∷ []) after
+  pub stands : IsUnderWay accepts ids g a (listed ++ info.id ∷ []) after
 
 -- the answer to one that asks a walk for its next commit, of a store that is honest, may fail, has this table and finds none but these ids
 pub record GivesNext {F P : Type 0} (accepts : P → Id → Bool) (honest may_fail : Type 0) (table : Table) (ids : List Id) (before : Simple F P) (item : Option (Result Info Error)) (after : Simple F P) : Type 0 where
   pub objects : after.source.objects ≡ before.source.objects
   pub rows : after.source.rows ≡ before.source.rows
-  pub given : honest → (g : Commits ObjectId) → AreTold (rows_of before.source.rows) table g → (a : Asked) (listed : List ObjectId) → Stands accepts ids g a listed before
+  pub given : honest → (g : Commits ObjectId) → AreTold (rows_of before.source.rows) table g → (a : Asked) (listed : List ObjectId) → IsSure may_fail a → Stands accepts ids g a listed before
       → IfSome item (λ answer. IfOk answer (λ info. IsNext accepts ids g a listed (rows_of before.source.rows) info after))
-  pub end : honest → (g : Commits ObjectId) → AreTold (rows_of before.source.rows) table g → (a : Asked) (listed : List ObjectId) → Stands accepts ids g a listed before
-      → IfNone item (InBreadth g (request_of a) listed)
-  pub refused : honest → (g : Commits ObjectId) → AreTold (rows_of before.source.rows) table g → (a : Asked) (listed : List ObjectId) → Stands accepts ids g a listed before
+  pub end : honest → (g : Commits ObjectId) → AreTold (rows_of before.source.rows) table g → (a : Asked) (listed : List ObjectId) → IsSure may_fail a → Stands accepts ids g a listed before
+      → IfNone item (Answers g a listed)
+  pub refused : honest → (g : Commits ObjectId) → AreTold (rows_of before.source.rows) table g → (a : Asked) (listed : List ObjectId) → IsSure may_fail a → Stands accepts ids g a listed before
       → IfSome item (λ answer. IfErr answer (SimpleFault (IsTurn g a listed) honest may_fail (rows_of before.source.rows) table a.hidden))
   pub failed : IfSome item (λ answer. OnErr answer (IsOver after))
   pub ended : IsOver before → IsNone item
   pub content : IfSome item (λ answer. IfOk answer (λ info. IsContentOf honest (rows_of before.source.rows) table info.id after.source.buffer.items × (after.kind ≡ (id_of info.id).kind)))
-  pub counted : before.begun ≡ true → after.source.lookups ≤ before.source.lookups + 1
+  pub counted : before.begun ≡ true → timing_of before.parents before.sorting ≡ None → after.source.lookups ≤ before.source.lookups + 1
+  pub counted_by_time : before.begun ≡ true → IfSome item (λ answer. IfOk answer (λ info. after.source.lookups ≤ before.source.lookups + 1 + length info.parent_ids.items))
   pub rowed : InRows before → IfSome item (λ answer. IfOk answer (λ _. InRows after × (after.source.lookups ≡ before.source.lookups)))

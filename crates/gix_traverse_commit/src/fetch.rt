@@ -1,13 +1,13 @@
 //! Reading the commits that a walk comes to.
 
-ghost use Rattle.std.specs.Prelude.{◌≡◌, ◌⊎◌, ◌≤◌, ◌+◌, [], Contains, IfOk, IfErr, OnOk, map, unwrap_or, pos};
+ghost use Rattle.std.specs.Prelude.{◌≡◌, ◌≢◌, ◌⊎◌, ◌≤◌, ◌+◌, [], Contains, IfOk, IfErr, IsOk, OnOk, map, unwrap_or, pos};
 ghost use Rattle.gix_hash.specs.Id.{id_of};
 ghost use Rattle.gix_hash.specs.declared.object_id.ObjectId.{ObjectId};
 ghost use Rattle.gix_object_commit.specs.Tokens.{place_of};
 ghost use Rattle.gix_object_find.specs.Existing.{KindFault, Stands};
 ghost use Rattle.gix_object_lines.specs.declared.kind.Kind.TheVariants as kinds;
 ghost use Rattle.gix_traverse_commit.specs.Commits.{Commits, asked_parents, asked};
-ghost use Rattle.gix_traverse_commit.specs.Fetching.{ReadsParents, HasRowsGeneration, ParentsFault, FetchFault, find_error};
+ghost use Rattle.gix_traverse_commit.specs.Fetching.{ReadsParents, HasRowsGeneration, ParentsFault, FetchFault, TimeFault, find_error};
 ghost use Rattle.gix_traverse_commit.specs.Rows.{AllHeld, Holds};
 ghost use Rattle.gix_traverse_commit.specs.Told.{AreTold, rows_of};
 ghost use Rattle.gix_traverse_commit.specs.declared.fetch.FetchError.TheVariants.{ObjectDecode, Memory};
@@ -199,5 +199,32 @@ impl<F: Find> Source<F> {
             time: seconds(reader).ok(),
             generation: None,
         })
+    }
+
+    /// The committer's seconds of the commit of this id. It is `ObjectDecode` where its object tells no committer.
+    pub fn seconds(&mut self, id: &ObjectId) -> Result<i64, FetchError>
+        ensures objects { self.new.objects ≡ self.old.objects }
+        ensures rows { self.new.rows ≡ self.old.rows }
+        ensures time { F.is_honest self.old.objects → (g : Commits ObjectId)
+            → AreTold (rows_of self.old.rows) (F.table self.old.objects) g
+            → IfOk result (λ seconds. seconds ≡ (g id.now).time) }
+        ensures none { F.is_honest self.old.objects → ¬ F.may_fail self.old.objects → (g : Commits ObjectId)
+            → AreTold (rows_of self.old.rows) (F.table self.old.objects) g
+            → IfErr result (λ error. error ≢ Memory → (g id.now).time ≡ pos 0) }
+        ensures rowed { Holds (rows_of self.old.rows) id.now → IsOk result × (self.new.lookups ≡ self.old.lookups) }
+        ensures counted { self.new.lookups ≤ self.old.lookups + 1 }
+        ensures refused { IfErr result (TimeFault (F.is_honest self.old.objects) (F.may_fail self.old.objects)
+            (rows_of self.old.rows) (F.table self.old.objects) id.now) }
+    {
+        if let Some(row) = row_in(self.rows.as_ref(), id) {
+            return Ok(row.time);
+        }
+        self.lookups = self.lookups.saturating_add(1);
+        load(&self.objects, id, &mut self.buffer)?;
+        let reader = CommitRefIter::from_bytes(self.buffer.as_slice(), id.kind());
+        match seconds(reader) {
+            Ok(seconds) => Ok(seconds),
+            Err(error) => Err(FetchError::ObjectDecode(error)),
+        }
     }
 }

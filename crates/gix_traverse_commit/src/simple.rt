@@ -1,24 +1,32 @@
 //! A walk over commits, each once.
 
-ghost use Rattle.std.specs.Prelude.{◌≡◌, ◌≤◌, ◌+◌, List, [], ◌∷◌, ◌++◌, IfOk, IfErr, IsOk, OnOk, None, true};
-ghost use Rattle.gix_hash.specs.Id.{id_of};
+ghost use Rattle.std.specs.Prelude.{◌≡◌, ◌≤◌, ◌<◌, ◌+◌, List, [], ◌∷◌, ◌++◌, length, IfOk, IfErr, IfSome, IfNone, IsNone, IsOk, OnOk, None, true, false};
+ghost use Rattle.gix_hash.specs.Id.{Id, id_of};
 ghost use Rattle.gix_hash.specs.declared.object_id.ObjectId.{ObjectId};
 ghost use Rattle.gix_object_commit.specs.Tokens.{place_of, start};
-ghost use Rattle.gix_traverse_commit.specs.Commits.{Commits};
-ghost use Rattle.gix_traverse_commit.specs.Rows.{Holds};
-ghost use Rattle.gix_traverse_commit.specs.Simply.{Asked, IsMade, IsGoing, IsOver, IsKnown, IsInfo, IsContentOf, InRows, Enters, Stands, StopsFetch, SimpleFault, GivesNext, hidden_error, error_of};
+ghost use Rattle.gix_traverse_commit.specs.Commits.{Commits, asked_parents};
+ghost use Rattle.gix_traverse_commit.specs.Rows.{AllHeld, Holds};
+ghost use Rattle.gix_traverse_commit.specs.Simply.{Answers, Asked, IsMade, IsPaintedFor, IsUnderWay, IsAtTurn, IsOver, IsKnown, IsInfo, IsTurn, IsSure, IsContentOf, InRows, Stands, StopsFetch, TipFault, SimpleFault, GivesNext, hidden_error, error_of};
+ghost use Rattle.gix_traverse_commit.specs.Sorting.{timing_of};
 ghost use Rattle.gix_traverse_commit.specs.Told.{AreTold, rows_of};
 ghost use Rattle.gix_traverse_commit.specs.declared.parents.Parents.TheVariants.{All as AllParents};
+ghost use Rattle.gix_traverse_commit.specs.declared.simple.sorting.Sorting.TheVariants.{BreadthFirst};
 ghost use Rattle.gix_traverse_commit.specs.declared.simple.Error.TheVariants.{Find as FindFault, ObjectDecode as DecodeFault, HiddenGraph as HiddenFault, Memory};
 
 mod anew;
 mod meet;
+mod sorting;
+mod timed;
+mod waiting;
 
 use crate::fetch::{FetchError, Source};
 use crate::nodes::Nodes;
 use crate::paint::paint;
 use crate::simple::anew::{take_all, unpaint};
 use crate::simple::meet::{ask_tips, meet_parents, pop, queue_tips};
+use crate::simple::sorting::{shown_time, time_order};
+use crate::simple::timed::{await_parents, await_tips, read_times};
+use crate::simple::waiting::Waiting;
 use crate::{Accept, All, Graph, Info, Parents};
 use gix_hash::{Kind, ObjectId};
 use gix_object_commit::CommitRefIter;
@@ -27,6 +35,9 @@ use gix_object_find::find::existing_iter;
 use gix_object_lines::decode;
 use std::alloc::{AllocError, Global};
 use std::collections::VecDeque;
+use std::mem;
+
+pub use crate::simple::sorting::{CommitTimeOrder, Sorting};
 
 /// Why hidden commits aren't painted.
 #[derive(Debug, Clone, Copy, PartialEq, Eq, thiserror::Error)]
@@ -113,8 +124,11 @@ fn of_painting(error: FetchError) -> Error
     }
 }
 
-/// A walk over the commits that some tips reach, past none that the predicate refuses or a hidden commit reaches, each once and
-/// in breadth order: first the tips in their order, without repeats, then the parents of what came, in their order.
+/// A walk over the commits that some tips reach, past none that the predicate refuses or a hidden commit reaches, each once.
+///
+/// In breadth order first the tips come in their order, without repeats, then the parents of what came, in their order. In an
+/// order by time the newest, or the oldest, of the tips and of the parents of what came is next. With `Parents::First` a walk
+/// goes in breadth order.
 ///
 /// After an error it gives nothing more.
 #[derive(Drop)]
@@ -122,10 +136,12 @@ pub struct Simple<F, P> {
     source: Source<F>,
     predicate: P,
     parents: Parents,
+    sorting: Sorting,
     tips: Vec<ObjectId>,
     hidden: Vec<ObjectId>,
     nodes: Nodes,
     queue: VecDeque<ObjectId>,
+    waiting: Waiting,
     begun: bool,
     kind: Kind,
 }
@@ -141,6 +157,7 @@ impl<F: Find + Drop> Simple<F, All> {
           tips = tips.items;
           hidden = [];
           parents = AllParents;
+          sorting = BreadthFirst;
           accepts = λ _. true;
         })) }
         ensures refused { IfErr result (λ error. error ≡ Memory) }
@@ -160,6 +177,7 @@ impl<F: Find + Drop, P: Accept + Drop> Simple<F, P> {
           tips = tips.items;
           hidden = [];
           parents = AllParents;
+          sorting = BreadthFirst;
           accepts = P.accepts predicate;
         })) }
         ensures refused { IfErr result (λ error. error ≡ Memory) }
@@ -176,13 +194,41 @@ impl<F: Find + Drop, P: Accept + Drop> Simple<F, P> {
             },
             predicate,
             parents: Parents::All,
+            sorting: Sorting::BreadthFirst,
             tips,
             hidden: Vec::new(alloc),
             nodes,
             queue: VecDeque::new(alloc),
+            waiting: Waiting::new(alloc),
             begun: false,
             kind: Kind::Sha1,
         })
+    }
+
+    /// The same walk in this order; the last call before the first commit decides. An order by time asks for the time of each tip
+    /// that the predicate accepts: it is `Find` where a tip isn't found, `ObjectDecode` where it tells no committer, and `Memory`
+    /// where there is no memory.
+    pub fn sorting(mut self, sorting: Sorting) -> Result<Simple<F, P>, Error>
+        ensures objects { IfOk result (λ walk. walk.source.objects ≡ self.source.objects) }
+        ensures rows { IfOk result (λ walk. walk.source.rows ≡ self.source.rows) }
+        ensures made { (a : Asked) → IsMade P.accepts a self
+            → IfOk result (IsMade P.accepts (record a { sorting = sorting })) }
+        ensures counted { IfOk result (λ walk. self.begun ≡ false
+            → walk.source.lookups ≤ self.source.lookups + length self.tips.items) }
+        ensures rowed { IfOk result (λ walk. self.begun ≡ false
+            → AllHeld (rows_of self.source.rows) self.tips.items → walk.source.lookups ≡ self.source.lookups) }
+        ensures refused { IfErr result (λ error. self.begun ≡ false → TipFault (F.is_honest self.source.objects)
+            (F.may_fail self.source.objects) (rows_of self.source.rows) (F.table self.source.objects)
+            self.tips.items error) }
+    {
+        if self.begun {
+            self.begin_anew()?;
+        }
+        if sorting != Sorting::BreadthFirst {
+            read_times(&mut self.source, &self.nodes, self.tips.as_slice())?;
+        }
+        self.sorting = sorting;
+        Ok(self)
     }
 
     /// The same walk along these parents.
@@ -248,8 +294,39 @@ impl<F: Find + Drop, P: Accept + Drop> Simple<F, P> {
     {
         let alloc: Global = *self.tips.allocator();
         unpaint(alloc, &mut self.nodes)?;
+        for id in &self.waiting.take_all(alloc)? {
+            self.queue.push_back(*id)?;
+        }
         self.tips = take_all(alloc, &mut self.nodes, &mut self.queue)?;
         self.begun = false;
+        Ok(())
+    }
+
+    // Queues the tips of a walk whose hidden commits are painted.
+    fn line_up(&mut self) -> Result<(), Error>
+        ensures objects { self.new.source.objects ≡ self.old.source.objects }
+        ensures rows { self.new.source.rows ≡ self.old.source.rows }
+        ensures going { F.is_honest self.old.source.objects → (g : Commits ObjectId)
+            → AreTold (rows_of self.old.source.rows) (F.table self.old.source.objects) g → (ids : List Id) (a : Asked)
+            → IsSure (F.may_fail self.old.source.objects) a → IsPaintedFor P.accepts g a self.old
+            → OnOk result (IsUnderWay P.accepts ids g a [] self.new) }
+        ensures rowed { InRows self.old → OnOk result (InRows self.new
+            × (self.new.source.lookups ≡ self.old.source.lookups)) }
+        ensures refused { IfErr result (λ error. error ≡ Memory) }
+    {
+        let Some(timing) = time_order(self.parents, self.sorting) else {
+            queue_tips(&mut self.nodes, &mut self.queue, self.tips.as_slice())?;
+            self.begun = true;
+            return Ok(());
+        };
+        await_tips(
+            &mut self.source,
+            &mut self.nodes,
+            &mut self.waiting,
+            timing.since,
+            self.tips.as_slice(),
+        )?;
+        self.begun = true;
         Ok(())
     }
 
@@ -258,9 +335,9 @@ impl<F: Find + Drop, P: Accept + Drop> Simple<F, P> {
         ensures objects { self.new.source.objects ≡ self.old.source.objects }
         ensures rows { self.new.source.rows ≡ self.old.source.rows }
         ensures going { F.is_honest self.old.source.objects → (g : Commits ObjectId)
-            → AreTold (rows_of self.old.source.rows) (F.table self.old.source.objects) g → (a : Asked)
-            → IsMade P.accepts a self.old
-            → OnOk result (IsGoing P.accepts (F.ids self.old.source.objects) g a [] self.new) }
+            → AreTold (rows_of self.old.source.rows) (F.table self.old.source.objects) g → (ids : List Id) (a : Asked)
+            → IsSure (F.may_fail self.old.source.objects) a → IsMade P.accepts a self.old
+            → OnOk result (IsUnderWay P.accepts ids g a [] self.new) }
         ensures rowed { OnOk result (InRows self.old → InRows self.new
             × (self.new.source.lookups ≡ self.old.source.lookups)) }
         ensures refused { (a : Asked) → IsMade P.accepts a self.old → IfErr result (SimpleFault (λ _. ⊥)
@@ -270,8 +347,7 @@ impl<F: Find + Drop, P: Accept + Drop> Simple<F, P> {
         if let Err(error) = paint(&mut self.source, &mut self.nodes, self.hidden.as_slice()) {
             return Err(of_painting(error));
         }
-        queue_tips(&mut self.nodes, &mut self.queue, self.tips.as_slice())?;
-        self.begun = true;
+        self.line_up()?;
         Ok(())
     }
 
@@ -280,16 +356,16 @@ impl<F: Find + Drop, P: Accept + Drop> Simple<F, P> {
         ensures objects { self.new.source.objects ≡ self.old.source.objects }
         ensures rows { self.new.source.rows ≡ self.old.source.rows }
         ensures going { F.is_honest self.old.source.objects → (g : Commits ObjectId)
-            → AreTold (rows_of self.old.source.rows) (F.table self.old.source.objects) g → (a : Asked)
-            → (listed : List ObjectId) → Stands P.accepts (F.ids self.old.source.objects) g a listed self.old
-            → OnOk result (IsGoing P.accepts (F.ids self.old.source.objects) g a listed self.new) }
-        ensures same { self.old.begun ≡ true → OnOk result ((self.new.queue ≡ self.old.queue)
-            × (self.new.source ≡ self.old.source)) }
+            → AreTold (rows_of self.old.source.rows) (F.table self.old.source.objects) g → (ids : List Id) (a : Asked)
+            (listed : List ObjectId) → IsSure (F.may_fail self.old.source.objects) a
+            → Stands P.accepts ids g a listed self.old
+            → OnOk result (IsUnderWay P.accepts ids g a listed self.new) }
+        ensures same { self.old.begun ≡ true → OnOk result (self.new ≡ self.old) }
         ensures begun { self.old.begun ≡ true → IsOk result }
         ensures rowed { OnOk result (InRows self.old → InRows self.new
             × (self.new.source.lookups ≡ self.old.source.lookups)) }
-        ensures refused { (g : Commits ObjectId) (a : Asked) (listed : List ObjectId)
-            → Stands P.accepts (F.ids self.old.source.objects) g a listed self.old
+        ensures refused { (g : Commits ObjectId) (ids : List Id) (a : Asked) (listed : List ObjectId)
+            → Stands P.accepts ids g a listed self.old
             → IfErr result (SimpleFault (λ _. ⊥)
             (F.is_honest self.old.source.objects) (F.may_fail self.old.source.objects)
             (rows_of self.old.source.rows) (F.table self.old.source.objects) a.hidden) }
@@ -309,7 +385,61 @@ impl<F: Find + Drop, P: Accept + Drop> Simple<F, P> {
     {
         self.begun = true;
         self.queue.clear();
+        self.waiting.clear();
         self.source.buffer.clear();
+    }
+
+    // Takes the commit whose turn it is.
+    fn take(&mut self) -> Option<ObjectId>
+        ensures source { self.new.source ≡ self.old.source }
+        ensures order { (self.new.parents ≡ self.old.parents) × (self.new.sorting ≡ self.old.sorting) }
+        ensures turn { IfSome result (λ id. (ids : List Id) (g : Commits ObjectId) (a : Asked) (listed : List ObjectId)
+            → IsUnderWay P.accepts ids g a listed self.old
+            → IsAtTurn P.accepts ids g a listed id self.new × IsTurn g a listed id) }
+        ensures end { IfNone result ((ids : List Id) (g : Commits ObjectId) (a : Asked) (listed : List ObjectId)
+            → IsUnderWay P.accepts ids g a listed self.old → Answers g a listed) }
+        ensures ended { IsOver self.old → IsNone result }
+        ensures rowed { IfSome result (λ id. InRows self.old → InRows self.new × Holds (rows_of self.old.source.rows) id) }
+    {
+        let Some(timing) = time_order(self.parents, self.sorting) else {
+            return pop(&mut self.queue);
+        };
+        let turn = self.waiting.take(timing.order)?;
+        Some(turn.id)
+    }
+
+    // Queues the parents of a commit.
+    fn meet_all(&mut self, parents: &[ObjectId]) -> Result<(), Error>
+        ensures objects { self.new.source.objects ≡ self.old.source.objects }
+        ensures rows { self.new.source.rows ≡ self.old.source.rows }
+        ensures order { (self.new.parents ≡ self.old.parents) × (self.new.sorting ≡ self.old.sorting) }
+        ensures going { OnOk result (F.is_honest self.old.source.objects → (g : Commits ObjectId)
+            → AreTold (rows_of self.old.source.rows) (F.table self.old.source.objects) g
+            → (ids : List Id) (a : Asked) (listed : List ObjectId) (id : ObjectId)
+            → IsSure (F.may_fail self.old.source.objects) a
+            → parents.now ≡ asked_parents a.parents g id → IsKnown (rows_of self.old.source.rows) ids id
+            → IsAtTurn P.accepts ids g a listed id self.old
+            → IsUnderWay P.accepts ids g a (listed ++ id ∷ []) self.new) }
+        ensures rowed { InRows self.old → AllHeld (rows_of self.old.source.rows) parents.now
+            → OnOk result (InRows self.new × (self.new.source.lookups ≡ self.old.source.lookups)) }
+        ensures in_breadth { timing_of self.old.parents self.old.sorting ≡ None
+            → self.new.source.lookups ≡ self.old.source.lookups }
+        ensures counted { self.new.source.lookups ≤ self.old.source.lookups + length parents.now }
+        ensures refused { IfErr result (λ error. error ≡ Memory) }
+    {
+        let Some(timing) = time_order(self.parents, self.sorting) else {
+            meet_parents(&mut self.nodes, &mut self.predicate, &mut self.queue, parents)?;
+            return Ok(());
+        };
+        await_parents(
+            &mut self.source,
+            &mut self.nodes,
+            &mut self.predicate,
+            &mut self.waiting,
+            timing.since,
+            parents,
+        )?;
+        Ok(())
     }
 
     // What the commit is, with its parents queued.
@@ -319,18 +449,21 @@ impl<F: Find + Drop, P: Accept + Drop> Simple<F, P> {
         ensures id { IfOk result (λ info. info.id ≡ id) }
         ensures told { F.is_honest self.old.source.objects → (g : Commits ObjectId)
             → AreTold (rows_of self.old.source.rows) (F.table self.old.source.objects) g
-            → IfOk result (IsInfo g (rows_of self.old.source.rows) self.old.parents) }
+            → IfOk result (IsInfo g (rows_of self.old.source.rows) self.old.parents self.old.sorting) }
         ensures known { IfOk result (λ _. IsKnown (rows_of self.old.source.rows)
             (F.ids self.old.source.objects) id) }
         ensures going { OnOk result (F.is_honest self.old.source.objects → (g : Commits ObjectId)
             → AreTold (rows_of self.old.source.rows) (F.table self.old.source.objects) g
-            → (a : Asked) (listed : List ObjectId)
-            → Enters P.accepts (F.ids self.old.source.objects) g a listed id self.old
-            → IsGoing P.accepts (F.ids self.old.source.objects) g a (listed ++ id ∷ []) self.new) }
+            → (a : Asked) (listed : List ObjectId) → IsSure (F.may_fail self.old.source.objects) a
+            → IsAtTurn P.accepts (F.ids self.old.source.objects) g a listed id self.old
+            → IsUnderWay P.accepts (F.ids self.old.source.objects) g a (listed ++ id ∷ []) self.new) }
         ensures content { OnOk result (IsContentOf (F.is_honest self.old.source.objects)
             (rows_of self.old.source.rows) (F.table self.old.source.objects) id self.new.source.buffer.items
             × (self.new.kind ≡ (id_of id).kind)) }
-        ensures counted { self.new.source.lookups ≤ self.old.source.lookups + 1 }
+        ensures in_breadth { timing_of self.old.parents self.old.sorting ≡ None
+            → self.new.source.lookups ≤ self.old.source.lookups + 1 }
+        ensures counted { IfOk result (λ info. self.new.source.lookups
+            ≤ self.old.source.lookups + 1 + length info.parent_ids.items) }
         ensures rowed { InRows self.old → Holds (rows_of self.old.source.rows) id → OnOk result (InRows self.new
             × (self.new.source.lookups ≡ self.old.source.lookups)) }
         ensures refused { IfErr result (StopsFetch (F.is_honest self.old.source.objects)
@@ -338,18 +471,16 @@ impl<F: Find + Drop, P: Accept + Drop> Simple<F, P> {
             (F.table self.old.source.objects) id) }
     {
         let commit = self.source.fetch(&id, self.parents)?;
-        meet_parents(
-            &mut self.nodes,
-            &mut self.predicate,
-            &mut self.queue,
-            commit.parents.as_slice(),
-        )?;
+        let alloc: Global = *self.tips.allocator();
+        let content = mem::replace(&mut self.source.buffer, Vec::new(alloc));
+        self.meet_all(commit.parents.as_slice())?;
+        self.source.buffer = content;
         self.kind = id.kind();
         Ok(Info {
             id,
             parent_ids: commit.parents,
             generation: commit.generation,
-            commit_time: None,
+            commit_time: shown_time(self.parents, self.sorting, commit.time),
         })
     }
 }
@@ -368,7 +499,7 @@ impl<F: Find + Drop, P: Accept + Drop> Iterator for Simple<F, P> {
             self.stop();
             return Some(Err(error));
         }
-        let id = pop(&mut self.queue)?;
+        let id = self.take()?;
         match self.enter(id) {
             Ok(info) => Some(Ok(info)),
             Err(error) => {

@@ -55,8 +55,8 @@ pub fn ask_tips<P: Accept>(
     Ok(())
 }
 
-// Marks a commit as met.
-fn mark_met(nodes: &mut Nodes, id: ObjectId, marks: Marks) -> Result<(), AllocError>
+/// Marks a commit as met.
+pub fn mark_met(nodes: &mut Nodes, id: ObjectId, marks: Marks) -> Result<(), AllocError>
     ensures met { OnOk result ((q : ObjectId) → is_met nodes.new q
         ≡ (if same_id id q then true else is_met nodes.old q)) }
     ensures hidden { OnOk result (is_hidden nodes.old id ≡ marks.hidden

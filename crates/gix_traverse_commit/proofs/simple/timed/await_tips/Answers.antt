@@ -1,0 +1,60 @@
+use Rattle.std.proofs.Common.{◌≡◌, ◌∙◌, sym, ap, refl, subst, inl, inr, List, [], take, get_or, Option, Bool, true, false}
+use Rattle.std.specs.Prelude.{Contains, not, ◌&&◌}
+use Rattle.std.proofs.lemmas.Option.{slice_get-get_or}
+use Rattle.gix_hash.specs.Id.{Id, id_of}
+use Rattle.gix_hash.specs.declared.object_id.ObjectId.{ObjectId}
+use Rattle.gix_hash.specs.declared.object_id.ObjectId.TheVariants.{Sha1}
+use Rattle.gix_traverse_commit.specs.Nodes.{is_hidden, is_met}
+use Rattle.gix_traverse_commit.specs.Rows.{Holds}
+use Rattle.gix_traverse_commit.specs.Sorting.{in_time}
+use Rattle.gix_traverse_commit.specs.Timely.{AllRowed, IsMetSoFar, keep_since, turn_of, waiting}
+use Rattle.gix_traverse_commit.specs.Told.{AreTold, rows_of}
+use Rattle.gix_traverse_commit.specs.declared.rows.Row.{Row}
+use Rattle.gix_traverse_commit.proofs.Chosen.{take_all}
+use Rattle.gix_traverse_commit.proofs.Keeping.{met_more, unmet_before}
+use Rattle.gix_traverse_commit.proofs.Lists.{contains_from_at}
+use Rattle.gix_traverse_commit.proofs.Timely.{in_nil, joins_same, met_renamed, next_parent, next_tip, tip_joins}
+use Rattle.gix_traverse_commit.proofs.simple.timed.await_tips.Goals as goal
+
+pub tips-init : goal.tips-init
+tips-init g c = record {
+  objects = refl;
+  rows = refl;
+  hidden = λ q. refl;
+  grown = λ q h. h;
+  counted = λ all. refl;
+  rowed = λ all before. before;
+  walked = λ honest sure h told accepts which w. met_renamed h (keep_since c.args.since h (is_hidden c.args.nodes.now) accepts) [] (is_met c.args.nodes.now) (λ _. ⊥) (Contains (take 0 c.args.tips.now)) (waiting c.args.waiting.now) w (λ x. ((λ z. absurd z), (λ d. in_nil x d)));
+}
+
+pub tips-preserved : goal.tips-preserved
+tips-preserved g c =
+    let ids : List ObjectId = c.args.tips.now in
+    let id : ObjectId = get_or ids c.tips.tip-index (Sha1 []) in
+    let here = slice_get-get_or ids c.tips.tip-index (Sha1 []) c.tips-test.true in
+    let inv = c.tips.invariant in
+    let rowed = subst (λ (o : Option (List Row)). Holds (rows_of o) id → (c.await_tip.new.source.lookups ≡ c.tips.source.lookups) × (AllRowed (rows_of o) (waiting c.tips.waiting) → AllRowed (rows_of o) (waiting c.await_tip.new.waiting))) inv.rows c.in_ok-await_tip.ensures.rowed in
+    record {
+      objects = c.await_tip.ensures.objects ∙ inv.objects;
+      rows = c.await_tip.ensures.rows ∙ inv.rows;
+      hidden = λ q. c.in_ok-await_tip.ensures.hidden q ∙ inv.hidden q;
+      grown = λ q h. met_more (is_met c.tips.nodes) (is_met c.await_tip.new.nodes) id q c.in_ok-await_tip.ensures.met (inv.grown q h);
+      counted = λ all. (rowed (all id (contains_from_at ids c.tips.tip-index id here))).0 ∙ inv.counted all;
+      rowed = λ all before. (rowed (all id (contains_from_at ids c.tips.tip-index id here))).1 (inv.rowed all before);
+      walked = (λ honest sure h told accepts which w.
+          let keep = keep_since c.args.since h (is_hidden c.args.nodes.now) accepts in
+          let honest' = subst (λ (o : g.row.F.Denot). g.F.Lookup.is_honest o) (sym inv.objects) honest in
+          let sure' = subst (λ (o : g.row.F.Denot). g.F.Lookup.may_fail o → ⊥) (sym inv.objects) sure in
+          let told' = subst (λ (o : g.row.F.Denot). AreTold (rows_of c.tips.source.rows) (g.F.Lookup.table o) h) (sym inv.objects) (subst (λ (r : Option (List Row)). AreTold (rows_of r) (g.F.Lookup.table c.args.source.now.objects) h) (sym inv.rows) told) in
+          let time = in_time c.args.since (h id).time in
+          let met = is_met c.tips.nodes id in
+          let so = tip_joins met (is_hidden c.tips.nodes id) (is_hidden c.args.nodes.now id) (accepts (id_of id)) time (inv.hidden id)
+          (λ f. which id (contains_from_at ids c.tips.tip-index id here) (unmet_before (is_met c.args.nodes.now) (is_met c.tips.nodes) id (inv.grown id) f)) in
+          let j = joins_same (not met && (not (is_hidden c.tips.nodes id) && time)) (not met && keep id) (waiting c.tips.waiting) (turn_of h id) (turn_of h id) (waiting c.await_tip.new.waiting) so refl (c.in_ok-await_tip.ensures.waits honest' sure' h told') in
+          next_tip h keep (is_met c.tips.nodes) (is_met c.await_tip.new.nodes) ids c.tips.tip-index (waiting c.tips.waiting) (waiting c.await_tip.new.waiting) id here j c.in_ok-await_tip.ensures.met (inv.walked honest sure h told accepts which w));
+    }
+
+pub returns-clause-walked : goal.returns-clause-walked
+returns-clause-walked g c = λ honest sure h told accepts which w.
+    subst (λ (zs : List ObjectId). IsMetSoFar h (keep_since c.args.since h (is_hidden c.args.nodes.now) accepts) (is_met c.tips.nodes) (Contains zs) [] (waiting c.tips.waiting)) (take_all c.args.tips.now c.tips.tip-index c.tips-test.false)
+    (c.tips.invariant.walked honest sure h told accepts which w)

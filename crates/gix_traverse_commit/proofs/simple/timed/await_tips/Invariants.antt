@@ -1,0 +1,24 @@
+use Rattle.std.proofs.Common.{◌≡◌, List, [], Bool, true, false, take}
+use Rattle.std.specs.Prelude.{Contains}
+use Rattle.gix_hash.specs.Id.{Id, id_of}
+use Rattle.gix_hash.specs.declared.object_id.ObjectId.{ObjectId}
+use Rattle.gix_traverse_commit.specs.Commits.{Commits}
+use Rattle.gix_traverse_commit.specs.Nodes.{is_hidden, is_met}
+use Rattle.gix_traverse_commit.specs.Rows.{AllHeld}
+use Rattle.gix_traverse_commit.specs.Timely.{AllRowed, IsMetSoFar, keep_since, waiting}
+use Rattle.gix_traverse_commit.specs.Told.{AreTold, rows_of}
+use Rattle.gix_traverse_commit.proofs.simple.timed.await_tips.Given as goal
+
+abbrev pub invariant-tips : goal.invariant-tips
+invariant-tips g l = record {
+  objects : l.source.objects ≡ l.fn.source.objects;
+  rows : l.source.rows ≡ l.fn.source.rows;
+  hidden : (q : ObjectId) → is_hidden l.nodes q ≡ is_hidden l.fn.nodes q;
+  grown : (q : ObjectId) → is_met l.fn.nodes q ≡ true → is_met l.nodes q ≡ true;
+  counted : AllHeld (rows_of l.fn.source.rows) l.tips → l.source.lookups ≡ l.fn.source.lookups;
+  rowed : AllHeld (rows_of l.fn.source.rows) l.tips → AllRowed (rows_of l.fn.source.rows) (waiting l.fn.waiting) → AllRowed (rows_of l.fn.source.rows) (waiting l.waiting);
+  walked : g.F.Lookup.is_honest l.fn.source.objects → (¬ g.F.Lookup.may_fail l.fn.source.objects) → (h : Commits ObjectId) → AreTold (rows_of l.fn.source.rows) (g.F.Lookup.table l.fn.source.objects) h
+      → (accepts : Id → Bool) → ((x : ObjectId) → Contains l.tips x → is_met l.fn.nodes x ≡ false → accepts (id_of x) ≡ true)
+      → IsMetSoFar h (keep_since l.since h (is_hidden l.fn.nodes) accepts) (is_met l.fn.nodes) (λ _. ⊥) [] (waiting l.fn.waiting)
+      → IsMetSoFar h (keep_since l.since h (is_hidden l.fn.nodes) accepts) (is_met l.nodes) (Contains (take l.tip-index l.tips)) [] (waiting l.waiting);
+}

@@ -1,0 +1,12 @@
+use Rattle.std.proofs.Common.{◌≡◌, ◌+◌, ◌≤◌}
+use Rattle.gix_traverse_commit.specs.Rows.{AllHeld}
+use Rattle.gix_traverse_commit.specs.Told.{rows_of}
+use Rattle.gix_traverse_commit.proofs.simple.timed.read_times.Given as goal
+
+abbrev pub invariant-tips : goal.invariant-tips
+invariant-tips g l = record {
+  objects : l.source.objects ≡ l.fn.source.objects;
+  rows : l.source.rows ≡ l.fn.source.rows;
+  counted : l.source.lookups ≤ l.fn.source.lookups + l.tip-index;
+  rowed : AllHeld (rows_of l.fn.source.rows) l.tips → l.source.lookups ≡ l.fn.source.lookups;
+}

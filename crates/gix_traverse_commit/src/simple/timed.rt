@@ -1,0 +1,235 @@
+//! Meeting commits in a walk by time: tips and parents, each once.
+
+ghost use Rattle.std.specs.Prelude.{◌≡◌, ◌⊎◌, ◌≤◌, ◌+◌, ◌&&◌, not, List, Bool, true, length, if◌then◌else◌, [], false, Contains, IfOk, IfErr, OnOk};
+ghost use Rattle.gix_hash.specs.Id.{Id, id_of};
+ghost use Rattle.gix_hash.specs.declared.object_id.ObjectId.{ObjectId};
+ghost use Rattle.gix_traverse_commit.specs.Commits.{Commits};
+ghost use Rattle.gix_traverse_commit.specs.Nodes.{is_met, is_hidden};
+ghost use Rattle.gix_traverse_commit.specs.Numbered.{same_id};
+ghost use Rattle.gix_traverse_commit.specs.Order.{IsOpen};
+ghost use Rattle.gix_traverse_commit.specs.Rows.{AllHeld, Holds};
+ghost use Rattle.gix_traverse_commit.specs.Simply.{TipFault};
+ghost use Rattle.gix_traverse_commit.specs.Sorting.{in_time};
+ghost use Rattle.gix_traverse_commit.specs.Timely.{AllRowed, IsMetSoFar, Joins, keep_since, turn_of, waiting as waiting_turns};
+ghost use Rattle.gix_traverse_commit.specs.Told.{AreTold, rows_of};
+ghost use Rattle.gix_traverse_commit.specs.declared.simple.Error.TheVariants.{Memory};
+
+use crate::Accept;
+use crate::fetch::{FetchError, Source};
+use crate::nodes::Nodes;
+use crate::simple::Error;
+use crate::simple::meet::mark_met;
+use crate::simple::sorting::is_in_time;
+use crate::simple::waiting::{Turn, Waiting};
+use gix_hash::ObjectId;
+use gix_object_find::Find;
+
+// The committer's seconds, and 0 where they aren't read. It is `Memory` where no memory is left.
+fn seconds_or_zero<F: Find>(source: &mut Source<F>, id: &ObjectId) -> Result<i64, Error>
+    ensures objects { source.new.objects ≡ source.old.objects }
+    ensures rows { source.new.rows ≡ source.old.rows }
+    ensures counted { source.new.lookups ≤ source.old.lookups + 1 }
+    ensures rowed { Holds (rows_of source.old.rows) id.now → source.new.lookups ≡ source.old.lookups }
+    ensures time { F.is_honest source.old.objects → ¬ F.may_fail source.old.objects → (g : Commits ObjectId)
+        → AreTold (rows_of source.old.rows) (F.table source.old.objects) g
+        → IfOk result (λ seconds. seconds ≡ (g id.now).time) }
+    ensures refused { IfErr result (λ error. error ≡ Memory) }
+{
+    match source.seconds(id) {
+        Ok(seconds) => Ok(seconds),
+        Err(FetchError::Memory) => Err(Error::Memory),
+        Err(_) => Ok(0),
+    }
+}
+
+// Reads the time of a tip, unless the predicate refused it.
+fn read_time<F: Find>(source: &mut Source<F>, nodes: &Nodes, tip: &ObjectId) -> Result<(), Error>
+    ensures objects { source.new.objects ≡ source.old.objects }
+    ensures rows { source.new.rows ≡ source.old.rows }
+    ensures counted { source.new.lookups ≤ source.old.lookups + 1 }
+    ensures rowed { Holds (rows_of source.old.rows) tip.now → source.new.lookups ≡ source.old.lookups }
+    ensures refused { IfErr result (λ error. (tips : List ObjectId) → Contains tips tip.now
+        → TipFault (F.is_honest source.old.objects) (F.may_fail source.old.objects)
+        (rows_of source.old.rows) (F.table source.old.objects) tips error) }
+{
+    if nodes.marks(tip).met {
+        return Ok(());
+    }
+    source.seconds(tip)?;
+    Ok(())
+}
+
+/// Reads the times of these tips, but of those that the predicate refused.
+pub fn read_times<F: Find>(
+    source: &mut Source<F>,
+    nodes: &Nodes,
+    tips: &[ObjectId],
+) -> Result<(), Error>
+    ensures objects { source.new.objects ≡ source.old.objects }
+    ensures rows { source.new.rows ≡ source.old.rows }
+    ensures counted { source.new.lookups ≤ source.old.lookups + length tips.now }
+    ensures rowed { AllHeld (rows_of source.old.rows) tips.now → source.new.lookups ≡ source.old.lookups }
+    ensures refused { IfErr result (TipFault (F.is_honest source.old.objects) (F.may_fail source.old.objects)
+        (rows_of source.old.rows) (F.table source.old.objects) tips.now) }
+{
+    'tips: for tip in tips {
+        read_time(source, nodes, tip)?;
+    }
+    source.buffer.clear();
+    Ok(())
+}
+
+// Lets a commit wait that is no older than the cutoff.
+fn wait<F: Find>(
+    source: &mut Source<F>,
+    waiting: &mut Waiting,
+    since: Option<i64>,
+    id: ObjectId,
+) -> Result<(), Error>
+    ensures objects { source.new.objects ≡ source.old.objects }
+    ensures rows { source.new.rows ≡ source.old.rows }
+    ensures counted { source.new.lookups ≤ source.old.lookups + 1 }
+    ensures rowed { Holds (rows_of source.old.rows) id → (source.new.lookups ≡ source.old.lookups)
+        × OnOk result (AllRowed (rows_of source.old.rows) (waiting_turns waiting.old)
+        → AllRowed (rows_of source.old.rows) (waiting_turns waiting.new)) }
+    ensures waits { OnOk result (F.is_honest source.old.objects → ¬ F.may_fail source.old.objects
+        → (g : Commits ObjectId) → AreTold (rows_of source.old.rows) (F.table source.old.objects) g
+        → Joins (in_time since (g id).time) (waiting_turns waiting.old) (turn_of g id) (waiting_turns waiting.new)) }
+    ensures refused { IfErr result (λ error. error ≡ Memory) }
+{
+    let time = seconds_or_zero(source, &id)?;
+    if is_in_time(since, time) {
+        waiting.put(Turn { time, id })?;
+    }
+    Ok(())
+}
+
+// Lets a tip wait that is not hidden and was not met.
+fn await_tip<F: Find>(
+    source: &mut Source<F>,
+    nodes: &mut Nodes,
+    waiting: &mut Waiting,
+    since: Option<i64>,
+    id: ObjectId,
+) -> Result<(), Error>
+    ensures objects { source.new.objects ≡ source.old.objects }
+    ensures rows { source.new.rows ≡ source.old.rows }
+    ensures met { OnOk result ((q : ObjectId) → is_met nodes.new q
+        ≡ (if same_id id q then true else is_met nodes.old q)) }
+    ensures hidden { OnOk result ((q : ObjectId) → is_hidden nodes.new q ≡ is_hidden nodes.old q) }
+    ensures rowed { Holds (rows_of source.old.rows) id → OnOk result ((source.new.lookups ≡ source.old.lookups)
+        × (AllRowed (rows_of source.old.rows) (waiting_turns waiting.old)
+        → AllRowed (rows_of source.old.rows) (waiting_turns waiting.new))) }
+    ensures waits { OnOk result (F.is_honest source.old.objects → ¬ F.may_fail source.old.objects
+        → (g : Commits ObjectId) → AreTold (rows_of source.old.rows) (F.table source.old.objects) g
+        → Joins (not (is_met nodes.old id) && (not (is_hidden nodes.old id) && in_time since (g id).time))
+        (waiting_turns waiting.old) (turn_of g id) (waiting_turns waiting.new)) }
+    ensures refused { IfErr result (λ error. error ≡ Memory) }
+{
+    let marks = nodes.marks(&id);
+    if marks.met {
+        return Ok(());
+    }
+    mark_met(nodes, id, marks)?;
+    if !marks.hidden {
+        wait(source, waiting, since, id)?;
+    }
+    Ok(())
+}
+
+/// Lets the tips wait that are accepted, not hidden and no older than the cutoff, each once.
+pub fn await_tips<F: Find>(
+    source: &mut Source<F>,
+    nodes: &mut Nodes,
+    waiting: &mut Waiting,
+    since: Option<i64>,
+    tips: &[ObjectId],
+) -> Result<(), Error>
+    ensures objects { source.new.objects ≡ source.old.objects }
+    ensures rows { source.new.rows ≡ source.old.rows }
+    ensures hidden { OnOk result ((q : ObjectId) → is_hidden nodes.new q ≡ is_hidden nodes.old q) }
+    ensures rowed { AllHeld (rows_of source.old.rows) tips.now → OnOk result ((source.new.lookups ≡ source.old.lookups)
+        × (AllRowed (rows_of source.old.rows) (waiting_turns waiting.old)
+        → AllRowed (rows_of source.old.rows) (waiting_turns waiting.new))) }
+    ensures walked { OnOk result (F.is_honest source.old.objects → ¬ F.may_fail source.old.objects
+        → (g : Commits ObjectId) → AreTold (rows_of source.old.rows) (F.table source.old.objects) g
+        → (accepts : Id → Bool)
+        → ((x : ObjectId) → Contains tips.now x → is_met nodes.old x ≡ false → accepts (id_of x) ≡ true)
+        → IsMetSoFar g (keep_since since g (is_hidden nodes.old) accepts) (is_met nodes.old) (λ _. ⊥) [] (waiting_turns waiting.old)
+        → IsMetSoFar g (keep_since since g (is_hidden nodes.old) accepts) (is_met nodes.new) (Contains tips.now) []
+        (waiting_turns waiting.new)) }
+    ensures refused { IfErr result (λ error. error ≡ Memory) }
+{
+    'tips: for tip in tips {
+        await_tip(source, nodes, waiting, since, *tip)?;
+    }
+    Ok(())
+}
+
+// Lets a commit wait that was not met, is not hidden, is accepted and is no older than the cutoff.
+fn await_parent<F: Find, P: Accept>(
+    source: &mut Source<F>,
+    nodes: &mut Nodes,
+    predicate: &mut P,
+    waiting: &mut Waiting,
+    since: Option<i64>,
+    id: ObjectId,
+) -> Result<(), Error>
+    ensures objects { source.new.objects ≡ source.old.objects }
+    ensures rows { source.new.rows ≡ source.old.rows }
+    ensures counted { source.new.lookups ≤ source.old.lookups + 1 }
+    ensures accepts { P.accepts predicate.new ≡ P.accepts predicate.old }
+    ensures met { OnOk result ((q : ObjectId) → is_met nodes.new q
+        ≡ (if same_id id q then true else is_met nodes.old q)) }
+    ensures hidden { OnOk result ((q : ObjectId) → is_hidden nodes.new q ≡ is_hidden nodes.old q) }
+    ensures rowed { Holds (rows_of source.old.rows) id → OnOk result ((source.new.lookups ≡ source.old.lookups)
+        × (AllRowed (rows_of source.old.rows) (waiting_turns waiting.old)
+        → AllRowed (rows_of source.old.rows) (waiting_turns waiting.new))) }
+    ensures waits { OnOk result (F.is_honest source.old.objects → ¬ F.may_fail source.old.objects
+        → (g : Commits ObjectId) → AreTold (rows_of source.old.rows) (F.table source.old.objects) g
+        → Joins (not (is_met nodes.old id) && keep_since since g (is_hidden nodes.old) (P.accepts predicate.old) id)
+        (waiting_turns waiting.old) (turn_of g id) (waiting_turns waiting.new)) }
+    ensures refused { IfErr result (λ error. error ≡ Memory) }
+{
+    let marks = nodes.marks(&id);
+    if marks.met {
+        return Ok(());
+    }
+    mark_met(nodes, id, marks)?;
+    if !marks.hidden && predicate.accept(id.as_oid()) {
+        wait(source, waiting, since, id)?;
+    }
+    Ok(())
+}
+
+/// Lets the parents of a commit wait that were not met, are not hidden, are accepted and are no older than the cutoff.
+pub fn await_parents<F: Find, P: Accept>(
+    source: &mut Source<F>,
+    nodes: &mut Nodes,
+    predicate: &mut P,
+    waiting: &mut Waiting,
+    since: Option<i64>,
+    parents: &[ObjectId],
+) -> Result<(), Error>
+    ensures objects { source.new.objects ≡ source.old.objects }
+    ensures rows { source.new.rows ≡ source.old.rows }
+    ensures counted { source.new.lookups ≤ source.old.lookups + length parents.now }
+    ensures accepts { P.accepts predicate.new ≡ P.accepts predicate.old }
+    ensures hidden { OnOk result ((q : ObjectId) → is_hidden nodes.new q ≡ is_hidden nodes.old q) }
+    ensures rowed { AllHeld (rows_of source.old.rows) parents.now → OnOk result ((source.new.lookups ≡ source.old.lookups)
+        × (AllRowed (rows_of source.old.rows) (waiting_turns waiting.old)
+        → AllRowed (rows_of source.old.rows) (waiting_turns waiting.new))) }
+    ensures walked { OnOk result (F.is_honest source.old.objects → ¬ F.may_fail source.old.objects
+        → (g : Commits ObjectId) → AreTold (rows_of source.old.rows) (F.table source.old.objects) g
+        → (along : ObjectId → List ObjectId) (tips front listed : List ObjectId)
+        → IsMetSoFar g (keep_since since g (is_hidden nodes.old) (P.accepts predicate.old)) (is_met nodes.old)
+        (IsOpen along tips front) listed (waiting_turns waiting.old)
+        → IsMetSoFar g (keep_since since g (is_hidden nodes.old) (P.accepts predicate.old)) (is_met nodes.new)
+        (λ x. IsOpen along tips front x ⊎ Contains parents.now x) listed (waiting_turns waiting.new)) }
+    ensures refused { IfErr result (λ error. error ≡ Memory) }
+{
+    'parents: for parent in parents {
+        await_parent(source, nodes, predicate, waiting, since, *parent)?;
+    }
+    Ok(())
+}
