@@ -7,9 +7,10 @@ use Rattle.gix_traverse_commit.specs.Commits.{Commits, asked_parents, Reached, t
 use Rattle.gix_traverse_commit.specs.Order.{At, IsChosen, IsOpen}
 use Rattle.gix_traverse_commit.specs.Painting.{ReachedFrom}
 use Rattle.gix_traverse_commit.specs.Nodes.{is_met}
-use Rattle.gix_traverse_commit.specs.Simply.{Answers, Asked, IsAtTurn, IsKnown, IsSure, IsTurn, keep_of, request_in, timing}
+use Rattle.gix_traverse_commit.specs.Simply.{Answers, Asked, IsAtTurn, IsKnown, IsSure, IsTurn, IsUnderWay, keep_of, request_in, timing}
 use Rattle.gix_traverse_commit.specs.Sorting.{ComesFirst, InOrder, InTimeOrder, IsNextIn, in_time, timing_of}
 use Rattle.gix_traverse_commit.specs.Told.{rows_of}
+use Rattle.gix_hash.specs.declared.kind.Kind.{Kind}
 use Rattle.gix_traverse_commit.specs.declared.fetch.Source.{Source}
 use Rattle.gix_traverse_commit.specs.declared.parents.Parents.{Parents}
 use Rattle.gix_traverse_commit.specs.declared.simple.Simple.{Simple}
@@ -113,3 +114,13 @@ module _ {F P : Type 0} (accepts : P → Id → Bool) (ids : List Id) (g : Commi
     where
       moved : ((x : ObjectId) → Contains listed x → IsKnown (rows_of walk.source.rows) ids x) → (x : ObjectId) → Contains listed x → IsKnown rows ids x
       moved h = subst (λ (r : List Row). (x : ObjectId) → Contains listed x → IsKnown r ids x) (sym e) h
+
+-- the same with a source that has the same rows
+pub under_source : {F P : Type 0} (accepts : P → Id → Bool) (ids : List Id) (g : Commits ObjectId) (a : Asked) (listed : List ObjectId) (walk : Simple F P) (source : Source F) (kind : Kind) → source.rows ≡ walk.source.rows → IsUnderWay accepts ids g a listed walk → IsUnderWay accepts ids g a listed (record walk { source = source; kind = kind })
+under_source accepts ids g a listed walk source kind e t = elim t [
+  | inl w ↦ inl (record { begun = w.begun; parents = w.parents; sorting = w.sorting; in_breadth = w.in_breadth; accepts_same = w.accepts_same; hides = w.hides; hidden = w.hidden; painted = w.painted; known = moved w.known; walked = w.walked })
+  | inr w ↦ inr (record { begun = w.begun; parents = w.parents; sorting = w.sorting; by_time = w.by_time; is_by_time = w.is_by_time; accepts_same = w.accepts_same; hides = w.hides; hidden = w.hidden; painted = w.painted; known = moved w.known; met = w.met; chosen = w.chosen })
+]
+  where
+    moved : ((x : ObjectId) → Contains listed x → IsKnown (rows_of walk.source.rows) ids x) → (x : ObjectId) → Contains listed x → IsKnown (rows_of source.rows) ids x
+    moved h = subst (λ (r : Option (List Row)). (x : ObjectId) → Contains listed x → IsKnown (rows_of r) ids x) (sym e) h

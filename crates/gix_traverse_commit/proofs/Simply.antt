@@ -13,9 +13,9 @@ use Rattle.gix_traverse_commit.specs.Rows.{AllHeld, Holds}
 use Rattle.gix_traverse_commit.specs.Simply.{Answers, Asked, AreAsked, IsKnown, IsTurn, keep_of, request_in, timing}
 use Rattle.gix_object_find.specs.Table.{Table}
 use Rattle.gix_traverse_commit.specs.Simply.{SimpleFault, StopsFetch}
-use Rattle.gix_traverse_commit.specs.declared.simple.Error.{Error}
-use Rattle.gix_traverse_commit.specs.declared.simple.Error.TheVariants as fault
-use Rattle.gix_traverse_commit.specs.declared.simple.HiddenGraphError.TheVariants as hidden_fault
+use Rattle.gix_traverse_commit.specs.declared.simple.faults.Error.{Error}
+use Rattle.gix_traverse_commit.specs.declared.simple.faults.Error.TheVariants as fault
+use Rattle.gix_traverse_commit.specs.declared.simple.faults.HiddenGraphError.TheVariants as hidden_fault
 use Rattle.gix_traverse_commit.specs.Sorting.{InOrder, IsNextIn}
 use Rattle.gix_traverse_commit.specs.declared.simple.sorting.Timing.{Timing}
 use Rattle.gix_traverse_commit.specs.declared.nodes.Marks.{Marks}

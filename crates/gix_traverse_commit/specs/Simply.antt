@@ -22,9 +22,9 @@ use Rattle.gix_traverse_commit.specs.declared.info.Info.{Info}
 use Rattle.gix_traverse_commit.specs.declared.nodes.Node.{Node}
 use Rattle.gix_traverse_commit.specs.declared.parents.Parents.{Parents}
 use Rattle.gix_traverse_commit.specs.declared.rows.Row.{Row}
-use Rattle.gix_traverse_commit.specs.declared.simple.Error.{Error}
-use Rattle.gix_traverse_commit.specs.declared.simple.Error.TheVariants as fault
-use Rattle.gix_traverse_commit.specs.declared.simple.HiddenGraphError.TheVariants as hidden_fault
+use Rattle.gix_traverse_commit.specs.declared.simple.faults.Error.{Error}
+use Rattle.gix_traverse_commit.specs.declared.simple.faults.Error.TheVariants as fault
+use Rattle.gix_traverse_commit.specs.declared.simple.faults.HiddenGraphError.TheVariants as hidden_fault
 use Rattle.gix_traverse_commit.specs.declared.simple.Simple.{Simple}
 use Rattle.gix_traverse_commit.specs.declared.simple.sorting.Sorting.{Sorting}
 use Rattle.gix_traverse_commit.specs.declared.simple.sorting.Timing.{Timing}

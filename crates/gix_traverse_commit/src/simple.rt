@@ -6,123 +6,38 @@ ghost use Rattle.gix_hash.specs.declared.object_id.ObjectId.{ObjectId};
 ghost use Rattle.gix_object_commit.specs.Tokens.{place_of, start};
 ghost use Rattle.gix_traverse_commit.specs.Commits.{Commits, asked_parents};
 ghost use Rattle.gix_traverse_commit.specs.Rows.{AllHeld, Holds};
-ghost use Rattle.gix_traverse_commit.specs.Simply.{Answers, Asked, IsMade, IsPaintedFor, IsUnderWay, IsAtTurn, IsOver, IsKnown, IsInfo, IsTurn, IsSure, IsContentOf, InRows, Stands, StopsFetch, TipFault, SimpleFault, GivesNext, hidden_error, error_of};
+ghost use Rattle.gix_traverse_commit.specs.Simply.{Answers, Asked, IsMade, IsPaintedFor, IsUnderWay, IsAtTurn, IsOver, IsKnown, IsInfo, IsTurn, IsSure, IsContentOf, InRows, Stands, StopsFetch, TipFault, SimpleFault, GivesNext};
 ghost use Rattle.gix_traverse_commit.specs.Sorting.{timing_of};
 ghost use Rattle.gix_traverse_commit.specs.Told.{AreTold, rows_of};
 ghost use Rattle.gix_traverse_commit.specs.declared.parents.Parents.TheVariants.{All as AllParents};
 ghost use Rattle.gix_traverse_commit.specs.declared.simple.sorting.Sorting.TheVariants.{BreadthFirst};
-ghost use Rattle.gix_traverse_commit.specs.declared.simple.Error.TheVariants.{Find as FindFault, ObjectDecode as DecodeFault, HiddenGraph as HiddenFault, Memory};
+ghost use Rattle.gix_traverse_commit.specs.declared.simple.faults.Error.TheVariants.{Memory};
 
 mod anew;
+mod faults;
 mod meet;
 mod sorting;
 mod timed;
 mod waiting;
 
-use crate::fetch::{FetchError, Source};
+use crate::fetch::Source;
 use crate::nodes::Nodes;
 use crate::paint::paint;
-use crate::simple::anew::{take_all, unpaint};
+use crate::simple::anew::{queue_all, take_all, unpaint};
+use crate::simple::faults::of_painting;
+pub use crate::simple::faults::{Error, HiddenGraphError};
 use crate::simple::meet::{ask_tips, meet_parents, pop, queue_tips};
 use crate::simple::sorting::{shown_time, time_order};
+pub use crate::simple::sorting::{CommitTimeOrder, Sorting};
 use crate::simple::timed::{await_parents, await_tips, read_times};
 use crate::simple::waiting::Waiting;
 use crate::{Accept, All, Graph, Info, Parents};
 use gix_hash::{Kind, ObjectId};
 use gix_object_commit::CommitRefIter;
 use gix_object_find::Find;
-use gix_object_find::find::existing_iter;
-use gix_object_lines::decode;
 use std::alloc::{AllocError, Global};
 use std::collections::VecDeque;
 use std::mem;
-
-pub use crate::simple::sorting::{CommitTimeOrder, Sorting};
-
-/// Why hidden commits aren't painted.
-#[derive(Debug, Clone, Copy, PartialEq, Eq, thiserror::Error)]
-pub enum HiddenGraphError {
-    /// A commit that they reach isn't found.
-    #[error(transparent)]
-    Find(existing_iter::Error),
-    /// The lines of its object aren't those of a commit.
-    #[error(transparent)]
-    ObjectDecode(decode::Error),
-}
-
-/// Why a walk ends early.
-#[derive(Debug, Clone, Copy, PartialEq, Eq, thiserror::Error)]
-pub enum Error {
-    /// A commit that the walk comes to isn't found.
-    #[error(transparent)]
-    Find(existing_iter::Error),
-    /// The lines of its object aren't those of a commit.
-    #[error(transparent)]
-    ObjectDecode(decode::Error),
-    /// The hidden commits aren't painted.
-    #[error(transparent)]
-    HiddenGraph(HiddenGraphError),
-    /// There is no memory for the walk.
-    #[error("there is no memory for the walk")]
-    Memory,
-}
-
-impl From<existing_iter::Error> for Error {
-    ghost from_gives = { λ error given. given ≡ FindFault error };
-
-    fn from(error: existing_iter::Error) -> Error {
-        Error::Find(error)
-    }
-}
-
-impl From<decode::Error> for Error {
-    ghost from_gives = { λ error given. given ≡ DecodeFault error };
-
-    fn from(error: decode::Error) -> Error {
-        Error::ObjectDecode(error)
-    }
-}
-
-impl From<HiddenGraphError> for Error {
-    ghost from_gives = { λ error given. given ≡ HiddenFault error };
-
-    fn from(error: HiddenGraphError) -> Error {
-        Error::HiddenGraph(error)
-    }
-}
-
-impl From<FetchError> for Error {
-    ghost from_gives = { λ error given. given ≡ error_of error };
-
-    fn from(error: FetchError) -> Error {
-        match error {
-            FetchError::Find(error) => Error::Find(error),
-            FetchError::ObjectDecode(error) => Error::ObjectDecode(error),
-            FetchError::Memory => Error::Memory,
-        }
-    }
-}
-
-impl From<AllocError> for Error {
-    ghost from_gives = { λ _ error. error ≡ Memory };
-
-    fn from(_error: AllocError) -> Error {
-        Error::Memory
-    }
-}
-
-// The error where hidden commits aren't painted.
-fn of_painting(error: FetchError) -> Error
-    ensures { result ≡ hidden_error error }
-{
-    match error {
-        FetchError::Find(error) => Error::HiddenGraph(HiddenGraphError::Find(error)),
-        FetchError::ObjectDecode(error) => {
-            Error::HiddenGraph(HiddenGraphError::ObjectDecode(error))
-        }
-        FetchError::Memory => Error::Memory,
-    }
-}
 
 /// A walk over the commits that some tips reach, past none that the predicate refuses or a hidden commit reaches, each once.
 ///
@@ -221,12 +136,8 @@ impl<F: Find + Drop, P: Accept + Drop> Simple<F, P> {
             (F.may_fail self.source.objects) (rows_of self.source.rows) (F.table self.source.objects)
             self.tips.items error) }
     {
-        if self.begun {
-            self.begin_anew()?;
-        }
-        if sorting != Sorting::BreadthFirst {
-            read_times(&mut self.source, &self.nodes, self.tips.as_slice())?;
-        }
+        self.anew()?;
+        self.read_tips(sorting)?;
         self.sorting = sorting;
         Ok(self)
     }
@@ -288,15 +199,43 @@ impl<F: Find + Drop, P: Accept + Drop> Simple<F, P> {
 }
 
 impl<F: Find + Drop, P: Accept + Drop> Simple<F, P> {
+    // Begins anew where the walk has begun.
+    fn anew(&mut self) -> Result<(), AllocError>
+        ensures source { self.new.source ≡ self.old.source }
+        ensures same { self.old.begun ≡ false → self.new ≡ self.old }
+    {
+        if self.begun {
+            return self.begin_anew();
+        }
+        Ok(())
+    }
+
+    // Reads the times of the tips, but of those that the predicate refused, where the order goes by time.
+    fn read_tips(&mut self, sorting: Sorting) -> Result<(), Error>
+        ensures objects { self.new.source.objects ≡ self.old.source.objects }
+        ensures rows { self.new.source.rows ≡ self.old.source.rows }
+        ensures made { (a : Asked) → IsMade P.accepts a self.old → IsMade P.accepts a self.new }
+        ensures counted { self.new.source.lookups ≤ self.old.source.lookups + length self.old.tips.items }
+        ensures rowed { AllHeld (rows_of self.old.source.rows) self.old.tips.items
+            → self.new.source.lookups ≡ self.old.source.lookups }
+        ensures refused { IfErr result (TipFault (F.is_honest self.old.source.objects)
+            (F.may_fail self.old.source.objects) (rows_of self.old.source.rows)
+            (F.table self.old.source.objects) self.old.tips.items) }
+    {
+        if time_order(Parents::All, sorting).is_none() {
+            return Ok(());
+        }
+        read_times(&mut self.source, &self.nodes, self.tips.as_slice())
+    }
+
     // Makes the rest a walk from what is queued, in its order, without anything hidden.
     fn begin_anew(&mut self) -> Result<(), AllocError>
         ensures { self.new.source ≡ self.old.source }
     {
         let alloc: Global = *self.tips.allocator();
         unpaint(alloc, &mut self.nodes)?;
-        for id in &self.waiting.take_all(alloc)? {
-            self.queue.push_back(*id)?;
-        }
+        let waiting = self.waiting.take_all(alloc)?;
+        queue_all(&mut self.queue, waiting.as_slice())?;
         self.tips = take_all(alloc, &mut self.nodes, &mut self.queue)?;
         self.begun = false;
         Ok(())
@@ -402,7 +341,8 @@ impl<F: Find + Drop, P: Accept + Drop> Simple<F, P> {
         ensures rowed { IfSome result (λ id. InRows self.old → InRows self.new × Holds (rows_of self.old.source.rows) id) }
     {
         let Some(timing) = time_order(self.parents, self.sorting) else {
-            return pop(&mut self.queue);
+            let id = pop(&mut self.queue)?;
+            return Some(id);
         };
         let turn = self.waiting.take(timing.order)?;
         Some(turn.id)
@@ -428,7 +368,12 @@ impl<F: Find + Drop, P: Accept + Drop> Simple<F, P> {
         ensures refused { IfErr result (λ error. error ≡ Memory) }
     {
         let Some(timing) = time_order(self.parents, self.sorting) else {
-            meet_parents(&mut self.nodes, &mut self.predicate, &mut self.queue, parents)?;
+            meet_parents(
+                &mut self.nodes,
+                &mut self.predicate,
+                &mut self.queue,
+                parents,
+            )?;
             return Ok(());
         };
         await_parents(

@@ -46,3 +46,11 @@ pub fn take_all(
     }
     Ok(ids)
 }
+
+/// Queues all of these commits.
+pub fn queue_all(queue: &mut VecDeque<ObjectId>, ids: &[ObjectId]) -> Result<(), AllocError> {
+    for id in ids {
+        queue.push_back(*id)?;
+    }
+    Ok(())
+}

@@ -12,7 +12,7 @@ ghost use Rattle.gix_traverse_commit.specs.Simply.{TipFault};
 ghost use Rattle.gix_traverse_commit.specs.Sorting.{in_time};
 ghost use Rattle.gix_traverse_commit.specs.Timely.{AllRowed, IsMetSoFar, Joins, keep_since, turn_of, waiting as waiting_turns};
 ghost use Rattle.gix_traverse_commit.specs.Told.{AreTold, rows_of};
-ghost use Rattle.gix_traverse_commit.specs.declared.simple.Error.TheVariants.{Memory};
+ghost use Rattle.gix_traverse_commit.specs.declared.simple.faults.Error.TheVariants.{Memory};
 
 use crate::Accept;
 use crate::fetch::{FetchError, Source};

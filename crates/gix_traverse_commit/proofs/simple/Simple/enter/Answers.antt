@@ -1,41 +1,51 @@
-use Rattle.std.proofs.Common.{sym, ◌∙◌, ap, subst, List, [], ◌∷◌, ◌++◌, Option, Bool}
-use Rattle.std.specs.Prelude.{Contains, not, ◌&&◌}
+use Rattle.std.proofs.Common.{rules, ◌≡◌, sym, ◌∙◌, ap, refl, subst, inl, inr, arith, List, [], ◌∷◌, ◌++◌, length, Option, Some, None, Bool, true, false}
+use Rattle.std.specs.Prelude.{Contains, not, ◌&&◌, OnOk}
 use Rattle.gix_hash.specs.Id.{Id, id_of}
 use Rattle.gix_hash.specs.declared.object_id.ObjectId.{ObjectId}
 use Rattle.gix_traverse_commit.specs.Commits.{asked_parents}
-use Rattle.gix_traverse_commit.specs.Nodes.{is_hidden}
-use Rattle.gix_traverse_commit.specs.Rows.{AllHeld}
-use Rattle.gix_traverse_commit.specs.Simply.{IsKnown, keep_of}
-use Rattle.gix_traverse_commit.specs.Told.{rows_of}
+use Rattle.gix_traverse_commit.specs.Nodes.{is_hidden, is_met}
+use Rattle.gix_traverse_commit.specs.Rows.{AllHeld, Holds}
+use Rattle.gix_traverse_commit.specs.Simply.{IsKnown, IsSure, IsTime}
+use Rattle.gix_traverse_commit.specs.Sorting.{in_time, timing_of}
+use Rattle.gix_traverse_commit.specs.Timely.{AllRowed, IsMetSoFar, IsTaken, keep_since, waiting}
+use Rattle.gix_traverse_commit.specs.Told.{AreTold, rows_of}
 use Rattle.gix_traverse_commit.specs.declared.parents.Parents.{Parents}
 use Rattle.gix_traverse_commit.specs.declared.rows.Row.{Row}
-use Rattle.gix_traverse_commit.proofs.Simply.{known_push}
+use Rattle.gix_traverse_commit.specs.declared.simple.sorting.Timing.{Timing}
+use Rattle.gix_traverse_commit.proofs.ByTime.{at_order, at_source, under_source}
+use Rattle.gix_traverse_commit.specs.declared.simple.sorting.Sorting.{Sorting}
 use Rattle.gix_traverse_commit.proofs.simple.Simple.enter.Goals as goal
 
+pub returns-clause-told : goal.returns-clause-told
+returns-clause-told g c = λ honest commits told. record {
+  parents_asked = c.in_ok-commit.ensures.parents honest commits told;
+  by_row = c.in_ok-commit.ensures.generation;
+  timed = (let time = c.shown_time.ensures (commits c.args.id) (c.in_ok-commit.ensures.time honest commits told) in
+      subst (λ (p : Parents). IsTime (timing_of p c.args.self.now.sorting) (commits c.args.id) c.shown_time.result) c.meet_all.ensures.order.0
+      (subst (λ (s : Sorting). IsTime (timing_of c.meet_all.new.self.parents s) (commits c.args.id) c.shown_time.result) c.meet_all.ensures.order.1 time));
+}
+
 pub returns-clause-going : goal.returns-clause-going
-returns-clause-going g c = λ honest commits told a listed n.
+returns-clause-going g c = λ honest commits told a listed sure at.
+    let accepts = g.P.Accept.accepts in
     let ids = g.F.Lookup.ids c.args.self.now.source.objects in
-    let known = known_push (rows_of c.args.self.now.source.rows) ids listed c.args.id n.known c.in_ok-commit.ensures.listed in
-    record {
-      begun = n.begun;
-      parents = n.parents;
-      accepts_same = c.meet_parents.ensures.accepts ∙ n.accepts_same;
-      hides = n.hides;
-      hidden = λ x. c.in_ok-meet_parents.ensures.hidden x ∙ n.hidden x;
-      painted = n.painted;
-      known = subst (λ (r : Option (List Row)). (x : ObjectId) → Contains (listed ++ c.args.id ∷ []) x → IsKnown (rows_of r) ids x) (sym c.fetch.ensures.rows) known;
-      walked = c.in_ok-meet_parents.ensures.walked (asked_parents a.parents commits) (keep_of n.hides a.accepts) a.tips (listed ++ c.args.id ∷ []) c.args.id
-          (λ x. ap (λ (b : Bool). not b && a.accepts (id_of x)) (sym (n.hidden x)) ∙ ap (λ (f : Id → Bool). not (is_hidden c.args.self.now.nodes x) && f (id_of x)) (sym n.accepts_same))
-          (c.as_slice.ensures ∙ c.in_ok-commit.ensures.parents honest commits told ∙ ap (λ (p : Parents). asked_parents p commits c.args.id) n.parents) n.walked n.reads;
-    }
+    let rows = rows_of c.args.self.now.source.rows in
+    let honest' = subst (λ (o : g.row.F.Denot). g.F.Lookup.is_honest o) (sym c.fetch.ensures.objects) honest in
+    let sure' = subst (λ (o : g.row.F.Denot). IsSure (g.F.Lookup.may_fail o) a) (sym c.fetch.ensures.objects) sure in
+    let told' = subst (λ (o : g.row.F.Denot). AreTold (rows_of c.fetch.new.self.rows) (g.F.Lookup.table o) commits) (sym c.fetch.ensures.objects) (subst (λ (r : Option (List Row)). AreTold (rows_of r) (g.F.Lookup.table c.args.self.now.source.objects) commits) (sym c.fetch.ensures.rows) told) in
+    let same = c.as_slice.ensures ∙ c.in_ok-commit.ensures.parents honest commits told in
+    let asked = same ∙ ap (λ (p : Parents). asked_parents p commits c.args.id) (at_order accepts ids commits a listed c.args.id c.args.self.now at).0 in
+    let known : IsKnown (rows_of c.fetch.new.self.rows) ids c.args.id = subst (λ (r : Option (List Row)). IsKnown (rows_of r) ids c.args.id) (sym c.fetch.ensures.rows) c.in_ok-commit.ensures.listed in
+    let begun = at_source accepts ids commits a listed c.args.id c.args.self.now (record c.fetch.new.self { buffer = c.replace-content.new.dest }) c.fetch.ensures.rows at in
+    let under = c.in_ok-meet_all.ensures.going honest' commits told' ids a listed c.args.id sure' asked known begun in
+    under_source accepts ids commits a (listed ++ c.args.id ∷ []) c.meet_all.new.self (record c.meet_all.new.self.source { buffer = c.replace-content.result }) c.kind-self.result refl under
 
 pub returns-clause-rowed : goal.returns-clause-rowed
-returns-clause-rowed g c = λ r held. (
-  record {
-    tips = subst (λ (o : Option (List Row)). AllHeld (rows_of o) c.args.self.now.tips.items) (sym c.fetch.ensures.rows) r.tips;
-    hidden = subst (λ (o : Option (List Row)). AllHeld (rows_of o) c.args.self.now.hidden.items) (sym c.fetch.ensures.rows) r.hidden;
-    queue = subst (λ (o : Option (List Row)). AllHeld (rows_of o) c.meet_parents.new.queue.items) (sym c.fetch.ensures.rows)
-        (c.in_ok-meet_parents.ensures.rowed (rows_of c.args.self.now.source.rows) r.queue (subst (λ (xs : List ObjectId). AllHeld (rows_of c.args.self.now.source.rows) xs) (sym c.as_slice.ensures) (c.in_ok-commit.ensures.closed held)));
-  },
-  (c.in_ok-commit.ensures.rowed held).0,
-)
+returns-clause-rowed g c = λ r held.
+    let step = c.in_ok-meet_all.ensures.rowed (record {
+      tips = subst (λ (o : Option (List Row)). AllHeld (rows_of o) c.args.self.now.tips.items) (sym c.fetch.ensures.rows) r.tips;
+      hidden = subst (λ (o : Option (List Row)). AllHeld (rows_of o) c.args.self.now.hidden.items) (sym c.fetch.ensures.rows) r.hidden;
+      queue = subst (λ (o : Option (List Row)). AllHeld (rows_of o) c.args.self.now.queue.items) (sym c.fetch.ensures.rows) r.queue;
+      waiting_rows = subst (λ (o : Option (List Row)). AllRowed (rows_of o) (waiting c.args.self.now.waiting)) (sym c.fetch.ensures.rows) r.waiting_rows;
+    }) (subst (λ (o : Option (List Row)). AllHeld (rows_of o) c.as_slice.result.now) (sym c.fetch.ensures.rows) (subst (λ (xs : List ObjectId). AllHeld (rows_of c.args.self.now.source.rows) xs) (sym c.as_slice.ensures) (c.in_ok-commit.ensures.closed held))) in
+    (record { tips = step.0.tips; hidden = step.0.hidden; queue = step.0.queue; waiting_rows = step.0.waiting_rows }, step.1 ∙ (c.in_ok-commit.ensures.rowed held).0)

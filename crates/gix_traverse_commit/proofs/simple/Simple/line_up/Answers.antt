@@ -1,0 +1,86 @@
+use Rattle.std.proofs.Common.{rules, ◌≡◌, sym, ◌∙◌, ap, refl, subst, inl, inr, arith, List, [], ◌∷◌, ◌++◌, length, Option, Some, None, Bool, true, false}
+use Rattle.std.specs.Prelude.{Contains, not, ◌&&◌, OnOk}
+use Rattle.gix_hash.specs.Id.{Id, id_of}
+use Rattle.gix_hash.specs.declared.object_id.ObjectId.{ObjectId}
+use Rattle.gix_traverse_commit.specs.Commits.{asked_parents}
+use Rattle.gix_traverse_commit.specs.Nodes.{is_hidden, is_met}
+use Rattle.gix_traverse_commit.specs.Rows.{AllHeld, Holds}
+use Rattle.gix_traverse_commit.specs.Simply.{IsKnown, keep_of, timing}
+use Rattle.gix_traverse_commit.specs.Sorting.{in_time, timing_of}
+use Rattle.gix_traverse_commit.specs.Timely.{AllRowed, IsMetSoFar, IsTaken, keep_since, waiting}
+use Rattle.gix_traverse_commit.specs.Told.{AreTold, rows_of}
+use Rattle.gix_traverse_commit.specs.declared.parents.Parents.{Parents}
+use Rattle.gix_traverse_commit.specs.declared.rows.Row.{Row}
+use Rattle.gix_traverse_commit.specs.declared.simple.sorting.Timing.{Timing}
+use Rattle.gix_traverse_commit.proofs.ByTime.{is_sure, none_some, one_timing, timing_same, since_end, since_turn}
+use Rattle.gix_traverse_commit.specs.Keeping.{KeptAll}
+use Rattle.gix_traverse_commit.proofs.Chosen.{chosen_none, met_tips}
+use Rattle.gix_traverse_commit.proofs.Keeping.{kept_none}
+use Rattle.gix_traverse_commit.proofs.Simply.{and_left, and_right, kept_tip, refused_tip}
+use Rattle.gix_traverse_commit.proofs.Timely.{in_nil, met_none}
+use Rattle.gix_traverse_commit.proofs.simple.Simple.line_up.Goals as goal
+
+-- what the predicate refuses isn't kept
+refused_since : (h a t : Bool) → a ≡ false → (not h && (a && t)) ≡ true → ⊥
+refused_since h a t e k = let f = and_left a t (and_right (not h) (a && t) k) in let z : ⊥ = cc in z
+
+pub returns-in_default-clause-going : goal.returns-in_default-clause-going
+returns-in_default-clause-going g c = λ honest commits told ids a sure m.
+    let none : timing_of c.args.self.now.parents c.args.self.now.sorting ≡ None = search rules in
+    let tips : c.as_slice.result.now ≡ a.tips = c.as_slice.ensures.value ∙ m.tips in
+    let hides = is_hidden c.args.self.now.nodes in
+    let along = asked_parents a.parents commits in
+    let keep = keep_of hides a.accepts in
+    inl (record {
+      begun = refl;
+      parents = m.parents;
+      sorting = m.sorting;
+      in_breadth = sym (timing_same a c.args.self.now.parents c.args.self.now.sorting m.parents m.sorting) ∙ none;
+      accepts_same = m.accepts_same;
+      hides = hides;
+      hidden = c.in_ok-queue_tips.ensures.hidden;
+      painted = m.painted;
+      known = λ x k. absurd (in_nil x k);
+      walked = subst (λ (ts : List ObjectId). KeptAll along ts keep (is_met c.queue_tips.new.nodes) c.queue_tips.new.queue.items 0) tips
+          (c.in_ok-queue_tips.ensures.walked along keep
+          (λ x k f. kept_tip hides a.accepts x (m.accepted x (subst (λ (ts : List ObjectId). Contains ts x) tips k) f))
+          (kept_none along c.as_slice.result.now keep (is_met c.args.self.now.nodes) c.args.self.now.queue.items m.empty (λ q h k. refused_tip hides a.accepts q (m.refused q h) k)));
+    })
+
+pub returns-clause-going : goal.returns-clause-going
+returns-clause-going g c = λ honest commits told ids a sure m.
+    let t : Timing = c.in-Some.timing in
+    let is : timing a ≡ Some t = sym (timing_same a c.args.self.now.parents c.args.self.now.sorting m.parents m.sorting) ∙ (sym c.time_order.ensures ∙ c.in-Some.is) in
+    let tips : c.as_slice-2.result.now ≡ a.tips = c.as_slice-2.ensures.value ∙ m.tips in
+    let hides = is_hidden c.args.self.now.nodes in
+    let keep = keep_since t.since commits hides a.accepts in
+    let met = c.in_ok-await_tips.ensures.walked honest (is_sure (g.F.Lookup.may_fail c.args.self.now.source.objects) a t sure is) commits told a.accepts
+    (λ x k f. m.accepted x (subst (λ (ts : List ObjectId). Contains ts x) tips k) f)
+    (met_none commits keep [] (is_met c.args.self.now.nodes) (waiting c.args.self.now.waiting) refl m.none_waits (λ q h k. refused_since (hides q) (a.accepts (id_of q)) (in_time t.since (commits q).time) (m.refused q h) k)) in
+    inr (record {
+      begun = refl;
+      parents = m.parents;
+      sorting = m.sorting;
+      by_time = t;
+      is_by_time = is;
+      accepts_same = m.accepts_same;
+      hides = hides;
+      hidden = c.in_ok-await_tips.ensures.hidden;
+      painted = m.painted;
+      known = λ x k. absurd (in_nil x k);
+      met = met_tips commits (asked_parents a.parents commits) a.tips keep t.order (is_met c.await_tips.new.nodes) (waiting c.await_tips.new.waiting)
+          (subst (λ (ts : List ObjectId). IsMetSoFar commits keep (is_met c.await_tips.new.nodes) (Contains ts) [] (waiting c.await_tips.new.waiting)) tips met);
+      chosen = chosen_none commits (asked_parents a.parents commits) a.tips keep t.order [] refl;
+    })
+
+pub returns-clause-rowed : goal.returns-clause-rowed
+returns-clause-rowed g c = λ r.
+    let step = c.in_ok-await_tips.ensures.rowed (subst (λ (xs : List ObjectId). AllHeld (rows_of c.args.self.now.source.rows) xs) (sym c.as_slice-2.ensures.value) r.tips) in (
+      record {
+        tips = subst (λ (o : Option (List Row)). AllHeld (rows_of o) c.args.self.now.tips.items) (sym c.await_tips.ensures.rows) r.tips;
+        hidden = subst (λ (o : Option (List Row)). AllHeld (rows_of o) c.args.self.now.hidden.items) (sym c.await_tips.ensures.rows) r.hidden;
+        queue = subst (λ (o : Option (List Row)). AllHeld (rows_of o) c.args.self.now.queue.items) (sym c.await_tips.ensures.rows) r.queue;
+        waiting_rows = subst (λ (o : Option (List Row)). AllRowed (rows_of o) (waiting c.await_tips.new.waiting)) (sym c.await_tips.ensures.rows) (step.1 r.waiting_rows);
+      },
+      step.0,
+    )

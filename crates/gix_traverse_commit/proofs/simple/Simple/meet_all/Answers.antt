@@ -1,0 +1,88 @@
+use Rattle.std.proofs.Common.{rules, ◌≡◌, ◌⊎◌, sym, ◌∙◌, ap, refl, subst, inl, inr, arith, List, [], ◌∷◌, ◌++◌, length, Option, Some, None, Bool, true, false}
+use Rattle.std.specs.Prelude.{Contains, not, ◌&&◌, OnOk}
+use Rattle.gix_hash.specs.Id.{Id, id_of}
+use Rattle.gix_hash.specs.declared.object_id.ObjectId.{ObjectId}
+use Rattle.gix_traverse_commit.specs.Commits.{asked_parents}
+use Rattle.gix_traverse_commit.specs.Nodes.{is_hidden, is_met}
+use Rattle.gix_traverse_commit.specs.Rows.{AllHeld, Holds}
+use Rattle.gix_traverse_commit.specs.Simply.{IsKnown, keep_of, timing}
+use Rattle.gix_traverse_commit.specs.Sorting.{in_time, timing_of}
+use Rattle.gix_traverse_commit.specs.Timely.{AllRowed, IsMetSoFar, IsTaken, keep_since, waiting}
+use Rattle.gix_traverse_commit.specs.Told.{AreTold, rows_of}
+use Rattle.gix_traverse_commit.specs.declared.parents.Parents.{Parents}
+use Rattle.gix_traverse_commit.specs.declared.rows.Row.{Row}
+use Rattle.gix_traverse_commit.specs.declared.simple.sorting.Timing.{Timing}
+use Rattle.gix_traverse_commit.proofs.ByTime.{is_sure, none_some, one_timing, timing_same, since_end, since_turn}
+use Rattle.gix_traverse_commit.specs.Order.{IsOpen}
+use Rattle.gix_traverse_commit.proofs.Chosen.{met_parents}
+use Rattle.gix_traverse_commit.proofs.Simply.{known_push}
+use Rattle.gix_traverse_commit.proofs.Timely.{met_kept, met_renamed}
+use Rattle.gix_traverse_commit.proofs.simple.Simple.meet_all.Goals as goal
+
+pub returns-in_default-clause-going : goal.returns-in_default-clause-going
+returns-in_default-clause-going g c = λ honest commits told ids a listed id sure same known at.
+    let none : timing_of c.args.self.now.parents c.args.self.now.sorting ≡ None = search rules in
+    elim at [
+      | inl n ↦ inl (record {
+        begun = n.begun;
+        parents = n.parents;
+        sorting = n.sorting;
+        in_breadth = n.in_breadth;
+        accepts_same = c.meet_parents.ensures.accepts ∙ n.accepts_same;
+        hides = n.hides;
+        hidden = λ x. c.in_ok-meet_parents.ensures.hidden x ∙ n.hidden x;
+        painted = n.painted;
+        known = known_push (rows_of c.args.self.now.source.rows) ids listed id n.known known;
+        walked = c.in_ok-meet_parents.ensures.walked (asked_parents a.parents commits) (keep_of n.hides a.accepts) a.tips (listed ++ id ∷ []) id
+            (λ x. ap (λ (b : Bool). not b && a.accepts (id_of x)) (sym (n.hidden x)) ∙ ap (λ (f : Id → Bool). not (is_hidden c.args.self.now.nodes x) && f (id_of x)) (sym n.accepts_same))
+            same n.walked n.reads;
+      })
+      | inr n ↦ absurd (none_some n.by_time (sym none ∙ (timing_same a c.args.self.now.parents c.args.self.now.sorting n.parents n.sorting ∙ n.is_by_time)))
+    ]
+
+pub returns-clause-going : goal.returns-clause-going
+returns-clause-going g c = λ honest commits told ids a listed id sure same known at.
+    let is : timing_of c.args.self.now.parents c.args.self.now.sorting ≡ Some c.in-Some.timing = sym c.time_order.ensures ∙ c.in-Some.is in
+    elim at [
+      | inl n ↦ absurd (none_some c.in-Some.timing (sym n.in_breadth ∙ (sym (timing_same a c.args.self.now.parents c.args.self.now.sorting n.parents n.sorting) ∙ is)))
+      | inr n ↦ (
+          let accepts = g.P.Accept.accepts c.args.self.now.predicate in
+          let one : n.by_time ≡ c.in-Some.timing = one_timing n.by_time c.in-Some.timing (sym n.is_by_time ∙ (sym (timing_same a c.args.self.now.parents c.args.self.now.sorting n.parents n.sorting) ∙ is)) in
+          let along = asked_parents a.parents commits in
+          let keep = keep_since n.by_time.since commits n.hides a.accepts in
+          let keep' = keep_since c.in-Some.timing.since commits (is_hidden c.args.self.now.nodes) accepts in
+          let alike : (x : ObjectId) → keep x ≡ keep' x = (λ x.
+          ap (λ (b : Bool). not b && (a.accepts (id_of x) && in_time n.by_time.since (commits x).time)) (sym (n.hidden x))
+          ∙ (ap (λ (f : Id → Bool). not (is_hidden c.args.self.now.nodes x) && (f (id_of x) && in_time n.by_time.since (commits x).time)) (sym n.accepts_same)
+          ∙ ap (λ (t : Timing). not (is_hidden c.args.self.now.nodes x) && (accepts (id_of x) && in_time t.since (commits x).time)) one)) in
+          let before = met_kept commits keep (listed ++ id ∷ []) keep' (is_met c.args.self.now.nodes) (IsOpen along a.tips listed) (waiting c.args.self.now.waiting) alike n.met in
+          let after = c.in_ok-await_parents.ensures.walked honest (is_sure (g.F.Lookup.may_fail c.args.self.now.source.objects) a n.by_time sure n.is_by_time) commits told along a.tips listed (listed ++ id ∷ []) before in
+          let back = met_kept commits keep' (listed ++ id ∷ []) keep (is_met c.await_parents.new.nodes) (λ x. IsOpen along a.tips listed x ⊎ Contains c.args.parents.now x) (waiting c.await_parents.new.waiting) (λ x. sym (alike x)) after in
+          let named = subst (λ (ps : List ObjectId). IsMetSoFar commits keep (is_met c.await_parents.new.nodes) (λ x. IsOpen along a.tips listed x ⊎ Contains ps x) (listed ++ id ∷ []) (waiting c.await_parents.new.waiting)) same back in
+          inr (record {
+            begun = n.begun;
+            parents = n.parents;
+            sorting = n.sorting;
+            by_time = n.by_time;
+            is_by_time = n.is_by_time;
+            accepts_same = c.await_parents.ensures.accepts ∙ n.accepts_same;
+            hides = n.hides;
+            hidden = λ x. c.in_ok-await_parents.ensures.hidden x ∙ n.hidden x;
+            painted = n.painted;
+            known = subst (λ (r : Option (List Row)). (x : ObjectId) → Contains (listed ++ id ∷ []) x → IsKnown (rows_of r) ids x) (sym c.await_parents.ensures.rows) (known_push (rows_of c.args.self.now.source.rows) ids listed id n.known known);
+            met = met_parents commits along a.tips keep n.by_time.order (is_met c.await_parents.new.nodes) listed id (waiting c.await_parents.new.waiting) named;
+            chosen = n.chosen;
+          }))
+    ]
+
+pub returns-clause-rowed : goal.returns-clause-rowed
+returns-clause-rowed g c = λ r held.
+    let step = c.in_ok-await_parents.ensures.rowed held in (
+      record {
+        tips = subst (λ (o : Option (List Row)). AllHeld (rows_of o) c.args.self.now.tips.items) (sym c.await_parents.ensures.rows) r.tips;
+        hidden = subst (λ (o : Option (List Row)). AllHeld (rows_of o) c.args.self.now.hidden.items) (sym c.await_parents.ensures.rows) r.hidden;
+        queue = subst (λ (o : Option (List Row)). AllHeld (rows_of o) c.args.self.now.queue.items) (sym c.await_parents.ensures.rows) r.queue;
+        waiting_rows = subst (λ (o : Option (List Row)). AllRowed (rows_of o) (waiting c.await_parents.new.waiting)) (sym c.await_parents.ensures.rows) (step.1 r.waiting_rows);
+      },
+      step.0,
+    )

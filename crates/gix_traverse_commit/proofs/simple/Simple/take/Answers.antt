@@ -1,0 +1,98 @@
+use Rattle.std.proofs.Common.{rules, ◌≡◌, sym, ◌∙◌, ap, refl, subst, inl, inr, arith, List, [], ◌∷◌, ◌++◌, length, Option, Some, None, Bool, true, false}
+use Rattle.std.specs.Prelude.{Contains, not, ◌&&◌, OnOk}
+use Rattle.gix_hash.specs.Id.{Id, id_of}
+use Rattle.gix_hash.specs.declared.object_id.ObjectId.{ObjectId}
+use Rattle.gix_traverse_commit.specs.Commits.{Commits, asked_parents}
+use Rattle.gix_traverse_commit.specs.Nodes.{is_hidden, is_met}
+use Rattle.gix_traverse_commit.specs.Rows.{AllHeld, Holds}
+use Rattle.gix_traverse_commit.specs.Simply.{Answers, Asked, IsKnown, IsUnderWay, keep_of, timing}
+use Rattle.gix_traverse_commit.specs.Sorting.{in_time, timing_of}
+use Rattle.gix_traverse_commit.specs.Timely.{AllRowed, IsMetSoFar, IsTaken, keep_since, waiting}
+use Rattle.gix_traverse_commit.specs.Told.{AreTold, rows_of}
+use Rattle.gix_traverse_commit.specs.declared.parents.Parents.{Parents}
+use Rattle.gix_traverse_commit.specs.declared.rows.Row.{Row}
+use Rattle.gix_traverse_commit.specs.declared.simple.sorting.Timing.{Timing}
+use Rattle.gix_traverse_commit.proofs.ByTime.{is_sure, none_some, one_timing, timing_same, since_end, since_turn}
+use Rattle.gix_traverse_commit.proofs.Chosen.{taken_chosen, taken_met}
+use Rattle.gix_traverse_commit.proofs.Keeping.{kept_pop}
+use Rattle.gix_traverse_commit.proofs.Simply.{held_first, kept_breadth, kept_turn}
+use Rattle.gix_traverse_commit.proofs.Timely.{taken_some}
+use Rattle.gix_traverse_commit.proofs.simple.Simple.take.Goals as goal
+
+pub returns-in_default-clause-turn : goal.returns-in_default-clause-turn
+returns-in_default-clause-turn g c = λ ids commits a listed u.
+    let none : timing_of c.args.self.now.parents c.args.self.now.sorting ≡ None = search rules in
+    let queue : List ObjectId = c.args.self.now.queue.items in
+    let queue' : List ObjectId = c.pop.new.queue.items in
+    let id : ObjectId = c.in_ok-id.id in
+    elim u [
+      | inl w ↦ (
+          let r = kept_pop (asked_parents a.parents commits) a.tips (keep_of w.hides a.accepts) (is_met c.args.self.now.nodes) listed queue (listed ++ id ∷ []) queue' id w.walked c.in_ok-id.ensures.first refl in (
+            inl (record { begun = w.begun; parents = w.parents; sorting = w.sorting; in_breadth = w.in_breadth; accepts_same = w.accepts_same; hides = w.hides; hidden = w.hidden; painted = w.painted; known = w.known; walked = r.0; reads = r.1 }),
+            kept_turn commits a w.hides w.painted (is_met c.args.self.now.nodes) listed queue queue' id w.walked c.in_ok-id.ensures.first w.in_breadth,
+          ))
+      | inr w ↦ absurd (none_some w.by_time (sym none ∙ (timing_same a c.args.self.now.parents c.args.self.now.sorting w.parents w.sorting ∙ w.is_by_time)))
+    ]
+
+pub returns-in_default-clause-rowed : goal.returns-in_default-clause-rowed
+returns-in_default-clause-rowed g c = λ r.
+    let h = held_first (rows_of c.args.self.now.source.rows) c.args.self.now.queue.items c.pop.new.queue.items c.in_ok-id.id c.in_ok-id.ensures.first r.queue in
+    (record { tips = r.tips; hidden = r.hidden; queue = h.1; waiting_rows = r.waiting_rows }, h.0)
+
+pub returns-in_err-id-clause-end : goal.returns-in_err-id-clause-end
+returns-in_err-id-clause-end g c =
+    let end : (ids : List Id) (commits : Commits ObjectId) (a : Asked) (listed : List ObjectId) → IsUnderWay g.P.Accept.accepts ids commits a listed c.args.self.now → Answers commits a listed = (λ ids commits a listed u.
+    let none : timing_of c.args.self.now.parents c.args.self.now.sorting ≡ None = search rules in
+    elim u [
+      | inl w ↦ kept_breadth commits a w.hides w.painted (is_met c.args.self.now.nodes) listed c.args.self.now.queue.items w.walked c.in_err-id.ensures.none w.in_breadth
+      | inr w ↦ absurd (none_some w.by_time (sym none ∙ (timing_same a c.args.self.now.parents c.args.self.now.sorting w.parents w.sorting ∙ w.is_by_time)))
+    ]) in
+    rw c.from_residual.ensures end
+
+pub returns-in_err-turn-clause-end : goal.returns-in_err-turn-clause-end
+returns-in_err-turn-clause-end g c =
+    let is : timing_of c.args.self.now.parents c.args.self.now.sorting ≡ Some c.in-Some.timing = sym c.time_order.ensures ∙ c.in-Some.is in
+    let end : (ids : List Id) (commits : Commits ObjectId) (a : Asked) (listed : List ObjectId) → IsUnderWay g.P.Accept.accepts ids commits a listed c.args.self.now → Answers commits a listed = (λ ids commits a listed u. elim u [
+      | inl w ↦ absurd (none_some c.in-Some.timing (sym w.in_breadth ∙ (sym (timing_same a c.args.self.now.parents c.args.self.now.sorting w.parents w.sorting) ∙ is)))
+      | inr w ↦ since_end commits a w.by_time w.is_by_time w.hides w.painted (is_met c.args.self.now.nodes) listed (waiting c.args.self.now.waiting) w.met w.chosen c.in_err-turn.ensures.none
+    ]) in
+    rw c.from_residual-in_err-turn.ensures end
+
+pub returns-clause-turn : goal.returns-clause-turn
+returns-clause-turn g c = λ ids commits a listed u.
+    let is : timing_of c.args.self.now.parents c.args.self.now.sorting ≡ Some c.in-Some.timing = sym c.time_order.ensures ∙ c.in-Some.is in
+    let old = waiting c.args.self.now.waiting in
+    let new = waiting c.take.new.self in
+    let turn = c.in_ok-turn.turn in
+    elim u [
+      | inl w ↦ absurd (none_some c.in-Some.timing (sym w.in_breadth ∙ (sym (timing_same a c.args.self.now.parents c.args.self.now.sorting w.parents w.sorting) ∙ is)))
+      | inr w ↦ (
+          let one : w.by_time ≡ c.in-Some.timing = one_timing w.by_time c.in-Some.timing (sym w.is_by_time ∙ (sym (timing_same a c.args.self.now.parents c.args.self.now.sorting w.parents w.sorting) ∙ is)) in
+          let taken : IsTaken w.by_time.order old turn new = subst (λ (t : Timing). IsTaken t.order old turn new) (sym one) c.in_ok-turn.ensures.taken in
+          let along = asked_parents a.parents commits in
+          let keep = keep_since w.by_time.since commits w.hides a.accepts in (
+            inr (record {
+              begun = w.begun;
+              parents = w.parents;
+              sorting = w.sorting;
+              by_time = w.by_time;
+              is_by_time = w.is_by_time;
+              accepts_same = w.accepts_same;
+              hides = w.hides;
+              hidden = w.hidden;
+              painted = w.painted;
+              known = w.known;
+              met = taken_met commits along a.tips keep w.by_time.order (is_met c.args.self.now.nodes) listed old turn new w.met taken;
+              chosen = taken_chosen commits along a.tips keep w.by_time.order (is_met c.args.self.now.nodes) listed old turn new w.met taken w.chosen;
+            }),
+            since_turn commits a w.by_time w.is_by_time w.hides w.painted (is_met c.args.self.now.nodes) listed old turn new w.met w.chosen taken,
+          ))
+    ]
+
+pub returns-clause-rowed : goal.returns-clause-rowed
+returns-clause-rowed g c = λ r.
+    let old = waiting c.args.self.now.waiting in
+    let new = waiting c.take.new.self in
+    let turn = c.in_ok-turn.turn in
+    let some = taken_some c.in-Some.timing.order old turn new c.in_ok-turn.ensures.taken in
+    (record { tips = r.tips; hidden = r.hidden; queue = r.queue; waiting_rows = λ t d. r.waiting_rows t ((some t).1 (inr d)) }, r.waiting_rows turn ((some turn).1 (inl refl)))
