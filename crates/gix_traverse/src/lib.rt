@@ -4,9 +4,9 @@
 
 /// Walks over commits.
 pub mod commit {
-    /// Walks that keep little: in breadth order.
+    /// Walks that keep little: in breadth order, or by time.
     pub mod simple {
-        pub use gix_traverse_commit::simple::{Error, HiddenGraphError};
+        pub use gix_traverse_commit::simple::{CommitTimeOrder, Error, HiddenGraphError, Sorting};
     }
 
     /// Walks in which each commit comes after all its children.

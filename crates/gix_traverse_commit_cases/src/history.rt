@@ -2,6 +2,7 @@
 
 use crate::walks::{Asked, given};
 use gix_hash::ObjectId;
+use gix_traverse_commit::simple::{CommitTimeOrder, Sorting};
 use gix_traverse_commit::{Graph, ParentIds, Parents, Row, RowsError, WalkError, breadth_first};
 use std::alloc::Global;
 use std::mem;
@@ -31,7 +32,8 @@ impl History {
             2 => self.found(alloc, *word.get(1)?),
             4 => self.walked(alloc, *word.get(1)?, *word.get(2)?, *word.get(3)?),
             5 => self.added(alloc, word),
-            6 => self.given(alloc, word),
+            6 => self.given(alloc, word, Sorting::BreadthFirst),
+            7 => self.given(alloc, word, sorting(*word.get(4)?, *word.get(6)?)?),
             _ => None,
         }
     }
@@ -95,8 +97,9 @@ impl History {
         }
     }
 
-    // A walk of `Simple`: along which parents, the tips, the hidden commits, how it is made, and whether its order is shown.
-    fn given(&self, alloc: Global, word: &[&str]) -> Option<String> {
+    // A walk of `Simple`: along which parents, the tips, the hidden commits, how it is made or in which order by time it goes, whether
+    // its order is shown, and its cutoff.
+    fn given(&self, alloc: Global, word: &[&str], sorting: Sorting) -> Option<String> {
         let parents = if *word.get(1)? == "first" {
             Parents::First
         } else {
@@ -106,6 +109,7 @@ impl History {
             tips: ids(alloc, *word.get(2)?)?,
             hidden: ids(alloc, *word.get(3)?)?,
             parents,
+            sorting,
             filtered: *word.get(4)? == "filtered",
         };
         let found = given(alloc, self.graph.as_ref()?, asked)?;
@@ -115,6 +119,20 @@ impl History {
             shown(alloc, found.as_slice())
         }
     }
+}
+
+// The order by time of this name, with its cutoff; `-` is none.
+fn sorting(order: &str, seconds: &str) -> Option<Sorting> {
+    let order = if order == "oldest" {
+        CommitTimeOrder::OldestFirst
+    } else {
+        CommitTimeOrder::NewestFirst
+    };
+    if seconds == "-" {
+        return Some(Sorting::ByCommitTime(order));
+    }
+    let seconds = seconds.parse::<i64>().ok()?;
+    Some(Sorting::ByCommitTimeCutoff { order, seconds })
 }
 
 // The ids in ascending order.

@@ -2,7 +2,7 @@
 
 use gix_hash::ObjectId;
 use gix_object_find::find::Never;
-use gix_traverse_commit::simple::Error;
+use gix_traverse_commit::simple::{Error, Sorting};
 use gix_traverse_commit::{All, Graph, Info, Parents, Simple};
 use std::alloc::Global;
 
@@ -12,6 +12,7 @@ pub struct Asked {
     pub tips: Vec<ObjectId>,
     pub hidden: Vec<ObjectId>,
     pub parents: Parents,
+    pub sorting: Sorting,
     /// Whether it is made with a predicate.
     pub filtered: bool,
 }
@@ -29,6 +30,8 @@ pub fn given(alloc: Global, graph: &Graph, asked: Asked) -> Option<Vec<ObjectId>
         .commit_graph(Some(graph))
         .parents(asked.parents)
         .hide(asked.hidden)
+        .ok()?
+        .sorting(asked.sorting)
         .ok()?;
     collect(alloc, walk)
 }
