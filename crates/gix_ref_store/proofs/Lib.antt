@@ -1,3 +1,6 @@
 pub mod Homes
 pub mod MetLemmas
 pub mod Among
+pub mod NameSets
+pub mod Descents
+pub mod WalkSteps

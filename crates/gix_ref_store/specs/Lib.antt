@@ -6,3 +6,6 @@ pub mod Folders
 pub mod Finds
 pub mod Searches
 pub mod Logs
+pub mod Listings
+pub mod Walks
+pub mod Items

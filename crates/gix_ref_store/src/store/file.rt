@@ -6,10 +6,12 @@ ghost use Rattle.gix_ref_store.specs.Stores.{base_of};
 
 pub mod find;
 mod init;
+pub mod iter;
 pub mod log;
 mod packed;
 mod place;
 mod search;
+mod walk;
 
 use crate::options::Options;
 pub use crate::store::file::init::{FolderError, Refused};
