@@ -4,3 +4,5 @@ pub mod Among
 pub mod NameSets
 pub mod Descents
 pub mod WalkSteps
+pub mod GatherLemmas
+pub mod ListingLemmas

@@ -3,6 +3,9 @@ use Rattle.std.specs.Prelude.{ℕ, ◌≡◌, Bool, true, false, List, [], ◌�
 use Rattle.std.specs.List.{filter}
 use Rattle.std.specs.Option.{MatchOption}
 use Rattle.gix_ref_file.specs.Tree.{Tree}
+use Rattle.gix_ref_format.specs.Packed.{Record}
+use Rattle.gix_ref_format.specs.PackedKept.{kept}
+use Rattle.gix_ref_format.specs.declared.packed.buffer.Buffer.{Buffer}
 use Rattle.gix_ref_store.specs.Readings.{Reading, Stands, Absent, Faulty, Met}
 use Rattle.gix_ref_store.specs.Finds.{met_of, reading_of}
 use Rattle.gix_ref_store.specs.Searches.{reads_in}
@@ -27,6 +30,11 @@ mets_of read names = map (met_by read) (filter (λ name. is_there (read name)) n
 -- what is still to come, in this tree
 abbrev pub left_in : {F : Type 0} → Tree → LooseThenPacked F → List Met
 left_in tree items = mets_of (reads_in tree items.search) items.names
+
+-- the records of a buffer, and none where there is none
+abbrev pub kept_in : Option Buffer → List Record
+kept_in None = []
+kept_in (Some buffer) = kept buffer
 
 -- what is told of a name that reads so
 abbrev pub TellsMet : Met → Result Reference Error → Type 0

@@ -1,12 +1,14 @@
 -- What a walk over the files below a folder puts into a list of names.
-use Rattle.std.specs.Prelude.{ℕ, ◌≡◌, ◌⊎◌, Bool, ◌||◌, ◌∷◌, ◌++◌, List, IsTrue}
+use Rattle.std.specs.Prelude.{ℕ, ◌≡◌, ◌⊎◌, Bool, ◌||◌, ◌∷◌, ◌++◌, List, IsTrue, IsSome}
 use Rattle.std.specs.List.{list_any}
 use Rattle.gix_object_lines.specs.NameTest.{begins, is_full_name}
 use Rattle.gix_ref_file.specs.Tree.{Tree, same_path}
 use Rattle.gix_ref_file.specs.declared.files.FileError.{FileError}
 use Rattle.gix_ref_file.specs.declared.files.FileError.TheVariants as files
 use Rattle.gix_ref_file.specs.Changes.{is_file_at}
-use Rattle.gix_ref_store.specs.Places.{under}
+use Rattle.gix_ref_format.specs.Packed.{Record}
+use Rattle.gix_ref_format.specs.PackedBuffer.{hit}
+use Rattle.gix_ref_store.specs.Places.{Base, place, under}
 use Rattle.gix_ref_store.specs.Listings.{is_below_refs}
 use Rattle.gix_ref_store.specs.declared.store.file.iter.Error.{Error}
 use Rattle.gix_ref_store.specs.declared.store.file.iter.Error.TheVariants.{Traversal, ReadFileContents, ReferenceCreation, Memory}
@@ -37,6 +39,14 @@ GathersBelow tree base front folder names = (name rest : List ℕ) → under bas
 -- all names asked for that have a file are there
 abbrev pub Gathers : Tree → List ℕ → (List ℕ → Bool) → List (List ℕ) → Type 0
 Gathers tree base asked names = (name : List ℕ) → HasFile tree base asked name → IsTrue (has names name)
+
+-- all names asked for that have a file of their own are there
+abbrev pub GathersPlaces : Base → Tree → (List ℕ → Bool) → List (List ℕ) → Type 0
+GathersPlaces b tree asked names = (name : List ℕ) → IsTrue (is_file_at tree (place b name)) → IsTrue (is_full_name name) → IsTrue (asked name) → IsTrue (has names name)
+
+-- and all that have a record
+abbrev pub GathersRecords : List Record → (List ℕ → Bool) → List (List ℕ) → Type 0
+GathersRecords records asked names = (name : List ℕ) → IsSome (hit records name) → IsTrue (asked name) → IsTrue (has names name)
 
 -- a name that begins so may stand at the path or below it
 abbrev pub may_lead_to : List ℕ → List ℕ → Bool

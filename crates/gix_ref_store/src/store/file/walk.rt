@@ -21,6 +21,7 @@ use std::collections::BTreeSet;
 const MAX_PATH: usize = 4096;
 
 // Files, a folder of theirs in which names stand as paths, and how the names begin that are asked for.
+#[derive(Drop)]
 pub(crate) struct Walk<'a, F> {
     pub(crate) alloc: Global,
     pub(crate) files: &'a F,
