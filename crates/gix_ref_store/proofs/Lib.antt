@@ -6,3 +6,4 @@ pub mod Descents
 pub mod WalkSteps
 pub mod GatherLemmas
 pub mod ListingLemmas
+pub mod ItemLemmas

@@ -105,8 +105,10 @@ pub is_listing : (b : Base) (tree : Tree) (records : List Record) (asked : List 
     → IsListing (reading_among b tree records) asked (mets_of (reading_among b tree records) names)
 is_listing b tree records asked old names order none brings places packed = record {
   ascending = ascends (reading_among b tree records) names order;
-  each = λ name r. (λ (k, below, at). let of = listed_is_of (reading_among b tree records) names (record { name = name; reading = r }) k below at in (only_asked asked old names none brings name of.0, of.1, of.2),
-      λ (so, reads, stands). of_is_listed (reading_among b tree records) names (record { name = name; reading = r }) (all name so (λ e. stands (sym reads ∙ e)), reads, stands));
+  each = λ name r. (
+    λ (k, below, at). let of = listed_is_of (reading_among b tree records) names (record { name = name; reading = r }) k below at in (only_asked asked old names none brings name of.0, of.1, of.2),
+    λ (so, reads, stands). of_is_listed (reading_among b tree records) names (record { name = name; reading = r }) (all name so (λ e. stands (sym reads ∙ e)), reads, stands),
+  );
 }
   where
     all : (name : List ℕ) → IsTrue (asked name) → (reading_among b tree records name ≡ Absent → ⊥) → IsTrue (has names name)

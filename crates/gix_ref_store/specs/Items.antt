@@ -1,7 +1,6 @@
 -- What an iterator over references has yet to give, and what each step gives.
-use Rattle.std.specs.Prelude.{ℕ, ◌≡◌, Bool, true, false, List, [], ◌∷◌, map, Option, Some, None, Result, Ok, Err}
+use Rattle.std.specs.Prelude.{ℕ, ◌≡◌, ◌⊎◌, Bool, true, false, List, [], ◌∷◌, map, Option, Some, None, Result, Ok, Err}
 use Rattle.std.specs.List.{filter}
-use Rattle.std.specs.Option.{MatchOption}
 use Rattle.gix_ref_file.specs.Tree.{Tree}
 use Rattle.gix_ref_format.specs.Packed.{Record}
 use Rattle.gix_ref_format.specs.PackedKept.{kept}
@@ -36,18 +35,15 @@ abbrev pub kept_in : Option Buffer → List Record
 kept_in None = []
 kept_in (Some buffer) = kept buffer
 
--- what is told of a name that reads so
-abbrev pub TellsMet : Met → Result Reference Error → Type 0
-TellsMet met (Ok r) = met ≡ met_of r
-TellsMet met (Err Traversal) = ⊥
-TellsMet met (Err (ReadFileContents name)) = met.name ≡ name
-TellsMet met (Err (ReferenceCreation name source)) = met ≡ record { name = name; reading = Faulty }
-TellsMet met (Err Memory) = Unit {0}
-
--- the next of what is to come, and the rest stays; nothing at the end
+-- The next of what is to come, and the rest stays; nothing at the end. A failed reading or refused memory takes the next, or
+-- none, where it concerns a name that has no reference.
 abbrev pub GivesNext : List Met → Option (Result Reference Error) → List Met → Type 0
 GivesNext left None after = (left ≡ []) × (after ≡ [])
-GivesNext left (Some item) after = (met : Met) × (left ≡ met ∷ after) × TellsMet met item
+GivesNext left (Some (Ok r)) after = left ≡ met_of r ∷ after
+GivesNext left (Some (Err (ReferenceCreation name reason))) after = left ≡ record { name = name; reading = Faulty } ∷ after
+GivesNext left (Some (Err (ReadFileContents name))) after = (left ≡ after) ⊎ ((r : Reading) × (left ≡ record { name = name; reading = r } ∷ after))
+GivesNext left (Some (Err Memory)) after = (left ≡ after) ⊎ ((met : Met) × (left ≡ met ∷ after))
+GivesNext left (Some (Err Traversal)) after = ⊥
 
 -- what is told of one name: nothing where it reads as absent
 abbrev pub TellsName : List ℕ → Reading → Option (Result Reference Error) → Type 0

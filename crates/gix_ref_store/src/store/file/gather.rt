@@ -18,7 +18,12 @@ use std::collections::BTreeSet;
 
 impl<F: Files> Store<F> {
     // Puts the names below `refs/` in that begin so and have files of their own.
-    pub(crate) fn put_loose(&self, alloc: Global, front: &[u8], names: &mut BTreeSet<FullName>) -> Result<(), Error>
+    pub(crate) fn put_loose(
+        &self,
+        alloc: Global,
+        front: &[u8],
+        names: &mut BTreeSet<FullName>,
+    ) -> Result<(), Error>
         ensures kept { Keeps names.old.keys names.new.keys }
         ensures asked { BringsAsked (is_below_refs front.now) names.old.keys names.new.keys }
         ensures all { F.is_honest self.now.files → OnOk result (GathersPlaces (base_of self.now) (F.history self.now.files).tree (is_below_refs front.now) names.new.keys) }
@@ -32,7 +37,13 @@ impl<F: Files> Store<F> {
     }
 
     // The same of those with files below this folder.
-    fn put_below(&self, alloc: Global, base: &[u8], front: &[u8], names: &mut BTreeSet<FullName>) -> Result<(), Error>
+    fn put_below(
+        &self,
+        alloc: Global,
+        base: &[u8],
+        front: &[u8],
+        names: &mut BTreeSet<FullName>,
+    ) -> Result<(), Error>
         ensures kept { Keeps names.old.keys names.new.keys }
         ensures asked { BringsAsked (is_below_refs front.now) names.old.keys names.new.keys }
         ensures all { F.is_honest self.now.files → OnOk result (Gathers (F.history self.now.files).tree base.now (is_below_refs front.now) names.new.keys) }
@@ -48,7 +59,11 @@ impl<F: Files> Store<F> {
     }
 
     // Puts the names of pseudo references in.
-    pub(crate) fn put_pseudo(&self, alloc: Global, names: &mut BTreeSet<FullName>) -> Result<(), Error>
+    pub(crate) fn put_pseudo(
+        &self,
+        alloc: Global,
+        names: &mut BTreeSet<FullName>,
+    ) -> Result<(), Error>
         ensures kept { Keeps names.old.keys names.new.keys }
         ensures asked { BringsAsked is_pseudo names.old.keys names.new.keys }
         ensures all { F.is_honest self.now.files → OnOk result (GathersPlaces (base_of self.now) (F.history self.now.files).tree is_pseudo names.new.keys) }
@@ -65,7 +80,12 @@ impl<F: Files> Store<F> {
 }
 
 // Puts the names below `refs/` in that begin so and have a record.
-pub(crate) fn put_packed(alloc: Global, packed: &Buffer, front: &[u8], names: &mut BTreeSet<FullName>) -> Result<(), Error>
+pub(crate) fn put_packed(
+    alloc: Global,
+    packed: &Buffer,
+    front: &[u8],
+    names: &mut BTreeSet<FullName>,
+) -> Result<(), Error>
     ensures kept { Keeps names.old.keys names.new.keys }
     ensures asked { BringsAsked (is_below_refs front.now) names.old.keys names.new.keys }
     ensures all { OnOk result (GathersRecords (kept packed.now) (is_below_refs front.now) names.new.keys) }
@@ -79,7 +99,12 @@ pub(crate) fn put_packed(alloc: Global, packed: &Buffer, front: &[u8], names: &m
 }
 
 // Puts the name of a record in, where it begins so and stands below `refs/`.
-fn put_record(alloc: Global, found: Reference<'_>, front: &[u8], names: &mut BTreeSet<FullName>) -> Result<(), Error>
+fn put_record(
+    alloc: Global,
+    found: Reference<'_>,
+    front: &[u8],
+    names: &mut BTreeSet<FullName>,
+) -> Result<(), Error>
     ensures kept { Keeps names.old.keys names.new.keys }
     ensures asked { BringsAsked (is_below_refs front.now) names.old.keys names.new.keys }
     ensures there { IsTrue (is_below_refs front.now (record_of found.entry).name) → OnOk result (IsTrue (has names.new.keys (record_of found.entry).name)) }

@@ -84,10 +84,24 @@ impl<F: Files> LooseThenPacked<'_, '_, F> {
         ensures told { F.is_honest self.now.search.store.now.files → TellsName name (reads_in (F.history self.now.search.store.now.files).tree self.now.search name) result }
         ensures failed { ItemMayTell F.reading_may_fail result }
     {
-        match self.search.store.target_in_file(self.search.alloc, name.as_bstr().as_bytes()) {
-            Ok(Some(target)) => Some(Ok(Reference { name, target, peeled: None })),
-            Ok(None) => self.search.packed_reference(name).map(Ok),
-            Err(find::Error::ReferenceCreation(reason)) => Some(Err(Error::ReferenceCreation { name, reason })),
+        match self
+            .search
+            .store
+            .target_in_file(self.search.alloc, name.as_bstr().as_bytes())
+        {
+            Ok(Some(target)) => Some(Ok(Reference {
+                name,
+                target,
+                peeled: None,
+            })),
+            Ok(None) => match self.search.packed_reference(name) {
+                Some(found) => Some(Ok(found)),
+                None => None,
+            },
+            Err(find::Error::ReferenceCreation(reason)) => Some(Err(Error::ReferenceCreation {
+                name,
+                reason,
+            })),
             Err(find::Error::ReadFileContents) => Some(Err(Error::ReadFileContents { name })),
             Err(_) => Some(Err(Error::Memory)),
         }
@@ -108,9 +122,8 @@ impl<F: Files> Iterator for LooseThenPacked<'_, '_, F> {
 
     fn next(&mut self) -> Option<Result<Reference, Error>> {
         while let Some(name) = self.names.next() {
-            let item = self.item(name);
-            if item.is_some() {
-                return item;
+            if let Some(item) = self.item(name) {
+                return Some(item);
             }
         }
         None

@@ -42,13 +42,18 @@ impl<F: Files> Platform<'_, F> {
     }
 
     /// The references below `refs/` whose names begin so, as `Store::iter_prefixed_packed` has them.
-    pub fn prefixed(&self, alloc: Global, prefix: &[u8]) -> Result<LooseThenPacked<'_, '_, F>, Error>
+    pub fn prefixed(
+        &self,
+        alloc: Global,
+        prefix: &[u8],
+    ) -> Result<LooseThenPacked<'_, '_, F>, Error>
         ensures store { IfOk result (λ items. items.search.store.now ≡ self.now.store.now) }
         ensures listed { F.is_honest self.now.store.now.files → IfOk result (λ items.
             IsListing (reading_among (base_of self.now.store.now) (F.history self.now.store.now.files).tree (kept_in self.now.packed)) (is_below_refs prefix.now) (left_in (F.history self.now.store.now.files).tree items)) }
         ensures failed { IfErr result (MayStop F.reading_may_fail) }
     {
-        self.store.iter_prefixed_packed(alloc, prefix, self.packed.as_ref())
+        self.store
+            .iter_prefixed_packed(alloc, prefix, self.packed.as_ref())
     }
 
     /// The pseudo references, as `Store::iter_pseudo` has them.

@@ -12,7 +12,7 @@ returns-in-Some-clause-all g c = λ honest.
     let names = c.put_below-in-Some.new.names.keys in
     let b = base_of c.args.self.now in
     let own = still_all tree b.git (is_below_refs front) c.put_below.new.names.keys names c.put_below-in-Some.ensures.kept
-        (subst (λ p. Gathers tree p (is_below_refs front) c.put_below.new.names.keys) c.git_dir.ensures (c.in_ok-put_below.ensures.all honest)) in
+    (subst (λ p. Gathers tree p (is_below_refs front) c.put_below.new.names.keys) c.git_dir.ensures (c.in_ok-put_below.ensures.all honest)) in
     on_ok c.put_below-in-Some.result (Gathers tree c.deref.result.now (is_below_refs front) names) (GathersPlaces b tree (is_below_refs front) names)
     (λ shared. both_places b tree front names own (subst (λ p. Gathers tree p (is_below_refs front) names) (c.deref.ensures.value ∙ sym (ap (shared_folder b.git) c.in-Some.is)) shared)) (c.put_below-in-Some.ensures.all honest)
 

@@ -23,45 +23,19 @@ loop-name-preserved g t c =
     let step = step_of base c.args.folder.now place path c.deref-in-loop-name.result.now xs i c.name-item.result c.requires c.in_ok-place.ensures c.loop-name-test.true c.name-item.is c.deref-in-loop-name.ensures.value c.in_ok-path.ensures in
     elim c.match-branch-5.branch [
       | in-Folder w ↦ rw w.names-is (elim w.if-is_deeper.branch [
-          | then-is_deeper+in_ok-below-in-Folder w' ↦ rw w'.names-is (
-              keeps_on c.args.names.now.keys before _ c.loop-name.invariant.0 w'.in_ok-below-in-Folder.ensures.kept,
-              brings_on (is_below_refs front) c.args.names.now.keys before _ c.loop-name.invariant.1 w'.in_ok-below-in-Folder.ensures.asked,
-              λ honest.
-                  let tree = (g.F.Files.history c.args.self.now.files.now).tree in
-                  let rooted = g.met.F.Files.rooted c.args.self.now.files.now honest in
-                  let kind_is = subst (λ p. IsTrue (may_lead_to p front) → c.in_ok-kind_of.field-0 ≡ place_of (node_at tree (under base p))) c.deref-in-loop-name-2.ensures.value (c.in_ok-kind_of.ensures.kind honest) in
-                  let gathers = subst (λ p. GathersBelow tree base front p w'.below.new.names.keys) w'.deref-in-Folder.ensures.value (w'.in_ok-below-in-Folder.ensures.all honest) in
-                  one_more (IsGathered tree base front w'.below.new.names.keys) place (under base path) _ i
-                  (λ j less. still_gathered tree base front _ before w'.below.new.names.keys w'.in_ok-below-in-Folder.ensures.kept (c.loop-name.invariant.2 honest j less))
-                  step.at (with_folder tree rooted base front path step.some c.in_ok-kind_of.field-0 kind_is w'.below.new.names.keys w.in-Folder.is gathers),
-          )
-          | else-is_deeper w' ↦ rw w'.names-is (
-              c.loop-name.invariant.0,
-              c.loop-name.invariant.1,
-              λ honest.
-                  let tree = (g.F.Files.history c.args.self.now.files.now).tree in
-                  let rooted = g.met.F.Files.rooted c.args.self.now.files.now honest in
-                  let kind_is = subst (λ p. IsTrue (may_lead_to p front) → c.in_ok-kind_of.field-0 ≡ place_of (node_at tree (under base p))) c.deref-in-loop-name-2.ensures.value (c.in_ok-kind_of.ensures.kind honest) in
-                  let names = ap (map (λ (name : Vec ℕ Global). name.items)) c.deref-name-items.ensures.value ∙ c.in_ok-list.ensures.names honest ∙ ap (names_at tree) c.deref.ensures.value in
-                  one_more (IsGathered tree base front before) place (under base path) _ i (c.loop-name.invariant.2 honest)
-                  step.at (absurd (
-                      let deep = step_stands tree base c.args.folder.now place path xs i rooted names c.loop-name-test.true step in
-                      let e : w.is_deeper.result ≡ (nat_lt (length c.args.folder.now) (length path) && nat_le (length path) 4096) = search rules in
-                      cc (sym w'.if-is_deeper.false ∙ e ∙ deep))),
-          )
-      ])
-      | in-File+in_ok-put_asked-in-File w ↦ rw w.names-is (
-          keeps_on c.args.names.now.keys before _ c.loop-name.invariant.0 w.in_ok-put_asked-in-File.ensures.kept,
-          brings_on (is_below_refs front) c.args.names.now.keys before _ c.loop-name.invariant.1 w.in_ok-put_asked-in-File.ensures.asked,
+        | then-is_deeper+in_ok-below-in-Folder w' ↦ rw w'.names-is (
+          keeps_on c.args.names.now.keys before _ c.loop-name.invariant.0 w'.in_ok-below-in-Folder.ensures.kept,
+          brings_on (is_below_refs front) c.args.names.now.keys before _ c.loop-name.invariant.1 w'.in_ok-below-in-Folder.ensures.asked,
           λ honest.
               let tree = (g.F.Files.history c.args.self.now.files.now).tree in
               let rooted = g.met.F.Files.rooted c.args.self.now.files.now honest in
               let kind_is = subst (λ p. IsTrue (may_lead_to p front) → c.in_ok-kind_of.field-0 ≡ place_of (node_at tree (under base p))) c.deref-in-loop-name-2.ensures.value (c.in_ok-kind_of.ensures.kind honest) in
-              one_more (IsGathered tree base front w.put_asked.new.names.keys) place (under base path) _ i
-              (λ j less. still_gathered tree base front _ before w.put_asked.new.names.keys w.in_ok-put_asked-in-File.ensures.kept (c.loop-name.invariant.2 honest j less))
-              step.at (with_file tree rooted base front path step.some c.in_ok-kind_of.field-0 kind_is w.put_asked.new.names.keys _ w.in-File.is w.in_ok-put_asked-in-File.ensures.there),
-      )
-      | in-Absent w ↦ rw w.names-is (
+              let gathers = subst (λ p. GathersBelow tree base front p w'.below.new.names.keys) w'.deref-in-Folder.ensures.value (w'.in_ok-below-in-Folder.ensures.all honest) in
+              one_more (IsGathered tree base front w'.below.new.names.keys) place (under base path) _ i
+              (λ j less. still_gathered tree base front _ before w'.below.new.names.keys w'.in_ok-below-in-Folder.ensures.kept (c.loop-name.invariant.2 honest j less))
+              step.at (with_folder tree rooted base front path step.some c.in_ok-kind_of.field-0 kind_is w'.below.new.names.keys w.in-Folder.is gathers),
+        )
+        | else-is_deeper w' ↦ rw w'.names-is (
           c.loop-name.invariant.0,
           c.loop-name.invariant.1,
           λ honest.
@@ -70,7 +44,33 @@ loop-name-preserved g t c =
               let kind_is = subst (λ p. IsTrue (may_lead_to p front) → c.in_ok-kind_of.field-0 ≡ place_of (node_at tree (under base p))) c.deref-in-loop-name-2.ensures.value (c.in_ok-kind_of.ensures.kind honest) in
               let names = ap (map (λ (name : Vec ℕ Global). name.items)) c.deref-name-items.ensures.value ∙ c.in_ok-list.ensures.names honest ∙ ap (names_at tree) c.deref.ensures.value in
               one_more (IsGathered tree base front before) place (under base path) _ i (c.loop-name.invariant.2 honest)
-              step.at (with_absent tree rooted base front path step.some c.in_ok-kind_of.field-0 kind_is before w.in-Absent.is),
+              step.at (absurd (
+              let deep = step_stands tree base c.args.folder.now place path xs i rooted names c.loop-name-test.true step in
+              let e : w.is_deeper.result ≡ (nat_lt (length c.args.folder.now) (length path) && nat_le (length path) 4096) = search rules in
+              cc (sym w'.if-is_deeper.false ∙ e ∙ deep))),
+        )
+      ])
+      | in-File+in_ok-put_asked-in-File w ↦ rw w.names-is (
+        keeps_on c.args.names.now.keys before _ c.loop-name.invariant.0 w.in_ok-put_asked-in-File.ensures.kept,
+        brings_on (is_below_refs front) c.args.names.now.keys before _ c.loop-name.invariant.1 w.in_ok-put_asked-in-File.ensures.asked,
+        λ honest.
+            let tree = (g.F.Files.history c.args.self.now.files.now).tree in
+            let rooted = g.met.F.Files.rooted c.args.self.now.files.now honest in
+            let kind_is = subst (λ p. IsTrue (may_lead_to p front) → c.in_ok-kind_of.field-0 ≡ place_of (node_at tree (under base p))) c.deref-in-loop-name-2.ensures.value (c.in_ok-kind_of.ensures.kind honest) in
+            one_more (IsGathered tree base front w.put_asked.new.names.keys) place (under base path) _ i
+            (λ j less. still_gathered tree base front _ before w.put_asked.new.names.keys w.in_ok-put_asked-in-File.ensures.kept (c.loop-name.invariant.2 honest j less))
+            step.at (with_file tree rooted base front path step.some c.in_ok-kind_of.field-0 kind_is w.put_asked.new.names.keys _ w.in-File.is w.in_ok-put_asked-in-File.ensures.there),
+      )
+      | in-Absent w ↦ rw w.names-is (
+        c.loop-name.invariant.0,
+        c.loop-name.invariant.1,
+        λ honest.
+            let tree = (g.F.Files.history c.args.self.now.files.now).tree in
+            let rooted = g.met.F.Files.rooted c.args.self.now.files.now honest in
+            let kind_is = subst (λ p. IsTrue (may_lead_to p front) → c.in_ok-kind_of.field-0 ≡ place_of (node_at tree (under base p))) c.deref-in-loop-name-2.ensures.value (c.in_ok-kind_of.ensures.kind honest) in
+            let names = ap (map (λ (name : Vec ℕ Global). name.items)) c.deref-name-items.ensures.value ∙ c.in_ok-list.ensures.names honest ∙ ap (names_at tree) c.deref.ensures.value in
+            one_more (IsGathered tree base front before) place (under base path) _ i (c.loop-name.invariant.2 honest)
+            step.at (with_absent tree rooted base front path step.some c.in_ok-kind_of.field-0 kind_is before w.in-Absent.is),
       )
     ]
 
