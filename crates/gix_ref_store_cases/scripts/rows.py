@@ -72,8 +72,6 @@ class Repository:
         return self.git("for-each-ref", "--format=%(refname)").split()
 
     def ask(self, operation, asked, answer, folder="-"):
-        if operation in ("all", "prefixed", "files", "pseudo"):
-            return
         rows.append((f"{operation} {folder} {asked or '-'} {self.files(operation == 'log')}", answer))
 
     def list(self, prefix):

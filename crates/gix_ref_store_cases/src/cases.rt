@@ -1,6 +1,7 @@
 //! One case to one line.
 
 use crate::files;
+use crate::lists::list;
 use gix_ref_file::MemoryFiles;
 use gix_ref_name::{FullNameRef, PartialNameRef};
 use gix_ref_store::store::file::{Store, find};
@@ -25,8 +26,8 @@ fn store(
     Ok(made.ok())
 }
 
-// Its name, its target, and the peeled id that its record tells.
-fn shown(alloc: Global, reference: &Reference) -> Result<String, AllocError> {
+/// Its name, its target, and the peeled id that its record tells.
+pub fn shown(alloc: Global, reference: &Reference) -> Result<String, AllocError> {
     let Reference {
         name,
         target,
@@ -160,6 +161,7 @@ pub fn answer(alloc: Global, line: &str) -> Result<String, AllocError> {
     match operation {
         "find" | "loose" | "packed" => find_word(alloc, &store, asked, operation),
         "log" => log(alloc, &store, asked),
+        "all" | "prefixed" | "files" | "pseudo" => list(alloc, &store, operation, asked),
         _ => format!(in alloc; "no operation"),
     }
 }
