@@ -7,3 +7,4 @@ pub mod WalkSteps
 pub mod GatherLemmas
 pub mod ListingLemmas
 pub mod ItemLemmas
+pub mod FollowLemmas

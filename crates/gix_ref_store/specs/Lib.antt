@@ -9,3 +9,4 @@ pub mod Logs
 pub mod Listings
 pub mod Walks
 pub mod Items
+pub mod Follows

@@ -5,6 +5,7 @@ ghost use Rattle.gix_ref_store.specs.Places.{packed_place};
 ghost use Rattle.gix_ref_store.specs.Stores.{base_of};
 
 pub mod find;
+pub mod follow;
 mod gather;
 mod init;
 pub mod iter;
