@@ -1,23 +1,15 @@
 -- Listings of folders reach each file below them.
-use Rattle.std.proofs.Common.{◌≡◌, ◌≢◌, ◌⊎◌, inl, inr, ℕ, zero, suc, Vec, ◌+◌, ◌-◌, ◌<◌, ◌≤◌, Bool, true, false, cond, ◌&&◌, ◌||◌, List, [], ◌∷◌, ◌++◌, length, take, drop, map, filter_map, Option, Some, None, refl, sym, ◌∙◌, ap, subst, arith, length-append, append_assoc}
-use Rattle.std.specs.Prelude.{IsTrue, IsFalse, IsSome, is_some, nat_le, nat_lt}
-use Rattle.std.specs.List.{suffix_len, after_last, cons_option, list_any, list_all, slice_split}
-use Rattle.std.specs.declared.alloc.Global.{Global}
-use borrow.Author.Tests.{ltb-true, ltb-false}
+use Rattle.std.proofs.Common.{◌≡◌, ◌⊎◌, inl, inr, ℕ, zero, suc, ◌-◌, ◌<◌, ◌≤◌, Bool, true, false, cond, ◌||◌, List, [], ◌∷◌, ◌++◌, length, take, filter_map, Option, Some, None, refl, sym, ◌∙◌, ap, subst, arith, append_assoc}
+use Rattle.std.specs.Prelude.{IsTrue, IsSome}
+use Rattle.std.specs.List.{suffix_len, after_last, cons_option, list_any}
 use Rattle.std.specs.FinMap.{keys, get, contains_key-keys}
 use Rattle.std.proofs.Math.ListN.{get_or}
 use Rattle.std.proofs.lemmas.List.{length-take-le}
-use Rattle.gix_object_lines.specs.NameTest.{begins, is_full_name}
-use Rattle.gix_ref_file.specs.declared.files.Place.{Place}
-use Rattle.gix_ref_file.specs.declared.files.Place.TheVariants as places
-use Rattle.gix_ref_file.specs.Tree.{Tree, Node, file, folder, same_path, is_slash, is_component, is_path, parent, name_in, names_at, node_at, place_of, is_folder, bytes_of, IsRooted}
-use Rattle.gix_ref_file.specs.Changes.{is_file_at}
+use Rattle.gix_ref_file.specs.Tree.{Tree, Node, same_path, is_slash, is_path, parent, name_in, names_at, node_at, is_folder, IsRooted}
 use Rattle.gix_ref_file.proofs.Ascending.{root_name}
 use Rattle.gix_ref_file.proofs.Below.{inside, path_in_folder, parent_behind}
 use Rattle.gix_ref_file.proofs.Trees.{one_path, same_path_itself}
 use Rattle.gix_ref_store.specs.Places.{under}
-use Rattle.gix_ref_store.specs.Listings.{is_below_refs}
-use Rattle.gix_ref_store.specs.Walks.{has, Keeps, HasFile, GathersBelow, may_lead_to}
 
 or_true : (b : Bool) → (b || true) ≡ true
 or_true true = refl

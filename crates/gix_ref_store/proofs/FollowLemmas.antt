@@ -1,11 +1,11 @@
 -- One step along symbolic references.
-use Rattle.std.proofs.Common.{◌≡◌, ◌∙◌, refl, sym, ap, subst, ℕ, zero, suc, ◌-◌, Bool, true, false, cond, List, [], ◌∷◌, ◌++◌, Option, arith}
-use Rattle.std.specs.Prelude.{Result, MatchResult, if◌then◌else◌}
+use Rattle.std.proofs.Common.{◌≡◌, ◌∙◌, refl, sym, ap, ℕ, zero, suc, ◌-◌, true, false, List, [], ◌∷◌, ◌++◌, Option, arith}
+use Rattle.std.specs.Prelude.{if◌then◌else◌}
 use Rattle.gix_hash.specs.Id.{Id}
-use Rattle.gix_ref_name.specs.Targets.{Points, ToObject, ToName}
-use Rattle.gix_ref_store.specs.Readings.{Reading, Stands, Absent, Faulty}
+use Rattle.gix_ref_name.specs.Targets.{Points, ToName}
+use Rattle.gix_ref_store.specs.Readings.{Reading, Stands, Absent}
 use Rattle.gix_ref_store.specs.Finds.{OnExisting}
-use Rattle.gix_ref_store.specs.Follows.{Followed, Ends, Cycles, TooDeep, Dangles, Breaks, is_among, onward, follow, ReadFault, FollowFault}
+use Rattle.gix_ref_store.specs.Follows.{Cycles, TooDeep, is_among, onward, follow, ReadFault, FollowFault}
 use Rattle.gix_ref_store.specs.declared.store.file.find.Error.TheVariants as find
 use Rattle.gix_ref_store.specs.declared.store.file.find.ExistingError.{ExistingError}
 use Rattle.gix_ref_store.specs.declared.store.file.find.ExistingError.TheVariants as existing

@@ -1,14 +1,14 @@
 -- The names that a walk and records bring are all that stand.
-use Rattle.std.proofs.Common.{◌≡◌, ◌≢◌, ◌⊎◌, inl, inr, ℕ, zero, suc, ◌+◌, ◌<◌, Bool, true, false, cond, ◌&&◌, ◌||◌, List, [], ◌∷◌, ◌++◌, length, Option, Some, None, refl, sym, ◌∙◌, ap, subst, append_assoc}
-use Rattle.std.specs.Prelude.{IsTrue, IsSome, is_some, codes, drop, bytes_eq, Result, Ok, Err, OnOk}
-use Rattle.gix_object_lines.specs.NameTest.{begins, ends, is_full_name, is_capitals}
+use Rattle.std.proofs.Common.{◌≡◌, ◌⊎◌, inl, inr, ℕ, Bool, true, false, cond, ◌&&◌, ◌||◌, List, [], ◌∷◌, ◌++◌, Some, refl, sym, ◌∙◌, ap, subst, append_assoc}
+use Rattle.std.specs.Prelude.{IsTrue, IsSome, codes, drop, bytes_eq, Result, Ok, Err, OnOk}
+use Rattle.gix_object_lines.specs.NameTest.{begins, ends, is_capitals}
 use Rattle.gix_object_lines.proofs.NameTests.{begins-Decides}
 use Rattle.gix_ref_file.specs.Tree.{Tree}
 use Rattle.gix_ref_file.specs.Changes.{is_file_at}
 use Rattle.gix_ref_format.specs.Lookup.{is_own, behind_slash}
-use Rattle.gix_ref_store.specs.Places.{Base, Home, place, place_in, under, home, main_home, linked_home, shared_home}
+use Rattle.gix_ref_store.specs.Places.{Base, place, place_in, under, main_home, linked_home, shared_home}
 use Rattle.gix_ref_store.specs.Listings.{is_below_refs, is_pseudo}
-use Rattle.gix_ref_store.specs.Walks.{has, Keeps, HasFile, Gathers, GathersBelow, GathersPlaces, GathersRecords}
+use Rattle.gix_ref_store.specs.Walks.{has, Keeps, Gathers, GathersBelow, GathersPlaces, GathersRecords}
 use Rattle.std.specs.List.{filter}
 use Rattle.std.proofs.lemmas.Slice.Eq.{bytes_eq-Decides}
 use Rattle.gix_ref_format.specs.Packed.{Record}

@@ -1,6 +1,6 @@
 -- One step of a listing.
 use Rattle.std.proofs.Common.{◌≡◌, ◌⊎◌, inl, inr, ℕ, Bool, true, false, cond, List, [], ◌∷◌, ◌++◌, ◌&&◌, map, Option, Some, None, refl, sym, ◌∙◌, ap, subst}
-use Rattle.std.specs.Prelude.{Result, Ok, Err, IsTrue, IsSome, codes, option_and_then, drop}
+use Rattle.std.specs.Prelude.{Result, Ok, Err, IsTrue, IsSome, codes, option_and_then}
 use Rattle.std.specs.Borrow.{Bor}
 use Rattle.std.specs.List.{filter}
 use Rattle.gix_object_lines.specs.NameTest.{begins}
@@ -10,13 +10,13 @@ use Rattle.gix_ref_format.specs.Packed.{Record}
 use Rattle.gix_ref_format.specs.PackedBuffer.{hit}
 use Rattle.gix_ref_format.specs.Lookup.{packed_hit, packed_key, is_own}
 use Rattle.gix_ref_format.specs.declared.packed.buffer.Buffer.{Buffer}
-use Rattle.gix_ref_store.specs.Readings.{Reading, Stands, Absent, Faulty, Met, reading_among}
-use Rattle.gix_ref_store.specs.Finds.{met_of, reading_of, records_in, TellsReading}
+use Rattle.gix_ref_store.specs.Readings.{Reading, Met, reading_among}
+use Rattle.gix_ref_store.specs.Finds.{records_in, TellsReading}
 use Rattle.gix_ref_store.specs.Searches.{reads_in}
 use Rattle.gix_ref_store.specs.Items.{is_there, met_by, mets_of, left_in, GivesNext, TellsName}
 use Rattle.gix_ref_store.specs.Listings.{IsListing, is_below_refs}
 use Rattle.gix_ref_store.specs.Stores.{base_of}
-use Rattle.gix_ref_store.specs.Walks.{has, Keeps, GathersPlaces}
+use Rattle.gix_ref_store.specs.Walks.{Keeps, GathersPlaces}
 use Rattle.gix_ref_store.specs.Places.{Base}
 use Rattle.gix_ref_store.specs.declared.reference.Reference.{Reference}
 use Rattle.gix_ref_store.specs.declared.store.file.Store.{Store}

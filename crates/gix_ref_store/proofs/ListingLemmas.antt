@@ -1,22 +1,19 @@
 -- A listing over a set of names that has all that stand.
-use Rattle.std.proofs.Common.{◌≡◌, ◌≢◌, ◌⊎◌, inl, inr, ℕ, zero, suc, ◌+◌, ◌<◌, Bool, true, false, cond, ◌&&◌, ◌||◌, List, [], ◌∷◌, ◌++◌, length, map, Option, Some, None, refl, sym, ◌∙◌, ap, subst, arith}
-use Rattle.std.specs.Prelude.{◌↔◌, IsTrue, IsSome, is_some, option_and_then}
-use Rattle.std.specs.List.{Contains, AllByRecursion, filter, list_any, slice_index_or}
+use Rattle.std.proofs.Common.{◌≡◌, ◌≢◌, ◌⊎◌, inl, inr, ℕ, zero, suc, ◌<◌, Bool, true, false, cond, ◌||◌, List, [], ◌∷◌, length, map, Option, Some, None, refl, sym, ◌∙◌, ap, subst, arith}
+use Rattle.std.specs.Prelude.{IsTrue, IsSome, is_some}
+use Rattle.std.specs.List.{Contains, AllByRecursion, filter, slice_index_or}
 use Rattle.std.specs.List.Sorted.{IsStrictlySortedBy}
-use Rattle.std.specs.declared.cmp.Ordering.{Ordering}
 use Rattle.std.specs.declared.cmp.Ordering.TheVariants.{Less}
-use Rattle.gix_object_lines.specs.NameTest.{begins, is_full_name, is_capitals}
-use Rattle.gix_ref_file.specs.Tree.{Tree, path_cmp, same_path, IsAscending, bytes_of, node_at}
-use Rattle.gix_ref_file.specs.Changes.{is_file_at}
+use Rattle.gix_object_lines.specs.NameTest.{is_full_name}
+use Rattle.gix_ref_file.specs.Tree.{Tree, path_cmp, same_path, IsAscending}
 use Rattle.gix_ref_file.proofs.Trees.{one_path, same_path_itself}
 use Rattle.gix_ref_format.specs.Packed.{Record}
-use Rattle.gix_ref_format.specs.PackedBuffer.{hit}
-use Rattle.gix_ref_format.specs.Lookup.{is_own, packed_key, packed_hit, in_worktree, key_by}
-use Rattle.gix_ref_store.specs.Places.{Base, place}
+use Rattle.gix_ref_format.specs.Lookup.{packed_hit}
+use Rattle.gix_ref_store.specs.Places.{Base}
 use Rattle.gix_ref_store.specs.Readings.{Reading, Stands, Absent, Faulty, Met, packed_reading, read_by, reading_among, loose_text_at}
 use Rattle.gix_ref_store.specs.Listings.{IsListing}
 use Rattle.gix_ref_store.specs.Items.{is_there, met_by, mets_of}
-use Rattle.gix_ref_store.specs.Walks.{has, BringsAsked, GathersPlaces, GathersRecords}
+use Rattle.gix_ref_store.specs.Walks.{has, BringsAsked, GathersPlaces}
 
 -- ---- readings that are there
 there_none : (r : Reading) → is_there r ≡ true → r ≢ Absent

@@ -1,9 +1,8 @@
 -- Names that a set has.
-use Rattle.std.proofs.Common.{◌≡◌, ◌∙◌, sym, ap, refl, ◌⊎◌, inl, inr, ℕ, Bool, true, false, cond, ◌||◌, List, [], ◌∷◌}
-use Rattle.std.specs.Prelude.{IsTrue, IsFalse}
-use Rattle.std.specs.List.{list_any}
+use Rattle.std.proofs.Common.{◌≡◌, ◌∙◌, sym, ap, refl, ◌⊎◌, inl, inr, ℕ, Bool, true, false, cond, List}
+use Rattle.std.specs.Prelude.{IsTrue}
 use Rattle.gix_ref_file.specs.Tree.{same_path}
-use Rattle.gix_ref_file.proofs.Trees.{one_path, same_path_itself}
+use Rattle.gix_ref_file.proofs.Trees.{one_path}
 use Rattle.gix_ref_store.specs.Walks.{has, Keeps, BringsAsked}
 
 pub keeps_same : (names : List (List ℕ)) → Keeps names names

@@ -1,5 +1,5 @@
 -- What one name of a folder adds to a walk below it.
-use Rattle.std.proofs.Common.{◌≡◌, ◌≢◌, ◌⊎◌, inl, inr, ℕ, zero, suc, Vec, ◌+◌, ◌-◌, ◌<◌, ◌≤◌, Bool, true, false, cond, ◌&&◌, ◌||◌, List, [], ◌∷◌, ◌++◌, length, map, Option, Some, None, refl, sym, ◌∙◌, ap, subst, arith, length-append, append_assoc}
+use Rattle.std.proofs.Common.{◌≡◌, ◌⊎◌, inl, inr, ℕ, zero, suc, Vec, ◌+◌, ◌<◌, ◌≤◌, Bool, true, false, ◌&&◌, ◌||◌, List, [], ◌∷◌, ◌++◌, length, map, Option, Some, None, refl, sym, ◌∙◌, ap, subst, arith, length-append, append_assoc}
 use Rattle.std.specs.Prelude.{IsTrue, IsSome, is_some, nat_le, nat_lt, codes}
 use Rattle.std.specs.List.{list_all, slice_split, after_last}
 use Rattle.std.specs.declared.alloc.Global.{Global}
@@ -7,7 +7,6 @@ use Rattle.std.proofs.lemmas.Bool.Decides.{nat_tests}
 use borrow.Author.Tests.{ltb-true, ltb-false, leb-true}
 use Rattle.std.specs.FinMap.{get}
 use Rattle.std.proofs.Math.ListN.{get_or}
-use Rattle.gix_object_lines.specs.Bytes.{BeginsWith}
 use Rattle.gix_object_lines.specs.NameTest.{begins, ends, is_full_name, is_capital, is_capitals}
 use Rattle.gix_object_lines.proofs.NameTests.{begins-Decides}
 use Rattle.gix_ref_name.proofs.FrontLemmas.{begins_some}
@@ -19,7 +18,7 @@ use Rattle.gix_ref_file.proofs.Below.{path_in_folder}
 use Rattle.gix_ref_store.specs.Places.{under}
 use Rattle.gix_ref_store.specs.Listings.{is_below_refs, is_pseudo}
 use Rattle.gix_ref_store.specs.Walks.{has, Keeps, HasFile, Gathers, GathersBelow, may_lead_to}
-use Rattle.gix_ref_store.proofs.Descents.{IsAtOrBelow, OnWay, on_way, is_found, listed_stands, folder_below}
+use Rattle.gix_ref_store.proofs.Descents.{IsAtOrBelow, on_way, is_found, listed_stands, folder_below}
 
 -- ---- beginnings
 split : (front path r s : List ℕ) → front ++ r ≡ path ++ s → ((t : List ℕ) × (path ≡ front ++ t)) ⊎ ((t : List ℕ) × (front ≡ path ++ t))

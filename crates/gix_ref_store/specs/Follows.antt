@@ -6,7 +6,6 @@ use Rattle.gix_ref_name.specs.Targets.{Points, ToObject, ToName}
 use Rattle.gix_ref_store.specs.Readings.{Reading, Stands, Absent, Faulty}
 use Rattle.gix_ref_store.specs.declared.store.file.find.Error.{Error as FindError}
 use Rattle.gix_ref_store.specs.declared.store.file.find.Error.TheVariants as find
-use Rattle.gix_ref_store.specs.declared.store.file.find.ExistingError.{ExistingError}
 use Rattle.gix_ref_store.specs.declared.store.file.find.ExistingError.TheVariants as existing
 use Rattle.gix_ref_store.specs.declared.store.file.follow.Error.{Error}
 use Rattle.gix_ref_store.specs.declared.store.file.follow.Error.TheVariants.{Follow, Cycle, DepthLimitExceeded, Memory}

@@ -1,5 +1,5 @@
 -- What listings give: of the names asked for each that stands or can't be read, once, ascending by bytes.
-use Rattle.std.specs.Prelude.{ℕ, ◌≡◌, ◌≢◌, ◌↔◌, Bool, false, true, ◌&&◌, List, [], ◌∷◌, map, codes, IsTrue}
+use Rattle.std.specs.Prelude.{ℕ, ◌≡◌, ◌≢◌, ◌↔◌, Bool, ◌&&◌, List, map, codes, IsTrue}
 use Rattle.std.specs.List.{Contains}
 use Rattle.gix_object_lines.specs.NameTest.{begins, ends, is_capitals}
 use Rattle.gix_ref_file.specs.Tree.{IsAscending}

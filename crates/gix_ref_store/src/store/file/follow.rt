@@ -17,11 +17,9 @@ ghost use Rattle.gix_ref_store.specs.Stores.{base_of};
 ghost use Rattle.gix_ref_store.specs.declared.store.file.follow.Error.TheVariants.{Memory, Follow};
 
 use crate::reference::Reference;
-use crate::store::file::Store;
-use crate::store::file::find;
 use crate::store::file::find::ExistingError;
-use crate::store::file::log;
 use crate::store::file::search::Search;
+use crate::store::file::{Store, find, log};
 use gix_hash::ObjectId;
 use gix_ref_file::Files;
 use gix_ref_format::log::iter::Forward;

@@ -1,4 +1,4 @@
-use Rattle.std.proofs.Common.{◌≡◌, ap, subst, List, ℕ, []}
+use Rattle.std.proofs.Common.{◌≡◌, subst, List, ℕ}
 use Rattle.std.specs.Prelude.{MatchResult}
 use Rattle.gix_hash.specs.Id.{id_of}
 use Rattle.gix_ref_name.specs.Targets.{target_view}

@@ -1,5 +1,4 @@
-use Rattle.std.proofs.Common.{◌≡◌, sym, ap, subst, Option, Some, None}
-use Rattle.gix_ref_format.specs.PackedKept.{kept}
+use Rattle.std.proofs.Common.{sym, ap, subst}
 use Rattle.gix_ref_store.specs.Finds.{records_in}
 use Rattle.gix_ref_store.specs.Listings.{is_below_refs}
 use Rattle.gix_ref_store.specs.Stores.{base_of}

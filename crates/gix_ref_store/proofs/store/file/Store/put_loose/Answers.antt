@@ -1,4 +1,4 @@
-use Rattle.std.proofs.Common.{sym, subst, ap, ◌∙◌, List, ℕ, Option}
+use Rattle.std.proofs.Common.{sym, subst, ap, ◌∙◌}
 use Rattle.gix_ref_store.specs.Listings.{is_below_refs}
 use Rattle.gix_ref_store.specs.Stores.{base_of, shared_folder}
 use Rattle.gix_ref_store.specs.Walks.{Gathers, GathersPlaces}

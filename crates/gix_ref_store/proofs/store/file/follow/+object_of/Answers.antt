@@ -1,4 +1,4 @@
-use Rattle.std.proofs.Common.{◌≡◌, ◌∙◌, sym, ap, subst, ℕ, List, [], ◌∷◌, ◌++◌, true, false, option_map, rules, arith}
+use Rattle.std.proofs.Common.{◌≡◌, ◌∙◌, sym, ap, subst, ℕ, List, [], ◌∷◌, ◌++◌, true, false}
 use Rattle.std.specs.Prelude.{MatchResult}
 use Rattle.gix_hash.specs.Id.{id_of}
 use Rattle.gix_ref_name.specs.Targets.{target_view}

@@ -1,11 +1,10 @@
-use Rattle.std.proofs.Common.{◌≡◌, ◌∙◌, sym, ap, subst, ℕ, ◌<◌, ◌&&◌, map, length, Vec, [], true, false, arith, rules}
+use Rattle.std.proofs.Common.{◌≡◌, ◌∙◌, sym, ap, subst, ℕ, ◌&&◌, map, length, Vec, arith, rules}
 use Rattle.std.specs.Prelude.{IsTrue, nat_lt, nat_le}
-use Rattle.std.proofs.Math.ListN.{get_or}
 use Rattle.std.specs.declared.alloc.Global.{Global}
 use Rattle.gix_ref_file.specs.Tree.{node_at, place_of, names_at}
 use Rattle.gix_ref_store.specs.Places.{under}
 use Rattle.gix_ref_store.specs.Listings.{is_below_refs}
-use Rattle.gix_ref_store.specs.Walks.{Keeps, BringsAsked, may_lead_to, GathersBelow}
+use Rattle.gix_ref_store.specs.Walks.{may_lead_to, GathersBelow}
 use Rattle.gix_ref_store.proofs.NameSets.{keeps_on, brings_on}
 use Rattle.gix_ref_store.proofs.WalkSteps.{IsGathered, still_gathered, with_folder, with_file, with_absent, step_of, step_stands, one_more, all_gathered, map_length}
 use Rattle.gix_ref_store.proofs.store.file.walk.Walk.+below.Goals as goal
