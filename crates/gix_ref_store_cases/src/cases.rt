@@ -96,6 +96,24 @@ fn found_packed(
     }
 }
 
+// The object that a reference leads to.
+fn follow(alloc: Global, store: &Store<MemoryFiles>, name: &str) -> Result<String, AllocError> {
+    let Ok(name) = PartialNameRef::new(name.as_bytes()) else {
+        return format!(in alloc; "no name");
+    };
+    let Ok(packed) = store.open_packed_buffer(alloc) else {
+        return format!(in alloc; "packed broken");
+    };
+    let reference = match store.find_packed(alloc, name, packed.as_ref()) {
+        Ok(reference) => reference,
+        Err(error) => return format!(in alloc; "{error}"),
+    };
+    match reference.follow_to_object_packed(alloc, store, packed.as_ref()) {
+        Ok(id) => format!(in alloc; "{id}"),
+        Err(error) => format!(in alloc; "{error}"),
+    }
+}
+
 // The new ids of a log's lines, from its beginning and from its end.
 fn log(alloc: Global, store: &Store<MemoryFiles>, name: &str) -> Result<String, AllocError> {
     let Ok(name) = FullNameRef::new(name.as_bytes()) else {
@@ -161,6 +179,7 @@ pub fn answer(alloc: Global, line: &str) -> Result<String, AllocError> {
     match operation {
         "find" | "loose" | "packed" => find_word(alloc, &store, asked, operation),
         "log" => log(alloc, &store, asked),
+        "follow" => follow(alloc, &store, asked),
         "all" | "prefixed" | "files" | "pseudo" => list(alloc, &store, operation, asked),
         _ => format!(in alloc; "no operation"),
     }
