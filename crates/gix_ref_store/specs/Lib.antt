@@ -6,3 +6,7 @@ pub mod Folders
 pub mod Finds
 pub mod Searches
 pub mod Logs
+pub mod Listings
+pub mod Walks
+pub mod Items
+pub mod Follows

@@ -72,8 +72,6 @@ class Repository:
         return self.git("for-each-ref", "--format=%(refname)").split()
 
     def ask(self, operation, asked, answer, folder="-"):
-        if operation in ("all", "prefixed", "files", "pseudo"):
-            return
         rows.append((f"{operation} {folder} {asked or '-'} {self.files(operation == 'log')}", answer))
 
     def list(self, prefix):
@@ -223,6 +221,32 @@ def look_linked():
     tree.ask("log", "HEAD", "".join(id + " " for id in reversed(ids)) + "/" + "".join(" " + id for id in ids), "worktrees/linked")
     tree.ask("log", "worktrees/linked/HEAD", "".join(id + " " for id in reversed(ids)) + "/" + "".join(" " + id for id in ids))
 
+
+def chain(repository, front, length):
+    """Symbolic references, each to the one before it, the first to this name."""
+    for k in range(length):
+        repository.git("symbolic-ref", f"refs/chain/{k}", front if k == 0 else f"refs/chain/{k - 1}")
+
+
+links = Repository("links")
+links.git("update-ref", "refs/heads/end", links.commits[2])
+chain(links, "refs/heads/end", 7)
+for k in range(4):
+    links.ask("follow", f"refs/chain/{k}", links.git("rev-parse", f"refs/chain/{k}"))
+# The crate's own rule: at most 5 names are followed, where git follows 4.
+links.ask("follow", "refs/chain/4", links.commits[2])
+for k in [5, 6]:
+    links.ask("follow", f"refs/chain/{k}", "more than 5 references point to one another")
+links.ask("follow", "refs/heads/end", links.commits[2])
+links.git("pack-refs", "--all")
+links.ask("follow", "refs/chain/2", links.git("rev-parse", "refs/chain/2"))
+links.git("symbolic-ref", "refs/heads/none", "refs/heads/nosuch")
+assert run(links.folder, "rev-parse", "--verify", "-q", "refs/heads/none", ok=False).returncode != 0
+links.ask("follow", "refs/heads/none", "there is no reference of this name")
+for length in [1, 2, 5]:
+    chain(links, f"refs/chain/{length - 1}", length)
+    assert run(links.folder, "rev-parse", "--verify", "-q", "refs/chain/0", ok=False).returncode != 0
+    links.ask("follow", "refs/chain/0", "references point to one another in a ring")
 
 look_linked()
 tree.git("pack-refs", "--all")

@@ -1,6 +1,7 @@
 //! One case to one line.
 
 use crate::files;
+use crate::lists::list;
 use gix_ref_file::MemoryFiles;
 use gix_ref_name::{FullNameRef, PartialNameRef};
 use gix_ref_store::store::file::{Store, find};
@@ -25,8 +26,8 @@ fn store(
     Ok(made.ok())
 }
 
-// Its name, its target, and the peeled id that its record tells.
-fn shown(alloc: Global, reference: &Reference) -> Result<String, AllocError> {
+/// Its name, its target, and the peeled id that its record tells.
+pub fn shown(alloc: Global, reference: &Reference) -> Result<String, AllocError> {
     let Reference {
         name,
         target,
@@ -95,6 +96,24 @@ fn found_packed(
     }
 }
 
+// The object that a reference leads to.
+fn follow(alloc: Global, store: &Store<MemoryFiles>, name: &str) -> Result<String, AllocError> {
+    let Ok(name) = PartialNameRef::new(name.as_bytes()) else {
+        return format!(in alloc; "no name");
+    };
+    let Ok(packed) = store.open_packed_buffer(alloc) else {
+        return format!(in alloc; "packed broken");
+    };
+    let reference = match store.find_packed(alloc, name, packed.as_ref()) {
+        Ok(reference) => reference,
+        Err(error) => return format!(in alloc; "{error}"),
+    };
+    match reference.follow_to_object_packed(alloc, store, packed.as_ref()) {
+        Ok(id) => format!(in alloc; "{id}"),
+        Err(error) => format!(in alloc; "{error}"),
+    }
+}
+
 // The new ids of a log's lines, from its beginning and from its end.
 fn log(alloc: Global, store: &Store<MemoryFiles>, name: &str) -> Result<String, AllocError> {
     let Ok(name) = FullNameRef::new(name.as_bytes()) else {
@@ -160,6 +179,8 @@ pub fn answer(alloc: Global, line: &str) -> Result<String, AllocError> {
     match operation {
         "find" | "loose" | "packed" => find_word(alloc, &store, asked, operation),
         "log" => log(alloc, &store, asked),
+        "follow" => follow(alloc, &store, asked),
+        "all" | "prefixed" | "files" | "pseudo" => list(alloc, &store, operation, asked),
         _ => format!(in alloc; "no operation"),
     }
 }

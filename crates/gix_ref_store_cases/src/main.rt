@@ -4,6 +4,7 @@
 
 mod cases;
 mod files;
+mod lists;
 
 use std::io;
 

@@ -5,14 +5,20 @@ ghost use Rattle.gix_ref_store.specs.Places.{packed_place};
 ghost use Rattle.gix_ref_store.specs.Stores.{base_of};
 
 pub mod find;
+pub mod follow;
+mod gather;
 mod init;
+pub mod iter;
+mod listing;
 pub mod log;
 mod packed;
 mod place;
 mod search;
+mod walk;
 
 use crate::options::Options;
 pub use crate::store::file::init::{FolderError, Refused};
+pub use crate::store::file::listing::Platform;
 use crate::store::file::place::push_under;
 use gix_ref_file::Files;
 use std::alloc::{AllocError, Global};

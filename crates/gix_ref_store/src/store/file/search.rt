@@ -119,7 +119,7 @@ impl<F: Files> Search<'_, '_, F> {
     }
 
     // The reference that a record holds for this name.
-    fn packed_reference(&self, name: FullName) -> Option<Reference>
+    pub(crate) fn packed_reference(&self, name: FullName) -> Option<Reference>
         ensures { TellsReading name (packed_reading (packed_hit (records_in self.now.packed) name)) (Ok result) }
     {
         match self.packed {

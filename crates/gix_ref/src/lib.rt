@@ -1,0 +1,133 @@
+//! References and their logs, after the crate `gix-ref` 0.67: names, formats, files and stores. It stands in parts, whose public
+//! items are gathered here under the names of that crate.
+#![tactic(auto)]
+
+/// Names that rules may complete, and why bytes are no name.
+pub mod name {
+    pub use gix_ref_name::name::{Error, InvalidName};
+}
+
+/// Namespaces.
+pub mod namespace {
+    pub use gix_ref_name::namespace::expand;
+}
+
+/// Names whose characters are composed.
+pub mod compose {
+    pub use gix_ref_name::compose::precompose_unicode;
+}
+
+/// Following references to objects.
+pub mod peel {
+    /// Why no object is reached.
+    pub mod to_object {
+        pub use gix_ref_store::store::file::follow::Error;
+    }
+}
+
+/// References in files of their own, stores of them, and their logs.
+pub mod file {
+    /// Lookups.
+    pub mod find {
+        pub use gix_ref_store::store::file::find::Error;
+
+        /// Lookups of references that must stand.
+        pub mod existing {
+            pub use gix_ref_store::store::file::find::ExistingError as Error;
+        }
+    }
+
+    /// Listings.
+    pub mod iter {
+        /// Files and packed records as one listing.
+        pub mod loose_then_packed {
+            pub use gix_ref_store::store::file::iter::Error;
+        }
+
+        pub use gix_ref_store::store::file::Platform;
+        pub use gix_ref_store::store::file::iter::LooseThenPacked;
+    }
+
+    /// Logs.
+    pub mod log {
+        /// Reading logs.
+        pub mod iter {
+            pub use gix_ref_format::log::iter::{
+                FileAt, Forward, IoError, ReadAt, Reverse, forward, reverse,
+            };
+
+            /// Why a line isn't given.
+            pub mod decode {
+                pub use gix_ref_format::log::iter::decode::{Error, LineNumber};
+            }
+        }
+
+        pub use gix_ref_format::log::LineRef;
+        pub use gix_ref_store::store::file::log::{Error, LogFile};
+    }
+
+    /// References in files of their own.
+    pub mod loose {
+        pub use gix_ref_format::loose::Reference;
+
+        /// The texts of such files.
+        pub mod reference {
+            /// Reading them.
+            pub mod decode {
+                pub use gix_ref_format::loose::{Error, decode};
+            }
+
+            pub use gix_ref_format::loose::write;
+        }
+    }
+
+    pub use gix_ref_store::store::file::{FolderError, Refused, Store};
+}
+
+/// Packed references.
+pub mod packed {
+    /// The whole file.
+    pub mod buffer {
+        /// Opening it.
+        pub mod open {
+            pub use gix_ref_format::packed::buffer::Error;
+        }
+    }
+
+    /// Lookups.
+    pub mod find {
+        /// Lookups of records that must stand.
+        pub mod existing {
+            pub use gix_ref_format::packed::FindError as Error;
+        }
+    }
+
+    /// The records line by line.
+    pub mod iter {
+        pub use gix_ref_format::packed::iter::Error;
+    }
+
+    pub use gix_ref_format::packed::{Buffer, Header, Iter, Peeled, Records, Reference};
+}
+
+/// Lines of logs.
+pub mod log {
+    pub use gix_ref_format::log::Line;
+}
+
+/// Stores.
+pub mod store {
+    /// What a store is told of its repository.
+    pub mod init {
+        pub use gix_ref_store::Options;
+    }
+
+    pub use gix_ref_store::WriteReflog;
+}
+
+pub use gix_ref_file::{FileError, Files, Fuse, MemoryFiles, Place};
+pub use gix_ref_name::{
+    Category, FullName, FullNameRef, Kind, Namespace, PartialName, PartialNameRef, Target,
+    TargetRef,
+};
+pub use gix_ref_store::Reference;

@@ -1,0 +1,106 @@
+-- One step of a listing.
+use Rattle.std.proofs.Common.{◌≡◌, ◌⊎◌, inl, inr, ℕ, Bool, true, false, cond, List, [], ◌∷◌, ◌++◌, ◌&&◌, map, Option, Some, None, refl, sym, ◌∙◌, ap, subst}
+use Rattle.std.specs.Prelude.{Result, Ok, Err, IsTrue, IsSome, codes, option_and_then}
+use Rattle.std.specs.Borrow.{Bor}
+use Rattle.std.specs.List.{filter}
+use Rattle.gix_object_lines.specs.NameTest.{begins}
+use Rattle.gix_object_lines.proofs.NameTests.{begins-Decides}
+use Rattle.gix_ref_file.specs.Tree.{Tree}
+use Rattle.gix_ref_format.specs.Packed.{Record}
+use Rattle.gix_ref_format.specs.PackedBuffer.{hit}
+use Rattle.gix_ref_format.specs.Lookup.{packed_hit, packed_key, is_own}
+use Rattle.gix_ref_format.specs.declared.packed.buffer.Buffer.{Buffer}
+use Rattle.gix_ref_store.specs.Readings.{Reading, Met, reading_among}
+use Rattle.gix_ref_store.specs.Finds.{records_in, TellsReading}
+use Rattle.gix_ref_store.specs.Searches.{reads_in}
+use Rattle.gix_ref_store.specs.Items.{is_there, met_by, mets_of, left_in, GivesNext, TellsName}
+use Rattle.gix_ref_store.specs.Listings.{IsListing, is_below_refs}
+use Rattle.gix_ref_store.specs.Stores.{base_of}
+use Rattle.gix_ref_store.specs.Walks.{Keeps, GathersPlaces}
+use Rattle.gix_ref_store.specs.Places.{Base}
+use Rattle.gix_ref_store.specs.declared.reference.Reference.{Reference}
+use Rattle.gix_ref_store.specs.declared.store.file.Store.{Store}
+use Rattle.gix_ref_store.specs.declared.store.file.iter.Error.{Error}
+use Rattle.gix_ref_store.specs.declared.store.file.iter.Error.TheVariants.{Traversal, ReadFileContents, ReferenceCreation, Memory}
+use Rattle.gix_ref_store.specs.declared.store.file.iter.LooseThenPacked.{LooseThenPacked}
+
+module _ (read : List ℕ → Reading) (n : List ℕ) (rest : List (List ℕ)) where
+  is_next : is_there (read n) ≡ true → mets_of read (n ∷ rest) ≡ met_by read n ∷ mets_of read rest
+  is_next is = ap (λ b. map (met_by read) (cond b (n ∷ filter (λ name. is_there (read name)) rest) (filter (λ name. is_there (read name)) rest))) is
+
+  is_over : is_there (read n) ≡ false → mets_of read (n ∷ rest) ≡ mets_of read rest
+  is_over is = ap (λ b. map (met_by read) (cond b (n ∷ filter (λ name. is_there (read name)) rest) (filter (λ name. is_there (read name)) rest))) is
+
+  -- an absent one is passed over
+  pub passed_over : TellsName n (read n) None → mets_of read (n ∷ rest) ≡ mets_of read rest
+  passed_over absent = is_over (ap is_there absent)
+
+  -- another is given
+  pub given : (item : Result Reference Error) → TellsName n (read n) (Some item) → GivesNext (mets_of read (n ∷ rest)) (Some item) (mets_of read rest)
+  given (Ok r) (same, reads) = is_next (ap is_there reads) ∙ (λ i. record { name = same i; reading = reads i } ∷ mets_of read rest)
+  given (Err (ReferenceCreation name reason)) (same, reads) = is_next (ap is_there reads) ∙ (λ i. record { name = same i; reading = reads i } ∷ mets_of read rest)
+  given (Err (ReadFileContents name)) same = by_case (is_there (read n)) refl
+    where
+      by_case : (b : Bool) → is_there (read n) ≡ b → (mets_of read (n ∷ rest) ≡ mets_of read rest) ⊎ ((r : Reading) × (mets_of read (n ∷ rest) ≡ record { name = name; reading = r } ∷ mets_of read rest))
+      by_case true is = inr (read n, is_next is ∙ (λ i. record { name = same i; reading = read n } ∷ mets_of read rest))
+      by_case false is = inl (is_over is)
+  given (Err Memory) told = by_case (is_there (read n)) refl
+    where
+      by_case : (b : Bool) → is_there (read n) ≡ b → (mets_of read (n ∷ rest) ≡ mets_of read rest) ⊎ ((met : Met) × (mets_of read (n ∷ rest) ≡ met ∷ mets_of read rest))
+      by_case true is = inr (met_by read n, is_next is)
+      by_case false is = inl (is_over is)
+  given (Err Traversal) told = told
+
+pub gives_from : (before left after : List Met) (item : Option (Result Reference Error)) → left ≡ before → GivesNext left item after → GivesNext before item after
+gives_from before left after item is gives = subst (λ (l : List Met). GivesNext l item after) is gives
+
+-- ---- what a listing is made of
+pub of_items : {F : Type 0} (tree : Tree) (asked : List ℕ → Bool) (store : Store F) (packed : Option (Bor Buffer)) (names : List (List ℕ)) (items : LooseThenPacked F)
+    → items.search.store.now ≡ store → items.search.packed ≡ packed → items.names ≡ names
+    → IsListing (reading_among (base_of store) tree (records_in packed)) asked (mets_of (reading_among (base_of store) tree (records_in packed)) names)
+    → IsListing (reading_among (base_of store) tree (records_in packed)) asked (left_in tree items)
+of_items tree asked store packed names items s p n listing =
+    subst (λ (out : List Met). IsListing (reading_among (base_of store) tree (records_in packed)) asked out)
+    (λ i. mets_of (reading_among (base_of (sym s i)) tree (records_in (sym p i))) (sym n i)) listing
+
+pub still_places : (b : Base) (tree : Tree) (asked : List ℕ → Bool) (old new : List (List ℕ)) → Keeps old new → GathersPlaces b tree asked old → GathersPlaces b tree asked new
+still_places b tree asked old new keeps gathers name file full so = keeps name (gathers name file full so)
+
+and_left : (a b : Bool) → (a && b) ≡ true → a ≡ true
+and_left true b h = refl
+and_left false b h = cc
+
+-- a record of a name below `refs/` has that name
+pub record_named : (records : List Record) (front name : List ℕ) → IsTrue (is_below_refs front name) → IsSome (packed_hit records name) → IsSome (hit records name)
+record_named records front name so is =
+    let b = (begins-Decides (codes "refs/") name).0 (and_left (begins (codes "refs/") name) (begins front name) so) in
+    subst (λ n. IsSome (hit records n)) (sym b.1) (at_refs b.0 (subst (λ n. IsSome (packed_hit records n)) b.1 is))
+  where
+    at_refs : (rest : List ℕ) → IsSome (packed_hit records (codes "refs/" ++ rest)) → IsSome (hit records (codes "refs/" ++ rest))
+    at_refs rest h = by_own (is_own (codes "refs/" ++ rest)) h
+      where
+        by_own : (own : Bool) → IsSome (option_and_then (hit records) (cond own None (Some (codes "refs/" ++ rest)))) → IsSome (hit records (codes "refs/" ++ rest))
+        by_own true h = cc
+        by_own false h = h
+
+pub no_record : (name : List ℕ) → IsSome (packed_hit [] name) → ⊥
+no_record name is = by_key (packed_key name) is
+  where
+    by_key : (key : Option (List ℕ)) → IsSome (option_and_then (hit []) key) → ⊥
+    by_key None h = cc
+    by_key (Some k) h = cc
+
+-- ---- one call of `next`
+pub step : {F : Type 0} (tree : Tree) (start now : LooseThenPacked F) (name : List ℕ) (rest : List (List ℕ)) (item : Result Reference Error) → now.search ≡ start.search → now.names ≡ name ∷ rest → left_in tree now ≡ left_in tree start
+    → TellsName name (reads_in tree start.search name) (Some item) → GivesNext (left_in tree start) (Some item) (left_in {F = F} tree (record { search = now.search; names = rest }))
+step {F} tree start now name rest item same names left told =
+    gives_from (left_in tree start) (left_in tree now) (left_in {F = F} tree (record { search = now.search; names = rest })) (Some item) left
+    (subst (λ (ns : List (List ℕ)). GivesNext (mets_of (reads_in tree now.search) ns) (Some item) (mets_of (reads_in tree now.search) rest)) (sym names)
+    (given (reads_in tree now.search) name rest item (subst (λ s. TellsName name (reads_in tree s name) (Some item)) (sym same) told)))
+
+pub told_found : (name : List ℕ) (r : Reading) (found : Reference) → TellsReading name r (Ok (Some found)) → TellsName name r (Some (Ok found))
+told_found name r found (same, reads) = (sym same, reads)
+
+pub left_on : {F : Type 0} (tree : Tree) (now : LooseThenPacked F) (name : List ℕ) (rest : List (List ℕ)) → now.names ≡ name ∷ rest → TellsName name (reads_in tree now.search name) None
+    → left_in {F = F} tree (record { search = now.search; names = rest }) ≡ left_in tree now
+left_on tree now name rest names told = sym (ap (mets_of (reads_in tree now.search)) names ∙ passed_over (reads_in tree now.search) name rest told)

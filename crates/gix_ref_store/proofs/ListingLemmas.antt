@@ -1,0 +1,119 @@
+-- A listing over a set of names that has all that stand.
+use Rattle.std.proofs.Common.{◌≡◌, ◌≢◌, ◌⊎◌, inl, inr, ℕ, zero, suc, ◌<◌, Bool, true, false, cond, ◌||◌, List, [], ◌∷◌, length, map, Option, Some, None, refl, sym, ◌∙◌, ap, subst, arith}
+use Rattle.std.specs.Prelude.{IsTrue, IsSome, is_some}
+use Rattle.std.specs.List.{Contains, AllByRecursion, filter, slice_index_or}
+use Rattle.std.specs.List.Sorted.{IsStrictlySortedBy}
+use Rattle.std.specs.declared.cmp.Ordering.TheVariants.{Less}
+use Rattle.gix_object_lines.specs.NameTest.{is_full_name}
+use Rattle.gix_ref_file.specs.Tree.{Tree, path_cmp, same_path, IsAscending}
+use Rattle.gix_ref_file.proofs.Trees.{one_path, same_path_itself}
+use Rattle.gix_ref_format.specs.Packed.{Record}
+use Rattle.gix_ref_format.specs.Lookup.{packed_hit}
+use Rattle.gix_ref_store.specs.Places.{Base}
+use Rattle.gix_ref_store.specs.Readings.{Reading, Stands, Absent, Faulty, Met, packed_reading, read_by, reading_among, loose_text_at}
+use Rattle.gix_ref_store.specs.Listings.{IsListing}
+use Rattle.gix_ref_store.specs.Items.{is_there, met_by, mets_of}
+use Rattle.gix_ref_store.specs.Walks.{has, BringsAsked, GathersPlaces}
+
+-- ---- readings that are there
+there_none : (r : Reading) → is_there r ≡ true → r ≢ Absent
+there_none Absent is e = cc
+there_none (Stands p q) is e = cc
+there_none Faulty is e = cc
+
+none_there : (r : Reading) → (r ≡ Absent → ⊥) → is_there r ≡ true
+none_there Absent h = absurd (h refl)
+none_there (Stands p q) h = refl
+none_there Faulty h = refl
+
+or_true : (b : Bool) → (b || true) ≡ true
+or_true true = refl
+or_true false = refl
+
+-- ---- the names of a listing
+module _ (read : List ℕ → Reading) where
+  -- what is listed is one of the names, and there
+  abbrev pub IsOf : List (List ℕ) → Met → Type 0
+  IsOf names met = IsTrue (has names met.name) × (read met.name ≡ met.reading) × (met.reading ≢ Absent)
+
+  of_later : (n : List ℕ) (names : List (List ℕ)) (met : Met) → IsOf names met → IsOf (n ∷ names) met
+  of_later n names met (among, reads, stands) = (ap (λ b. same_path met.name n || b) among ∙ or_true (same_path met.name n), reads, stands)
+
+  of_here : (n : List ℕ) (names : List (List ℕ)) → is_there (read n) ≡ true → IsOf (n ∷ names) (met_by read n)
+  of_here n names is = (ap (λ b. b || has names n) (same_path_itself n), refl, there_none (read n) is)
+
+  listed_is_of : (names : List (List ℕ)) (met : Met) (k : ℕ) → k < length (mets_of read names) → slice_index_or (mets_of read names) k met ≡ met → IsOf names met
+  listed_is_of [] met k below at = absurd (omega (arith, below))
+  listed_is_of (n ∷ names) met k below at = by_case (is_there (read n)) refl k below at (λ j less at_j. of_later n names met (listed_is_of names met j less at_j))
+    where
+      by_case : (b : Bool) → is_there (read n) ≡ b → (k : ℕ) → k < length (map (met_by read) (cond b (n ∷ filter (λ name. is_there (read name)) names) (filter (λ name. is_there (read name)) names)))
+          → slice_index_or (map (met_by read) (cond b (n ∷ filter (λ name. is_there (read name)) names) (filter (λ name. is_there (read name)) names))) k met ≡ met
+          → ((j : ℕ) → j < length (mets_of read names) → slice_index_or (mets_of read names) j met ≡ met → IsOf (n ∷ names) met) → IsOf (n ∷ names) met
+      by_case false gone k below at later = later k below at
+      by_case true is zero below at later = subst (λ m. IsOf (n ∷ names) m) at (of_here n names is)
+      by_case true is (suc k) below at later = later k (omega (arith, below)) at
+
+  of_is_listed : (names : List (List ℕ)) (met : Met) → IsOf names met → Contains (mets_of read names) met
+  of_is_listed [] met (among, reads, stands) = absurd (cc among)
+  of_is_listed (n ∷ names) met (among, reads, stands) = by_same (same_path met.name n) refl (is_there (read n)) refl (λ more. of_is_listed names met (more, reads, stands))
+    where
+      is_met : n ≡ met.name → met_by read n ≡ met
+      is_met same = ap (met_by read) same ∙ ap (λ r. record { name = met.name; reading = r }) reads
+
+      by_same : (s : Bool) → same_path met.name n ≡ s → (b : Bool) → is_there (read n) ≡ b → (IsTrue (has names met.name) → Contains (mets_of read names) met)
+          → Contains (map (met_by read) (cond b (n ∷ filter (λ name. is_there (read name)) names) (filter (λ name. is_there (read name)) names))) met
+      by_same true same true here later = (zero, omega arith, is_met (sym (one_path met.name n same)))
+      by_same true same false gone later =
+          absurd (cc (sym gone ∙ ap (λ m. is_there (read m)) (sym (one_path met.name n same)) ∙ none_there (read met.name) (λ e. stands (sym reads ∙ e))))
+      by_same false apart true here later = let c = later (sym (ap (λ b. b || has names met.name) apart) ∙ among) in (suc c.0, omega (arith, c.1), c.2)
+      by_same false apart false gone later = later (sym (ap (λ b. b || has names met.name) apart) ∙ among)
+
+-- ---- in order
+module _ (read : List ℕ → Reading) (n : List ℕ) where
+  all_later : (names : List (List ℕ)) → AllByRecursion (λ y. path_cmp n y ≡ Less) names → AllByRecursion (λ later. path_cmp n later ≡ Less) (map (λ met. met.name) (mets_of read names))
+  all_later [] all = tt
+  all_later (m ∷ names) (first, all) = by_case (is_there (read m)) (all_later names all)
+    where
+      by_case : (b : Bool) → AllByRecursion (λ later. path_cmp n later ≡ Less) (map (λ met. met.name) (mets_of read names))
+          → AllByRecursion (λ later. path_cmp n later ≡ Less) (map (λ met. met.name) (map (met_by read) (cond b (m ∷ filter (λ name. is_there (read name)) names) (filter (λ name. is_there (read name)) names))))
+      by_case true rest = (first, rest)
+      by_case false rest = rest
+
+ascends : (read : List ℕ → Reading) (names : List (List ℕ)) → IsStrictlySortedBy path_cmp names → IsAscending (map (λ met. met.name) (mets_of read names))
+unfolding IsStrictlySortedBy
+ascends read [] order = tt
+ascends read (n ∷ names) (first, order) = by_case (is_there (read n)) (all_later read n names first) (ascends read names order)
+  where
+    by_case : (b : Bool) → AllByRecursion (λ later. path_cmp n later ≡ Less) (map (λ met. met.name) (mets_of read names)) → IsAscending (map (λ met. met.name) (mets_of read names))
+        → IsAscending (map (λ met. met.name) (map (met_by read) (cond b (n ∷ filter (λ name. is_there (read name)) names) (filter (λ name. is_there (read name)) names))))
+    by_case true all rest = (all, rest)
+    by_case false all rest = rest
+
+-- ---- a set that has all that stand
+only_asked : (asked : List ℕ → Bool) (old names : List (List ℕ)) → old ≡ [] → BringsAsked asked old names → (name : List ℕ) → IsTrue (has names name) → IsTrue (asked name)
+only_asked asked old names none brings name is = by_case (brings name is)
+  where
+    by_case : IsTrue (has old name) ⊎ IsTrue (asked name) → IsTrue (asked name)
+    by_case (inl in_old) = absurd (cc (sym in_old ∙ ap (λ (ns : List (List ℕ)). has ns name) none))
+    by_case (inr so) = so
+
+pub is_listing : (b : Base) (tree : Tree) (records : List Record) (asked : List ℕ → Bool) (old names : List (List ℕ)) → IsStrictlySortedBy path_cmp names → old ≡ [] → BringsAsked asked old names
+    → GathersPlaces b tree asked names → ((name : List ℕ) → IsTrue (asked name) → IsSome (packed_hit records name) → IsTrue (has names name))
+    → IsListing (reading_among b tree records) asked (mets_of (reading_among b tree records) names)
+is_listing b tree records asked old names order none brings places packed = record {
+  ascending = ascends (reading_among b tree records) names order;
+  each = λ name r. (
+    λ (k, below, at). let of = listed_is_of (reading_among b tree records) names (record { name = name; reading = r }) k below at in (only_asked asked old names none brings name of.0, of.1, of.2),
+    λ (so, reads, stands). of_is_listed (reading_among b tree records) names (record { name = name; reading = r }) (all name so (λ e. stands (sym reads ∙ e)), reads, stands),
+  );
+}
+  where
+    all : (name : List ℕ) → IsTrue (asked name) → (reading_among b tree records name ≡ Absent → ⊥) → IsTrue (has names name)
+    all name so stands = by_full (is_full_name name) refl (loose_text_at b tree name) refl (packed_hit records name) refl stands
+      where
+        by_full : (full : Bool) → is_full_name name ≡ full → (text : Option (List ℕ)) → loose_text_at b tree name ≡ text → (found : Option Record) → packed_hit records name ≡ found
+            → (cond full (read_by b.kind text (packed_reading found)) Absent ≡ Absent → ⊥) → IsTrue (has names name)
+        by_full false f text t found h stands = absurd (stands refl)
+        by_full true f (Some text) t found h stands = places name (ap is_some t) f so
+        by_full true f None t (Some r) h stands = packed name so (ap is_some h)
+        by_full true f None t None h stands = absurd (stands refl)

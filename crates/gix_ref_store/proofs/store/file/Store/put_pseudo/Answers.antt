@@ -1,0 +1,13 @@
+use Rattle.std.proofs.Common.{subst}
+use Rattle.gix_ref_store.specs.Listings.{is_pseudo}
+use Rattle.gix_ref_store.specs.Stores.{base_of}
+use Rattle.gix_ref_store.specs.Walks.{Gathers, GathersPlaces}
+use Rattle.gix_ref_store.proofs.GatherLemmas.{on_ok, own_places}
+use Rattle.gix_ref_store.proofs.store.file.Store.put_pseudo.Goals as goal
+
+pub returns-clause-all : goal.returns-clause-all
+returns-clause-all g c = λ honest.
+    let tree = (g.F.Files.history c.args.self.now.files).tree in
+    let b = base_of c.args.self.now in
+    on_ok c.pseudo.result (Gathers tree c.git_dir.result.now is_pseudo c.pseudo.new.names.keys) (GathersPlaces b tree is_pseudo c.pseudo.new.names.keys)
+    (λ own. own_places b tree c.pseudo.new.names.keys (subst (λ p. Gathers tree p is_pseudo c.pseudo.new.names.keys) c.git_dir.ensures own)) (c.pseudo.ensures.all honest)

@@ -1,0 +1,19 @@
+use Rattle.std.proofs.Common.{◌-◌, ◌<◌, ℕ, [], length, map, Vec}
+use Rattle.std.proofs.Math.ListN.{get_or}
+use Rattle.std.specs.declared.alloc.Global.{Global}
+use Rattle.gix_ref_store.specs.Places.{under}
+use Rattle.gix_ref_store.specs.Listings.{is_below_refs}
+use Rattle.gix_ref_store.specs.Walks.{Keeps, BringsAsked}
+use Rattle.gix_ref_store.proofs.WalkSteps.{IsGathered}
+use Rattle.gix_ref_store.proofs.store.file.walk.Walk.+below.Given as goal
+
+-- a folder within the one walked over has a longer path
+abbrev pub decreases-below : goal.decreases-below
+decreases-below g l = 4096 - length l.folder.now
+
+-- what is listed so far is gathered
+abbrev pub invariant-loop-name : goal.invariant-loop-name
+invariant-loop-name g l =
+    Keeps l.fn.names.keys l.names.keys × BringsAsked (is_below_refs l.self.front.now) l.fn.names.keys l.names.keys
+    × (g.F.Files.is_honest l.self.files.now → (i : ℕ) → i < l.name-index
+    → IsGathered (g.F.Files.history l.self.files.now).tree l.self.base.now l.self.front.now l.names.keys (under l.place.items (get_or (map (λ (name : Vec ℕ Global). name.items) l.name-items) i [])))

@@ -1,0 +1,15 @@
+use Rattle.std.proofs.Common.{◌<◌, ℕ, [], map, Vec}
+use Rattle.std.specs.Prelude.{IsTrue}
+use Rattle.std.proofs.Math.ListN.{get_or}
+use Rattle.std.specs.declared.alloc.Global.{Global}
+use Rattle.gix_object_lines.specs.NameTest.{is_full_name}
+use Rattle.gix_ref_store.specs.Listings.{is_pseudo}
+use Rattle.gix_ref_store.specs.Walks.{Keeps, BringsAsked, has}
+use Rattle.gix_ref_store.proofs.store.file.walk.Walk.pseudo.Given as goal
+
+-- the names listed so far are there
+abbrev pub invariant-loop-name : goal.invariant-loop-name
+invariant-loop-name g l =
+    Keeps l.fn.names.keys l.names.keys × BringsAsked is_pseudo l.fn.names.keys l.names.keys
+    × ((i : ℕ) → i < l.name-index → IsTrue (is_full_name (get_or (map (λ (name : Vec ℕ Global). name.items) l.name-items) i [])) → IsTrue (is_pseudo (get_or (map (λ (name : Vec ℕ Global). name.items) l.name-items) i []))
+    → IsTrue (has l.names.keys (get_or (map (λ (name : Vec ℕ Global). name.items) l.name-items) i [])))

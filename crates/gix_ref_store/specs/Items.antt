@@ -1,0 +1,61 @@
+-- What an iterator over references has yet to give, and what each step gives.
+use Rattle.std.specs.Prelude.{ℕ, ◌≡◌, ◌⊎◌, Bool, true, false, List, [], ◌∷◌, map, Option, Some, None, Result, Ok, Err}
+use Rattle.std.specs.List.{filter}
+use Rattle.gix_ref_file.specs.Tree.{Tree}
+use Rattle.gix_ref_format.specs.Packed.{Record}
+use Rattle.gix_ref_format.specs.PackedKept.{kept}
+use Rattle.gix_ref_format.specs.declared.packed.buffer.Buffer.{Buffer}
+use Rattle.gix_ref_store.specs.Readings.{Reading, Stands, Absent, Faulty, Met}
+use Rattle.gix_ref_store.specs.Finds.{met_of, reading_of}
+use Rattle.gix_ref_store.specs.Searches.{reads_in}
+use Rattle.gix_ref_store.specs.Walks.{MayTell}
+use Rattle.gix_ref_store.specs.declared.reference.Reference.{Reference}
+use Rattle.gix_ref_store.specs.declared.store.file.iter.Error.{Error}
+use Rattle.gix_ref_store.specs.declared.store.file.iter.Error.TheVariants.{Traversal, ReadFileContents, ReferenceCreation, Memory}
+use Rattle.gix_ref_store.specs.declared.store.file.iter.LooseThenPacked.{LooseThenPacked}
+
+abbrev pub is_there : Reading → Bool
+is_there Absent = false
+is_there (Stands points peeled) = true
+is_there Faulty = true
+
+abbrev pub met_by : (List ℕ → Reading) → List ℕ → Met
+met_by read name = record { name = name; reading = read name }
+
+-- those of the names that don't read as absent
+abbrev pub mets_of : (List ℕ → Reading) → List (List ℕ) → List Met
+mets_of read names = map (met_by read) (filter (λ name. is_there (read name)) names)
+
+-- what is still to come, in this tree
+abbrev pub left_in : {F : Type 0} → Tree → LooseThenPacked F → List Met
+left_in tree items = mets_of (reads_in tree items.search) items.names
+
+-- the records of a buffer, and none where there is none
+abbrev pub kept_in : Option Buffer → List Record
+kept_in None = []
+kept_in (Some buffer) = kept buffer
+
+-- The next of what is to come, and the rest stays; nothing at the end. A failed reading or refused memory takes the next, or
+-- none, where it concerns a name that has no reference.
+abbrev pub GivesNext : List Met → Option (Result Reference Error) → List Met → Type 0
+GivesNext left None after = (left ≡ []) × (after ≡ [])
+GivesNext left (Some (Ok r)) after = left ≡ met_of r ∷ after
+GivesNext left (Some (Err (ReferenceCreation name reason))) after = left ≡ record { name = name; reading = Faulty } ∷ after
+GivesNext left (Some (Err (ReadFileContents name))) after = (left ≡ after) ⊎ ((r : Reading) × (left ≡ record { name = name; reading = r } ∷ after))
+GivesNext left (Some (Err Memory)) after = (left ≡ after) ⊎ ((met : Met) × (left ≡ met ∷ after))
+GivesNext left (Some (Err Traversal)) after = ⊥
+
+-- what is told of one name: nothing where it reads as absent
+abbrev pub TellsName : List ℕ → Reading → Option (Result Reference Error) → Type 0
+TellsName name r None = r ≡ Absent
+TellsName name r (Some (Ok found)) = (name ≡ found.name) × (r ≡ reading_of found)
+TellsName name r (Some (Err Traversal)) = ⊥
+TellsName name r (Some (Err (ReadFileContents n))) = name ≡ n
+TellsName name r (Some (Err (ReferenceCreation n source))) = (name ≡ n) × (r ≡ Faulty)
+TellsName name r (Some (Err Memory)) = Unit {0}
+
+-- what an item tells of failed readings
+abbrev pub ItemMayTell : Type 0 → Option (Result Reference Error) → Type 0
+ItemMayTell may_fail None = Unit {0}
+ItemMayTell may_fail (Some (Ok r)) = Unit {0}
+ItemMayTell may_fail (Some (Err error)) = MayTell may_fail error

@@ -1,0 +1,131 @@
+//! Listings of references.
+
+ghost use Rattle.std.specs.Prelude.{◌≡◌, length};
+ghost use Rattle.std.specs.Iterator.{at_most};
+ghost use Rattle.gix_ref_store.specs.declared.store.file.iter.Error.TheVariants.{Memory};
+
+use crate::reference::Reference;
+use crate::store::file::find;
+use crate::store::file::search::Search;
+use gix_ref_file::{FileError, Files};
+use gix_ref_format::loose;
+use gix_ref_name::FullName;
+use std::alloc::{AllocError, AllocFailed, Global};
+use std::collections::btree_set;
+use thiserror::Error;
+
+/// Why a listing gives no reference.
+#[derive(Debug, Drop, PartialEq, Eq, Error)]
+pub enum Error {
+    /// A folder of references couldn't be listed.
+    #[error("a folder of references couldn't be listed")]
+    Traversal,
+    /// The file of a reference couldn't be read.
+    #[error("the file of the reference {name} couldn't be read")]
+    ReadFileContents {
+        /// The reference's name.
+        name: FullName,
+    },
+    /// The text of a reference's file tells no target.
+    #[error("the file of the reference {name} tells no target")]
+    ReferenceCreation {
+        /// The reference's name.
+        name: FullName,
+        /// Why it tells none.
+        reason: loose::Error,
+    },
+    /// No memory is left.
+    #[error("no memory is left")]
+    Memory,
+}
+
+impl From<AllocError> for Error {
+    ghost from_gives = { λ _ e. e ≡ Memory };
+
+    fn from(_: AllocError) -> Self {
+        Error::Memory
+    }
+}
+
+impl<T: Drop> From<AllocFailed<T>> for Error {
+    ghost from_gives = { λ _ e. e ≡ Memory };
+
+    fn from(_: AllocFailed<T>) -> Self {
+        Error::Memory
+    }
+}
+
+impl From<FileError> for Error {
+    ghost use Rattle.gix_ref_store.specs.Walks.{stop_of};
+
+    ghost from_gives = { λ e told. told ≡ stop_of e };
+
+    fn from(error: FileError) -> Self {
+        match error {
+            FileError::Failed => Error::Traversal,
+            FileError::Memory => Error::Memory,
+        }
+    }
+}
+
+/// References ascending by name, each once, whether it has a file of its own or a packed record.
+#[derive(Drop)]
+pub struct LooseThenPacked<'s, 'p, F: Files> {
+    pub(crate) search: Search<'s, 'p, F>,
+    pub(crate) names: btree_set::IntoIter<FullName>,
+}
+
+impl<F: Files> LooseThenPacked<'_, '_, F> {
+    ghost use Rattle.gix_ref_store.specs.Items.{TellsName, ItemMayTell};
+    ghost use Rattle.gix_ref_store.specs.Searches.{reads_in};
+
+    // What is told of a name; `None` where there is no reference of this name.
+    fn item(&self, name: FullName) -> Option<Result<Reference, Error>>
+        ensures told { F.is_honest self.now.search.store.now.files → TellsName name (reads_in (F.history self.now.search.store.now.files).tree self.now.search name) result }
+        ensures failed { ItemMayTell F.reading_may_fail result }
+    {
+        match self
+            .search
+            .store
+            .target_in_file(self.search.alloc, name.as_bstr().as_bytes())
+        {
+            Ok(Some(target)) => Some(Ok(Reference {
+                name,
+                target,
+                peeled: None,
+            })),
+            Ok(None) => match self.search.packed_reference(name) {
+                Some(found) => Some(Ok(found)),
+                None => None,
+            },
+            Err(find::Error::ReferenceCreation(reason)) => Some(Err(Error::ReferenceCreation {
+                name,
+                reason,
+            })),
+            Err(find::Error::ReadFileContents) => Some(Err(Error::ReadFileContents { name })),
+            Err(_) => Some(Err(Error::Memory)),
+        }
+    }
+}
+
+impl<F: Files> Iterator for LooseThenPacked<'_, '_, F> {
+    ghost use Rattle.gix_ref_store.specs.Items.{GivesNext, ItemMayTell, left_in};
+
+    type Item = Result<Reference, Error>;
+
+    ghost next_gives = { λ before item after. (after.search ≡ before.search)
+        × (F.is_honest before.search.store.now.files
+        → GivesNext (left_in (F.history before.search.store.now.files).tree before) item (left_in (F.history before.search.store.now.files).tree after))
+        × ItemMayTell F.reading_may_fail item };
+
+    ghost remaining = { λ items. at_most (length items.names) };
+
+    fn next(&mut self) -> Option<Result<Reference, Error>> {
+        while let Some(name) = self.names.next() {
+            if let Some(item) = self.item(name) {
+                return Some(item);
+            }
+        }
+        None
+    }
+}

@@ -1,0 +1,183 @@
+//! Listings of a store: what they are made of.
+
+ghost use Rattle.std.specs.Prelude.{◌≡◌, [], IfOk, IfErr, IsErrOf, MatchResult, option_map};
+ghost use Rattle.std.specs.List.Sorted.{IsStrictlySortedBy};
+ghost use Rattle.gix_ref_file.specs.Tree.{path_cmp};
+ghost use Rattle.gix_ref_format.specs.PackedBuffer.{KeepsFile, FileFault};
+ghost use Rattle.gix_ref_format.specs.PackedKept.{kept};
+ghost use Rattle.gix_ref_format.specs.declared.packed.buffer.Error.TheVariants.{Io};
+ghost use Rattle.gix_ref_store.specs.Finds.{records_in};
+ghost use Rattle.gix_ref_store.specs.Items.{left_in, kept_in};
+ghost use Rattle.gix_ref_store.specs.Listings.{IsListing, is_below_refs, is_pseudo};
+ghost use Rattle.gix_ref_store.specs.Readings.{reading_among, packed_text_in};
+ghost use Rattle.gix_ref_store.specs.Stores.{base_of};
+ghost use Rattle.gix_ref_store.specs.Walks.{MayStop};
+
+use crate::store::file::Store;
+use crate::store::file::gather::put_packed;
+use crate::store::file::iter::{Error, LooseThenPacked};
+use crate::store::file::search::Search;
+use gix_ref_file::Files;
+use gix_ref_format::packed::{Buffer, buffer};
+use gix_ref_name::FullName;
+use std::alloc::Global;
+use std::collections::BTreeSet;
+
+/// A store and its packed references, for several listings.
+#[derive(Drop)]
+pub struct Platform<'s, F: Files> {
+    pub(crate) store: &'s Store<F>,
+    pub(crate) packed: Option<Buffer>,
+}
+
+impl<F: Files> Platform<'_, F> {
+    /// All references below `refs/`, as `Store::iter_packed` has them.
+    pub fn all(&self, alloc: Global) -> Result<LooseThenPacked<'_, '_, F>, Error>
+        ensures store { IfOk result (λ items. items.search.store.now ≡ self.now.store.now) }
+        ensures listed { F.is_honest self.now.store.now.files → IfOk result (λ items.
+            IsListing (reading_among (base_of self.now.store.now) (F.history self.now.store.now.files).tree (kept_in self.now.packed)) (is_below_refs []) (left_in (F.history self.now.store.now.files).tree items)) }
+        ensures failed { IfErr result (MayStop F.reading_may_fail) }
+    {
+        self.prefixed(alloc, b"")
+    }
+
+    /// The references below `refs/` whose names begin so, as `Store::iter_prefixed_packed` has them.
+    pub fn prefixed(
+        &self,
+        alloc: Global,
+        prefix: &[u8],
+    ) -> Result<LooseThenPacked<'_, '_, F>, Error>
+        ensures store { IfOk result (λ items. items.search.store.now ≡ self.now.store.now) }
+        ensures listed { F.is_honest self.now.store.now.files → IfOk result (λ items.
+            IsListing (reading_among (base_of self.now.store.now) (F.history self.now.store.now.files).tree (kept_in self.now.packed)) (is_below_refs prefix.now) (left_in (F.history self.now.store.now.files).tree items)) }
+        ensures failed { IfErr result (MayStop F.reading_may_fail) }
+    {
+        self.store
+            .iter_prefixed_packed(alloc, prefix, self.packed.as_ref())
+    }
+
+    /// The pseudo references, as `Store::iter_pseudo` has them.
+    pub fn pseudo(&self, alloc: Global) -> Result<LooseThenPacked<'_, '_, F>, Error>
+        ensures store { IfOk result (λ items. items.search.store.now ≡ self.now.store.now) }
+        ensures listed { F.is_honest self.now.store.now.files → IfOk result (λ items.
+            IsListing (reading_among (base_of self.now.store.now) (F.history self.now.store.now.files).tree []) is_pseudo (left_in (F.history self.now.store.now.files).tree items)) }
+        ensures failed { IfErr result (MayStop F.reading_may_fail) }
+    {
+        self.store.iter_pseudo(alloc)
+    }
+}
+
+impl<F: Files> Store<F> {
+    /// Opens the packed references as they are now, for listings with them. It is refused as `open_packed_buffer` is.
+    pub fn iter(&self, alloc: Global) -> Result<Platform<'_, F>, buffer::Error>
+        ensures store { IfOk result (λ platform. platform.store.now ≡ self.now) }
+        ensures kept { F.is_honest self.now.files → MatchResult result
+            (λ platform. KeepsFile (base_of self.now).kind (packed_text_in (base_of self.now) (F.history self.now.files).tree) (option_map kept platform.packed))
+            (FileFault (base_of self.now).kind (packed_text_in (base_of self.now) (F.history self.now.files).tree)) }
+        ensures failed { IsErrOf result Io → F.reading_may_fail }
+    {
+        let packed = self.open_packed_buffer(alloc)?;
+        Ok(Platform {
+            store: self,
+            packed,
+        })
+    }
+
+    /// All references below `refs/` with files of their own or records of this buffer, ascending by name, each name once: a file
+    /// hides a record. A file that tells no target is an error in its place, after which the listing goes on. `Traversal` where a
+    /// folder couldn't be listed.
+    pub fn iter_packed<'s, 'p>(
+        &'s self,
+        alloc: Global,
+        packed: Option<&'p Buffer>,
+    ) -> Result<LooseThenPacked<'s, 'p, F>, Error>
+        ensures store { IfOk result (λ items. items.search.store.now ≡ self.now) }
+        ensures listed { F.is_honest self.now.files → IfOk result (λ items.
+            IsListing (reading_among (base_of self.now) (F.history self.now.files).tree (records_in packed.entry)) (is_below_refs []) (left_in (F.history self.now.files).tree items)) }
+        ensures failed { IfErr result (MayStop F.reading_may_fail) }
+    {
+        self.iter_prefixed_packed(alloc, b"", packed)
+    }
+
+    /// The same of those whose names begin so, by their bytes: `refs/heads/a` lists `refs/heads/ab`, and `refs/heads/a/` what stands
+    /// below `refs/heads/a` alone. No folder is listed in which none of them can stand.
+    pub fn iter_prefixed_packed<'s, 'p>(
+        &'s self,
+        alloc: Global,
+        prefix: &[u8],
+        packed: Option<&'p Buffer>,
+    ) -> Result<LooseThenPacked<'s, 'p, F>, Error>
+        ensures store { IfOk result (λ items. items.search.store.now ≡ self.now) }
+        ensures listed { F.is_honest self.now.files → IfOk result (λ items.
+            IsListing (reading_among (base_of self.now) (F.history self.now.files).tree (records_in packed.entry)) (is_below_refs prefix.now) (left_in (F.history self.now.files).tree items)) }
+        ensures failed { IfErr result (MayStop F.reading_may_fail) }
+    {
+        let mut names = BTreeSet::new(alloc);
+        self.put_loose(alloc, prefix, &mut names)?;
+        match packed {
+            Some(buffer) => {
+                put_packed(alloc, buffer, prefix, &mut names)?;
+                Ok(self.items(alloc, packed, names))
+            }
+            None => Ok(self.items(alloc, packed, names)),
+        }
+    }
+
+    /// The references below `refs/` with files of their own, ascending by name.
+    pub fn loose_iter(&self, alloc: Global) -> Result<LooseThenPacked<'_, '_, F>, Error>
+        ensures store { IfOk result (λ items. items.search.store.now ≡ self.now) }
+        ensures listed { F.is_honest self.now.files → IfOk result (λ items.
+            IsListing (reading_among (base_of self.now) (F.history self.now.files).tree []) (is_below_refs []) (left_in (F.history self.now.files).tree items)) }
+        ensures failed { IfErr result (MayStop F.reading_may_fail) }
+    {
+        self.iter_prefixed_packed(alloc, b"", None)
+    }
+
+    /// The same of those whose names begin so.
+    pub fn loose_iter_prefixed(
+        &self,
+        alloc: Global,
+        prefix: &[u8],
+    ) -> Result<LooseThenPacked<'_, '_, F>, Error>
+        ensures store { IfOk result (λ items. items.search.store.now ≡ self.now) }
+        ensures listed { F.is_honest self.now.files → IfOk result (λ items.
+            IsListing (reading_among (base_of self.now) (F.history self.now.files).tree []) (is_below_refs prefix.now) (left_in (F.history self.now.files).tree items)) }
+        ensures failed { IfErr result (MayStop F.reading_may_fail) }
+    {
+        self.iter_prefixed_packed(alloc, prefix, None)
+    }
+
+    /// The pseudo references of the worktree, ascending by name: `HEAD`, and names of capital letters and `_` that end so.
+    pub fn iter_pseudo(&self, alloc: Global) -> Result<LooseThenPacked<'_, '_, F>, Error>
+        ensures store { IfOk result (λ items. items.search.store.now ≡ self.now) }
+        ensures listed { F.is_honest self.now.files → IfOk result (λ items.
+            IsListing (reading_among (base_of self.now) (F.history self.now.files).tree []) is_pseudo (left_in (F.history self.now.files).tree items)) }
+        ensures failed { IfErr result (MayStop F.reading_may_fail) }
+    {
+        let mut names = BTreeSet::new(alloc);
+        self.put_pseudo(alloc, &mut names)?;
+        Ok(self.items(alloc, None, names))
+    }
+
+    // The references of these names.
+    fn items<'s, 'p>(
+        &'s self,
+        alloc: Global,
+        packed: Option<&'p Buffer>,
+        names: BTreeSet<FullName>,
+    ) -> LooseThenPacked<'s, 'p, F>
+        ensures store { result.search.store.now ≡ self.now }
+        ensures packed { result.search.packed ≡ packed.entry }
+        ensures names { result.names ≡ names.keys }
+        ensures order { IsStrictlySortedBy path_cmp names.keys }
+    {
+        LooseThenPacked {
+            search: Search {
+                alloc,
+                store: self,
+                packed,
+            },
+            names: names.into_iter(),
+        }
+    }
+}

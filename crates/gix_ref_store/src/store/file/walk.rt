@@ -1,0 +1,136 @@
+//! The names of the files below a folder.
+
+ghost use Rattle.std.specs.Prelude.{◌≡◌, ◌<◌, ◌⊎◌, ◌&&◌, ℕ, List, IsTrue, IfOk, IfErr, OnOk, nat_lt, nat_le, length};
+ghost use Rattle.gix_object_lines.specs.NameTest.{is_full_name};
+ghost use Rattle.gix_ref_file.specs.Tree.{node_at, place_of};
+ghost use Rattle.gix_ref_store.specs.Places.{under};
+ghost use Rattle.gix_ref_store.specs.Listings.{is_below_refs, is_pseudo};
+ghost use Rattle.gix_ref_store.specs.Walks as spec;
+ghost use Rattle.gix_ref_store.specs.Walks.{Keeps, BringsAsked, GathersBelow, Gathers, MayStop, has};
+
+use crate::store::file::iter::Error;
+use crate::store::file::place::joined;
+use gix_object_lines::ByteString;
+use gix_object_lines::lines::is_capitals;
+use gix_ref_file::{Files, Place};
+use gix_ref_name::FullName;
+use std::alloc::Global;
+use std::collections::BTreeSet;
+
+// The most bytes that a path has.
+const MAX_PATH: usize = 4096;
+
+// Files, a folder of theirs in which names stand as paths, and how the names begin that are asked for.
+#[derive(Drop)]
+pub(crate) struct Walk<'a, F> {
+    pub(crate) alloc: Global,
+    pub(crate) files: &'a F,
+    pub(crate) base: &'a [u8],
+    pub(crate) front: &'a [u8],
+}
+
+impl<F: Files> Walk<'_, F> {
+    // Puts the names in that are asked for and have a file below this folder of names. It lists no folder in which none of them
+    // can stand.
+    pub(crate) fn below(&self, folder: &[u8], names: &mut BTreeSet<FullName>) -> Result<(), Error>
+        requires { 0 < length folder.now }
+        ensures kept { Keeps names.old.keys names.new.keys }
+        ensures asked { BringsAsked (is_below_refs self.now.front.now) names.old.keys names.new.keys }
+        ensures all { F.is_honest self.now.files.now → OnOk result (GathersBelow (F.history self.now.files.now).tree self.now.base.now self.now.front.now folder.now names.new.keys) }
+        ensures failed { IfErr result (MayStop F.reading_may_fail) }
+    {
+        let place = joined(self.alloc, self.base, folder)?;
+        for name in &self.files.list(self.alloc, &place)? {
+            let path = joined(self.alloc, folder, name)?;
+            match self.kind_of(&path)? {
+                Place::Folder if is_deeper(&path, folder) => self.below(&path, names)?,
+                Place::File(_) => put_asked(path, self.front, names)?,
+                Place::Absent => {}
+                // No path is so long.
+                Place::Folder => {}
+            }
+        }
+        Ok(())
+    }
+
+    // What stands at this path of the folder; nothing where none of the names can stand there.
+    fn kind_of(&self, path: &[u8]) -> Result<Place, Error>
+        ensures kind { F.is_honest self.now.files.now → IfOk result (λ kind. IsTrue (spec.may_lead_to path.now self.now.front.now) → kind ≡ place_of (node_at (F.history self.now.files.now).tree (under self.now.base.now path.now))) }
+        ensures failed { IfErr result (MayStop F.reading_may_fail) }
+    {
+        if !may_lead_to(path, self.front) {
+            return Ok(Place::Absent);
+        }
+        let place = joined(self.alloc, self.base, path)?;
+        Ok(self.files.kind_of(&place)?)
+    }
+
+    // Puts the names of the folder in that are those of pseudo references.
+    pub(crate) fn pseudo(&self, names: &mut BTreeSet<FullName>) -> Result<(), Error>
+        ensures kept { Keeps names.old.keys names.new.keys }
+        ensures asked { BringsAsked is_pseudo names.old.keys names.new.keys }
+        ensures all { F.is_honest self.now.files.now → OnOk result (Gathers (F.history self.now.files.now).tree self.now.base.now is_pseudo names.new.keys) }
+        ensures failed { IfErr result (MayStop F.reading_may_fail) }
+    {
+        for name in &self.files.list(self.alloc, self.base)? {
+            put_pseudo(self.alloc, name, names)?;
+        }
+        Ok(())
+    }
+}
+
+// Whether a name that begins so may stand at this path or below it.
+fn may_lead_to(path: &[u8], front: &[u8]) -> bool
+    ensures { result ≡ spec.may_lead_to path.now front.now }
+{
+    path.starts_with(front) || front.starts_with(path)
+}
+
+// Whether the path is longer than the folder's, and within the limit.
+fn is_deeper(path: &[u8], folder: &[u8]) -> bool
+    ensures { result ≡ (nat_lt (length folder.now) (length path.now) && nat_le (length path.now) 4096) }
+{
+    folder.len() < path.len() && path.len() <= MAX_PATH
+}
+
+// Puts a path in, where it is a name below `refs/` that begins so.
+fn put_asked(path: Vec<u8>, front: &[u8], names: &mut BTreeSet<FullName>) -> Result<(), Error>
+    ensures kept { Keeps names.old.keys names.new.keys }
+    ensures asked { BringsAsked (is_below_refs front.now) names.old.keys names.new.keys }
+    ensures there { IsTrue (is_full_name path.items) → IsTrue (is_below_refs front.now path.items) → OnOk result (IsTrue (has names.new.keys path.items)) }
+    ensures failed { IfErr result (MayStop ⊥) }
+{
+    if path.starts_with(b"refs/") && path.starts_with(front) {
+        return put_name(path, names);
+    }
+    Ok(())
+}
+
+// Puts a copy of the path in, where it is the name of a pseudo reference.
+fn put_pseudo(alloc: Global, path: &[u8], names: &mut BTreeSet<FullName>) -> Result<(), Error>
+    ensures kept { Keeps names.old.keys names.new.keys }
+    ensures asked { BringsAsked is_pseudo names.old.keys names.new.keys }
+    ensures there { IsTrue (is_full_name path.now) → IsTrue (is_pseudo path.now) → OnOk result (IsTrue (has names.new.keys path.now)) }
+    ensures failed { IfErr result (MayStop ⊥) }
+{
+    if is_capitals(path) && path.ends_with(b"HEAD") {
+        return put_name(path.to_vec(alloc)?, names);
+    }
+    Ok(())
+}
+
+// Puts a path in, where it is a full name.
+fn put_name(path: Vec<u8>, names: &mut BTreeSet<FullName>) -> Result<(), Error>
+    ensures kept { Keeps names.old.keys names.new.keys }
+    ensures only { (name : List ℕ) → IsTrue (has names.new.keys name) → IsTrue (has names.old.keys name) ⊎ (name ≡ path.items) }
+    ensures there { IsTrue (is_full_name path.items) → OnOk result (IsTrue (has names.new.keys path.items)) }
+    ensures failed { IfErr result (MayStop ⊥) }
+{
+    match FullName::new(ByteString::new(path)) {
+        Ok(name) => {
+            names.insert(name)?;
+            Ok(())
+        }
+        Err(_) => Ok(()),
+    }
+}
