@@ -1,0 +1,4 @@
+//! Whole file maps over stores of trees.
+#![tactic(auto)]
+
+pub mod laws;
