@@ -5,3 +5,6 @@ pub mod Edited
 pub mod OneRoot
 pub mod Stores
 pub mod LawLemmas
+pub mod AtNames
+pub mod Among
+pub mod Read

@@ -51,7 +51,7 @@ below_there folder m p h =
     let at = some_there (get (inside folder m) p) h in
     ap is_some (in_get m (folder ++ 47 ∷ p) at.0 (of_inside folder m p at.0 (get_in (inside folder m) p at.0 at.1)))
 
-inside_map : (folder : Bytes) (m : FileMap) → IsFileMap m → IsFileMap (inside folder m)
+pub inside_map : (folder : Bytes) (m : FileMap) → IsFileMap m → IsFileMap (inside folder m)
 inside_map folder m map = record {
   paths = λ p h. path_after folder p (map.paths (folder ++ 47 ∷ p) (below_there folder m p h));
   apart = λ p q h k. sym (inner_below folder p q) ∙ map.apart (folder ++ 47 ∷ p) (folder ++ 47 ∷ q) (below_there folder m p h) (below_there folder m q k);
@@ -72,7 +72,7 @@ get_inside folder m q = same_option (get (inside folder m) q) (get m (folder ++ 
     (λ x e. in_get m (folder ++ 47 ∷ q) x (of_inside folder m q x (get_in (inside folder m) q x e)))
     (λ x e. in_get (inside folder m) q x (in_inside folder m q x (get_in m (folder ++ 47 ∷ q) x e)))
 
-none_if : {X : Type 0} (o : Option X) → ((x : X) → o ≡ Some x → ⊥) → o ≡ None
+pub none_if : {X : Type 0} (o : Option X) → ((x : X) → o ≡ Some x → ⊥) → o ≡ None
 none_if None f = refl
 none_if (Some x) f = absurd (f x refl)
 
