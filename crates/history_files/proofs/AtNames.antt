@@ -207,7 +207,7 @@ module _ (table : Table) (kind : Kind) where
   Leads (File k id) [] answer = answer ≡ Some (mode_of k, id_of id)
   Leads (File k id) (name ∷ rest) answer = answer ≡ None
 
-  tree_of_map : (m : FileMap) → IsFileMap m → HasAll (IsInTable table kind) m → StandsAs table (folder_id kind m) objects.Tree (Tree (items kind m))
+  pub tree_of_map : (m : FileMap) → IsFileMap m → HasAll (IsInTable table kind) m → StandsAs table (folder_id kind m) objects.Tree (Tree (items kind m))
   unfolding digest
   tree_of_map m map has = (_, has.itself.stands, record { of_kind = refl; spelled = items_spelled kind m (plain_map m map) })
 

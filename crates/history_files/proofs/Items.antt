@@ -50,7 +50,7 @@ items_within depth kind es = map (item_of kind (λ below. root_within depth kind
 abbrev pub items : Kind → FileMap → List Item
 items kind files = items_within (longest (keys files)) kind (entries files)
 
-item_name : (kind : Kind) (tree_of : List Entry → Bytes) (entry : TreeEntry) → (item_of kind tree_of entry).name ≡ name_of entry
+pub item_name : (kind : Kind) (tree_of : List Entry → Bytes) (entry : TreeEntry) → (item_of kind tree_of entry).name ≡ name_of entry
 item_name kind tree_of (FileEntry name content) = refl
 item_name kind tree_of (FolderEntry name files) = refl
 
@@ -152,7 +152,7 @@ folder_of kind files name below i =
       entries_are = deeper;
       some = (one.0, folder_in (entries files) name below i one.0 one.1);
       id = ap (λ t. digest kind (tree_text t))
-      (ap (root_within n kind) (sym deeper) ∙ sym (root_at kind n (inside name files) (subst (AreShorter n) (sym deeper) shorter)));
+          (ap (root_within n kind) (sym deeper) ∙ sym (root_at kind n (inside name files) (subst (AreShorter n) (sym deeper) shorter)));
     }
   where
     n : ℕ
@@ -212,7 +212,7 @@ folder_told : SpellsMode (mode_text folder_mode) folder_mode
 unfolding digits
 folder_told = mode_back folder_mode (omega arith) (λ e. cc) (omega arith)
 
-digest_kind : (kind : Kind) (text : Bytes) → (digest kind text).kind ≡ kind
+pub digest_kind : (kind : Kind) (text : Bytes) → (digest kind text).kind ≡ kind
 digest_kind kind text = (has_kind kind (digest kind text) (digest_is_id kind text)).of_kind
 
 digest_bytes : (kind : Kind) (text : Bytes) → IsBytesOf (raw_bytes (digest kind text)) (digest kind text)

@@ -8,3 +8,5 @@ pub mod LawLemmas
 pub mod AtNames
 pub mod Among
 pub mod Read
+pub mod Walk
+pub mod Lines

@@ -19,12 +19,18 @@ use Rattle.gix_object_find.specs.declared.find.existing_iter.Error as existing
 use Rattle.gix_object_find.specs.declared.find.existing_iter.Error.TheVariants as not_given
 use Rattle.gix_object_editor.specs.Files.{named}
 use Rattle.history_model.specs.Bytes.{Bytes}
-use Rattle.history_model.specs.FileMap.{FileMap, IsFileMap}
-use Rattle.history_model.specs.Objects.{mode_of, folder_id}
+use Rattle.history_model.specs.FileMap.{FileMap, Content, IsFileMap}
+use Rattle.history_model.specs.Objects.{mode_of, folder_id, blob_id}
+use Rattle.history_model.specs.Replies.{FileLine}
+use Rattle.gix_traverse_tree.specs.Recorder.{Recorded}
+use Rattle.gix_traverse_tree.specs.declared.error.Error as walking
+use Rattle.gix_traverse_tree.specs.declared.error.Error.TheVariants as walked
+use Rattle.gix_hash.specs.declared.object_id.ObjectId.{ObjectId}
 use Rattle.history_model.specs.declared.FileKind.TheVariants.{File as PlainFile, Exec, Link}
 use Rattle.history_files.specs.Unfolding.{HasTrees}
 use Rattle.history_files.specs.declared.error.ReadError.{ReadError}
 use Rattle.history_files.specs.declared.error.ReadError.TheVariants.{Failed, Broken, Memory}
+use Rattle.history_files.specs.declared.listing.File.{File as BelowFile}
 use Rattle.history_files.specs.declared.found.Found.{Found}
 use Rattle.history_files.specs.declared.found.Found.TheVariants.{File, Folder}
 
@@ -93,3 +99,31 @@ abbrev pub StepsBelow : Table → Found → Bytes → Option Found → Type 0
 StepsBelow table (File kind id) name next = next ≡ None
 StepsBelow table (Folder id) name next = (items : List Item) → StandsAs table (id_of id) objects.Tree (Tree items)
     → option_map entry_of next ≡ option_and_then named_by (named name items)
+
+-- ---- all files below a root
+
+-- what is told of a file
+abbrev pub line_of : BelowFile → FileLine
+line_of file = record { kind = file.kind; id = id_of file.id; path = file.path.items }
+
+abbrev pub file_line : Kind → Bytes × Content → FileLine
+file_line kind file = record { kind = (file.1).kind; id = blob_id kind (file.1).bytes; path = file.0 }
+
+-- what is told of the file that an entry names, and of no other entry
+abbrev pub line_named : EntryKind → Id → Bytes → Option FileLine
+line_named entries.Tree id path = None
+line_named entries.Blob id path = Some (record { kind = PlainFile; id = id; path = path })
+line_named entries.BlobExecutable id path = Some (record { kind = Exec; id = id; path = path })
+line_named entries.Link id path = Some (record { kind = Link; id = id; path = path })
+line_named entries.Commit id path = None
+
+abbrev pub line_recorded : Recorded → Option FileLine
+line_recorded entry = line_named (kind_of entry.mode.value) entry.id entry.path
+
+-- why a walk from this root ended early
+abbrev pub as_walked : ObjectId → walking.Error → ReadError
+as_walked root (walked.Find error) = as_read error
+as_walked root walked.Cancelled = Broken root
+as_walked root (walked.ObjectDecode error) = Broken root
+as_walked root walked.Cycle = Broken root
+as_walked root walked.Memory = Memory

@@ -28,6 +28,7 @@ pub enum ReadError {
 
 impl From<find::Error> for ReadError {
     ghost use Rattle.history_files.specs.Reading.{as_looked_up};
+
     ghost from_gives = { λ error given. given ≡ as_looked_up error };
 
     fn from(error: find::Error) -> ReadError {

@@ -4,7 +4,9 @@
 mod error;
 mod found;
 pub mod laws;
+mod listing;
 mod names;
 
 pub use error::ReadError;
 pub use found::{Found, entry_at};
+pub use listing::{File, files};
