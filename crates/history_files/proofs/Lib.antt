@@ -10,3 +10,4 @@ pub mod Among
 pub mod Read
 pub mod Walk
 pub mod Lines
+pub mod Changes

@@ -7,6 +7,7 @@ use Rattle.gix_object_lines.specs.declared.kind.Kind.TheVariants as objects
 use Rattle.gix_object_lines.specs.declared.decode.Error as decode
 use Rattle.gix_object_lines.specs.declared.decode.Error.TheVariants as unread
 use Rattle.gix_object_entries.specs.Entry.{Item}
+use Rattle.gix_object_entries.specs.WellFormed.{IsWellFormed}
 use Rattle.gix_object_entries.specs.Mode.{kind_of}
 use Rattle.gix_object_entries.specs.declared.tree.mode.EntryKind.{EntryKind}
 use Rattle.gix_object_entries.specs.declared.tree.mode.EntryKind.TheVariants as entries
@@ -127,3 +128,10 @@ as_walked root walked.Cancelled = Broken root
 as_walked root (walked.ObjectDecode error) = Broken root
 as_walked root walked.Cycle = Broken root
 as_walked root walked.Memory = Memory
+
+-- why the tree under a root's id isn't opened for edits: none stands there that can be read and is well-formed
+abbrev pub RootFault : Type 0 → Type 0 → Table → Id → ReadError → Type 0
+RootFault honest may_fail table id Failed = may_fail
+RootFault honest may_fail table id (Broken oid) =
+    (id_of oid ≡ id) × (honest → (items : List Item) → StandsAs table id objects.Tree (Tree items) → IsWellFormed items → ⊥)
+RootFault honest may_fail table id Memory = ⊤

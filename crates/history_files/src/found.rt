@@ -100,7 +100,7 @@ fn named_in<S: Find>(
 }
 
 // The entries of the tree of this id, which stand in the buffer.
-fn entries_of<'a, S: Find>(
+pub(crate) fn entries_of<'a, S: Find>(
     alloc: Global,
     store: &S,
     tree: &ObjectId,
