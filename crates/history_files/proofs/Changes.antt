@@ -18,7 +18,7 @@ use Rattle.history_files.specs.declared.edits.Edit.{Edit}
 use Rattle.history_files.proofs.Edited.{put_unfolds, removed_unfolds}
 use Rattle.history_files.proofs.LawLemmas.{folders_agree}
 
-same_unfolded : (kind : Kind) (files : FileMap) (a b : unfolded.FileMap) → IsUnfolded kind files a → SameFiles b a → IsUnfolded kind files b
+pub same_unfolded : (kind : Kind) (files : FileMap) (a b : unfolded.FileMap) → IsUnfolded kind files a → SameFiles b a → IsUnfolded kind files b
 same_unfolded kind files a b is same = record {
   at = λ path. same (components path) ∙ is.at path;
   only = λ names leaf e. is.only names leaf (sym (same names) ∙ e);

@@ -15,10 +15,9 @@ use crate::names::names_of;
 use gix_hash::ObjectId;
 use gix_object_editor::tree::editor::{self, Editor};
 use gix_object_entries::tree::EntryKind;
-use gix_object_find::find;
 use gix_object_find::find::existing_object;
+use gix_object_find::{Find, find};
 use gix_object_lines::decode;
-use gix_object_find::Find;
 use history_model::FileKind;
 use std::alloc::{AllocError, Global};
 

@@ -21,7 +21,11 @@ use std::alloc::Global;
 ///
 /// It is `Failed` where the lookup failed, `Broken` where no tree stands under the root's id that can be read and is well-formed,
 /// and `Memory` where no memory is left.
-pub fn open_editor<S: Find>(alloc: Global, store: S, root: &ObjectId) -> Result<Editor<S>, ReadError>
+pub fn open_editor<S: Find>(
+    alloc: Global,
+    store: S,
+    root: &ObjectId,
+) -> Result<Editor<S>, ReadError>
 where
     S: Drop,
     ensures files { S.is_honest store → (kind : Kind) (files : FileMap) → IsRootOf (S.table store) kind files (id_of root.now)

@@ -25,11 +25,11 @@ loop-edit-preserved g c =
       c.make_edit.ensures.store ∙ kept,
       omega arith,
       λ honest trees kind files made stored are is.
-      let left = subst (λ es. IsLeft kind files made es (files_of trees c.loop-edit.editor)) cut (c.loop-edit.invariant.2 honest trees kind files made stored are is) in
-      let still = subst (λ s. g.S.Lookup.is_honest s) (sym kept) honest in
-      let here = subst (λ s. HasStored (g.S.Lookup.table s) trees) (sym kept) stored in
-      one_done kind files made edit (drop (at + 1) edits) (files_of trees c.loop-edit.editor) (files_of trees c.make_edit.new.editor) left
-      (λ now one is_edit unfolds. (c.in_ok-make_edit.ensures.files still trees kind now one here is_edit unfolds, c.in_ok-make_edit.ensures.accepted still trees kind now one here is_edit unfolds)),
+          let left = subst (λ es. IsLeft kind files made es (files_of trees c.loop-edit.editor)) cut (c.loop-edit.invariant.2 honest trees kind files made stored are is) in
+          let still = subst (λ s. g.S.Lookup.is_honest s) (sym kept) honest in
+          let here = subst (λ s. HasStored (g.S.Lookup.table s) trees) (sym kept) stored in
+          one_done kind files made edit (drop (at + 1) edits) (files_of trees c.loop-edit.editor) (files_of trees c.make_edit.new.editor) left
+          (λ now one is_edit unfolds. (c.in_ok-make_edit.ensures.files still trees kind now one here is_edit unfolds, c.in_ok-make_edit.ensures.accepted still trees kind now one here is_edit unfolds)),
     )
 
 pub returns-clause-files : goal.returns-clause-files
