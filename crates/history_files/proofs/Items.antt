@@ -133,7 +133,7 @@ has_folder es name rest content i plain =
         let same : name ≡ other = (split_at 47 name other rest (inner.0).0 plain (name_plain es (FolderEntry other files) j) (ap (λ (x : Entry). x.0) inner.2)).0 in
         (files, subst (λ n. In (FolderEntry n files) (tree_entries es)) (sym same) j)
 
-some_entry : (es : List Entry) → is_empty es ≡ false → (e : Entry) × In e es
+pub some_entry : (es : List Entry) → is_empty es ≡ false → (e : Entry) × In e es
 some_entry [] h = cc
 some_entry (e ∷ es) h = (e, inl refl)
 
@@ -194,7 +194,7 @@ pub items_root : (kind : Kind) (files : FileMap) → items_text (items kind file
 unfolding root root_within
 items_root kind files = entries_are kind (λ below. root_within (longest (keys files)) kind below) (tree_entries (entries files))
 
-all_of : {X : Type 0} (P : X → Type 0) (xs : List X) → ((x : X) → In x xs → P x) → All P xs
+pub all_of : {X : Type 0} (P : X → Type 0) (xs : List X) → ((x : X) → In x xs → P x) → All P xs
 all_of P [] f = λ k d within. absurd (omega arith)
 all_of P (x ∷ xs) f = more (all_of P xs (λ y i. f y (inr i)))
   where
@@ -234,7 +234,7 @@ zero_before [] rest h = refl
 zero_before (b ∷ name) rest h = let parts = or_none (b == 0) (has_byte 0 (name ++ rest)) h in none_or (b == 0) (has_byte 0 name) parts.0 (zero_before name rest parts.1)
 
 -- no zero byte stands in a name
-no_zero : (kind : Kind) (files : FileMap) → ArePlain (entries files) → (t : TreeEntry) → In t (tree_entries (entries files)) → has_byte 0 (name_of t) ≡ false
+pub no_zero : (kind : Kind) (files : FileMap) → ArePlain (entries files) → (t : TreeEntry) → In t (tree_entries (entries files)) → has_byte 0 (name_of t) ≡ false
 no_zero kind files plain (FileEntry path content) i = plain (path, content) (leaf_in (entries files) path content i)
 no_zero kind files plain (FolderEntry name below) i =
     let folder = folder_of kind files name below i in

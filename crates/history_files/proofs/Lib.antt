@@ -11,3 +11,5 @@ pub mod Read
 pub mod Walk
 pub mod Lines
 pub mod Changes
+pub mod InOrder
+pub mod Opened

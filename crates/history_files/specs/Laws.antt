@@ -1,8 +1,10 @@
 -- What the laws say: file maps and what their trees unfold to.
-use Rattle.std.specs.Prelude.{◌≡◌, false, Some, option_map, IsFalse, ◌↔◌}
+use Rattle.std.specs.Prelude.{◌≡◌, false, List, Some, option_map, IsFalse, ◌↔◌}
 use Rattle.std.specs.FinMap.{get}
 use Rattle.gix_hash.specs.Id.{Id}
 use Rattle.gix_hash.specs.declared.kind.Kind.{Kind}
+use Rattle.gix_object_entries.specs.Entry.{Item, SpellsTree}
+use Rattle.gix_object_entries.specs.WellFormed.{IsWellFormed}
 use Rattle.gix_object_find.specs.Table.{Table}
 use Rattle.gix_object_editor.specs.Files as unfolded
 use Rattle.gix_object_editor.specs.Files.{Trees, HasStored, SameFiles, HasNoneBelow, is_null}
@@ -47,3 +49,7 @@ FoldersAgree = (kind : Kind) (files : FileMap) (there : unfolded.FileMap) (path 
 abbrev pub UnfoldingsTellRoots : Type 0
 UnfoldingsTellRoots = (kind : Kind) (a b : FileMap) (there other : unfolded.FileMap) → IsUnfolded kind a there → IsUnfolded kind b other
     → SameFiles there other → root kind a ≡ root kind b
+
+-- What spells the root of a file map spells a well-formed tree: its entries stand in Git's order, each name once.
+abbrev pub RootsAreWellFormed : Type 0
+RootsAreWellFormed = (kind : Kind) (files : FileMap) (items : List Item) → IsFileMap files → SpellsTree kind (root kind files) items → IsWellFormed items

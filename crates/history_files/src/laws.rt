@@ -1,6 +1,6 @@
 //! Laws of file maps and of what their trees unfold to: each is the contract of a function that does nothing.
 
-ghost use Rattle.history_files.specs.Laws.{TreesUnfold, WholeStoresHaveTrees, PutsAgree, RemovalsAgree, FoldersAgree, UnfoldingsTellRoots};
+ghost use Rattle.history_files.specs.Laws.{TreesUnfold, WholeStoresHaveTrees, PutsAgree, RemovalsAgree, FoldersAgree, UnfoldingsTellRoots, RootsAreWellFormed};
 
 /// Over trees that have a file map and its folders, its tree unfolds to its files: at the components of each path the mode of
 /// its kind and the id of its bytes, and nothing elsewhere.
@@ -31,4 +31,9 @@ pub fn folders_agree()
 /// File maps that unfold to the same files have one root.
 pub fn unfoldings_tell_roots()
     ensures { UnfoldingsTellRoots }
+{}
+
+/// What spells the root of a file map spells a well-formed tree.
+pub fn roots_are_well_formed()
+    ensures { RootsAreWellFormed }
 {}

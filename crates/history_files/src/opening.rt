@@ -7,7 +7,7 @@ ghost use Rattle.gix_object_editor.specs.Files.{Trees, HasStored};
 ghost use Rattle.gix_object_editor.specs.Editor.{files_of};
 ghost use Rattle.history_model.specs.FileMap.{FileMap};
 ghost use Rattle.history_files.specs.Unfolding.{IsUnfolded};
-ghost use Rattle.history_files.specs.Reading.{IsRootOf, RootFault};
+ghost use Rattle.history_files.specs.Reading.{IsRootOf, RootFault, OwnFault};
 
 use crate::error::ReadError;
 use crate::found::entries_of;
@@ -30,6 +30,8 @@ where
     S: Drop,
     ensures files { S.is_honest store → (kind : Kind) (files : FileMap) → IsRootOf (S.table store) kind files (id_of root.now)
         → IfOk result (λ editor. (trees : Trees) → HasStored (S.table store) trees → IsUnfolded kind files (files_of trees editor)) }
+    ensures own { S.is_honest store → (kind : Kind) (files : FileMap) → IsRootOf (S.table store) kind files (id_of root.now)
+        → IfErr result (OwnFault (S.may_fail store)) }
     ensures store { IfOk result (λ editor. editor.store ≡ store) }
     ensures uncounted { IfOk result (λ editor. editor.lookups ≡ 0) }
     ensures refused { IfErr result (RootFault (S.is_honest store) (S.may_fail store) (S.table store) (id_of root.now)) }

@@ -16,6 +16,8 @@ use Rattle.history_files.proofs.AtNames.{tree_of_map}
 use Rattle.history_files.proofs.Changes.{same_unfolded}
 use Rattle.history_files.proofs.Read.{same_tree, not_opened}
 use Rattle.history_files.proofs.Unfolded.{root_unfolds}
+use Rattle.history_files.proofs.Opened.{own_root}
+use Rattle.history_files.specs.declared.error.ReadError.TheVariants.{Broken}
 use Rattle.history_files.proofs.opening.open_editor.Goals as goal
 
 pub returns-in_err-entries-clause-refused : goal.returns-in_err-entries-clause-refused
@@ -40,3 +42,15 @@ returns-clause-files g c = λ honest kind files is trees stored.
     c.in_ok-tree.ensures ∙ same_tree table (id_of c.args.root.now) (map item_of c.in_ok-entries.entries.items) (items kind files) (c.in_ok-entries.ensures.read honest) here in
     same_unfolded kind files (files_of_tree trees (items kind files)) (files_of trees c.in_ok-new.field-0) (root_unfolds kind table trees stored files is.map is.trees)
     (λ q. c.in_ok-new.ensures.files trees q ∙ ap (λ all. files_of_tree trees all q) own)
+
+pub returns-in_err-entries-clause-own : goal.returns-in_err-entries-clause-own
+returns-in_err-entries-clause-own g c = λ honest kind files is.
+    let p = err_from_is_err_and c.from_residual.result c.from_residual.ensures.1 in
+    let table = g.S.Lookup.table c.args.store in
+    rw (p.1, p.2) (own_root (g.S.Lookup.is_honest c.args.store) (g.S.Lookup.may_fail c.args.store) table kind files (id_of c.args.root.now) honest is _
+    (not_opened (g.S.Lookup.is_honest c.args.store) (g.S.Lookup.may_fail c.args.store) table (id_of c.args.root.now) _ c.in_err-entries.ensures.refused))
+
+pub returns-then-not-is_well_formed-clause-own : goal.returns-then-not-is_well_formed-clause-own
+returns-then-not-is_well_formed-clause-own g c = λ honest kind files is.
+    own_root (g.S.Lookup.is_honest c.args.store) (g.S.Lookup.may_fail c.args.store) (g.S.Lookup.table c.args.store) kind files (id_of c.args.root.now) honest is (Broken c.args.root.now)
+    (returns-then-not-is_well_formed-clause-refused g c)
