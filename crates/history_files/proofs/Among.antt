@@ -1,7 +1,7 @@
 -- Entries of a tree, looked through for a name.
-use Rattle.std.proofs.Common.{◌≡◌, ◌∙◌, ap, sym, ℕ, suc, ◌+◌, ◌<◌, Bool, true, false, cond, List, [], ◌∷◌, map, length, drop, get_or, Option, Some, None, bytes_eq, arith}
+use Rattle.std.proofs.Common.{◌≡◌, ◌∙◌, ap, sym, ℕ, suc, ◌+◌, ◌<◌, true, false, cond, List, ◌∷◌, map, length, drop, get_or, Some, bytes_eq, arith}
 use Rattle.std.proofs.Math.Seq.{drop-cons}
-use Rattle.gix_object_entries.specs.Entry.{Item, item_of}
+use Rattle.gix_object_entries.specs.Entry.{item_of}
 use Rattle.gix_object_entries.specs.declared.tree.entry.EntryRef.{EntryRef}
 use Rattle.gix_object_editor.specs.Files.{named}
 use Rattle.history_model.specs.Bytes.{Bytes}

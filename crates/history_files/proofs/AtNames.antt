@@ -1,13 +1,12 @@
 -- What stands at a path, name by name.
-use Rattle.std.proofs.Common.{◌≡◌, ◌⊎◌, ℕ, zero, suc, ◌+◌, ◌<◌, Bool, true, false, cond, List, [], ◌∷◌, ◌++◌, map, drop, get_or, Bor, length, refl, sym, ◌∙◌, ap, subst, arith, inl, inr, Option, Some, None, is_some, option_map, option_and_then, bytes_eq, ◌==◌, codes, length-append}
+use Rattle.std.proofs.Common.{◌≡◌, ◌⊎◌, ℕ, zero, suc, ◌+◌, ◌<◌, Bool, true, false, cond, List, [], ◌∷◌, ◌++◌, map, drop, get_or, Bor, length, refl, sym, ◌∙◌, ap, subst, arith, inl, inr, Option, Some, None, is_some, option_map, option_and_then, ◌==◌, codes, length-append}
 use Rattle.std.proofs.Math.Seq.{drop-cons}
-use Rattle.std.specs.List.{list_any, slice_split, onto_first, before_first, after_first}
+use Rattle.std.specs.List.{onto_first, before_first, after_first}
 use Rattle.std.specs.FinMap.{entries, keys, get}
 use Rattle.gix_hash.specs.Id.{Id, id_of}
 use Rattle.gix_hash.specs.declared.kind.Kind.{Kind}
 use Rattle.gix_hash.specs.declared.object_id.ObjectId.{ObjectId}
 use Rattle.gix_object_lines.specs.declared.kind.Kind.TheVariants as objects
-use Rattle.gix_object_entries.specs.Entry.{Item}
 use Rattle.gix_object_entries.specs.Mode.{kind_value, kind_of}
 use Rattle.gix_object_tree.specs.Object.{Tree}
 use Rattle.gix_object_find.specs.Table.{Table}
@@ -15,7 +14,7 @@ use Rattle.gix_object_find.specs.Existing.{StandsAs}
 use Rattle.gix_object_editor.specs.Files.{named}
 use Rattle.history_model.specs.Bytes.{Bytes, has_byte}
 use Rattle.history_model.specs.FileMap.{FileMap, Content, IsFileMap, components, is_below, has_below, inside}
-use Rattle.history_model.specs.Objects.{digest, TreeEntry, FileEntry, FolderEntry, tree_entries, mode_of, root_within, longest, folder_id, blob_id, entry_at, StoredFolder}
+use Rattle.history_model.specs.Objects.{digest, TreeEntry, FileEntry, FolderEntry, tree_entries, mode_of, root_within, longest, folder_id, blob_id, entry_at}
 use Rattle.history_model.specs.declared.FileKind.{FileKind}
 use Rattle.history_model.specs.declared.FileKind.TheVariants.{File as PlainFile, Exec, Link}
 use Rattle.history_model.proofs.WholeLists.{In, in_map, of_map, none_or, clash, either, passes_one, one_passes, texts_differ, some_inside, none_is_some}
@@ -30,7 +29,7 @@ use Rattle.history_files.specs.declared.error.ReadError.TheVariants.{Failed, Bro
 use Rattle.history_files.specs.declared.found.Found.{Found}
 use Rattle.history_files.specs.declared.found.Found.TheVariants.{File, Folder}
 use Rattle.history_files.proofs.Components.{some_parts, one_part, parts_below}
-use Rattle.history_files.proofs.Items.{items, items_spelled, item_of, file_item, name_of, named_in, name_plain, has_leaf, has_folder, folder_of}
+use Rattle.history_files.proofs.Items.{items, items_spelled, item_of, file_item, name_of, named_in, has_leaf, has_folder, folder_of}
 use Rattle.history_files.proofs.Unfolded.{inside_map, plain_map, get_inside, none_if}
 
 -- ---- files below a path

@@ -1,7 +1,6 @@
 -- Edits of a file map, as an editor makes them.
-use Rattle.std.proofs.Common.{◌≡◌, ◌≢◌, ◌∙◌, ap, sym, subst, refl, ℕ, zero, suc, ◌+◌, ◌<◌, ◌≤◌, arith, Bool, true, false, ◌||◌, List, [], ◌∷◌, ◌++◌, length, drop, get_or, Option, Some}
+use Rattle.std.proofs.Common.{◌≡◌, ◌∙◌, ap, sym, subst, refl, ℕ, zero, suc, ◌+◌, ◌<◌, ◌≤◌, arith, false, ◌||◌, List, [], ◌∷◌, length, drop, get_or}
 use Rattle.std.proofs.Math.Seq.{drop-cons}
-use Rattle.gix_hash.specs.Id.{id_of}
 use Rattle.gix_hash.specs.declared.kind.Kind.{Kind}
 use Rattle.gix_hash.specs.declared.object_id.ObjectId.{ObjectId}
 use Rattle.gix_object_editor.specs.Files as unfolded
@@ -12,7 +11,7 @@ use Rattle.history_model.specs.FileMap as model
 use Rattle.history_model.specs.FileMap.{FileMap, components, edited, edited_by, is_refused, some_refused, has_below}
 use Rattle.history_model.specs.declared.FileKind.{FileKind}
 use Rattle.history_files.specs.Unfolding.{IsUnfolded, entry_kind, file_leaf}
-use Rattle.history_files.specs.Edits.{IsChange, IsEdit, AreEdits, name_count}
+use Rattle.history_files.specs.Edits.{IsChange, IsEdit, AreEdits}
 use Rattle.history_files.specs.declared.edits.Change.TheVariants.{Put, Remove, RemoveFile}
 use Rattle.history_files.specs.declared.edits.Edit.{Edit}
 use Rattle.history_files.proofs.Edited.{put_unfolds, removed_unfolds}

@@ -1,6 +1,6 @@
 -- Paths by their components: which begin which.
-use Rattle.std.proofs.Common.{◌≡◌, ◌⊎◌, ℕ, Bool, true, false, cond, ◌&&◌, ◌||◌, List, [], ◌∷◌, ◌++◌, refl, sym, ◌∙◌, ap, subst, arith, tests, inl, inr, Option, Some, None, is_some, option_map, bytes_eq, ◌==◌, nat_eq}
-use Rattle.std.specs.List.{slice_split, onto_first}
+use Rattle.std.proofs.Common.{◌≡◌, ℕ, Bool, true, false, cond, ◌&&◌, ◌||◌, List, [], ◌∷◌, ◌++◌, refl, sym, ◌∙◌, ap, arith, tests, inl, inr, Option, Some, None, is_some, option_map, bytes_eq, ◌==◌, nat_eq}
+use Rattle.std.specs.List.{onto_first}
 use Rattle.gix_object_editor.specs.Files.{Path, behind}
 use Rattle.history_model.specs.Bytes.{Bytes, has_byte}
 use Rattle.history_model.specs.FileMap.{components, is_below, is_within}

@@ -1,18 +1,17 @@
 -- Edits of a file map and of what its tree unfolds to are the same.
-use Rattle.std.proofs.Common.{◌≡◌, ◌⊎◌, Bool, true, false, cond, not, ◌||◌, List, [], ◌∷◌, ◌++◌, refl, sym, ◌∙◌, ap, subst, inl, inr, Option, Some, None, is_some, option_map, bytes_eq}
-use Rattle.std.specs.List.{list_any}
-use Rattle.std.specs.FinMap.{entries, keys, get, insert, retain_keys}
+use Rattle.std.proofs.Common.{◌≡◌, Bool, true, false, cond, not, ◌||◌, [], ◌∷◌, ◌++◌, refl, sym, ◌∙◌, ap, Option, Some, None, is_some, option_map, bytes_eq}
+use Rattle.std.specs.FinMap.{entries, keys, get, retain_keys}
 use Rattle.gix_hash.specs.declared.kind.Kind.{Kind}
 use Rattle.gix_object_editor.specs.Files as unfolded
 use Rattle.gix_object_editor.specs.Files.{Path, Leaf, Trees, behind, files_of_entry, is_null, HasNoneBelow, SameFiles}
 use Rattle.history_model.specs.Bytes.{Bytes}
 use Rattle.history_model.specs.FileMap.{FileMap, Content, components, is_below, is_within, has_below, removed, put_at}
 use Rattle.history_model.specs.Objects.{blob_id}
-use Rattle.history_model.proofs.WholeLists.{In, in_map, of_map, clash, either, same_text, text_itself, passes_one, one_passes}
+use Rattle.history_model.proofs.WholeLists.{in_map, of_map, clash, same_text, text_itself, passes_one, one_passes}
 use Rattle.history_model.proofs.WholeStores.{get_in, in_get, get_inserted, get_retained}
 use Rattle.history_model.proofs.WholeItems.{Entry}
 use Rattle.history_files.specs.Unfolding.{file_leaf, IsUnfolded}
-use Rattle.history_files.proofs.Components.{some_parts, below_rest, rest_parts, below_by, behind_parts, is_behind, behind_all, behind_front, parts_below, same_parts}
+use Rattle.history_files.proofs.Components.{some_parts, below_rest, rest_parts, below_by, behind_parts, is_behind, behind_all, behind_front, parts_below}
 use Rattle.history_files.proofs.Unfolded.{leaf_itself, leaf_below}
 
 module _ (kind : Kind) (files : FileMap) (there : unfolded.FileMap) (is : IsUnfolded kind files there) (path : Bytes) where

@@ -1,18 +1,18 @@
 -- The entries of a file map's tree stand in Git's order, which is that of the paths below them.
-use Rattle.std.proofs.Common.{◌≡◌, ◌≢◌, ◌⊎◌, ℕ, Bool, true, false, cond, List, [], ◌∷◌, ◌++◌, map, refl, sym, ◌∙◌, ap, subst, arith, tests, inl, inr, Option, Some, None, is_some, bytes_eq, ◌==◌, nat_cmp, Less, Equal, Greater, append_assoc}
-use Rattle.std.specs.List.{All, AllPairs, before_first, after_first}
+use Rattle.std.proofs.Common.{◌≡◌, ◌≢◌, ℕ, Bool, true, false, cond, List, [], ◌∷◌, ◌++◌, refl, sym, ◌∙◌, ap, subst, arith, tests, inl, inr, None, is_some, bytes_eq, ◌==◌, nat_cmp, Less, Equal, Greater, append_assoc}
+use Rattle.std.specs.List.{AllPairs, before_first, after_first}
 use Rattle.std.specs.Ordering.{ordering_then, ordering_reverse, is_lt}
 use Rattle.std.specs.declared.cmp.Ordering.{Ordering}
-use Rattle.std.specs.FinMap.{entries, keys, is_sorted}
+use Rattle.std.specs.FinMap.{entries, is_sorted}
 use Rattle.std.specs.FinMap.Entries.{below_all}
 use Rattle.std.proofs.lemmas.Cmp.{nat_list_cmp_total}
 use Rattle.std.proofs.lemmas.List.Kept.{AllPairs-cons}
 use Rattle.gix_hash.specs.declared.kind.Kind.{Kind}
 use Rattle.gix_object_entries.specs.Entry.{Item, SpellsTree}
-use Rattle.gix_object_entries.specs.Order.{is_tree, item_key}
+use Rattle.gix_object_entries.specs.Order.{item_key}
 use Rattle.gix_object_entries.specs.WellFormed.{IsFilename, ComesBefore, IsWellFormed}
 use Rattle.gix_object_entries.proofs.TreeLaws.{one_tree}
-use Rattle.history_model.specs.Bytes.{Bytes, by_bytes, has_byte, is_empty}
+use Rattle.history_model.specs.Bytes.{Bytes, by_bytes, has_byte}
 use Rattle.history_model.specs.FileMap.{FileMap, Content, IsFileMap, is_below}
 use Rattle.history_model.specs.Objects.{TreeEntry, FileEntry, FolderEntry, into_folder, tree_entries, root}
 use Rattle.history_model.proofs.WholeLists.{In, of_map, or_none, clash, and_true, same_text, texts_differ}
@@ -139,9 +139,11 @@ heads_file path es plain less sorted (FolderEntry name files ∷ ts) all =
 with_into : (name rest : Bytes) (content : Content) (es : List Entry) → has_byte 47 name ≡ false → below_all by_bytes (name ++ 47 ∷ rest) es ≡ true → is_sorted by_bytes es ≡ true → (ts : List TreeEntry)
     → ((t : TreeEntry) → In t ts → In t (tree_entries es)) → Ordered ts → Ordered (into_folder name (rest, content) ts)
 with_into name rest content es plain less sorted [] all o = (λ u i. absurd i, tt)
-with_into name rest content es plain less sorted (FileEntry q c ∷ ts) all o =
-    (before_all (name ++ 47 ∷ []) (FileEntry q c ∷ ts) o
-    (front_before (name ++ 47 ∷ []) rest q (ap (λ p. by_bytes p q) (append_assoc name (47 ∷ []) rest) ∙ all_less (name ++ 47 ∷ rest) es less (q, c) (leaf_in es q c (all (FileEntry q c) (inl refl))))), o)
+with_into name rest content es plain less sorted (FileEntry q c ∷ ts) all o = (
+  before_all (name ++ 47 ∷ []) (FileEntry q c ∷ ts) o
+      (front_before (name ++ 47 ∷ []) rest q (ap (λ p. by_bytes p q) (append_assoc name (47 ∷ []) rest) ∙ all_less (name ++ 47 ∷ rest) es less (q, c) (leaf_in es q c (all (FileEntry q c) (inl refl))))),
+  o,
+)
 with_into name rest content es plain less sorted (FolderEntry other files ∷ ts) all o = go (bytes_eq name other) refl
   where
     some : (e : Entry) × In (other ++ 47 ∷ e.0, e.1) es
@@ -149,11 +151,13 @@ with_into name rest content es plain less sorted (FolderEntry other files ∷ ts
 
     go : (b : Bool) → bytes_eq name other ≡ b → Ordered (cond b (FolderEntry name ((rest, content) ∷ files) ∷ ts) (FolderEntry name ((rest, content) ∷ []) ∷ FolderEntry other files ∷ ts))
     go true e = (λ u i. ap (λ n. by_bytes (n ++ 47 ∷ []) (key u)) (same_text name other e) ∙ o.0 u i, o.1)
-    go false e =
-        (before_all (name ++ 47 ∷ []) (FolderEntry other files ∷ ts) o
-        (folder_before name other (some.0).0 plain (name_plain es (FolderEntry other files) (all (FolderEntry other files) (inl refl))) (texts_differ name other e)
-        (front_before (name ++ 47 ∷ []) rest (other ++ 47 ∷ (some.0).0)
-        (ap (λ p. by_bytes p (other ++ 47 ∷ (some.0).0)) (append_assoc name (47 ∷ []) rest) ∙ all_less (name ++ 47 ∷ rest) es less (other ++ 47 ∷ (some.0).0, (some.0).1) some.1))), o)
+    go false e = (
+      before_all (name ++ 47 ∷ []) (FolderEntry other files ∷ ts) o
+          (folder_before name other (some.0).0 plain (name_plain es (FolderEntry other files) (all (FolderEntry other files) (inl refl))) (texts_differ name other e)
+          (front_before (name ++ 47 ∷ []) rest (other ++ 47 ∷ (some.0).0)
+          (ap (λ p. by_bytes p (other ++ 47 ∷ (some.0).0)) (append_assoc name (47 ∷ []) rest) ∙ all_less (name ++ 47 ∷ rest) es less (other ++ 47 ∷ (some.0).0, (some.0).1) some.1))),
+      o,
+    )
 
 ordered : (es : List Entry) → is_sorted by_bytes es ≡ true → Ordered (tree_entries es)
 ordered [] sorted = tt

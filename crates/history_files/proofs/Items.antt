@@ -1,28 +1,27 @@
 -- The entries of a file map's tree, as readers of trees have them.
-use Rattle.std.proofs.Common.{◌≡◌, ◌⊎◌, ℕ, zero, suc, ◌+◌, ◌<◌, Bool, true, false, cond, ◌||◌, List, [], ◌∷◌, ◌++◌, map, length, refl, sym, ◌∙◌, ap, subst, arith, inl, inr, Option, Some, None, bytes_eq, ◌==◌, append_assoc, codes, length-append}
+use Rattle.std.proofs.Common.{◌≡◌, ◌⊎◌, ℕ, zero, suc, Bool, true, false, cond, List, [], ◌∷◌, ◌++◌, map, refl, sym, ◌∙◌, ap, subst, arith, inl, inr, Some, None, bytes_eq, ◌==◌, append_assoc, codes, length-append}
 use Rattle.std.specs.List.{All, list_any, flat_map, before_first, after_first}
 use Rattle.std.specs.Fmt.{digits}
 use Rattle.std.specs.FinMap.{entries, keys}
-use Rattle.gix_hash.specs.Id.{Id, raw_bytes}
+use Rattle.gix_hash.specs.Id.{raw_bytes}
 use Rattle.gix_hash.specs.Kind.{byte_len}
 use Rattle.gix_hash.specs.Views.{IsBytesOf}
 use Rattle.gix_hash.specs.declared.kind.Kind.{Kind}
 use Rattle.gix_object_entries.specs.Entry.{Item, SpellsTree}
 use Rattle.gix_object_entries.specs.Mode.{kind_value}
-use Rattle.gix_object_entries.specs.ModeText.{Mode, mode_text, SpellsMode}
+use Rattle.gix_object_entries.specs.ModeText.{mode_text, SpellsMode}
 use Rattle.gix_object_entries.specs.Writing.{entry_text as item_text, tree_text as items_text, has_zero, tree_refusal, HasIds, IsToldAgain}
-use Rattle.gix_object_entries.specs.declared.tree.mode.EntryKind.TheVariants as kinds
 use Rattle.gix_object_entries.proofs.TreeLaws.{tree_back, mode_back}
 use Rattle.gix_object_entries.proofs.Written.{no_refusal}
 use Rattle.gix_object_editor.specs.Files.{named}
 use Rattle.gix_object_editor.specs.Writing.{folder_mode, folder_item}
 use Rattle.history_model.specs.Bytes.{Bytes, has_byte, is_empty}
 use Rattle.history_model.specs.FileMap.{FileMap, Content, inside}
-use Rattle.history_model.specs.Objects.{digest, TreeEntry, FileEntry, FolderEntry, into_folder, tree_entries, mode_of, entry_text, tree_entry_text, root_within, longest, root, folder_id, blob_id, tree_text}
+use Rattle.history_model.specs.Objects.{digest, TreeEntry, FileEntry, FolderEntry, into_folder, tree_entries, mode_of, tree_entry_text, root_within, longest, root, folder_id, blob_id, tree_text}
 use Rattle.history_model.specs.declared.FileKind.{FileKind}
 use Rattle.history_model.specs.declared.FileKind.TheVariants.{File, Exec, Link}
 use Rattle.history_model.proofs.IdLemmas.{digest_is_id, has_kind, length-raw_bytes, digits_of-raw_bytes}
-use Rattle.history_model.proofs.WholeLists.{In, in_map, of_map, of_flat, or_none, none_or, clash, either, same_text, text_itself, texts_differ}
+use Rattle.history_model.proofs.WholeLists.{In, of_map, of_flat, or_none, none_or, clash, same_text, texts_differ}
 use Rattle.history_model.proofs.WholePaths.{front_plain}
 use Rattle.history_model.proofs.PartLemmas.{one_is_in, split_at}
 use Rattle.history_model.proofs.WholeItems.{Entry, files_of, items_files, leaf_in, folder_in, folder_fits, sorted_entries, entries_inside}

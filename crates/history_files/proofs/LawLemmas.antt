@@ -1,12 +1,8 @@
 -- The laws.
-use Rattle.std.proofs.Common.{◌≡◌, ap, sym, ◌∙◌, refl, Bool, true, false, Option, Some, None}
-use Rattle.gix_hash.specs.declared.kind.Kind.{Kind}
-use Rattle.gix_object_editor.specs.Files as unfolded
+use Rattle.std.proofs.Common.{◌≡◌, sym, ◌∙◌, refl, Bool, true, false}
 use Rattle.gix_object_editor.specs.Files.{HasNoneBelow}
-use Rattle.history_model.specs.Bytes.{Bytes}
-use Rattle.history_model.specs.FileMap.{FileMap, components, has_below}
+use Rattle.history_model.specs.FileMap.{components, has_below}
 use Rattle.history_model.proofs.WholeLists.{none_is_some}
-use Rattle.history_files.specs.Unfolding.{IsUnfolded}
 use Rattle.history_files.specs.Laws.{TreesUnfold, WholeStoresHaveTrees, PutsAgree, RemovalsAgree, FoldersAgree, UnfoldingsTellRoots}
 use Rattle.history_files.proofs.Unfolded.{id_unfolds}
 use Rattle.history_files.proofs.Edited.{put_unfolds, removed_unfolds, none_below, some_below}

@@ -1,18 +1,15 @@
 -- The files among the entries that a walk in depth order records.
-use Rattle.std.proofs.Common.{◌≡◌, ◌⊎◌, ℕ, zero, suc, ◌+◌, ◌<◌, length, take, get_or, option_to_list, arith, Bool, true, false, cond, List, [], ◌∷◌, ◌++◌, map, refl, sym, ◌∙◌, ap, subst, inl, inr, Option, Some, None, is_some, append_assoc, append-nil}
-use Rattle.std.specs.List.{AllByRecursion, flat_map, filter_map, cons_option}
-use Rattle.std.specs.FinMap.{entries, keys}
+use Rattle.std.proofs.Common.{◌≡◌, ℕ, zero, suc, ◌+◌, ◌<◌, length, take, get_or, option_to_list, arith, true, false, List, [], ◌∷◌, ◌++◌, map, refl, sym, ◌∙◌, ap, subst, inl, inr, Option, Some, None, is_some, append_assoc}
+use Rattle.std.specs.List.{flat_map, filter_map, cons_option}
+use Rattle.std.specs.FinMap.{entries}
 use Rattle.gix_hash.specs.Id.{Id, id_of}
 use Rattle.gix_hash.specs.declared.kind.Kind.{Kind}
 use Rattle.gix_hash.specs.declared.object_id.ObjectId.{ObjectId}
-use Rattle.gix_object_lines.specs.declared.kind.Kind.TheVariants as objects
 use Rattle.gix_object_entries.specs.Entry.{Item, SpellsEntry, SpellsEntries, SpellsTree}
 use Rattle.gix_object_entries.specs.Mode.{kind_value, kind_of}
 use Rattle.gix_object_entries.specs.Order.{is_tree}
 use Rattle.gix_object_entries.proofs.Spelled.{none_left}
 use Rattle.gix_object_find.specs.Table.{Table, Object}
-use Rattle.gix_object_find.specs.Existing.{Stands}
-use Rattle.gix_traverse_tree.specs.Calls.{Call, Runs}
 use Rattle.gix_traverse_tree.specs.Depth.{InDepth, before}
 use Rattle.gix_traverse_tree.specs.Opened.{WalksIn, IsGood}
 use Rattle.gix_traverse_tree.specs.Nodes.{MemoryOr}
@@ -30,7 +27,7 @@ use Rattle.gix_object_find.specs.declared.find.Error.TheVariants as looked_up
 use Rattle.gix_object_find.specs.declared.find.existing_iter.Error.TheVariants as not_given
 use Rattle.history_model.specs.Bytes.{Bytes}
 use Rattle.history_model.specs.FileMap.{FileMap, Content, IsFileMap, is_path, inside}
-use Rattle.history_model.specs.Objects.{digest, TreeEntry, FileEntry, FolderEntry, tree_entries, blob_id, folder_id, root, tree_text}
+use Rattle.history_model.specs.Objects.{TreeEntry, FileEntry, FolderEntry, tree_entries, blob_id}
 use Rattle.history_model.specs.Replies.{FileLine}
 use Rattle.history_model.specs.declared.FileKind.{FileKind}
 use Rattle.history_model.specs.declared.FileKind.TheVariants.{File as PlainFile, Exec, Link}
@@ -40,8 +37,8 @@ use Rattle.history_model.proofs.WholeRoots.{has_all}
 use Rattle.history_model.proofs.WholeStores.{in_get}
 use Rattle.history_files.specs.Unfolding.{IsInTable, entry_kind}
 use Rattle.history_files.specs.Reading.{IsRootOf, OwnFault, as_walked, line_named, line_recorded, file_line}
-use Rattle.history_files.proofs.Items.{items, items_spelled, item_of, folder_of, digest_kind}
-use Rattle.history_files.proofs.Walk.{tree_of, some_items, no_items, IsNext, is_next, leaf_isnt_tree, IsThere, id_kind, stands_as, there_below, some_name, along, EndsWell}
+use Rattle.history_files.proofs.Items.{items, item_of, folder_of}
+use Rattle.history_files.proofs.Walk.{tree_of, some_items, no_items, is_next, leaf_isnt_tree, IsThere, id_kind, stands_as, there_below, some_name, along, EndsWell}
 
 -- ---- paths
 

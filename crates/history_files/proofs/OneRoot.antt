@@ -1,5 +1,5 @@
 -- File maps that unfold to the same files have one root.
-use Rattle.std.proofs.Common.{◌≡◌, ◌⊎◌, ℕ, zero, suc, ◌+◌, ◌<◌, Bool, true, false, cond, ◌&&◌, List, [], ◌∷◌, ◌++◌, map, length, refl, sym, ◌∙◌, ap, ap₂, subst, arith, Option, Some, None, option_map, bytes_eq, ◌==◌, codes}
+use Rattle.std.proofs.Common.{◌≡◌, ℕ, zero, suc, ◌+◌, Bool, true, false, cond, ◌&&◌, List, [], ◌∷◌, ◌++◌, map, refl, sym, ◌∙◌, ap, ap₂, subst, arith, Some, option_map, bytes_eq, ◌==◌, codes}
 use Rattle.std.specs.List.{flat_map, before_first, after_first}
 use Rattle.std.specs.Ordering.{eq_by_cmp, is_lt}
 use Rattle.std.specs.FinMap.{entries, keys, get, from_entries, get-from_entries, get-entries, is_sorted}
@@ -11,10 +11,9 @@ use Rattle.gix_object_editor.specs.Files as unfolded
 use Rattle.gix_object_editor.specs.Files.{Leaf, SameFiles}
 use Rattle.history_model.specs.Bytes.{Bytes, by_bytes, has_byte}
 use Rattle.history_model.specs.FileMap.{FileMap, Content, components}
-use Rattle.history_model.specs.Objects.{digest, TreeEntry, FileEntry, FolderEntry, into_folder, with_file, tree_entries, mode_of, entry_text, tree_entry_text, root_within, longest, root, tree_text, blob_id}
+use Rattle.history_model.specs.Objects.{digest, TreeEntry, FileEntry, FolderEntry, into_folder, with_file, tree_entries, mode_of, entry_text, tree_entry_text, root_within, longest, root, tree_text}
 use Rattle.history_model.specs.declared.FileKind.{FileKind}
 use Rattle.history_model.specs.declared.FileKind.TheVariants.{File, Exec, Link}
-use Rattle.history_model.proofs.WholeLists.{In, clash, and_true}
 use Rattle.history_model.proofs.WholeItems.{Entry, sorted_entries, entries_from}
 use Rattle.history_model.proofs.WholeRoots.{AreShorter, are_shorter, root_at}
 use Rattle.history_model.proofs.WholeStores.{one_by_keys}

@@ -1,14 +1,12 @@
 -- A root's tree is opened.
-use Rattle.std.proofs.Common.{◌≡◌, sym, subst}
+use Rattle.std.proofs.Common.{sym, subst}
 use Rattle.gix_hash.specs.Id.{Id}
 use Rattle.gix_hash.specs.declared.kind.Kind.{Kind}
-use Rattle.gix_object_entries.specs.Entry.{Item, SpellsTree}
 use Rattle.gix_object_lines.specs.declared.kind.Kind.TheVariants as objects
 use Rattle.gix_object_tree.specs.Object.{Tree}
 use Rattle.gix_object_find.specs.Table.{Table}
 use Rattle.gix_object_find.specs.Existing.{StandsAs}
 use Rattle.history_model.specs.FileMap.{FileMap}
-use Rattle.history_model.specs.Objects.{root}
 use Rattle.history_model.proofs.WholeRoots.{has_all}
 use Rattle.history_files.specs.Unfolding.{IsInTable}
 use Rattle.history_files.specs.Reading.{IsRootOf, RootFault, OwnFault}

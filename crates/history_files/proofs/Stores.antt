@@ -1,14 +1,13 @@
 -- The table of a whole store has the trees of each stored folder.
-use Rattle.std.proofs.Common.{◌≡◌, ◌∙◌, ap, refl, sym, subst, Bool, true, false, Option, Some, None, option_map}
+use Rattle.std.proofs.Common.{◌≡◌, ◌∙◌, ap, refl, sym, Bool, true, false, Some, option_map}
 use Rattle.std.specs.FinMap.{get}
 use Rattle.gix_hash.specs.Id.{Id, null_id}
-use Rattle.gix_hash.specs.declared.kind.Kind.{Kind}
 use Rattle.gix_object_editor.specs.Files.{is_null}
 use Rattle.history_model.specs.FileMap.{FileMap}
-use Rattle.history_model.specs.Objects.{Value, StoredCommit, StoredTag, StoredBytes, StoredFolder, object_kind, content_of, id_of, digest, value_text}
+use Rattle.history_model.specs.Objects.{Value, StoredCommit, StoredTag, StoredBytes, StoredFolder, object_kind, content_of, id_of, value_text}
 use Rattle.history_model.specs.Repository.{Repository, IsStored, IsWholeStore, file_values}
 use Rattle.history_model.proofs.IdLemmas.{digest_is_id, has_kind, one_id}
-use Rattle.history_model.proofs.WholeLists.{In, all_in, in_all, none_is_some}
+use Rattle.history_model.proofs.WholeLists.{all_in, in_all, none_is_some}
 use Rattle.history_files.specs.Unfolding.{FolderStands, IsInTable, HasTrees}
 use Rattle.history_files.specs.Laws.{table_of}
 

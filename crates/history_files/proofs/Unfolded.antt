@@ -1,28 +1,26 @@
 -- What a file map's tree unfolds to, over trees that have it and its folders.
-use Rattle.std.proofs.Common.{◌≡◌, ◌⊎◌, ℕ, zero, suc, ◌+◌, ◌<◌, Bool, true, false, cond, not, List, [], ◌∷◌, ◌++◌, length, refl, sym, ◌∙◌, ap, subst, arith, inl, inr, Option, Some, None, is_some, option_map, length-append, ◌==◌}
+use Rattle.std.proofs.Common.{◌≡◌, ℕ, zero, suc, ◌<◌, Bool, true, false, cond, not, List, [], ◌∷◌, ◌++◌, length, refl, sym, ◌∙◌, ap, subst, arith, inl, inr, Option, Some, None, is_some, option_map, length-append, ◌==◌}
 use Rattle.std.specs.List.{list_any, before_first, after_first}
 use Rattle.std.specs.FinMap.{entries, keys, get, contains_key}
-use Rattle.gix_hash.specs.Id.{Id}
 use Rattle.gix_hash.specs.declared.kind.Kind.{Kind}
-use Rattle.gix_object_entries.specs.Entry.{Item, SpellsTree}
+use Rattle.gix_object_entries.specs.Entry.{Item}
 use Rattle.gix_object_entries.specs.Mode.{kind_value, is_tree_value}
 use Rattle.gix_object_find.specs.Table.{Table}
-use Rattle.gix_object_editor.specs.Files as unfolded
 use Rattle.gix_object_editor.specs.Files.{Path, Leaf, Trees, HasStored, named, through, tree_under, unless_tree, files_of_entry, files_of_tree, is_null, leaf_of}
 use Rattle.gix_object_editor.specs.Written.{files_under}
 use Rattle.history_model.specs.Bytes.{Bytes, has_byte, is_empty}
-use Rattle.history_model.specs.FileMap.{FileMap, Content, IsFileMap, components, is_path, is_below, inside}
-use Rattle.history_model.specs.Objects.{FileEntry, FolderEntry, TreeEntry, tree_entries, Value, StoredBytes, StoredFolder, folder_id, blob_id, root_within, longest, digest, tree_text}
+use Rattle.history_model.specs.FileMap.{FileMap, Content, IsFileMap, components, is_path, inside}
+use Rattle.history_model.specs.Objects.{FileEntry, FolderEntry, TreeEntry, tree_entries, Value, StoredFolder, folder_id, blob_id, root_within, longest, digest, tree_text}
 use Rattle.history_model.specs.declared.FileKind.{FileKind}
 use Rattle.history_model.specs.declared.FileKind.TheVariants.{File, Exec, Link}
 use Rattle.history_model.proofs.WholeLists.{In, and_true, and_both, or_none, clash, not_true, false_not}
-use Rattle.history_model.proofs.WholePaths.{below_front, below_parts, inner_below, has_parts, front_plain, is_beginning}
+use Rattle.history_model.proofs.WholePaths.{below_front, inner_below, has_parts, front_plain, is_beginning}
 use Rattle.history_model.proofs.WholeItems.{Entry, leaf_in}
 use Rattle.history_model.proofs.WholeRoots.{HasAll, has_all, inside_has, ArePlain, of_inside, in_inside}
 use Rattle.history_model.proofs.WholeStores.{get_in, in_get}
 use Rattle.history_files.specs.Unfolding.{entry_kind, file_leaf, IsUnfolded, IsInTable, HasTrees}
 use Rattle.history_files.proofs.Components.{some_parts, one_part, parts_below}
-use Rattle.history_files.proofs.Items.{items, items_spelled, item_of, file_item, name_of, named_in, name_plain, has_leaf, has_folder, folder_of}
+use Rattle.history_files.proofs.Items.{items, items_spelled, item_of, name_of, named_in, name_plain, has_leaf, has_folder, folder_of}
 
 -- ---- file maps and their folders
 

@@ -1,16 +1,13 @@
 -- A walk in depth order over the trees of files, which are there: which names it tells, and how it ends.
-use Rattle.std.proofs.Common.{◌≡◌, ◌⊎◌, ℕ, zero, suc, ◌+◌, ◌<◌, Bool, true, false, cond, ◌&&◌, List, [], ◌∷◌, ◌++◌, map, length, refl, sym, ◌∙◌, ap, subst, arith, inl, inr, Option, Some, None, option_map, is_some, bytes_eq, length-append}
-use Rattle.std.specs.Prelude.{⊤}
+use Rattle.std.proofs.Common.{◌≡◌, ℕ, zero, suc, Bool, true, false, cond, List, [], ◌∷◌, ◌++◌, map, refl, sym, ◌∙◌, ap, subst, arith, inl, inr, Option, option_map, is_some, length-append}
 use Rattle.std.specs.List.{AllByRecursion}
 use Rattle.std.specs.FinMap.{entries, keys}
 use Rattle.std.specs.declared.ops.ControlFlow.TheVariants.{Continue, Break}
 use Rattle.gix_hash.specs.Id.{Id}
 use Rattle.gix_hash.specs.Order.{id_eq}
 use Rattle.gix_hash.specs.declared.kind.Kind.{Kind}
-use Rattle.gix_object_lines.specs.Bytes.{Lacks}
 use Rattle.gix_object_lines.specs.declared.kind.Kind.TheVariants as objects
-use Rattle.gix_object_lines.specs.declared.decode.Error as decode
-use Rattle.gix_object_entries.specs.Entry.{Item, SpellsEntry, SpellsEntries, SpellsNoEntry, SpellsTree}
+use Rattle.gix_object_entries.specs.Entry.{Item, SpellsEntry, SpellsEntries, SpellsTree}
 use Rattle.gix_object_entries.specs.Order.{is_tree}
 use Rattle.gix_object_entries.proofs.Spelled.{one_entry, none_left}
 use Rattle.gix_object_tree.specs.Object.{Tree}
@@ -18,7 +15,7 @@ use Rattle.gix_object_find.specs.Table.{Table, Object}
 use Rattle.gix_object_find.specs.Existing.{Stands, StandsAs}
 use Rattle.gix_object_find.specs.declared.find.Error.TheVariants as looked_up
 use Rattle.gix_object_find.specs.declared.find.existing_iter.Error.TheVariants as not_given
-use Rattle.gix_traverse_tree.specs.Calls.{Answer, Call, pop_back, push_back, push, pop, at_tree, at_nontree, shown, visit_of, descends}
+use Rattle.gix_traverse_tree.specs.Calls.{Answer, Call, pop_back, push, pop, at_tree, at_nontree, visit_of}
 use Rattle.gix_traverse_tree.specs.Depth as depth
 use Rattle.gix_traverse_tree.specs.Depth.{InDepth, Place, before, inside as within}
 use Rattle.gix_traverse_tree.specs.Orders.{IsName, TellsName, HasNames}
@@ -27,18 +24,18 @@ use Rattle.gix_traverse_tree.proofs.Recording.{all_split}
 use Rattle.gix_traverse_tree.specs.Trees.{End, whole, broken, failed, is_among, TreeFault as WalkFault}
 use Rattle.gix_traverse_tree.specs.declared.error.Error.{Error}
 use Rattle.gix_traverse_tree.specs.declared.error.Error.TheVariants as walked
-use Rattle.history_model.specs.Bytes.{Bytes, has_byte, is_empty}
-use Rattle.history_model.specs.FileMap.{FileMap, Content, IsFileMap, components, inside, is_path}
-use Rattle.history_model.specs.Objects.{digest, Value, TreeEntry, FileEntry, FolderEntry, tree_entries, root_within, longest, root, folder_id, StoredFolder, tree_text}
+use Rattle.history_model.specs.Bytes.{Bytes, has_byte}
+use Rattle.history_model.specs.FileMap.{FileMap, Content, IsFileMap, inside, is_path}
+use Rattle.history_model.specs.Objects.{digest, Value, TreeEntry, FileEntry, FolderEntry, tree_entries, root_within, longest, root, folder_id, tree_text}
 use Rattle.history_model.proofs.WholeLists.{In, in_map, of_map, clash, and_true, some_inside, none_is_some, one_passes}
 use Rattle.history_model.proofs.WholePaths.{is_beginning}
 use Rattle.history_model.proofs.WholeItems.{Entry, leaf_in}
 use Rattle.history_model.proofs.WholeRoots.{HasAll, inside_has, of_inside, AreShorter, are_shorter}
 use Rattle.history_model.proofs.WholeStores.{in_get}
 use Rattle.history_model.proofs.IdLemmas.{one_id}
-use Rattle.history_files.specs.Unfolding.{IsInTable, entry_kind}
-use Rattle.history_files.proofs.Items.{items, items_spelled, item_of, item_name, name_of, name_plain, folder_of, digest_kind}
-use Rattle.history_files.proofs.Unfolded.{inside_map, plain_map, leaf_no_tree}
+use Rattle.history_files.specs.Unfolding.{IsInTable}
+use Rattle.history_files.proofs.Items.{items, item_of, item_name, name_of, name_plain, folder_of, digest_kind}
+use Rattle.history_files.proofs.Unfolded.{inside_map, leaf_no_tree}
 use Rattle.history_files.proofs.AtNames.{tree_of_map}
 use Rattle.history_files.proofs.Read.{same_tree}
 

@@ -1,6 +1,6 @@
 -- What is read of the trees of files, and why they aren't read: `honest` says whether a store answers by its table, `may_fail`
 -- whether its lookups may fail.
-use Rattle.std.specs.Prelude.{◌≡◌, ◌≢◌, ⊤, Option, Some, None, option_map, option_and_then, List, codes}
+use Rattle.std.specs.Prelude.{◌≡◌, ⊤, Option, Some, None, option_map, option_and_then, List, codes}
 use Rattle.gix_hash.specs.Id.{Id, id_of}
 use Rattle.gix_hash.specs.declared.kind.Kind.{Kind}
 use Rattle.gix_object_lines.specs.declared.kind.Kind.TheVariants as objects

@@ -1,4 +1,4 @@
-use Rattle.std.proofs.Common.{◌∙◌, ap, sym, subst, map}
+use Rattle.std.proofs.Common.{◌∙◌, ap, subst}
 use Rattle.gix_object_editor.specs.Files as unfolded
 use Rattle.gix_object_editor.specs.Files.{SameFiles, HasNoneBelow}
 use Rattle.gix_object_editor.specs.Editor.{files_of, names_of, leaf_of_kind}

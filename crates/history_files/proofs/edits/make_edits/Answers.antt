@@ -1,13 +1,12 @@
-use Rattle.std.proofs.Common.{◌≡◌, ◌∙◌, ◌≤◌, ◌+◌, ap, sym, subst, drop, get_or, length, arith, Bor, List, ℕ, []}
+use Rattle.std.proofs.Common.{◌∙◌, ◌+◌, ap, sym, subst, drop, get_or, arith, Bor, List, ℕ, []}
 use Rattle.gix_object_editor.specs.Files.{HasStored}
 use Rattle.gix_object_editor.specs.Editor.{files_of}
-use Rattle.history_model.specs.FileMap.{components}
 use Rattle.history_files.specs.Edits.{name_count}
 use Rattle.gix_hash.specs.declared.object_id.ObjectId.TheVariants.{Sha1}
 use Rattle.history_model.specs.declared.FileKind.TheVariants.{File as PlainFile}
 use Rattle.history_files.specs.declared.edits.Change.TheVariants.{Put}
 use Rattle.history_files.specs.declared.edits.Edit.{Edit}
-use Rattle.history_files.proofs.Changes.{IsLeft, at_first, at_last, one_done, cut_edit, none_left}
+use Rattle.history_files.proofs.Changes.{IsLeft, at_last, one_done, cut_edit, none_left}
 use Rattle.history_files.proofs.edits.make_edits.Goals as goal
 
 pub loop-edit-preserved : goal.loop-edit-preserved

@@ -1,4 +1,4 @@
-use Rattle.std.proofs.Common.{◌∙◌, ◌+◌, ap, sym, subst, ◌<◌, Bor, List, ℕ, [], ◌∷◌, Some, None, length, drop, get_or, refl}
+use Rattle.std.proofs.Common.{◌∙◌, ◌+◌, ap, sym, subst, Bor, List, ℕ, [], drop, get_or, refl}
 use Rattle.std.proofs.lemmas.Result.{err_from_is_err_and}
 use Rattle.gix_hash.specs.Id.{id_of}
 use Rattle.history_model.specs.Objects.{entry_at}

@@ -1,4 +1,4 @@
-use Rattle.std.proofs.Common.{◌≡◌, ◌++◌, map, drop, take, List}
+use Rattle.std.proofs.Common.{◌≡◌, map, take}
 use Rattle.std.specs.List.{filter_map}
 use Rattle.gix_traverse_tree.specs.Recorder.{recorded_of}
 use Rattle.history_files.specs.Reading.{line_of, line_recorded}

@@ -1,4 +1,4 @@
-use Rattle.std.proofs.Common.{sym, subst, ap}
+use Rattle.std.proofs.Common.{sym, subst}
 use Rattle.gix_hash.specs.Id.{id_of}
 use Rattle.history_files.specs.Reading.{OwnFault}
 use Rattle.history_files.proofs.Lines.{recorded_lines, own_fault}

@@ -1,7 +1,7 @@
-use Rattle.std.proofs.Common.{◌≡◌, ◌∙◌, ap, sym, subst, refl, map, List}
+use Rattle.std.proofs.Common.{◌≡◌, ◌∙◌, ap, sym, subst, refl, map}
 use Rattle.std.proofs.lemmas.Result.{err_from_is_err_and}
 use Rattle.gix_hash.specs.Id.{id_of}
-use Rattle.gix_object_entries.specs.Entry.{Item, item_of, own_item}
+use Rattle.gix_object_entries.specs.Entry.{item_of, own_item}
 use Rattle.gix_object_entries.specs.WellFormed.{IsWellFormed}
 use Rattle.gix_object_editor.specs.Files.{files_of_tree}
 use Rattle.gix_object_editor.specs.Editor.{files_of}
