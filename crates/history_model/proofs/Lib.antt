@@ -1,8 +1,8 @@
-mod PartLemmas
+pub mod PartLemmas
 pub mod IdLemmas
 mod GrammarLemmas
 mod RestLemmas
-mod EditLemmas
+pub mod EditLemmas
 pub mod NameTests
 pub mod NameLemmas
 mod RestRowLemmas
@@ -19,7 +19,7 @@ mod ReadingLemmas
 mod AfterFirstLemmas
 mod OneFileLemmas
 mod StreamRowLemmas
-mod EntryLemmas
+pub mod EntryLemmas
 mod TableLines
 mod TableRunLemmas
 mod TableReaches
@@ -33,17 +33,17 @@ mod OnePairLines
 pub mod OnePairTexts
 mod PastLemmas
 mod WholeCommands
-mod WholeForms
+pub mod WholeForms
 mod WholeGrowth
-mod WholeItems
+pub mod WholeItems
 pub mod WholeLists
 mod WholeNames
-mod WholePaths
+pub mod WholePaths
 mod WholeReads
-mod WholeRoots
+pub mod WholeRoots
 pub mod WholeSteps
 mod WholeStored
-mod WholeStores
+pub mod WholeStores
 pub mod WholeTexts
 pub mod TreePlaces
 pub mod TreePuts

@@ -1,0 +1,15 @@
+pub mod Components
+pub mod Items
+pub mod Unfolded
+pub mod Edited
+pub mod OneRoot
+pub mod Stores
+pub mod LawLemmas
+pub mod AtNames
+pub mod Among
+pub mod Read
+pub mod Walk
+pub mod Lines
+pub mod Changes
+pub mod InOrder
+pub mod Opened

@@ -1,0 +1,42 @@
+use Rattle.std.proofs.Common.{◌∙◌, ap, subst}
+use Rattle.gix_object_editor.specs.Files as unfolded
+use Rattle.gix_object_editor.specs.Files.{SameFiles, HasNoneBelow}
+use Rattle.gix_object_editor.specs.Editor.{files_of, names_of, leaf_of_kind}
+use Rattle.history_files.specs.Unfolding.{entry_kind}
+use Rattle.history_files.specs.Edits.{IsChange}
+use Rattle.history_files.proofs.Changes.{put_made, remove_made, file_removed, none_refused}
+use Rattle.history_files.proofs.edits.make_edit.Goals as goal
+
+pub returns-in-Put-clause-files : goal.returns-in-Put-clause-files
+returns-in-Put-clause-files g c = λ honest trees kind files made stored edit is.
+    let path = c.args.edit.now.path.now in
+    let names = ap names_of c.as_slice.ensures.value ∙ c.in_ok-names.ensures in
+    let old = files_of trees c.args.editor.now in
+    let new = files_of trees c.upsert.new.self in
+    let after = subst (λ k. SameFiles new (unfolded.put trees (names_of c.as_slice.result.now) (leaf_of_kind k c.in-Put.id) old)) c.entry_kind.ensures (c.in_ok-upsert-in-Put.ensures.put honest trees stored) in
+    put_made kind files old is path made new trees c.in-Put.kind c.in-Put.id (subst (λ change. IsChange kind path change made) c.in-Put.is edit)
+    (λ q. after q ∙ ap (λ ps. unfolded.put trees ps (leaf_of_kind (entry_kind c.in-Put.kind) c.in-Put.id) old q) names)
+
+pub returns-in-Remove-clause-files : goal.returns-in-Remove-clause-files
+returns-in-Remove-clause-files g c = λ honest trees kind files made stored edit is.
+    let path = c.args.edit.now.path.now in
+    let names = ap names_of c.as_slice-in-Remove.ensures.value ∙ c.in_ok-names.ensures in
+    let old = files_of trees c.args.editor.now in
+    remove_made kind files old is path made (files_of trees c.remove.new.self) (subst (λ change. IsChange kind path change made) c.in-Remove.is edit)
+    (λ q. c.in_ok-remove-in-Remove.ensures.removed honest trees stored q ∙ ap (λ ps. unfolded.removed ps old q) names)
+
+pub returns-clause-files : goal.returns-clause-files
+returns-clause-files g c = λ honest trees kind files made stored edit is.
+    let path = c.args.edit.now.path.now in
+    let names = ap names_of c.as_slice-in-RemoveFile.ensures.value ∙ c.in_ok-names.ensures in
+    let old = files_of trees c.args.editor.now in
+    file_removed kind files old is path made (files_of trees c.remove_leaf.new.self) (subst (λ change. IsChange kind path change made) c.in-RemoveFile.is edit)
+    (λ q. c.in_ok-remove_leaf-in-RemoveFile.ensures.removed honest trees stored q ∙ ap (λ ps. unfolded.removed ps old q) names)
+
+pub returns-clause-accepted : goal.returns-clause-accepted
+returns-clause-accepted g c = λ honest trees kind files made stored edit is.
+    let path = c.args.edit.now.path.now in
+    let names = ap names_of c.as_slice-in-RemoveFile.ensures.value ∙ c.in_ok-names.ensures in
+    let old = files_of trees c.args.editor.now in
+    none_refused kind files old is path made (files_of trees c.remove_leaf.new.self) (subst (λ change. IsChange kind path change made) c.in-RemoveFile.is edit)
+    (subst (λ ps. HasNoneBelow ps old) names (c.in_ok-remove_leaf-in-RemoveFile.ensures.leaf honest trees stored))

@@ -1,0 +1,44 @@
+use Rattle.std.proofs.Common.{◌∙◌, ◌+◌, ap, sym, subst, drop, get_or, arith, Bor, List, ℕ, []}
+use Rattle.gix_object_editor.specs.Files.{HasStored}
+use Rattle.gix_object_editor.specs.Editor.{files_of}
+use Rattle.history_files.specs.Edits.{name_count}
+use Rattle.gix_hash.specs.declared.object_id.ObjectId.TheVariants.{Sha1}
+use Rattle.history_model.specs.declared.FileKind.TheVariants.{File as PlainFile}
+use Rattle.history_files.specs.declared.edits.Change.TheVariants.{Put}
+use Rattle.history_files.specs.declared.edits.Edit.{Edit}
+use Rattle.history_files.proofs.Changes.{IsLeft, at_last, one_done, cut_edit, none_left}
+use Rattle.history_files.proofs.edits.make_edits.Goals as goal
+
+pub loop-edit-preserved : goal.loop-edit-preserved
+loop-edit-preserved g c =
+    let edits = c.args.edits.now in
+    let at = c.loop-edit.edit-index in
+    let none : Bor (List ℕ) = record { ref_ptr = (0, 0); now = [] } in
+    let other : Edit = record { path = none; change = Put PlainFile (Sha1 []) } in
+    let edit = get_or edits at other in
+    let cut = cut_edit edits at other c.loop-edit-test.true in
+    let kept = c.loop-edit.invariant.0 in
+    let count = ap name_count cut in
+    let before = c.loop-edit.invariant.1 in
+    let asked = c.make_edit.ensures.counted in (
+      c.make_edit.ensures.store ∙ kept,
+      omega arith,
+      λ honest trees kind files made stored are is.
+          let left = subst (λ es. IsLeft kind files made es (files_of trees c.loop-edit.editor)) cut (c.loop-edit.invariant.2 honest trees kind files made stored are is) in
+          let still = subst (λ s. g.S.Lookup.is_honest s) (sym kept) honest in
+          let here = subst (λ s. HasStored (g.S.Lookup.table s) trees) (sym kept) stored in
+          one_done kind files made edit (drop (at + 1) edits) (files_of trees c.loop-edit.editor) (files_of trees c.make_edit.new.editor) left
+          (λ now one is_edit unfolds. (c.in_ok-make_edit.ensures.files still trees kind now one here is_edit unfolds, c.in_ok-make_edit.ensures.accepted still trees kind now one here is_edit unfolds)),
+    )
+
+pub returns-clause-files : goal.returns-clause-files
+returns-clause-files g c = λ honest trees kind files made stored are is.
+    let left = c.loop-edit.invariant.2 honest trees kind files made stored are is in
+    let none = none_left c.args.edits.now c.loop-edit.edit-index c.loop-edit-test.false in
+    (at_last kind files made (files_of trees c.loop-edit.editor) (subst (λ es. IsLeft kind files made es (files_of trees c.loop-edit.editor)) none left)).0
+
+pub returns-clause-accepted : goal.returns-clause-accepted
+returns-clause-accepted g c = λ honest trees kind files made stored are is.
+    let left = c.loop-edit.invariant.2 honest trees kind files made stored are is in
+    let none = none_left c.args.edits.now c.loop-edit.edit-index c.loop-edit-test.false in
+    (at_last kind files made (files_of trees c.loop-edit.editor) (subst (λ es. IsLeft kind files made es (files_of trees c.loop-edit.editor)) none left)).1

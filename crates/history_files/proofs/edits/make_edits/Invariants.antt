@@ -1,0 +1,18 @@
+use Rattle.std.proofs.Common.{◌≡◌, ◌≤◌, ◌+◌, List, drop}
+use Rattle.gix_hash.specs.declared.kind.Kind.{Kind}
+use Rattle.gix_object_editor.specs.Files.{Trees, HasStored}
+use Rattle.gix_object_editor.specs.Editor.{files_of}
+use Rattle.history_model.specs.FileMap as model
+use Rattle.history_model.specs.FileMap.{FileMap}
+use Rattle.history_files.specs.Unfolding.{IsUnfolded}
+use Rattle.history_files.specs.Edits.{AreEdits, name_count}
+use Rattle.history_files.proofs.Changes.{IsLeft}
+use Rattle.history_files.proofs.edits.make_edits.Given as goal
+
+abbrev pub invariant-loop-edit : goal.invariant-loop-edit
+invariant-loop-edit g l =
+    (l.editor.store ≡ l.fn.editor.store)
+    × (l.editor.lookups + name_count (drop l.edit-index l.edits) ≤ l.fn.editor.lookups + name_count l.edits)
+    × (g.S.Lookup.is_honest l.fn.editor.store → (trees : Trees) (kind : Kind) (files : FileMap) (made : List model.Edit)
+    → HasStored (g.S.Lookup.table l.fn.editor.store) trees → AreEdits kind l.edits made → IsUnfolded kind files (files_of trees l.fn.editor)
+    → IsLeft kind files made (drop l.edit-index l.edits) (files_of trees l.editor))

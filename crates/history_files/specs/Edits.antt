@@ -1,0 +1,65 @@
+-- Edits as the code has them, and those of file maps that they are.
+use Rattle.std.specs.Prelude.{ℕ, ◌≡◌, ◌+◌, ⊤, false, length, List, [], ◌∷◌}
+use Rattle.gix_hash.specs.Id.{id_of}
+use Rattle.gix_hash.specs.declared.kind.Kind.{Kind}
+use Rattle.gix_object_lines.specs.declared.decode.Error as decode
+use Rattle.gix_object_lines.specs.declared.decode.Error.TheVariants as unread
+use Rattle.gix_object_find.specs.declared.find.Error.TheVariants as looked_up
+use Rattle.gix_object_find.specs.declared.find.existing_object.Error as existing
+use Rattle.gix_object_find.specs.declared.find.existing_object.Error.TheVariants as not_given
+use Rattle.gix_object_editor.specs.Files.{is_null}
+use Rattle.gix_object_editor.specs.declared.tree.editor.error.Error as editor
+use Rattle.gix_object_editor.specs.declared.tree.editor.error.Error.TheVariants as refused
+use Rattle.history_model.specs.Bytes.{Bytes}
+use Rattle.history_model.specs.FileMap as model
+use Rattle.history_model.specs.FileMap.{components}
+use Rattle.history_model.specs.Objects.{blob_id}
+use Rattle.history_files.specs.declared.edits.Change.{Change}
+use Rattle.history_files.specs.declared.edits.Change.TheVariants.{Put, Remove, RemoveFile}
+use Rattle.history_files.specs.declared.edits.Edit.{Edit}
+use Rattle.history_files.specs.declared.edits.EditError.{EditError}
+use Rattle.history_files.specs.declared.edits.EditError.TheVariants.{BadPath, IsFolder, Failed, Broken, Memory}
+
+-- the change at this path is this edit of a file map; the bytes that are put have the id, which isn't null
+abbrev pub IsChange : Kind → Bytes → Change → model.Edit → Type 0
+IsChange kind path (Put file id) made = (bytes : Bytes) × (made ≡ model.Put file path bytes) × (id_of id ≡ blob_id kind bytes) × (is_null (id_of id) ≡ false)
+IsChange kind path Remove made = made ≡ model.Remove path
+IsChange kind path RemoveFile made = made ≡ model.RemoveFile path
+
+abbrev pub IsEdit : Kind → Edit → model.Edit → Type 0
+IsEdit kind edit made = IsChange kind edit.path.now edit.change made
+
+abbrev pub AreEdits : Kind → List Edit → List model.Edit → Type 0
+AreEdits kind [] [] = ⊤
+AreEdits kind [] (made ∷ more) = ⊥
+AreEdits kind (edit ∷ edits) [] = ⊥
+AreEdits kind (edit ∷ edits) (made ∷ more) = IsEdit kind edit made × AreEdits kind edits more
+
+-- the names in the paths of edits
+abbrev pub name_count : List Edit → ℕ
+name_count [] = 0
+name_count (edit ∷ edits) = length (components edit.path.now) + name_count edits
+
+-- ---- errors
+
+abbrev pub unless_memory : decode.Error → EditError → EditError
+unless_memory unread.FieldName error = error
+unless_memory unread.HexDigits error = error
+unless_memory unread.LineEnd error = error
+unless_memory unread.InvalidActor error = error
+unless_memory unread.InvalidTime error = error
+unless_memory unread.Memory error = Memory
+
+abbrev pub as_unread : existing.Error → EditError
+as_unread (not_given.Find looked_up.Failed) = Failed
+as_unread (not_given.Find looked_up.Memory) = Memory
+as_unread (not_given.Decode oid source) = unless_memory source (Broken oid)
+as_unread (not_given.NotFound oid) = Broken oid
+as_unread (not_given.ObjectKind oid actual expected) = Broken oid
+
+abbrev pub as_edited : editor.Error → EditError
+as_edited refused.EmptyPathComponent = BadPath
+as_edited (refused.FindExistingObject error) = as_unread error
+as_edited (refused.CannotRemoveNonLeaf filename) = IsFolder
+as_edited (refused.MalformedTree oid) = Broken oid
+as_edited refused.Memory = Memory

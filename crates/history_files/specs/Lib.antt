@@ -1,0 +1,4 @@
+pub mod Unfolding
+pub mod Laws
+pub mod Reading
+pub mod Edits

@@ -1,0 +1,137 @@
+-- What is read of the trees of files, and why they aren't read: `honest` says whether a store answers by its table, `may_fail`
+-- whether its lookups may fail.
+use Rattle.std.specs.Prelude.{◌≡◌, ⊤, Option, Some, None, option_map, option_and_then, List, codes}
+use Rattle.gix_hash.specs.Id.{Id, id_of}
+use Rattle.gix_hash.specs.declared.kind.Kind.{Kind}
+use Rattle.gix_object_lines.specs.declared.kind.Kind.TheVariants as objects
+use Rattle.gix_object_lines.specs.declared.decode.Error as decode
+use Rattle.gix_object_lines.specs.declared.decode.Error.TheVariants as unread
+use Rattle.gix_object_entries.specs.Entry.{Item}
+use Rattle.gix_object_entries.specs.WellFormed.{IsWellFormed}
+use Rattle.gix_object_entries.specs.Mode.{kind_of}
+use Rattle.gix_object_entries.specs.declared.tree.mode.EntryKind.{EntryKind}
+use Rattle.gix_object_entries.specs.declared.tree.mode.EntryKind.TheVariants as entries
+use Rattle.gix_object_tree.specs.Object.{Tree}
+use Rattle.gix_object_find.specs.Table.{Table}
+use Rattle.gix_object_find.specs.Existing.{StandsAs}
+use Rattle.gix_object_find.specs.declared.find.Error as looking_up
+use Rattle.gix_object_find.specs.declared.find.Error.TheVariants as looked_up
+use Rattle.gix_object_find.specs.declared.find.existing_iter.Error as existing
+use Rattle.gix_object_find.specs.declared.find.existing_iter.Error.TheVariants as not_given
+use Rattle.gix_object_editor.specs.Files.{named}
+use Rattle.history_model.specs.Bytes.{Bytes}
+use Rattle.history_model.specs.FileMap.{FileMap, Content, IsFileMap}
+use Rattle.history_model.specs.Objects.{mode_of, folder_id, blob_id}
+use Rattle.history_model.specs.Replies.{FileLine}
+use Rattle.gix_traverse_tree.specs.Recorder.{Recorded}
+use Rattle.gix_traverse_tree.specs.declared.error.Error as walking
+use Rattle.gix_traverse_tree.specs.declared.error.Error.TheVariants as walked
+use Rattle.gix_hash.specs.declared.object_id.ObjectId.{ObjectId}
+use Rattle.history_model.specs.declared.FileKind.TheVariants.{File as PlainFile, Exec, Link}
+use Rattle.history_files.specs.Unfolding.{HasTrees}
+use Rattle.history_files.specs.declared.error.ReadError.{ReadError}
+use Rattle.history_files.specs.declared.error.ReadError.TheVariants.{Failed, Broken, Memory}
+use Rattle.history_files.specs.declared.listing.File.{File as BelowFile}
+use Rattle.history_files.specs.declared.found.Found.{Found}
+use Rattle.history_files.specs.declared.found.Found.TheVariants.{File, Folder}
+
+-- ---- errors
+
+abbrev pub as_looked_up : looking_up.Error → ReadError
+as_looked_up looked_up.Failed = Failed
+as_looked_up looked_up.Memory = Memory
+
+-- a content that isn't read; or no memory was left to read it
+abbrev pub unless_memory : decode.Error → ReadError → ReadError
+unless_memory unread.FieldName error = error
+unless_memory unread.HexDigits error = error
+unless_memory unread.LineEnd error = error
+unless_memory unread.InvalidActor error = error
+unless_memory unread.InvalidTime error = error
+unless_memory unread.Memory error = Memory
+
+abbrev pub as_read : existing.Error → ReadError
+as_read (not_given.Find error) = as_looked_up error
+as_read (not_given.NotFound oid) = Broken oid
+as_read (not_given.ObjectKind oid actual expected) = Broken oid
+
+-- no tree stands under the id that can be read
+abbrev pub HasNoTree : Table → Id → Type 0
+HasNoTree table id = (items : List Item) → StandsAs table id objects.Tree (Tree items) → ⊥
+
+-- why the tree under an id isn't read
+abbrev pub TreeFault : Type 0 → Type 0 → Table → Id → ReadError → Type 0
+TreeFault honest may_fail table id Failed = may_fail
+TreeFault honest may_fail table id (Broken oid) = (id_of oid ≡ id) × (honest → HasNoTree table id)
+TreeFault honest may_fail table id Memory = ⊤
+
+-- the root's tree and those below it stand in the table, and it is the root of these files
+pub record IsRootOf (table : Table) (kind : Kind) (files : FileMap) (root : Id) : Type 0 where
+  pub map : IsFileMap files
+  pub trees : HasTrees table kind files
+  pub id : root ≡ folder_id kind files
+
+-- a store that has the trees fails only where a lookup fails, or for want of memory
+abbrev pub OwnFault : Type 0 → ReadError → Type 0
+OwnFault may_fail Failed = may_fail
+OwnFault may_fail (Broken oid) = ⊥
+OwnFault may_fail Memory = ⊤
+
+-- ---- what stands at a path
+
+-- the mode and the id of what stands there
+abbrev pub entry_of : Found → Bytes × Id
+entry_of (File kind id) = (mode_of kind, id_of id)
+entry_of (Folder id) = (codes "40000", id_of id)
+
+-- what an entry of this kind names: a submodule is neither a file nor a folder
+abbrev pub named_as : EntryKind → Id → Option (Bytes × Id)
+named_as entries.Tree id = Some (codes "40000", id)
+named_as entries.Blob id = Some (mode_of PlainFile, id)
+named_as entries.BlobExecutable id = Some (mode_of Exec, id)
+named_as entries.Link id = Some (mode_of Link, id)
+named_as entries.Commit id = None
+
+abbrev pub named_by : Item → Option (Bytes × Id)
+named_by item = named_as (kind_of item.mode.value) item.id
+
+-- from what was found to what stands under a name in it: nothing in a file, and in a folder what its tree's entry names
+abbrev pub StepsBelow : Table → Found → Bytes → Option Found → Type 0
+StepsBelow table (File kind id) name next = next ≡ None
+StepsBelow table (Folder id) name next = (items : List Item) → StandsAs table (id_of id) objects.Tree (Tree items)
+    → option_map entry_of next ≡ option_and_then named_by (named name items)
+
+-- ---- all files below a root
+
+-- what is told of a file
+abbrev pub line_of : BelowFile → FileLine
+line_of file = record { kind = file.kind; id = id_of file.id; path = file.path.items }
+
+abbrev pub file_line : Kind → Bytes × Content → FileLine
+file_line kind file = record { kind = (file.1).kind; id = blob_id kind (file.1).bytes; path = file.0 }
+
+-- what is told of the file that an entry names, and of no other entry
+abbrev pub line_named : EntryKind → Id → Bytes → Option FileLine
+line_named entries.Tree id path = None
+line_named entries.Blob id path = Some (record { kind = PlainFile; id = id; path = path })
+line_named entries.BlobExecutable id path = Some (record { kind = Exec; id = id; path = path })
+line_named entries.Link id path = Some (record { kind = Link; id = id; path = path })
+line_named entries.Commit id path = None
+
+abbrev pub line_recorded : Recorded → Option FileLine
+line_recorded entry = line_named (kind_of entry.mode.value) entry.id entry.path
+
+-- why a walk from this root ended early
+abbrev pub as_walked : ObjectId → walking.Error → ReadError
+as_walked root (walked.Find error) = as_read error
+as_walked root walked.Cancelled = Broken root
+as_walked root (walked.ObjectDecode error) = Broken root
+as_walked root walked.Cycle = Broken root
+as_walked root walked.Memory = Memory
+
+-- why the tree under a root's id isn't opened for edits: none stands there that can be read and is well-formed
+abbrev pub RootFault : Type 0 → Type 0 → Table → Id → ReadError → Type 0
+RootFault honest may_fail table id Failed = may_fail
+RootFault honest may_fail table id (Broken oid) =
+    (id_of oid ≡ id) × (honest → (items : List Item) → StandsAs table id objects.Tree (Tree items) → IsWellFormed items → ⊥)
+RootFault honest may_fail table id Memory = ⊤

@@ -1,0 +1,172 @@
+//! Edits of a root's files.
+
+ghost use Rattle.std.specs.Prelude.{◌≡◌, ◌≤◌, ◌+◌, length, List, OnOk, IsErrOf, IsFalse};
+ghost use Rattle.gix_hash.specs.declared.kind.Kind.{Kind};
+ghost use Rattle.gix_object_editor.specs.Files.{Trees, HasStored};
+ghost use Rattle.gix_object_editor.specs.Editor.{files_of};
+ghost use Rattle.history_model.specs.FileMap as model;
+ghost use Rattle.history_model.specs.FileMap.{FileMap, components, edited, edited_by, is_refused, some_refused};
+ghost use Rattle.history_files.specs.Unfolding as unfolded;
+ghost use Rattle.history_files.specs.Unfolding.{IsUnfolded};
+ghost use Rattle.history_files.specs.Edits.{IsEdit, AreEdits, name_count, as_edited, as_unread};
+ghost use Rattle.history_files.specs.declared.edits.EditError.TheVariants.{Failed, Memory};
+
+use crate::names::names_of;
+use gix_hash::ObjectId;
+use gix_object_editor::tree::editor::{self, Editor};
+use gix_object_entries::tree::EntryKind;
+use gix_object_find::find::existing_object;
+use gix_object_find::{Find, find};
+use gix_object_lines::decode;
+use history_model::FileKind;
+use std::alloc::{AllocError, Global};
+
+/// What an edit does at its path.
+#[derive(Debug, Clone, Copy, PartialEq, Eq)]
+pub enum Change {
+    /// Puts a file there. All at or below the path goes, and each file above it.
+    Put {
+        /// What the file is.
+        kind: FileKind,
+        /// The id of its bytes.
+        id: ObjectId,
+    },
+    /// Takes out all at or below the path.
+    Remove,
+    /// The same, but refused where files stand below the path.
+    RemoveFile,
+}
+
+/// An edit of files.
+#[derive(Debug, Clone, Copy)]
+pub struct Edit<'a> {
+    /// Where it is made.
+    pub path: &'a [u8],
+    /// What it does there.
+    pub change: Change,
+}
+
+/// Why edits aren't made.
+#[derive(Debug, Clone, Copy, PartialEq, Eq, thiserror::Error)]
+pub enum EditError {
+    /// A path has an empty name.
+    #[error("a path has an empty name")]
+    BadPath,
+    /// Files stand below the path where a file is to be removed.
+    #[error("files stand below a path where a file is to be removed")]
+    IsFolder,
+    /// The store failed to look a tree up.
+    #[error("a tree couldn't be looked up")]
+    Failed,
+    /// No tree that can be read stands under this id.
+    #[error("no tree {oid} stands that can be read")]
+    Broken {
+        /// The id.
+        oid: ObjectId,
+    },
+    /// No memory is left.
+    #[error("out of memory")]
+    Memory,
+}
+
+impl From<editor::Error> for EditError {
+    ghost from_gives = { λ error given. given ≡ as_edited error };
+
+    fn from(error: editor::Error) -> EditError {
+        match error {
+            editor::Error::EmptyPathComponent => EditError::BadPath,
+            editor::Error::FindExistingObject(error) => unread(error),
+            editor::Error::CannotRemoveNonLeaf { .. } => EditError::IsFolder,
+            editor::Error::MalformedTree { oid } => EditError::Broken { oid },
+            editor::Error::Memory => EditError::Memory,
+        }
+    }
+}
+
+impl From<AllocError> for EditError {
+    ghost from_gives = { λ _ given. given ≡ Memory };
+
+    fn from(_: AllocError) -> EditError {
+        EditError::Memory
+    }
+}
+
+// Why a tree on a path isn't read.
+fn unread(error: existing_object::Error) -> EditError
+    ensures { result ≡ as_unread error }
+{
+    match error {
+        existing_object::Error::Find(error) => match error {
+            find::Error::Failed => EditError::Failed,
+            find::Error::Memory => EditError::Memory,
+        },
+        existing_object::Error::Decode { oid, source } => match source {
+            decode::Error::Memory => EditError::Memory,
+            _ => EditError::Broken { oid },
+        },
+        existing_object::Error::NotFound { oid } => EditError::Broken { oid },
+        existing_object::Error::ObjectKind { oid, .. } => EditError::Broken { oid },
+    }
+}
+
+/// Makes the edits in their order. The files are those that the editor has over trees of its store.
+///
+/// It is `BadPath` where a path has an empty name, `IsFolder` where a `RemoveFile` finds files below its path, `Failed` where a
+/// lookup failed, `Broken` where a tree on a path isn't there or can't be read, and `Memory` where no memory is left. Some of the
+/// edits before may be made then.
+pub fn make_edits<S: Find>(
+    alloc: Global,
+    editor: &mut Editor<S>,
+    edits: &[Edit<'_>],
+) -> Result<(), EditError>
+    ensures files { S.is_honest editor.old.store → OnOk result ((trees : Trees) (kind : Kind) (files : FileMap) (made : List model.Edit)
+        → HasStored (S.table editor.old.store) trees → AreEdits kind edits.now made → IsUnfolded kind files (files_of trees editor.old)
+        → IsUnfolded kind (edited_by files made) (files_of trees editor.new)) }
+    ensures accepted { S.is_honest editor.old.store → OnOk result ((trees : Trees) (kind : Kind) (files : FileMap) (made : List model.Edit)
+        → HasStored (S.table editor.old.store) trees → AreEdits kind edits.now made → IsUnfolded kind files (files_of trees editor.old)
+        → IsFalse (some_refused files made)) }
+    ensures counted { editor.new.lookups ≤ editor.old.lookups + name_count edits.now }
+    ensures store { editor.new.store ≡ editor.old.store }
+    ensures failed { IsErrOf result Failed → S.may_fail editor.old.store }
+{
+    for edit in edits {
+        make_edit(alloc, editor, edit)?;
+    }
+    Ok(())
+}
+
+// Makes one edit.
+fn make_edit<S: Find>(
+    alloc: Global,
+    editor: &mut Editor<S>,
+    edit: &Edit<'_>,
+) -> Result<(), EditError>
+    ensures files { S.is_honest editor.old.store → OnOk result ((trees : Trees) (kind : Kind) (files : FileMap) (made : model.Edit)
+        → HasStored (S.table editor.old.store) trees → IsEdit kind edit.now made → IsUnfolded kind files (files_of trees editor.old)
+        → IsUnfolded kind (edited files made) (files_of trees editor.new)) }
+    ensures accepted { S.is_honest editor.old.store → OnOk result ((trees : Trees) (kind : Kind) (files : FileMap) (made : model.Edit)
+        → HasStored (S.table editor.old.store) trees → IsEdit kind edit.now made → IsUnfolded kind files (files_of trees editor.old)
+        → IsFalse (is_refused files made)) }
+    ensures counted { editor.new.lookups ≤ editor.old.lookups + length (components edit.now.path.now) }
+    ensures store { editor.new.store ≡ editor.old.store }
+    ensures failed { IsErrOf result Failed → S.may_fail editor.old.store }
+{
+    let names = names_of(alloc, edit.path)?;
+    match edit.change {
+        Change::Put { kind, id } => {
+            Ok(editor.upsert(alloc, names.as_slice(), entry_kind(kind), id)?)
+        }
+        Change::Remove => Ok(editor.remove(alloc, names.as_slice())?),
+        Change::RemoveFile => Ok(editor.remove_leaf(alloc, names.as_slice())?),
+    }
+}
+
+fn entry_kind(kind: FileKind) -> EntryKind
+    ensures { result ≡ unfolded.entry_kind kind }
+{
+    match kind {
+        FileKind::File => EntryKind::Blob,
+        FileKind::Exec => EntryKind::BlobExecutable,
+        FileKind::Link => EntryKind::Link,
+    }
+}

@@ -1,0 +1,160 @@
+//! What stands at a path.
+
+ghost use Rattle.std.specs.Prelude.{◌≡◌, map, List, IfOk, IfErr, IsErrOf, None, option_map, option_and_then};
+ghost use Rattle.gix_hash.specs.Id.{Id, id_of};
+ghost use Rattle.gix_hash.specs.declared.kind.Kind.{Kind};
+ghost use Rattle.gix_object_lines.specs.declared.kind.Kind.TheVariants as objects;
+ghost use Rattle.gix_object_entries.specs.Entry.{Item, item_of};
+ghost use Rattle.gix_object_tree.specs.Object.{Tree};
+ghost use Rattle.gix_object_find.specs.Existing.{StandsAs};
+ghost use Rattle.gix_object_editor.specs.Files.{named};
+ghost use Rattle.history_model.specs.FileMap.{FileMap};
+ghost use Rattle.history_model.specs.Objects as model;
+ghost use Rattle.history_files.specs.Reading.{entry_of, named_by, TreeFault, IsRootOf, OwnFault, StepsBelow, unless_memory};
+ghost use Rattle.history_files.specs.declared.error.ReadError.TheVariants.{Failed, Broken};
+ghost use Rattle.history_files.specs.declared.found.Found.TheVariants.{File, Folder};
+
+use crate::error::ReadError;
+use crate::names::names_of;
+use gix_hash::ObjectId;
+use gix_object_entries::tree::{EntryKind, EntryRef};
+use gix_object_find::{Find, FindExt};
+use gix_object_lines::decode;
+use history_model::FileKind;
+use std::alloc::Global;
+
+/// What stands at a path.
+#[derive(Debug, Clone, Copy, PartialEq, Eq)]
+pub enum Found {
+    /// A file.
+    File {
+        /// What the file is.
+        kind: FileKind,
+        /// The id of its bytes.
+        id: ObjectId,
+    },
+    /// A folder, that is, files stand below the path.
+    Folder {
+        /// The id of its tree.
+        id: ObjectId,
+    },
+}
+
+/// What stands at a path of a root's files: a file, a folder, or nothing. The root is the id of a tree.
+///
+/// It is `Failed` where a lookup failed, `Broken` where a tree on the path isn't there or can't be read, and `Memory` where no
+/// memory is left.
+pub fn entry_at<S: Find>(
+    alloc: Global,
+    store: &S,
+    root: &ObjectId,
+    path: &[u8],
+) -> Result<Option<Found>, ReadError>
+    ensures found { S.is_honest store.now → (kind : Kind) (files : FileMap) → IsRootOf (S.table store.now) kind files (id_of root.now)
+        → IfOk result (λ found. option_map entry_of found ≡ model.entry_at kind files path.now) }
+    ensures refused { S.is_honest store.now → (kind : Kind) (files : FileMap) → IsRootOf (S.table store.now) kind files (id_of root.now)
+        → IfErr result (OwnFault (S.may_fail store.now)) }
+    ensures failed { IsErrOf result Failed → S.may_fail store.now }
+{
+    let names = names_of(alloc, path)?;
+    let mut found = Found::Folder { id: *root };
+    for name in names.as_slice() {
+        match below(alloc, store, found, name)? {
+            Some(next) => found = next,
+            None => return Ok(None),
+        }
+    }
+    Ok(Some(found))
+}
+
+// What stands under a name in what was found: nothing in a file.
+fn below<S: Find>(
+    alloc: Global,
+    store: &S,
+    found: Found,
+    name: &[u8],
+) -> Result<Option<Found>, ReadError>
+    ensures found { S.is_honest store.now → IfOk result (λ next. StepsBelow (S.table store.now) found name.now next) }
+    ensures refused { IfErr result (λ error. (tree : ObjectId) × (found ≡ Folder tree) × TreeFault (S.is_honest store.now) (S.may_fail store.now) (S.table store.now) (id_of tree) error) }
+{
+    match found {
+        Found::File { .. } => Ok(None),
+        Found::Folder { id } => named_in(alloc, store, &id, name),
+    }
+}
+
+// What stands under a name in the tree of this id.
+fn named_in<S: Find>(
+    alloc: Global,
+    store: &S,
+    tree: &ObjectId,
+    name: &[u8],
+) -> Result<Option<Found>, ReadError>
+    ensures found { S.is_honest store.now → IfOk result (λ found. (items : List Item) → StandsAs (S.table store.now) (id_of tree.now) objects.Tree (Tree items)
+        → option_map entry_of found ≡ option_and_then named_by (named name.now items)) }
+    ensures refused { IfErr result (TreeFault (S.is_honest store.now) (S.may_fail store.now) (S.table store.now) (id_of tree.now)) }
+{
+    let mut buffer = Vec::new(alloc);
+    let entries = entries_of(alloc, store, tree, &mut buffer)?;
+    Ok(named_among(entries.as_slice(), name))
+}
+
+// The entries of the tree of this id, which stand in the buffer.
+pub(crate) fn entries_of<'a, S: Find>(
+    alloc: Global,
+    store: &S,
+    tree: &ObjectId,
+    buffer: &'a mut Vec<u8>,
+) -> Result<Vec<EntryRef<'a>>, ReadError>
+    ensures read { S.is_honest store.now → IfOk result (λ entries.
+        StandsAs (S.table store.now) (id_of tree.now) objects.Tree (Tree (map item_of entries.items))) }
+    ensures refused { IfErr result (TreeFault (S.is_honest store.now) (S.may_fail store.now) (S.table store.now) (id_of tree.now)) }
+{
+    let content = store.find_tree_iter(tree.as_oid(), buffer)?;
+    match content.entries(alloc) {
+        Ok(entries) => Ok(entries),
+        Err(error) => Err(unread(error, *tree)),
+    }
+}
+
+// Why a tree's content isn't read.
+fn unread(error: decode::Error, oid: ObjectId) -> ReadError
+    ensures { result ≡ unless_memory error (Broken oid) }
+{
+    match error {
+        decode::Error::Memory => ReadError::Memory,
+        _ => ReadError::Broken { oid },
+    }
+}
+
+// What the first entry of the name names.
+fn named_among(entries: &[EntryRef<'_>], name: &[u8]) -> Option<Found>
+    ensures { option_map entry_of result ≡ option_and_then named_by (named name.now (map item_of entries.now)) }
+{
+    for entry in entries {
+        if name == entry.filename.as_bytes() {
+            return found_by(entry);
+        }
+    }
+    None
+}
+
+// What an entry names: a submodule is neither a file nor a folder.
+fn found_by(entry: &EntryRef<'_>) -> Option<Found>
+    ensures { option_map entry_of result ≡ named_by (item_of entry.now) }
+{
+    let id = ObjectId::from(entry.oid);
+    match entry.mode.kind() {
+        EntryKind::Tree => Some(Found::Folder { id }),
+        EntryKind::Blob => Some(file(FileKind::File, id)),
+        EntryKind::BlobExecutable => Some(file(FileKind::Exec, id)),
+        EntryKind::Link => Some(file(FileKind::Link, id)),
+        EntryKind::Commit => None,
+    }
+}
+
+fn file(kind: FileKind, id: ObjectId) -> Found
+    ensures { result ≡ File kind id }
+{
+    Found::File { kind, id }
+}

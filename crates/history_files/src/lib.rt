@@ -1,0 +1,16 @@
+//! Whole file maps over stores of trees: what stands at a path.
+#![tactic(auto)]
+
+mod edits;
+mod error;
+mod found;
+pub mod laws;
+mod listing;
+mod names;
+mod opening;
+
+pub use edits::{Change, Edit, EditError, make_edits};
+pub use error::ReadError;
+pub use found::{Found, entry_at};
+pub use listing::{File, files};
+pub use opening::open_editor;

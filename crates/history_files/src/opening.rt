@@ -1,0 +1,46 @@
+//! An editor of a root's files.
+
+ghost use Rattle.std.specs.Prelude.{◌≡◌, IfOk, IfErr};
+ghost use Rattle.gix_hash.specs.Id.{id_of};
+ghost use Rattle.gix_hash.specs.declared.kind.Kind.{Kind};
+ghost use Rattle.gix_object_editor.specs.Files.{Trees, HasStored};
+ghost use Rattle.gix_object_editor.specs.Editor.{files_of};
+ghost use Rattle.history_model.specs.FileMap.{FileMap};
+ghost use Rattle.history_files.specs.Unfolding.{IsUnfolded};
+ghost use Rattle.history_files.specs.Reading.{IsRootOf, RootFault, OwnFault};
+
+use crate::error::ReadError;
+use crate::found::entries_of;
+use gix_hash::ObjectId;
+use gix_object_editor::tree::editor::Editor;
+use gix_object_entries::TreeRef;
+use gix_object_find::Find;
+use std::alloc::Global;
+
+/// An editor of a root's files, which looks trees up in the store. The root is the id of a tree.
+///
+/// It is `Failed` where the lookup failed, `Broken` where no tree stands under the root's id that can be read and is well-formed,
+/// and `Memory` where no memory is left.
+pub fn open_editor<S: Find>(
+    alloc: Global,
+    store: S,
+    root: &ObjectId,
+) -> Result<Editor<S>, ReadError>
+where
+    S: Drop,
+    ensures files { S.is_honest store → (kind : Kind) (files : FileMap) → IsRootOf (S.table store) kind files (id_of root.now)
+        → IfOk result (λ editor. (trees : Trees) → HasStored (S.table store) trees → IsUnfolded kind files (files_of trees editor)) }
+    ensures own { S.is_honest store → (kind : Kind) (files : FileMap) → IsRootOf (S.table store) kind files (id_of root.now)
+        → IfErr result (OwnFault (S.may_fail store)) }
+    ensures store { IfOk result (λ editor. editor.store ≡ store) }
+    ensures uncounted { IfOk result (λ editor. editor.lookups ≡ 0) }
+    ensures refused { IfErr result (RootFault (S.is_honest store) (S.may_fail store) (S.table store) (id_of root.now)) }
+{
+    let mut buffer = Vec::new(alloc);
+    let entries = entries_of(alloc, &store, root, &mut buffer)?;
+    let tree = TreeRef { entries }.to_owned()?;
+    if !tree.is_well_formed() {
+        return Err(ReadError::Broken { oid: *root });
+    }
+    Ok(Editor::new(alloc, &tree, store)?)
+}
