@@ -21,6 +21,7 @@ pub use commit::Commit;
 pub use creation::{CreateError, create};
 pub use gix_object::Kind as ObjectKind;
 pub use id_text::hex_digits;
+pub use ids::IdIter;
 pub use log_entry::LogEntry;
 pub use names::Names;
 pub use object::NewObject;
