@@ -94,20 +94,6 @@ returns-clause-moments g c = λ honest.
           (w.write.ensures.moments honest) (w.write.ensures.folders honest) (w.write.ensures.stay honest))
     ]
 
-pub returns-in_err-insert-clause-moments : goal.returns-in_err-insert-clause-moments
-returns-in_err-insert-clause-moments g c = λ honest.
-    let old = g.F.Files.history c.args.self.now.files in
-    let object = c.args.object.now in
-    let content = c.as_slice-content.result.now in
-    elim c.if-branch.branch [
-      | then-branch+in_ok-holds+else-not-branch w ↦ subst (λ s. Adds (MayPut object old.tree) old (g.F.Files.history s.files)) (sym w.self-is) (adds_nothing old)
-      | else-branch+in_ok-write w ↦
-          subst (λ s. Adds (MayPut object old.tree) old (g.F.Files.history s.files)) (sym w.self-is)
-          (put_at object _ _ old _ (w.deref-else-branch.ensures.value ∙ c.in_ok-place.ensures)
-          (ap (λ h. h ++ content) w.deref-else-branch-2.ensures.0 ∙ spelled object content _ c.as_slice-content.ensures.value c.loose_header-header.ensures)
-          (w.write.ensures.moments honest) (w.write.ensures.folders honest) (w.write.ensures.stay honest))
-    ]
-
 pub returns-in_err-write-clause-moments : goal.returns-in_err-write-clause-moments
 returns-in_err-write-clause-moments g c = λ honest.
     let old = g.F.Files.history c.args.self.now.files in
