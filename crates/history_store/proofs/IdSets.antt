@@ -9,6 +9,10 @@ use Rattle.std.specs.declared.cmp.Ordering.TheVariants.{Less, Equal, Greater}
 use Rattle.std.specs.FinMap.{contains_key, get, get-empty, put}
 use Rattle.std.specs.FinMap.Entries.{by_order, is_sorted, is_sorted-put}
 use Rattle.std.proofs.lemmas.List.Folds.{list_any-append}
+use Rattle.std.proofs.lemmas.Map.Views.{Contains-from_any}
+use Rattle.std.specs.List.{Contains}
+use Rattle.std.specs.Ordering.{eq_by_cmp}
+use Rattle.std.specs.FinMap.{contains_key-keys, keys}
 use Rattle.std.proofs.lemmas.List.Sorted.{searchable_from_sorted}
 use Rattle.std.specs.Prelude.{T}
 use Rattle.std.proofs.Common.{subst}
@@ -17,7 +21,7 @@ use Rattle.gix_hash.specs.Order.{id_eq}
 use Rattle.gix_hash.specs.OrderLaws.{id_total, id_tied}
 use Rattle.gix_hash.specs.declared.object_id.ObjectId.{ObjectId}
 use Rattle.history_model.specs.Objects.{by_id}
-use Rattle.history_model.proofs.IdLemmas.{get_with_id, one_by_ids}
+use Rattle.history_model.proofs.IdLemmas.{get_with_id, one_by_ids, same_id_tie}
 use Rattle.history_store.specs.Ids.{IdSet, is_one_of, marked, set_of, with_id}
 
 -- ---- sets
@@ -169,3 +173,12 @@ each_after (x ∷ y ∷ ids) order (suc k) d low high =
 
 pub rising : (ids : List ObjectId) (id : ObjectId) → AreInOrder ids → IsNonDecreasingBy (λ y. ordering_index (by_own_id y id)) ids
 rising ids id order = searchable_from_sorted id_total id_of ids (id_of id) (each_after ids order)
+
+-- an id of a set is among those that are listed of it
+pub listed : (ids : IdSet) (id : Id) → contains_key ids id ≡ true → Contains (keys ids) id
+listed ids id has = Contains-from_any {eq = eq_by_cmp by_id} (λ x y same. same_id_tie x y (equal (by_id x y) same)) id (keys ids) (sym (contains_key-keys ids id) ∙ has)
+  where
+    equal : (r : Ordering) → is_eq r ≡ true → r ≡ Equal
+    equal Less h = cc
+    equal Equal h = refl
+    equal Greater h = cc

@@ -5,6 +5,8 @@ pub mod Face
 pub mod Formats
 pub mod Ids
 pub mod KeptIds
+pub mod KnownObjects
+pub mod Lookups
 pub mod ObjectTexts
 pub mod Opening
 pub mod Parts

@@ -26,6 +26,6 @@ pub use log_entry::LogEntry;
 pub use names::Names;
 pub use object::NewObject;
 pub use objects::{Object, Objects, PutError};
-pub use opening::{OpenError, new_branch};
+pub use opening::{ObjectsRefusal, OpenError, new_branch};
 pub use parts::{Part, Stray, survey};
 pub use tree::{Tree, TreeEntry};

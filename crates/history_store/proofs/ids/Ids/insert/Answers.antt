@@ -13,7 +13,7 @@ invariant_of-self c =
     let begins : Begins (id_of c.args.id) byte = subst (Begins (id_of c.args.id)) (sym c.from.ensures) c.first_byte.ensures in
     let room = c.requires byte (sym begins) in
     let free : vec_len list < vec_capacity list = subst (λ (l : Vec ObjectId Global). vec_len l < vec_capacity l) (sym c.index_mut-list.ensures.value) (room.free list) in
-    let put_in = c.insert-inserted.ensures.items ∙ ap (λ ok. if ok then insert list.items c.in-Err.place c.args.id else list.items) (c.insert-inserted.ensures.succeeds free) ∙ ap (λ xs. insert xs c.in-Err.place c.args.id) (sym c.deref.ensures.value) in
+    let put_in : c.insert-inserted.new.self.items ≡ insert c.deref.result.now c.in-Err.place c.args.id = c.insert-inserted.ensures.items ∙ ap (λ ok. if ok then insert list.items c.in-Err.place c.args.id else list.items) (c.insert-inserted.ensures.succeeds free) ∙ ap (λ xs. insert xs c.in-Err.place c.args.id) (sym c.deref.ensures.value) in
     record { in_order = still_lists ids.lists.items ids.in_order c.args.id byte begins list room.stands c.index_mut-list.ensures.value c.deref.result.now c.deref.ensures.value c.in-Err.place c.in-Err.ensures.bound c.in-Err.ensures.position c.insert-inserted.new.self put_in }
 
 pub returns-in-Err : goal.returns-in-Err
@@ -24,7 +24,7 @@ returns-in-Err c =
     let begins : Begins (id_of c.args.id) byte = subst (Begins (id_of c.args.id)) (sym c.from.ensures) c.first_byte.ensures in
     let room = c.requires byte (sym begins) in
     let free : vec_len list < vec_capacity list = subst (λ (l : Vec ObjectId Global). vec_len l < vec_capacity l) (sym c.index_mut-list.ensures.value) (room.free list) in
-    let put_in = c.insert-inserted.ensures.items ∙ ap (λ ok. if ok then insert list.items c.in-Err.place c.args.id else list.items) (c.insert-inserted.ensures.succeeds free) ∙ ap (λ xs. insert xs c.in-Err.place c.args.id) (sym c.deref.ensures.value) in
+    let put_in : c.insert-inserted.new.self.items ≡ insert c.deref.result.now c.in-Err.place c.args.id = c.insert-inserted.ensures.items ∙ ap (λ ok. if ok then insert list.items c.in-Err.place c.args.id else list.items) (c.insert-inserted.ensures.succeeds free) ∙ ap (λ xs. insert xs c.in-Err.place c.args.id) (sym c.deref.ensures.value) in
     listed_new ids.lists.items ids.in_order c.args.id byte begins list room.stands c.index_mut-list.ensures.value c.deref.result.now c.deref.ensures.value c.in-Err.place c.in-Err.ensures.bound c.in-Err.ensures.position c.insert-inserted.new.self put_in
 
 pub returns-in_default : goal.returns-in_default
