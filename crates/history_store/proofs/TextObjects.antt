@@ -1,6 +1,6 @@
 -- The object that a text is.
-use Rattle.std.proofs.Common.{◌≡◌, ℕ, zero, suc, ◌+◌, ◌<◌, ◌≤◌, ◌^◌, drop, subst, Bool, true, false, List, [], ◌∷◌, ◌++◌, ◌||◌, length, refl, sym, ◌∙◌, ap, append_assoc, arith, Option, Some, None, if◌then◌else◌}
-use Rattle.std.specs.Prelude.{bytes_eq, decimal, ◌==◌, IsFalse}
+use Rattle.std.proofs.Common.{◌≡◌, ℕ, zero, suc, ◌<◌, ◌≤◌, ◌^◌, drop, subst, Bool, true, false, [], ◌∷◌, ◌++◌, ◌||◌, length, refl, sym, ◌∙◌, ap, append_assoc, arith, Option, Some, None, if◌then◌else◌}
+use Rattle.std.specs.Prelude.{bytes_eq, decimal, ◌==◌}
 use Rattle.std.specs.List.{list_any}
 use Rattle.std.proofs.lemmas.Slice.Eq.{bytes_eq-Decides}
 use Rattle.std.proofs.lemmas.List.Folds.{list_any-append}

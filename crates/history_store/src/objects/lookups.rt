@@ -10,7 +10,7 @@ ghost use Rattle.history_store.specs.ObjectTexts.{object_in};
 use crate::object::parse_header;
 use crate::objects::{Objects, cut_front, object_place};
 use gix_hash::{ObjectId, oid};
-use gix_object::{Exists, Find, Kind as ObjectKind, Lookup, find};
+use gix_object::{Exists, Find, FindHeader, Header, Kind as ObjectKind, Lookup, find};
 use gix_ref_file::{FileError, Files};
 
 impl<F: Files> Lookup for Objects<F> {
@@ -44,6 +44,20 @@ impl<F: Files> Find for Objects<F> {
         match self.files.read(&place, buffer) {
             Ok(_) => Ok(take_header(buffer)),
             Err(error) => Err(find_fault(error)),
+        }
+    }
+}
+
+impl<F: Files> FindHeader for Objects<F> {
+    fn try_header(&self, id: oid<'_>) -> Result<Option<Header>, find::Error> {
+        let mut content = Vec::new(self.alloc);
+        match self.find_into(id, &mut content) {
+            Ok(Some(kind)) => Ok(Some(Header {
+                kind,
+                size: content.len() as u64,
+            })),
+            Ok(None) => Ok(None),
+            Err(error) => Err(error),
         }
     }
 }

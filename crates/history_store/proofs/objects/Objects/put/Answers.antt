@@ -15,8 +15,6 @@ use Rattle.gix_ref_file.specs.Changes.{is_file_at}
 use Rattle.gix_ref_file.specs.History.{History, Adds}
 use Rattle.gix_ref_file.proofs.Histories.{adds_both, adds_nothing, adds_weaker}
 use Rattle.history_model.specs.Bytes.{Bytes}
-use Rattle.history_model.specs.Places.{object_place}
-use Rattle.gix_object_lines.specs.declared.kind.Kind.{Kind as ObjectKind}
 use Rattle.history_store.proofs.Stored.{taken_by_other, none_other, same_other, untaken}
 use Rattle.history_store.proofs.objects.Objects.put.Goals as goal
 use Rattle.history_store.proofs.objects.Objects.put.Goals.{then-branch+in_ok-holds+else-not-branch, else-branch+in_ok-write}

@@ -1,7 +1,7 @@
-use Rattle.std.proofs.Common.{◌≡◌, ◌≤◌, ◌<◌, ◌^◌, ◌∙◌, sym, ap, subst, drop, length, Some, arith}
+use Rattle.std.proofs.Common.{◌∙◌, sym, ap, subst, arith}
 use Rattle.std.specs.Option.{option_map}
 use Rattle.gix_object_find.specs.Table.{content_or_none}
-use Rattle.history_store.specs.ObjectTexts.{object_in, IsNoObject}
+use Rattle.history_store.specs.ObjectTexts.{IsNoObject}
 use Rattle.history_store.proofs.TextObjects.{object_in-none, object_in-read}
 use Rattle.history_store.proofs.objects.lookups.take_header.Goals as goal
 
