@@ -1,11 +1,11 @@
 -- What the changes of a put leave of the files.
 use Rattle.std.proofs.Common.{◌≡◌, ◌≢◌, ◌⊎◌, inl, inr, refl, sym, ◌∙◌, ap, subst, Bool, true, false, cond, ◌&&◌, [], ◌∷◌, ◌++◌, take}
-use Rattle.std.specs.Prelude.{IsTrue, Option, Some, None, is_some, is_none, unwrap_or, Result, Ok, Err, OnOk}
+use Rattle.std.specs.Prelude.{IsTrue, Option, Some, None, is_some, is_none, unwrap_or, Result, Ok, Err, OnErr, OnOk}
 use Rattle.std.specs.Bool.{Decides}
 use Rattle.std.proofs.lemmas.List.{append_cancel_left}
 use Rattle.std.specs.FinMap.{get, insert, remove}
 use Rattle.gix_ref_file.specs.Tree.{Tree, Node, file, folder, same_path, node_at, bytes_of, bytes_at}
-use Rattle.gix_ref_file.specs.Changes.{to_write, to_append, to_rename, to_make_folder, allows, after, may_hold_file, is_file_at, MayLeave}
+use Rattle.gix_ref_file.specs.Changes.{Change, to_write, to_append, to_rename, to_make_folder, allows, after, may_hold_file, is_file_at, MayLeave}
 use Rattle.gix_ref_file.specs.History.{History, Adds}
 use Rattle.gix_ref_file.proofs.Histories.{adds_weaker, adds_joined}
 use Rattle.gix_ref_file.proofs.Rooted.{adds_now}
@@ -196,3 +196,36 @@ pub untaken : (object : NewObject) (tree : Tree) (reserved : Bool) → reserved 
     → ((other : Bytes) × (file_at tree (place_of object) ≡ Some other) × (other ≢ text_of object) → ⊥) → IsTaken object tree → ⊥
 untaken object tree reserved told free alone (inl taken) = absurd (cc (sym free ∙ told ∙ taken))
 untaken object tree reserved told free alone (inr other) = alone other
+
+-- ---- where a failed change changes nothing
+
+-- a change of the unfinished file leaves the others
+pub now_keeps : (change : Change) (old new : History) → Adds (MayLeave change old.tree) old new → ((x : Tree) → MayLeave change old.tree x → KeepsFiles old.tree x) → KeepsFiles old.tree new.tree
+now_keeps change old new adds keeps = from_now (adds_now _ old new adds)
+  where
+    from_now : (new.tree ≡ old.tree) ⊎ MayLeave change old.tree new.tree → KeepsFiles old.tree new.tree
+    from_now (inl same) = λ q apart. ap (λ y. file_at y q) same
+    from_now (inr left) = keeps new.tree left
+
+pub kept_when_made : (old made : History) → Adds (SameFiles old.tree) old made → KeepsFiles old.tree made.tree
+kept_when_made old made first = same_keeps old.tree made.tree (now_same old made first)
+
+pub kept_when_written : (header : Bytes) (old made written : History) → Adds (SameFiles old.tree) old made → Adds (MayLeave (to_write unfinished_place header) made.tree) made written → KeepsFiles old.tree written.tree
+kept_when_written header old made written first second =
+    keeps_then_keeps old.tree made.tree written.tree (kept_when_made old made first) (now_keeps (to_write unfinished_place header) made written second (while_written header made.tree))
+
+pub kept_when_appended : (header content : Bytes) (old made written appended : History) → Adds (SameFiles old.tree) old made → Adds (MayLeave (to_write unfinished_place header) made.tree) made written
+    → Adds (MayLeave (to_append unfinished_place content) written.tree) written appended → KeepsFiles old.tree appended.tree
+kept_when_appended header content old made written appended first second third =
+    keeps_then_keeps old.tree written.tree appended.tree (kept_when_written header old made written first second) (now_keeps (to_append unfinished_place content) written appended third (while_appended content written.tree))
+
+pub on_err_any : {T E P : Type 0} (r : Result T E) → P → OnErr r P
+on_err_any (Ok x) p = tt
+on_err_any (Err e) p = p
+
+pub on_err_weaker : {T E P Q : Type 0} (r : Result T E) → (P → Q) → OnErr r P → OnErr r Q
+on_err_weaker (Ok x) f p = tt
+on_err_weaker (Err e) f p = f p
+
+pub told_err : {T E P : Type 0} (r : Result T E) (e : E) → r ≡ Err e → OnErr r P → P
+told_err {T} {E} {P} r e is p = subst (λ (answer : Result T E). OnErr answer P) is p

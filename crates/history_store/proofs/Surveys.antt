@@ -1,6 +1,6 @@
 -- Listings from the root reach each path that stands.
-use Rattle.std.proofs.Common.{◌≡◌, ℕ, zero, suc, Vec, ◌+◌, ◌-◌, ◌<◌, ◌≤◌, Bool, true, false, cond, ◌&&◌, ◌||◌, List, [], ◌∷◌, ◌++◌, length, drop, map, filter_map, Option, Some, None, refl, sym, ◌∙◌, ap, subst, arith, length-append}
-use Rattle.std.specs.Prelude.{IsTrue, IsFalse, IsSome, is_some, nat_le, nat_lt, MatchOption, Result, Ok, Err, IfOk}
+use Rattle.std.proofs.Common.{◌≡◌, ℕ, zero, suc, Vec, ◌+◌, ◌-◌, ◌<◌, ◌≤◌, Bool, true, false, cond, ◌&&◌, ◌||◌, List, [], ◌∷◌, ◌++◌, length, map, filter_map, Option, Some, None, refl, sym, ◌∙◌, ap, subst, arith, length-append}
+use Rattle.std.specs.Prelude.{IsTrue, IsSome, is_some, nat_le, nat_lt, MatchOption, Result, Ok, Err, IfOk}
 use Rattle.gix_ref_file.specs.declared.files.FileError.{FileError}
 use Rattle.history_store.specs.declared.parts.Stray.{Stray}
 use Rattle.std.specs.List.{suffix_len, after_last, cons_option, list_any, list_all, slice_split}
@@ -14,7 +14,7 @@ use Rattle.gix_ref_file.proofs.Ascending.{root_name}
 use Rattle.gix_ref_file.specs.Tree.{Tree, Node, file, folder, same_path, is_slash, is_component, is_path, parent, name_in, names_at, node_at, place_of, is_folder, bytes_of, IsRooted}
 use Rattle.gix_ref_file.specs.Changes.{is_file_at}
 use Rattle.gix_ref_file.proofs.Trees.{one_path, same_path_itself}
-use Rattle.gix_ref_file.proofs.Below.{inside, slash_before, path_in_folder}
+use Rattle.gix_ref_file.proofs.Below.{inside, path_in_folder}
 use Rattle.history_model.specs.Bytes.{Bytes}
 use Rattle.history_store.specs.Parts.{may_hold_folder, IsClearAt, IsClear, IsStray, path_in, above, IsClearBelow}
 use Rattle.history_store.specs.declared.parts.Part.{Part}

@@ -1,14 +1,17 @@
--- Sets of ids, and codes for ids.
-use Rattle.std.specs.Prelude.{◌≡◌, ℕ, Bool, true, false, List, T, map, refl}
+-- Sets of ids, kept as ascending lists, one for each first byte; and codes for ids.
+use Rattle.std.specs.Prelude.{◌≡◌, ⊤, ℕ, suc, Bool, true, false, ◌&&◌, List, [], ◌∷◌, Vec, map, take, bytes_eq, refl}
+use Rattle.std.specs.List.{AllByRecursion, flat_map, list_all, list_any}
+use Rattle.std.specs.declared.alloc.Global.{Global}
+use Rattle.std.specs.declared.cmp.Ordering.TheVariants.{Less}
 use Rattle.std.specs.Coded.{Coded, code_by, coded×, coded_ℕ, coded_bool, coded_list}
-use Rattle.std.specs.FinMap.{from_sorted, is_sorted, insert}
-use Rattle.std.specs.FinSet as finite
+use Rattle.std.specs.FinMap.{empty, is_sorted, insert}
 use Rattle.std.specs.FinSet.{FinSet}
 use Rattle.gix_hash.specs.declared.kind.Kind.{Kind}
 use Rattle.gix_hash.specs.declared.kind.Kind.TheVariants as kinds
 use Rattle.gix_hash.specs.declared.object_id.ObjectId.{ObjectId}
 use Rattle.gix_hash.specs.declared.object_id.ObjectId.TheVariants.{Sha1, Sha256}
-use Rattle.gix_hash.specs.Id.{Id, id_of, bytes_of}
+use Rattle.gix_hash.specs.Id.{Id, id_of, bytes_of, digits_of}
+use Rattle.gix_hash.specs.Order.{id_eq, digits_cmp}
 use Rattle.history_model.specs.Objects.{by_id}
 
 -- a set of ids is a finite map with nothing at each of its keys
@@ -19,16 +22,46 @@ IdSet = FinSet by_id
 abbrev pub with_id : IdSet → Id → IdSet
 with_id ids id = insert ids id tt
 
+-- the set of some ids
+abbrev pub set_of : List ObjectId → IdSet
+set_of [] = empty
+set_of (id ∷ ids) = with_id (set_of ids) (id_of id)
+
+-- whether the id is one of these
+abbrev pub is_one_of : List ObjectId → Id → Bool
+is_one_of ids id = list_any (λ other. id_eq id (id_of other)) ids
+
+-- ---- lists
+
+-- the id's first two digits are the byte's
+abbrev pub begins_with : ℕ → ObjectId → Bool
+begins_with byte id = bytes_eq (take 2 (id_of id).digits) (digits_of (byte ∷ []))
+
 -- ids with nothing at each
 abbrev pub marked : List ObjectId → List (Id × Unit {0})
 marked ids = map (λ id. (id_of id, tt)) ids
 
--- the set of ids in their order
-abbrev pub set_of : List ObjectId → IdSet
-set_of ids = from_sorted (marked ids)
+-- the ids begin with the byte, and ascend
+abbrev pub is_list_of : ℕ → List ObjectId → Bool
+is_list_of byte ids = list_all (begins_with byte) ids && is_sorted by_id (marked ids)
 
-abbrev pub AreInOrder : List ObjectId → Type 0
-AreInOrder ids = T (is_sorted by_id (marked ids))
+-- the lists are those of this byte and of the bytes that follow it
+abbrev pub are_lists : ℕ → List (Vec ObjectId Global) → Bool
+are_lists byte [] = true
+are_lists byte (list ∷ lists) = is_list_of byte list.items && are_lists (suc byte) lists
+
+-- the ids of all lists
+abbrev pub joined : List (Vec ObjectId Global) → List ObjectId
+joined lists = flat_map (λ list. list.items) lists
+
+-- the id comes before the other, where both are of one kind
+abbrev pub ComesBefore : ObjectId → ObjectId → Type 0
+ComesBefore id other = (id_of id).kind ≡ (id_of other).kind → digits_cmp (id_of id).digits (id_of other).digits ≡ Less
+
+-- the ids of one kind ascend
+abbrev pub IsAscending : List ObjectId → Type 0
+IsAscending [] = ⊤
+IsAscending (id ∷ ids) = AllByRecursion (ComesBefore id) ids × IsAscending ids
 
 -- ---- codes
 
@@ -43,12 +76,6 @@ kind_from true = kinds.Sha256
 pub kind_from-is_sha256 : (kind : Kind) → kind_from (is_sha256 kind) ≡ kind
 kind_from-is_sha256 kinds.Sha1 = refl
 kind_from-is_sha256 kinds.Sha256 = refl
-
-abbrev pub coded_id : Coded Id
-coded_id = code_by (Bool × List ℕ) (coded× coded_bool (coded_list coded_ℕ)) (λ id. (is_sha256 id.kind, id.digits)) (λ p. record { kind = kind_from p.0; digits = p.1 }) (λ id. λ i. record { kind = kind_from-is_sha256 id.kind i; digits = id.digits })
-
-abbrev pub coded_ids : Coded IdSet
-coded_ids = finite.code coded_id
 
 abbrev pub object_id_from : Bool → List ℕ → ObjectId
 object_id_from false bytes = Sha1 bytes

@@ -4,6 +4,9 @@ pub mod Creation
 pub mod Face
 pub mod Formats
 pub mod Ids
+pub mod KeptIds
+pub mod KnownObjects
+pub mod Lookups
 pub mod ObjectTexts
 pub mod Opening
 pub mod Parts

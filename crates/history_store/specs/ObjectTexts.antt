@@ -1,5 +1,5 @@
 -- The texts of objects, and the ids that they have (gitformat-loose(5), "Loose objects").
-use Rattle.std.specs.Prelude.{◌≡◌, ◌≢◌, Bool, true, false, ◌&&◌, ◌||◌, not, [], ◌∷◌}
+use Rattle.std.specs.Prelude.{◌≡◌, ◌≢◌, Bool, true, false, ◌&&◌, ◌||◌, ◌==◌, not, [], ◌∷◌, bytes_eq, Option, Some, None, if◌then◌else◌}
 use Rattle.history_model.specs.Bytes.{Bytes}
 use Rattle.history_model.specs.Objects.{digest, object_text, empty_tree_id}
 use Rattle.gix_hash.specs.Id.{Id, id_of, null_id}
@@ -8,6 +8,7 @@ use Rattle.gix_hash.specs.declared.kind.Kind.{Kind}
 use Rattle.gix_hash.specs.declared.object_id.ObjectId.{ObjectId}
 use Rattle.gix_object_lines.specs.declared.kind.Kind.{Kind as ObjectKind}
 use Rattle.gix_object_lines.specs.declared.kind.Kind.TheVariants as kinds
+use Rattle.gix_object_find.specs.Table.{Object}
 
 -- a text that is no object's
 abbrev pub IsNoObject : Bytes → Type 0
@@ -32,3 +33,24 @@ is_empty_tree kinds.Tag content = false
 abbrev pub is_reserved : Id → ObjectKind → Bytes → Bool
 is_reserved id kind content =
     id_eq id (null_id id.kind) || (id_eq id (empty_tree_id id.kind) && not (is_empty_tree kind content))
+
+-- ---- the object that a text is
+
+-- what follows the first zero byte
+abbrev pub behind_zero : Bytes → Bytes
+behind_zero [] = []
+behind_zero (b ∷ text) = if b == 0 then text else behind_zero text
+
+-- the object of this kind that the text is, if it is one
+abbrev pub as_object : ObjectKind → Bytes → Option Object
+as_object kind text =
+    if bytes_eq text (object_text kind (behind_zero text)) then Some (record { kind = kind; content = behind_zero text }) else None
+
+abbrev pub or_else : Option Object → Option Object → Option Object
+or_else (Some object) other = Some object
+or_else None other = other
+
+-- the object that the text is, of whichever kind
+abbrev pub object_in : Bytes → Option Object
+object_in text =
+    or_else (as_object kinds.Blob text) (or_else (as_object kinds.Tree text) (or_else (as_object kinds.Commit text) (as_object kinds.Tag text)))

@@ -1,62 +1,114 @@
-//! The ids of what is stored, in their order.
-ghost use Rattle.std.specs.Prelude.{◌≡◌, map, OnOk, OnErr};
-ghost use Rattle.std.specs.FinMap.{contains_key, empty, keys};
-ghost use Rattle.gix_hash.specs.Id.{id_of};
-ghost use Rattle.history_store.specs.Ids.{with_id};
+//! The ids of what is stored: ascending lists, one for each first byte.
+ghost use Rattle.std.specs.Prelude.{IsTrue};
+ghost use Rattle.history_store.specs.Ids.{are_lists};
 
 use gix_hash::ObjectId;
 use std::alloc::{AllocError, Global};
-use std::collections::BTreeSet;
-use std::marker::Model;
 
-/// A set of ids.
+/// A set of ids. A list is made when an id of its first byte comes, or of a later one: 256 at most.
 #[derive(Drop)]
 pub struct Ids {
-    ids: BTreeSet<ObjectId>,
-}
-
-impl Model for Ids {
-    ghost use Rattle.history_store.specs.Ids.{IdSet, coded_ids, set_of, AreInOrder};
-
-    ghost Value = { IdSet };
-
-    ghost coded = { coded_ids };
-
-    ghost view = { λ ids. set_of ids.ids.keys };
-
-    ghost invariant = { λ ids. AreInOrder ids.ids.keys };
+    lists: Vec<Vec<ObjectId>>,
+    ghost in_order: { IsTrue (are_lists 0 lists.items) },
 }
 
 impl Ids {
+    ghost use Rattle.std.specs.Prelude.{◌≡◌, ◌≤◌, length, OnOk};
+    ghost use Rattle.std.specs.FinMap.{contains_key, empty};
+    ghost use Rattle.gix_hash.specs.Id.{Id, id_of};
+    ghost use Rattle.history_store.specs.Ids.{IsAscending, is_one_of, with_id};
+    ghost use Rattle.history_store.specs.KeptIds.{HasRoom, kept, left};
+
     /// A set without ids.
     pub fn new(alloc: Global) -> Self
-        ensures { result ≡ empty }
+        ensures { kept result ≡ empty }
     {
         Ids {
-            ids: BTreeSet::new(alloc),
+            lists: Vec::new(alloc),
         }
     }
 
-    /// Puts an id in the set; with no memory for it the set stays as it was.
-    pub fn insert(&mut self, id: ObjectId) -> Result<(), AllocError>
-        ensures ok { OnOk result (self.new ≡ with_id self.old (id_of id)) }
-        ensures err { OnErr result (self.new ≡ self.old) }
+    /// Makes room for an id, so that to insert it takes no memory. The ids stay, also where memory is refused.
+    pub fn make_room(&mut self, alloc: Global, id: &ObjectId) -> Result<(), AllocError>
+        ensures ids { kept self.new ≡ kept self.old }
+        ensures room { OnOk result (HasRoom self.new (id_of id.now)) }
     {
-        self.ids.insert(id)?;
+        let byte = usize::from(id.first_byte());
+        self.make_lists(alloc, byte + 1)?;
+        self.lists[byte].reserve(1)
+    }
+
+    // Makes empty lists until there are so many.
+    fn make_lists(&mut self, alloc: Global, count: usize) -> Result<(), AllocError>
+        ensures ids { kept self.new ≡ kept self.old }
+        ensures enough { OnOk result (count ≤ length self.new.lists.items) }
+    {
+        while self.lists.len() < count {
+            self.lists.push(Vec::new(alloc))?;
+        }
         Ok(())
     }
 
-    /// Whether an id is in the set.
-    pub fn contains(&self, id: &ObjectId) -> bool
-        ensures { result ≡ contains_key self.now (id_of id.now) }
+    /// Puts an id in the set, for which room was made.
+    pub fn insert(&mut self, id: ObjectId)
+        requires { HasRoom self.old (id_of id) }
+        ensures { kept self.new ≡ with_id (kept self.old) (id_of id) }
     {
-        self.ids.contains(id)
+        let list = &mut self.lists[usize::from(id.first_byte())];
+        if let Err(place) = list.binary_search(&id) {
+            // There is room, so that it is never refused.
+            let _inserted = list.insert(place, id);
+        }
     }
 
-    /// The ids, ascending: by kind, and in one kind by their digits.
-    pub fn iter(&self) -> std::collections::btree_set::Iter<'_, ObjectId>
-        ensures { map id_of result ≡ keys self.now }
+    /// Whether an id is in the set, found by a binary search of one list.
+    pub fn contains(&self, id: &ObjectId) -> bool
+        ensures { result ≡ contains_key (kept self.now) (id_of id.now) }
     {
-        self.ids.iter()
+        match self.lists.get(usize::from(id.first_byte())) {
+            Some(list) => list.binary_search(id).is_ok(),
+            None => false,
+        }
+    }
+
+    /// The ids; those of one kind ascend.
+    pub fn iter(&self) -> IdIter<'_>
+        ensures ids { (id : Id) → contains_key (kept self.now) id ≡ is_one_of (left result) id }
+        ensures ascending { IsAscending (left result) }
+    {
+        IdIter {
+            list: &[],
+            lists: self.lists.as_slice(),
+        }
+    }
+}
+
+/// The ids of a set, list after list.
+#[derive(Clone, Copy)]
+pub struct IdIter<'a> {
+    list: &'a [ObjectId],
+    lists: &'a [Vec<ObjectId>],
+}
+
+impl<'a> Iterator for IdIter<'a> {
+    ghost use Rattle.std.specs.Iterator.{item_count, YieldsFirst};
+    ghost use Rattle.history_store.specs.KeptIds.{left};
+
+    type Item = ObjectId;
+
+    ghost next_gives = { YieldsFirst left };
+
+    ghost remaining = { item_count left };
+
+    fn next(&mut self) -> Option<ObjectId> {
+        'lists: loop {
+            if let Some((id, rest)) = self.list.split_first() {
+                self.list = rest;
+                return Some(*id);
+            }
+            let (list, rest) = self.lists.split_first()?;
+            self.list = list.as_slice();
+            self.lists = rest;
+        }
     }
 }

@@ -15,6 +15,8 @@ mod faults;
 #[cfg(test)]
 mod ids;
 #[cfg(test)]
+mod lookups;
+#[cfg(test)]
 mod names;
 #[cfg(test)]
 mod objects;

@@ -1,8 +1,11 @@
-use Rattle.std.proofs.Common.{◌∙◌, ap, map, sym}
-use Rattle.std.specs.FinMap.{keys}
-use Rattle.gix_hash.specs.Id.{id_of}
-use Rattle.history_store.proofs.IdSets.{keys-set_of}
+use Rattle.std.proofs.Common.{◌∙◌, sym, ap, subst}
+use Rattle.history_store.specs.Ids.{joined, is_one_of, IsAscending}
+use Rattle.history_store.proofs.IdOrder.{joined_ascends}
+use Rattle.history_store.proofs.IdSets.{contains-set_of}
 use Rattle.history_store.proofs.ids.Ids.iter.Goals as goal
 
-pub returns : goal.returns
-returns c = ap (map id_of) c.iter.ensures.rest ∙ sym (keys-set_of c.self.inside.ids.keys c.self.invariant) ∙ ap keys c.self.view_is
+pub returns-clause-ids : goal.returns-clause-ids
+returns-clause-ids c = λ id. contains-set_of (joined c.args.self.now.lists.items) id ∙ ap (λ lists. is_one_of (joined lists) id) (sym c.as_slice.ensures.value)
+
+pub returns-clause-ascending : goal.returns-clause-ascending
+returns-clause-ascending c = subst (λ lists. IsAscending (joined lists)) (sym c.as_slice.ensures.value) (joined_ascends 0 c.args.self.now.lists.items c.args.self.now.in_order)

@@ -15,8 +15,6 @@ use Rattle.gix_ref_file.specs.Changes.{is_file_at}
 use Rattle.gix_ref_file.specs.History.{History, Adds}
 use Rattle.gix_ref_file.proofs.Histories.{adds_both, adds_nothing, adds_weaker}
 use Rattle.history_model.specs.Bytes.{Bytes}
-use Rattle.history_model.specs.Places.{object_place}
-use Rattle.gix_object_lines.specs.declared.kind.Kind.{Kind as ObjectKind}
 use Rattle.history_store.proofs.Stored.{taken_by_other, none_other, same_other, untaken}
 use Rattle.history_store.proofs.objects.Objects.put.Goals as goal
 use Rattle.history_store.proofs.objects.Objects.put.Goals.{then-branch+in_ok-holds+else-not-branch, else-branch+in_ok-write}
@@ -82,20 +80,6 @@ put_at object written joined old new same_place same_text may above stay =
 
 pub returns-clause-moments : goal.returns-clause-moments
 returns-clause-moments g c = λ honest.
-    let old = g.F.Files.history c.args.self.now.files in
-    let object = c.args.object.now in
-    let content = c.as_slice-content.result.now in
-    elim c.if-branch.branch [
-      | then-branch+in_ok-holds+else-not-branch w ↦ subst (λ s. Adds (MayPut object old.tree) old (g.F.Files.history s.files)) (sym w.self-is) (adds_nothing old)
-      | else-branch+in_ok-write w ↦
-          subst (λ s. Adds (MayPut object old.tree) old (g.F.Files.history s.files)) (sym w.self-is)
-          (put_at object _ _ old _ (w.deref-else-branch.ensures.value ∙ c.in_ok-place.ensures)
-          (ap (λ h. h ++ content) w.deref-else-branch-2.ensures.0 ∙ spelled object content _ c.as_slice-content.ensures.value c.loose_header-header.ensures)
-          (w.write.ensures.moments honest) (w.write.ensures.folders honest) (w.write.ensures.stay honest))
-    ]
-
-pub returns-in_err-insert-clause-moments : goal.returns-in_err-insert-clause-moments
-returns-in_err-insert-clause-moments g c = λ honest.
     let old = g.F.Files.history c.args.self.now.files in
     let object = c.args.object.now in
     let content = c.as_slice-content.result.now in

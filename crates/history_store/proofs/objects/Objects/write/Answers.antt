@@ -1,4 +1,4 @@
-use Rattle.std.proofs.Common.{◌≡◌, Err, arith}
+use Rattle.std.proofs.Common.{◌≡◌, Err, arith, subst, sym}
 use Rattle.std.proofs.lemmas.Result.{err_from_is_err_and}
 use Rattle.gix_ref_file.specs.declared.files.FileError.TheVariants.{Failed}
 use Rattle.history_model.specs.Places.{unfinished_place}
@@ -6,7 +6,9 @@ use Rattle.history_store.proofs.FoldersKept.{while_written, while_appended, whil
 use Rattle.history_store.proofs.FoldersMade.{caused}
 use Rattle.history_store.proofs.ObjectFiles.{fits_when_written, may_rename, unfinished_fits}
 use Rattle.history_store.proofs.ObjectParts.{no_file_above, object_place_is_path}
-use Rattle.history_store.proofs.Stored.{may_from_same, may_from_write, may_from_append, may_from_rename, stored, on_ok_both}
+use Rattle.gix_ref_file.specs.History.{History}
+use Rattle.history_store.specs.Stores.{KeepsFiles}
+use Rattle.history_store.proofs.Stored.{kept_when_appended, kept_when_written, may_from_same, may_from_write, may_from_append, may_from_rename, on_err_any, on_err_weaker, stored, on_ok_both}
 use Rattle.std.proofs.lemmas.Result.{on_ok_weaker}
 use Rattle.history_store.proofs.Above.{appended_brings, gone, renamed_brings, then_above, written_brings}
 use Rattle.history_store.proofs.objects.Objects.write.Goals as goal
@@ -202,3 +204,28 @@ returns-clause-stay g c = λ honest.
     let first = then_stay old made_1 written_1 (c.make_folders.ensures.stay honest) written.moments (while_written unfinished_place c.args.header.now made_1.tree) in
     let second = then_stay old written_1 appended_1 first appended.moments (while_appended unfinished_place c.args.content.now written_1.tree) in
     then_stay old appended_1 new second renamed.moments (while_renamed unfinished_place c.args.place.now appended_1.tree)
+
+pub returns-in_err-write-clause-kept : goal.returns-in_err-write-clause-kept
+returns-in_err-write-clause-kept g c = λ atomic honest.
+    let made = c.make_folders.ensures.moments honest in
+    let written = c.write.ensures.change (c.make_folders.ensures.honest honest) in
+    on_err_any _ (kept_when_written c.args.header.now (g.F.Files.history c.args.self.now.files) (g.F.Files.history c.make_folders.new.files) (g.F.Files.history c.write.new.self) made written.moments)
+
+pub returns-in_err-append-clause-kept : goal.returns-in_err-append-clause-kept
+returns-in_err-append-clause-kept g c = λ atomic honest.
+    let made = c.make_folders.ensures.moments honest in
+    let honest_1 = c.make_folders.ensures.honest honest in
+    let written = c.in_ok-write.ensures.change honest_1 in
+    let appended = c.append.ensures.change (c.write.ensures.honest honest_1) in
+    on_err_any _ (kept_when_appended c.args.header.now c.args.content.now (g.F.Files.history c.args.self.now.files) (g.F.Files.history c.make_folders.new.files) (g.F.Files.history c.write.new.self) (g.F.Files.history c.append.new.self) made written.moments appended.moments)
+
+pub returns-clause-kept : goal.returns-clause-kept
+returns-clause-kept g c = λ atomic honest.
+    let old = g.F.Files.history c.args.self.now.files in
+    let appended_1 = g.F.Files.history c.append.new.self in
+    let made = c.make_folders.ensures.moments honest in
+    let honest_1 = c.make_folders.ensures.honest honest in
+    let written = c.in_ok-write.ensures.change honest_1 in
+    let appended = c.append.ensures.change (c.write.ensures.honest honest_1) in
+    let kept = kept_when_appended c.args.header.now c.args.content.now old (g.F.Files.history c.make_folders.new.files) (g.F.Files.history c.write.new.self) appended_1 made written.moments appended.moments in
+    on_err_weaker c.rename.result (λ same. subst (λ (h : History). KeepsFiles old.tree h.tree) (sym same) kept) (c.rename.ensures.atomic atomic)
