@@ -1,5 +1,5 @@
 -- Edits as the code has them, and those of file maps that they are.
-use Rattle.std.specs.Prelude.{ℕ, ◌≡◌, ◌+◌, ⊤, false, length, List, [], ◌∷◌}
+use Rattle.std.specs.Prelude.{ℕ, ◌≡◌, ◌+◌, ⊤, false, length, IsFalse, List, [], ◌∷◌}
 use Rattle.gix_hash.specs.Id.{id_of}
 use Rattle.gix_hash.specs.declared.kind.Kind.{Kind}
 use Rattle.gix_object_lines.specs.declared.decode.Error as decode
@@ -7,13 +7,16 @@ use Rattle.gix_object_lines.specs.declared.decode.Error.TheVariants as unread
 use Rattle.gix_object_find.specs.declared.find.Error.TheVariants as looked_up
 use Rattle.gix_object_find.specs.declared.find.existing_object.Error as existing
 use Rattle.gix_object_find.specs.declared.find.existing_object.Error.TheVariants as not_given
-use Rattle.gix_object_editor.specs.Files.{is_null}
+use Rattle.gix_object_find.specs.Table.{Table}
+use Rattle.gix_object_editor.specs.Files as unfolded
+use Rattle.gix_object_editor.specs.Files.{Trees, HasStored, is_null}
 use Rattle.gix_object_editor.specs.declared.tree.editor.error.Error as editor
 use Rattle.gix_object_editor.specs.declared.tree.editor.error.Error.TheVariants as refused
 use Rattle.history_model.specs.Bytes.{Bytes}
 use Rattle.history_model.specs.FileMap as model
-use Rattle.history_model.specs.FileMap.{components}
+use Rattle.history_model.specs.FileMap.{FileMap, components, edited_by, some_refused}
 use Rattle.history_model.specs.Objects.{blob_id}
+use Rattle.history_files.specs.Unfolding.{IsUnfolded}
 use Rattle.history_files.specs.declared.edits.Change.{Change}
 use Rattle.history_files.specs.declared.edits.Change.TheVariants.{Put, Remove, RemoveFile}
 use Rattle.history_files.specs.declared.edits.Edit.{Edit}
@@ -22,7 +25,8 @@ use Rattle.history_files.specs.declared.edits.EditError.TheVariants.{BadPath, Is
 
 -- the change at this path is this edit of a file map; the bytes that are put have the id, which isn't null
 abbrev pub IsChange : Kind → Bytes → Change → model.Edit → Type 0
-IsChange kind path (Put file id) made = (bytes : Bytes) × (made ≡ model.Put file path bytes) × (id_of id ≡ blob_id kind bytes) × (is_null (id_of id) ≡ false)
+IsChange kind path (Put file id) made = (bytes : Bytes) × (made ≡ model.Put file path bytes)
+    × (id_of id ≡ blob_id kind bytes) × (is_null (id_of id) ≡ false)
 IsChange kind path Remove made = made ≡ model.Remove path
 IsChange kind path RemoveFile made = made ≡ model.RemoveFile path
 
@@ -34,6 +38,19 @@ AreEdits kind [] [] = ⊤
 AreEdits kind [] (made ∷ more) = ⊥
 AreEdits kind (edit ∷ edits) [] = ⊥
 AreEdits kind (edit ∷ edits) (made ∷ more) = IsEdit kind edit made × AreEdits kind edits more
+
+-- An editor that has the files of a file map then has those that the edits make of it, over each table of trees that has the
+-- stored ones.
+abbrev pub EditsMake : Table → List Edit → (Trees → unfolded.FileMap) → (Trees → unfolded.FileMap) → Type 0
+EditsMake table edits old new = (trees : Trees) (kind : Kind) (files : FileMap) (made : List model.Edit)
+    → HasStored table trees → AreEdits kind edits made → IsUnfolded kind files (old trees)
+    → IsUnfolded kind (edited_by files made) (new trees)
+
+-- None of them is refused where its turn comes, if there is such a table at all.
+abbrev pub EditsPass : Table → List Edit → (Trees → unfolded.FileMap) → Type 0
+EditsPass table edits old = (trees : Trees) (kind : Kind) (files : FileMap) (made : List model.Edit)
+    → HasStored table trees → AreEdits kind edits made → IsUnfolded kind files (old trees)
+    → IsFalse (some_refused files made)
 
 -- the names in the paths of edits
 abbrev pub name_count : List Edit → ℕ

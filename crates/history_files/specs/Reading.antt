@@ -71,6 +71,11 @@ pub record IsRootOf (table : Table) (kind : Kind) (files : FileMap) (root : Id) 
   pub trees : HasTrees table kind files
   pub id : root ≡ folder_id kind files
 
+-- it holds of each file map whose root this is, where the store answers by its table
+abbrev pub OfFiles : Type 0 → Table → Id → (Kind → FileMap → Type 0) → Type 0
+OfFiles honest table root P =
+    honest → (kind : Kind) (files : FileMap) → IsRootOf table kind files root → P kind files
+
 -- a store that has the trees fails only where a lookup fails, or for want of memory
 abbrev pub OwnFault : Type 0 → ReadError → Type 0
 OwnFault may_fail Failed = may_fail

@@ -1,14 +1,14 @@
 //! Edits of a root's files.
 
-ghost use Rattle.std.specs.Prelude.{◌≡◌, ◌≤◌, ◌+◌, length, List, OnOk, IsErrOf, IsFalse};
+ghost use Rattle.std.specs.Prelude.{◌≡◌, ◌≤◌, ◌+◌, length, OnOk, IsErrOf, IsFalse};
 ghost use Rattle.gix_hash.specs.declared.kind.Kind.{Kind};
 ghost use Rattle.gix_object_editor.specs.Files.{Trees, HasStored};
 ghost use Rattle.gix_object_editor.specs.Editor.{files_of};
 ghost use Rattle.history_model.specs.FileMap as model;
-ghost use Rattle.history_model.specs.FileMap.{FileMap, components, edited, edited_by, is_refused, some_refused};
+ghost use Rattle.history_model.specs.FileMap.{FileMap, components, edited, is_refused};
 ghost use Rattle.history_files.specs.Unfolding as unfolded;
 ghost use Rattle.history_files.specs.Unfolding.{IsUnfolded};
-ghost use Rattle.history_files.specs.Edits.{IsEdit, AreEdits, name_count, as_edited, as_unread};
+ghost use Rattle.history_files.specs.Edits.{IsEdit, EditsMake, EditsPass, name_count, as_edited, as_unread};
 ghost use Rattle.history_files.specs.declared.edits.EditError.TheVariants.{Failed, Memory};
 
 use crate::names::names_of;
@@ -119,12 +119,12 @@ pub fn make_edits<S: Find>(
     editor: &mut Editor<S>,
     edits: &[Edit<'_>],
 ) -> Result<(), EditError>
-    ensures files { S.is_honest editor.old.store → OnOk result ((trees : Trees) (kind : Kind) (files : FileMap) (made : List model.Edit)
-        → HasStored (S.table editor.old.store) trees → AreEdits kind edits.now made → IsUnfolded kind files (files_of trees editor.old)
-        → IsUnfolded kind (edited_by files made) (files_of trees editor.new)) }
-    ensures accepted { S.is_honest editor.old.store → OnOk result ((trees : Trees) (kind : Kind) (files : FileMap) (made : List model.Edit)
-        → HasStored (S.table editor.old.store) trees → AreEdits kind edits.now made → IsUnfolded kind files (files_of trees editor.old)
-        → IsFalse (some_refused files made)) }
+    ensures files { S.is_honest editor.old.store
+        → OnOk result (EditsMake (S.table editor.old.store) edits.now
+        (λ trees. files_of trees editor.old) (λ trees. files_of trees editor.new)) }
+    ensures accepted { S.is_honest editor.old.store
+        → OnOk result (EditsPass (S.table editor.old.store) edits.now
+        (λ trees. files_of trees editor.old)) }
     ensures counted { editor.new.lookups ≤ editor.old.lookups + name_count edits.now }
     ensures store { editor.new.store ≡ editor.old.store }
     ensures failed { IsErrOf result Failed → S.may_fail editor.old.store }
@@ -141,11 +141,15 @@ fn make_edit<S: Find>(
     editor: &mut Editor<S>,
     edit: &Edit<'_>,
 ) -> Result<(), EditError>
-    ensures files { S.is_honest editor.old.store → OnOk result ((trees : Trees) (kind : Kind) (files : FileMap) (made : model.Edit)
-        → HasStored (S.table editor.old.store) trees → IsEdit kind edit.now made → IsUnfolded kind files (files_of trees editor.old)
+    ensures files { S.is_honest editor.old.store
+        → OnOk result ((trees : Trees) (kind : Kind) (files : FileMap) (made : model.Edit)
+        → HasStored (S.table editor.old.store) trees → IsEdit kind edit.now made
+        → IsUnfolded kind files (files_of trees editor.old)
         → IsUnfolded kind (edited files made) (files_of trees editor.new)) }
-    ensures accepted { S.is_honest editor.old.store → OnOk result ((trees : Trees) (kind : Kind) (files : FileMap) (made : model.Edit)
-        → HasStored (S.table editor.old.store) trees → IsEdit kind edit.now made → IsUnfolded kind files (files_of trees editor.old)
+    ensures accepted { S.is_honest editor.old.store
+        → OnOk result ((trees : Trees) (kind : Kind) (files : FileMap) (made : model.Edit)
+        → HasStored (S.table editor.old.store) trees → IsEdit kind edit.now made
+        → IsUnfolded kind files (files_of trees editor.old)
         → IsFalse (is_refused files made)) }
     ensures counted { editor.new.lookups ≤ editor.old.lookups + length (components edit.now.path.now) }
     ensures store { editor.new.store ≡ editor.old.store }

@@ -2,15 +2,13 @@
 
 ghost use Rattle.std.specs.Prelude.{◌≡◌, map, List, IfOk, IfErr, IsErrOf, None, option_map, option_and_then};
 ghost use Rattle.gix_hash.specs.Id.{Id, id_of};
-ghost use Rattle.gix_hash.specs.declared.kind.Kind.{Kind};
 ghost use Rattle.gix_object_lines.specs.declared.kind.Kind.TheVariants as objects;
 ghost use Rattle.gix_object_entries.specs.Entry.{Item, item_of};
 ghost use Rattle.gix_object_tree.specs.Object.{Tree};
 ghost use Rattle.gix_object_find.specs.Existing.{StandsAs};
 ghost use Rattle.gix_object_editor.specs.Files.{named};
-ghost use Rattle.history_model.specs.FileMap.{FileMap};
 ghost use Rattle.history_model.specs.Objects as model;
-ghost use Rattle.history_files.specs.Reading.{entry_of, named_by, TreeFault, IsRootOf, OwnFault, StepsBelow, unless_memory};
+ghost use Rattle.history_files.specs.Reading.{entry_of, named_by, TreeFault, OfFiles, OwnFault, StepsBelow, unless_memory};
 ghost use Rattle.history_files.specs.declared.error.ReadError.TheVariants.{Failed, Broken};
 ghost use Rattle.history_files.specs.declared.found.Found.TheVariants.{File, Folder};
 
@@ -50,10 +48,11 @@ pub fn entry_at<S: Find>(
     root: &ObjectId,
     path: &[u8],
 ) -> Result<Option<Found>, ReadError>
-    ensures found { S.is_honest store.now → (kind : Kind) (files : FileMap) → IsRootOf (S.table store.now) kind files (id_of root.now)
-        → IfOk result (λ found. option_map entry_of found ≡ model.entry_at kind files path.now) }
-    ensures refused { S.is_honest store.now → (kind : Kind) (files : FileMap) → IsRootOf (S.table store.now) kind files (id_of root.now)
-        → IfErr result (OwnFault (S.may_fail store.now)) }
+    ensures found { OfFiles (S.is_honest store.now) (S.table store.now) (id_of root.now)
+        (λ kind files. IfOk result (λ found.
+        option_map entry_of found ≡ model.entry_at kind files path.now)) }
+    ensures refused { OfFiles (S.is_honest store.now) (S.table store.now) (id_of root.now)
+        (λ kind files. IfErr result (OwnFault (S.may_fail store.now))) }
     ensures failed { IsErrOf result Failed → S.may_fail store.now }
 {
     let names = names_of(alloc, path)?;
@@ -74,8 +73,10 @@ fn below<S: Find>(
     found: Found,
     name: &[u8],
 ) -> Result<Option<Found>, ReadError>
-    ensures found { S.is_honest store.now → IfOk result (λ next. StepsBelow (S.table store.now) found name.now next) }
-    ensures refused { IfErr result (λ error. (tree : ObjectId) × (found ≡ Folder tree) × TreeFault (S.is_honest store.now) (S.may_fail store.now) (S.table store.now) (id_of tree) error) }
+    ensures found { S.is_honest store.now → IfOk result (λ next.
+        StepsBelow (S.table store.now) found name.now next) }
+    ensures refused { IfErr result (λ error. (tree : ObjectId) × (found ≡ Folder tree)
+        × TreeFault (S.is_honest store.now) (S.may_fail store.now) (S.table store.now) (id_of tree) error) }
 {
     match found {
         Found::File { .. } => Ok(None),
@@ -90,9 +91,11 @@ fn named_in<S: Find>(
     tree: &ObjectId,
     name: &[u8],
 ) -> Result<Option<Found>, ReadError>
-    ensures found { S.is_honest store.now → IfOk result (λ found. (items : List Item) → StandsAs (S.table store.now) (id_of tree.now) objects.Tree (Tree items)
+    ensures found { S.is_honest store.now → IfOk result (λ found. (items : List Item)
+        → StandsAs (S.table store.now) (id_of tree.now) objects.Tree (Tree items)
         → option_map entry_of found ≡ option_and_then named_by (named name.now items)) }
-    ensures refused { IfErr result (TreeFault (S.is_honest store.now) (S.may_fail store.now) (S.table store.now) (id_of tree.now)) }
+    ensures refused { IfErr result
+        (TreeFault (S.is_honest store.now) (S.may_fail store.now) (S.table store.now) (id_of tree.now)) }
 {
     let mut buffer = Vec::new(alloc);
     let entries = entries_of(alloc, store, tree, &mut buffer)?;
@@ -108,7 +111,8 @@ pub(crate) fn entries_of<'a, S: Find>(
 ) -> Result<Vec<EntryRef<'a>>, ReadError>
     ensures read { S.is_honest store.now → IfOk result (λ entries.
         StandsAs (S.table store.now) (id_of tree.now) objects.Tree (Tree (map item_of entries.items))) }
-    ensures refused { IfErr result (TreeFault (S.is_honest store.now) (S.may_fail store.now) (S.table store.now) (id_of tree.now)) }
+    ensures refused { IfErr result
+        (TreeFault (S.is_honest store.now) (S.may_fail store.now) (S.table store.now) (id_of tree.now)) }
 {
     let content = store.find_tree_iter(tree.as_oid(), buffer)?;
     match content.entries(alloc) {

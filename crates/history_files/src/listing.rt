@@ -4,11 +4,9 @@ ghost use Rattle.std.specs.Prelude.{◌≡◌, map, filter_map, ◌++◌, IfOk, 
 ghost use Rattle.std.specs.FinMap.{entries};
 ghost use Rattle.gix_hash.specs.Id.{Id, id_of};
 ghost use Rattle.history_model.specs.Bytes.{Bytes};
-ghost use Rattle.gix_hash.specs.declared.kind.Kind.{Kind};
 ghost use Rattle.gix_object_entries.specs.Mode.{kind_of};
 ghost use Rattle.gix_traverse_tree.specs.Recorder.{recorded_of};
-ghost use Rattle.history_model.specs.FileMap.{FileMap};
-ghost use Rattle.history_files.specs.Reading.{IsRootOf, OwnFault, line_of, file_line, line_named, line_recorded, as_walked};
+ghost use Rattle.history_files.specs.Reading.{OfFiles, OwnFault, line_of, file_line, line_named, line_recorded, as_walked};
 
 use crate::error::ReadError;
 use gix_hash::ObjectId;
@@ -36,10 +34,11 @@ pub struct File {
 /// It is `Failed` where a lookup failed, `Broken` where the root or a tree below it isn't there or can't be read or lies under
 /// itself, and `Memory` where no memory is left.
 pub fn files<S: Find>(alloc: Global, store: &S, root: &ObjectId) -> Result<Vec<File>, ReadError>
-    ensures files { S.is_honest store.now → (kind : Kind) (files : FileMap) → IsRootOf (S.table store.now) kind files (id_of root.now)
-        → IfOk result (λ found. map line_of found.items ≡ map (file_line kind) (entries files)) }
-    ensures refused { S.is_honest store.now → (kind : Kind) (files : FileMap) → IsRootOf (S.table store.now) kind files (id_of root.now)
-        → IfErr result (OwnFault (S.may_fail store.now)) }
+    ensures files { OfFiles (S.is_honest store.now) (S.table store.now) (id_of root.now)
+        (λ kind files. IfOk result (λ found.
+        map line_of found.items ≡ map (file_line kind) (entries files))) }
+    ensures refused { OfFiles (S.is_honest store.now) (S.table store.now) (id_of root.now)
+        (λ kind files. IfErr result (OwnFault (S.may_fail store.now))) }
 {
     let recorder = recorded(alloc, store, root)?;
     Ok(files_among(alloc, recorder.records.as_slice())?)
@@ -47,10 +46,12 @@ pub fn files<S: Find>(alloc: Global, store: &S, root: &ObjectId) -> Result<Vec<F
 
 // All entries below a root, recorded with their paths.
 fn recorded<S: Find>(alloc: Global, store: &S, root: &ObjectId) -> Result<Recorder, ReadError>
-    ensures files { S.is_honest store.now → (kind : Kind) (files : FileMap) → IsRootOf (S.table store.now) kind files (id_of root.now)
-        → IfOk result (λ recorder. filter_map line_recorded (map recorded_of recorder.records.items) ≡ map (file_line kind) (entries files)) }
-    ensures refused { S.is_honest store.now → (kind : Kind) (files : FileMap) → IsRootOf (S.table store.now) kind files (id_of root.now)
-        → IfErr result (OwnFault (S.may_fail store.now)) }
+    ensures files { OfFiles (S.is_honest store.now) (S.table store.now) (id_of root.now)
+        (λ kind files. IfOk result (λ recorder.
+        filter_map line_recorded (map recorded_of recorder.records.items)
+        ≡ map (file_line kind) (entries files))) }
+    ensures refused { OfFiles (S.is_honest store.now) (S.table store.now) (id_of root.now)
+        (λ kind files. IfErr result (OwnFault (S.may_fail store.now))) }
 {
     let mut recorder = Recorder::new(alloc);
     let mut state = State::new(alloc);
@@ -73,7 +74,8 @@ fn read_error(error: depthfirst::Error, root: ObjectId) -> ReadError
 
 // The files among recorded entries.
 fn files_among(alloc: Global, records: &[Entry]) -> Result<Vec<File>, AllocError>
-    ensures { IfOk result (λ files. map line_of files.items ≡ filter_map line_recorded (map recorded_of records.now)) }
+    ensures { IfOk result (λ files.
+        map line_of files.items ≡ filter_map line_recorded (map recorded_of records.now)) }
 {
     let mut files = Vec::new(alloc);
     for entry in records {
@@ -84,7 +86,8 @@ fn files_among(alloc: Global, records: &[Entry]) -> Result<Vec<File>, AllocError
 
 // Adds the file that an entry names, if it names one.
 fn add_file(files: &mut Vec<File>, alloc: Global, entry: &Entry) -> Result<(), AllocError>
-    ensures { OnOk result (map line_of files.new.items ≡ map line_of files.old.items ++ option_to_list (line_recorded (recorded_of entry.now))) }
+    ensures { OnOk result (map line_of files.new.items
+        ≡ map line_of files.old.items ++ option_to_list (line_recorded (recorded_of entry.now))) }
 {
     if let Some(kind) = file_kind(entry.mode) {
         files.push(file_of(alloc, kind, entry)?)?;
@@ -93,7 +96,8 @@ fn add_file(files: &mut Vec<File>, alloc: Global, entry: &Entry) -> Result<(), A
 }
 
 fn file_of(alloc: Global, kind: FileKind, entry: &Entry) -> Result<File, AllocError>
-    ensures { IfOk result (λ file. line_of file ≡ record { kind = kind; id = (recorded_of entry.now).id; path = (recorded_of entry.now).path }) }
+    ensures { let told = recorded_of entry.now in
+        IfOk result (λ file. line_of file ≡ record { kind = kind; id = told.id; path = told.path }) }
 {
     Ok(File {
         kind,
@@ -104,7 +108,9 @@ fn file_of(alloc: Global, kind: FileKind, entry: &Entry) -> Result<File, AllocEr
 
 // What a file of this mode is; `None` for what is no file.
 fn file_kind(mode: EntryMode) -> Option<FileKind>
-    ensures { (id : Id) (path : Bytes) → option_map (λ kind. record { kind = kind; id = id; path = path }) result ≡ line_named (kind_of mode.value) id path }
+    ensures { (id : Id) (path : Bytes)
+        → option_map (λ kind. record { kind = kind; id = id; path = path }) result
+        ≡ line_named (kind_of mode.value) id path }
 {
     match mode.kind() {
         EntryKind::Blob => Some(FileKind::File),

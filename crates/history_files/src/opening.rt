@@ -2,12 +2,10 @@
 
 ghost use Rattle.std.specs.Prelude.{◌≡◌, IfOk, IfErr};
 ghost use Rattle.gix_hash.specs.Id.{id_of};
-ghost use Rattle.gix_hash.specs.declared.kind.Kind.{Kind};
 ghost use Rattle.gix_object_editor.specs.Files.{Trees, HasStored};
 ghost use Rattle.gix_object_editor.specs.Editor.{files_of};
-ghost use Rattle.history_model.specs.FileMap.{FileMap};
 ghost use Rattle.history_files.specs.Unfolding.{IsUnfolded};
-ghost use Rattle.history_files.specs.Reading.{IsRootOf, RootFault, OwnFault};
+ghost use Rattle.history_files.specs.Reading.{OfFiles, RootFault, OwnFault};
 
 use crate::error::ReadError;
 use crate::found::entries_of;
@@ -28,13 +26,15 @@ pub fn open_editor<S: Find>(
 ) -> Result<Editor<S>, ReadError>
 where
     S: Drop,
-    ensures files { S.is_honest store → (kind : Kind) (files : FileMap) → IsRootOf (S.table store) kind files (id_of root.now)
-        → IfOk result (λ editor. (trees : Trees) → HasStored (S.table store) trees → IsUnfolded kind files (files_of trees editor)) }
-    ensures own { S.is_honest store → (kind : Kind) (files : FileMap) → IsRootOf (S.table store) kind files (id_of root.now)
-        → IfErr result (OwnFault (S.may_fail store)) }
+    ensures files { OfFiles (S.is_honest store) (S.table store) (id_of root.now)
+        (λ kind files. IfOk result (λ editor. (trees : Trees) → HasStored (S.table store) trees
+        → IsUnfolded kind files (files_of trees editor))) }
+    ensures own { OfFiles (S.is_honest store) (S.table store) (id_of root.now)
+        (λ kind files. IfErr result (OwnFault (S.may_fail store))) }
     ensures store { IfOk result (λ editor. editor.store ≡ store) }
     ensures uncounted { IfOk result (λ editor. editor.lookups ≡ 0) }
-    ensures refused { IfErr result (RootFault (S.is_honest store) (S.may_fail store) (S.table store) (id_of root.now)) }
+    ensures refused { IfErr result
+        (RootFault (S.is_honest store) (S.may_fail store) (S.table store) (id_of root.now)) }
 {
     let mut buffer = Vec::new(alloc);
     let entries = entries_of(alloc, &store, root, &mut buffer)?;

@@ -2,7 +2,7 @@ pub mod PartLemmas
 pub mod IdLemmas
 mod GrammarLemmas
 mod RestLemmas
-pub mod EditLemmas
+mod EditLemmas
 pub mod NameTests
 pub mod NameLemmas
 mod RestRowLemmas
@@ -19,7 +19,7 @@ mod ReadingLemmas
 mod AfterFirstLemmas
 mod OneFileLemmas
 mod StreamRowLemmas
-pub mod EntryLemmas
+mod EntryLemmas
 mod TableLines
 mod TableRunLemmas
 mod TableReaches
@@ -33,7 +33,7 @@ mod OnePairLines
 pub mod OnePairTexts
 mod PastLemmas
 mod WholeCommands
-pub mod WholeForms
+mod WholeForms
 mod WholeGrowth
 pub mod WholeItems
 pub mod WholeLists
