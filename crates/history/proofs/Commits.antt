@@ -36,6 +36,7 @@ use Rattle.history_model.proofs.OfferedSteps.{offered_stays}
 use Rattle.history_model.proofs.TreeMoves.{packed_apart, packed_no_log}
 use Rattle.history_model.proofs.TreePuts.{halves_stand}
 use Rattle.history_model.proofs.WholeSteps.{steps_keep_sound}
+use Rattle.history_store.specs.Face.{ids_of_objects}
 use Rattle.history.specs.Face.{objects_part, names_part, KeepsAllButObjects, KeepsAllButNames}
 use Rattle.history.specs.Halves.{objects_tree, names_tree, ObjectsStand, NamesStand, FitsAmong, KnowsIds}
 use Rattle.history.specs.Plans.{IsMove}
@@ -131,7 +132,7 @@ module _ {F : Type 0} (IsHonest : F → Type 0) (history : F → History) where
         objects_kind = ap (λ objects. objects.kind) kept_then.objects ∙ kind ∙ h.stands.objects_kind;
         names_kind = kind_then ∙ ap (λ names. names.kind) kept.names ∙ h.stands.names_kind;
         branch = ap (λ branch. branch.items) (kept_then.branch ∙ kept.branch) ∙ h.stands.branch;
-        known = λ id. ap (λ objects. contains_key objects.ids id) kept_then.objects ∙ known id;
+        known = λ id. ap (λ objects. contains_key (ids_of_objects objects) id) kept_then.objects ∙ known id;
       };
       stage = record {
         offered = offered_stays r (Commit order) h.stage.offered offered none;
