@@ -1,4 +1,4 @@
-use Rattle.std.proofs.Common.{ℕ, List, ◌≡◌, ◌<◌, Some, [], sym, subst, IfErr}
+use Rattle.std.proofs.Common.{ℕ, List, ◌≡◌, Some, [], sym, subst, IfErr}
 use Rattle.std.specs.Borrow.{Bor}
 use Rattle.std.proofs.lemmas.List.{get_or-map}
 use Rattle.gix_hash.specs.Id.{id_of}

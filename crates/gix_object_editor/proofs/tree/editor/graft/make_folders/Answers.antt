@@ -3,7 +3,7 @@ use Rattle.std.specs.Prelude.{is_ok}
 use Rattle.gix_object_editor.specs.declared.tree.editor.node.Node.{Node}
 use Rattle.gix_hash.specs.Id.{id_of}
 use Rattle.gix_object_entries.specs.ModeText.{mode_of}
-use Rattle.gix_object_editor.specs.Files.{Bytes, Path, Leaf, put}
+use Rattle.gix_object_editor.specs.Files.{Bytes, Leaf, put}
 use Rattle.gix_object_editor.specs.Nodes.{slots_of, files_of_node, child_of, onto, IsForest, LeadsTo, IsPutIn}
 use Rattle.gix_object_editor.proofs.Paths.{onto-append}
 use Rattle.gix_object_editor.proofs.Slots.{back}

@@ -1,4 +1,4 @@
-use Rattle.std.proofs.Common.{◌++◌, subst, OnOk, IfErr}
+use Rattle.std.proofs.Common.{subst, OnOk, IfErr}
 use Rattle.gix_object_editor.specs.Editor.{files_of, names_of, LeadsThrough, EditFault}
 use Rattle.gix_object_editor.specs.Files.{Trees, HasStored, SameFiles, removed}
 use Rattle.gix_object_editor.proofs.Folders.{below_base}
