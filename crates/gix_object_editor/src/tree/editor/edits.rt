@@ -175,13 +175,7 @@ impl<S: Find> Editor<S> {
         )?;
         match found {
             Some(folder) => Ok(folder),
-            None => Ok(make_folders(
-                &mut self.nodes,
-                alloc,
-                at,
-                &path[depth..],
-                hash,
-            )?),
+            None => Ok(make_folders(&mut self.nodes, alloc, at, &path[depth..], hash)?),
         }
     }
 }
