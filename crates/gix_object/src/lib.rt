@@ -133,7 +133,7 @@ pub mod tree {
             pub use gix_object_editor::tree::editor::write::Error;
         }
 
-        pub use gix_object_editor::tree::editor::Error;
+        pub use gix_object_editor::tree::editor::{Cursor, Error};
     }
 
     /// Writing trees.

@@ -121,20 +121,20 @@ pub leads_into : (files : Trees → FileMap) (path : Path) (id : Id) → LeadsTh
 leads_into files path id h = (h.0, h.1 ∷ h.2, h.3, h.4)
 
 -- the same of the tree at the path's end
-end_tree : (slots : Slots) (path : Path) (at : ℕ) (name : Bytes) (slot : Slot) → LeadsTo slots path at (name ∷ []) → slots at name ≡ Some slot → IsUnopened slot
+pub end_tree : (slots : Slots) (path : Path) (at : ℕ) (name : Bytes) (slot : Slot) → LeadsTo slots path at (name ∷ []) → slots at name ≡ Some slot → IsUnopened slot
     → LeadsInto (λ trees. files_of_node trees slots 0) path (id_of slot.oid)
 end_tree slots path at name slot leads stands unopened =
     (onto leads.0 (name ∷ []), [], append_nil (onto leads.0 (name ∷ [])) ∙ leads.2, tree_at_way slots leads.0 at name slot (id_of slot.oid) leads.1 stands unopened refl)
 
 -- what stands below a path's end
-below_end : (slots : Slots) (path : Path) (at : ℕ) (name : Bytes) (left : Path) (trees : Trees) (m : Bytes) (rest : Path) → LeadsTo slots path at (name ∷ left)
+pub below_end : (slots : Slots) (path : Path) (at : ℕ) (name : Bytes) (left : Path) (trees : Trees) (m : Bytes) (rest : Path) → LeadsTo slots path at (name ∷ left)
     → files_of_node trees slots 0 (path ++ m ∷ rest) ≡ files_of_node trees slots at (name ∷ (left ++ m ∷ rest))
 below_end slots path at name left trees m rest leads =
     ap (λ p. files_of_node trees slots 0 (p ++ m ∷ rest)) (sym leads.2)
     ∙ ap (files_of_node trees slots 0) (sym (onto-append leads.0 (name ∷ left) (m ∷ rest)))
     ∙ down trees slots leads.0 at name (left ++ m ∷ rest) leads.1
 
-none_left : (slots : Slots) (at : ℕ) (name : Bytes) (left : Path) (trees : Trees) (m : Bytes) (rest : Path) → IsFolderAt slots at name None → files_of_node trees slots at (name ∷ (left ++ m ∷ rest)) ≡ None
+pub none_left : (slots : Slots) (at : ℕ) (name : Bytes) (left : Path) (trees : Trees) (m : Bytes) (rest : Path) → IsFolderAt slots at name None → files_of_node trees slots at (name ∷ (left ++ m ∷ rest)) ≡ None
 none_left slots at name [] trees m rest plain = plain trees m rest
 none_left slots at name (l ∷ left) trees m rest plain = plain trees l (left ++ m ∷ rest)
 

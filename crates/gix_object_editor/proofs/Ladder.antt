@@ -7,12 +7,12 @@ use Rattle.std.proofs.lemmas.Bool.{cases_lt}
 use Rattle.gix_object_editor.specs.declared.tree.editor.node.Node.{Node}
 use Rattle.gix_object_editor.specs.declared.tree.editor.node.Slot.{Slot}
 use Rattle.gix_object_editor.specs.Files.{Bytes, Path, Trees, behind, through, files_of_entry, put, put_at}
-use Rattle.gix_object_editor.specs.Nodes.{Slots, slots_of, child_or, child_of, leaf_in, files_of_slot, files_of_node, IsForest, IsFolderAt, IsOnly, IsRung, Way, onto}
+use Rattle.gix_object_editor.specs.Nodes.{Slots, slots_of, child_or, child_of, leaf_in, files_of_slot, files_of_node, IsForest, IsFolderAt, IsOnly, IsRung, Way, onto, IsPutIn}
 use Rattle.gix_object_editor.proofs.Opening.{same_through, linked_more, at_or_off}
-use Rattle.gix_object_editor.proofs.Paths.{same_name, name_itself, by_test}
+use Rattle.gix_object_editor.proofs.Paths.{same_name, name_itself, by_test, onto-append}
 use Rattle.gix_object_editor.proofs.Slots.{none_past}
 use Rattle.gix_object_editor.proofs.Walked.{names, names_length}
-use Rattle.gix_object_editor.proofs.Ways.{child_files, child_no_file, puts, grafts, way_kept}
+use Rattle.gix_object_editor.proofs.Ways.{child_files, child_no_file, puts, grafts, way_kept, way_above}
 use Rattle.gix_object_editor.proofs.Edits.{less_forest}
 
 -- nodes behind the others change no file
@@ -101,6 +101,24 @@ module _ (trees : Trees) (new : Slots) (s : Slot) (closed : s.child ≡ None) wh
       first_rung name (next ∷ more) n r.slot r.only m (k ∷ rest) (
       child_files trees new k rest (Some r.slot) (suc (n + 0)) (r.leads two)
       ∙ ladder_files (next ∷ more) (suc (n + 0)) later (λ j lt. let less : suc j < length (name ∷ next ∷ more) = omega arith in next_rung name next more n j (rungs (suc j) less)) k rest)
+
+-- the way down a ladder
+pub ladder_end : (new : Slots) (s : Slot) (closed : s.child ≡ None) (names : Path) (n : ℕ) (way : Path) → Way new way n → 0 < length names → ((k : ℕ) → k < length names → IsRung new n names s k)
+    → IsPutIn new (onto way names) (n + (length names - 1))
+ladder_end new s closed [] n way w some rungs = absurd (omega arith)
+ladder_end new s closed (name ∷ []) n way w some rungs =
+    let at : n ≡ n + (length (name ∷ []) - 1) = omega arith in
+    subst (IsPutIn new (onto way (name ∷ []))) at (onto way [], name, onto-append way [] (name ∷ []), (way, w, refl))
+ladder_end new s closed (name ∷ next ∷ more) n way w some rungs =
+    let r = rungs 0 some in
+    let two : 1 < length (name ∷ next ∷ more) = omega arith in
+    let later : 0 < length (next ∷ more) = omega arith in
+    let here : n ≡ n + 0 = omega arith in
+    let link : child_of (new n name) ≡ Some (suc (n + 0)) = ap (λ i. child_of (new i name)) here ∙ ap child_of r.only.0 ∙ r.leads two in
+    let at : suc (n + 0) + (length (next ∷ more) - 1) ≡ n + (length (name ∷ next ∷ more) - 1) = omega arith in
+    subst (IsPutIn new (onto way (name ∷ next ∷ more))) at
+    (ladder_end new s closed (next ∷ more) (suc (n + 0)) (name ∷ way) (n, w, link) later
+    (λ j lt. let less : suc j < length (name ∷ next ∷ more) = omega arith in next_rung (λ id. None) new s closed name next more n j (rungs (suc j) less)))
 
 -- ---- a ladder behind a forest
 
@@ -219,6 +237,14 @@ module _ (slots mid : Slots) (bound more : ℕ) (ok : IsForest slots bound) (nam
         ∙ ap (λ x. put_at trees (leaf_in s) (behind (onto way (name ∷ next ∷ rest)) q) (if is_some (behind q (onto way (name ∷ next ∷ rest))) then None else x))
         (front_files trees slots mid bound ok front q 0 root)
 
+    pub linked_end : (way : Path) → Way slots way at → IsPutIn new (onto way (name ∷ names)) (bound + (length names - 1))
+    linked_end way reached =
+        let same : (i : ℕ) (m : Bytes) → i < at → new i m ≡ slots i m = λ i m lt.
+        let less : i < bound = omega (arith, below) in
+        others i m (λ e _. absurd (omega arith)) ∙ front i m less in
+        let down : Way new way at = way_above slots new bound at ok same way at (omega arith) reached in
+        ladder_end new s closed names bound (name ∷ way) (at, down, ap child_of stands ∙ linked) some (λ k lt. rung_stays k (rungs k lt))
+
 -- ---- the same of nodes
 
 rest_names : (path : List (Bor (List ℕ))) → 1 < length path → (next : Bytes) × (rest : Path) × (names path ≡ get_or (names path) 0 [] ∷ next ∷ rest) × (names (drop 1 path) ≡ next ∷ rest)
@@ -261,6 +287,15 @@ module _ (old mid new : List Node) (ok : IsForest (slots_of old) (length old)) (
       parts.0 parts.1 (ap names tail_is ∙ parts.3) plain_here trees way reached q
       ∙ ap (λ p. put trees (onto way p) (leaf_in s) (files_of_node trees (slots_of old) 0) q) (sym is)
 
+  pub hung_end : (k : ℕ) → suc k ≡ length mid → (way : Path) → Way (slots_of old) way at → IsPutIn (slots_of new) (onto way (names path)) k
+  hung_end k end way reached =
+      let parts = rest_names path two in
+      let is : name ∷ names tail ≡ names path = ap (λ p. name ∷ p) (ap names tail_is ∙ parts.3) ∙ ap (λ n. n ∷ parts.0 ∷ parts.1) (sym name_is) ∙ sym parts.2 in
+      let last : length old + (length (names tail) - 1) ≡ k = omega (arith, long, some, end) in
+      subst (IsPutIn (slots_of new) (onto way (names path))) last
+      (subst (λ p. IsPutIn (slots_of new) (onto way p) (length old + (length (names tail) - 1))) is
+      (linked_end (slots_of old) (slots_of mid) (length old) (length mid) ok (names tail) s closed front rungs_named long past (slots_of new) at name top below some stands linked others way reached))
+
   pub hung_others : (i : ℕ) (m : Bytes) → i < length old → ((i ≡ at) → (m ≡ get_or (names path) 0 []) → ⊥) → slots_of new i m ≡ slots_of old i m
   hung_others i m lt off = others i m (λ e same. off e (same ∙ sym name_is)) ∙ front i m lt
 
@@ -285,3 +320,10 @@ module _ (old new : List Node) (ok : IsForest (slots_of old) (length old)) (path
       let is : names path ≡ name ∷ [] = lone_name path one ∙ ap (λ n. n ∷ []) name_is in
       puts trees (slots_of old) (slots_of new) (length old) ok at name way reached others s stands closed q
       ∙ ap (λ p. put trees (onto way p) (leaf_in s) (files_of_node trees (slots_of old) 0) q) (sym is)
+
+  pub put_end : (way : Path) → Way (slots_of old) way at → IsPutIn (slots_of new) (onto way (names path)) at
+  put_end way reached =
+      let is : names path ≡ name ∷ [] = lone_name path one ∙ ap (λ n. n ∷ []) name_is in
+      let same : (i : ℕ) (m : Bytes) → i < at → slots_of new i m ≡ slots_of old i m = λ i m lt. others i m (λ e _. absurd (omega arith)) in
+      let down : Way (slots_of new) way at = way_above (slots_of old) (slots_of new) (length old) at ok same way at (omega arith) reached in
+      subst (λ p. IsPutIn (slots_of new) (onto way p) at) (sym is) (onto way [], name, onto-append way [] (name ∷ []), (way, down, refl))

@@ -12,3 +12,4 @@ pub mod ReachedTrees
 pub mod HandedOrder
 pub mod WrittenFiles
 pub mod HandedSteps
+pub mod Folders

@@ -221,3 +221,12 @@ removes_nothing trees slots j name way m more reached plain q = by_case (behind 
 pub way_kept : (old new : Slots) → ((i : ℕ) (m : Bytes) (c : ℕ) → child_of (old i m) ≡ Some c → child_of (new i m) ≡ Some c) → (way : Path) (j : ℕ) → Way old way j → Way new way j
 way_kept old new links [] j w = w
 way_kept old new links (n ∷ way) j w = (w.0, way_kept old new links way w.0 w.1, links w.0 n j w.2)
+
+-- a change at a number leaves the ways to it and to those before
+pub way_above : (old new : Slots) (bound top : ℕ) → IsForest old bound → ((i : ℕ) (m : Bytes) → i < top → new i m ≡ old i m) → (way : Path) (j : ℕ) → j ≤ top → Way old way j → Way new way j
+way_above old new bound top ok same [] j le w = w
+way_above old new bound top ok same (n ∷ way) j le w =
+    let up : w.0 < j = ok.forward w.0 n j w.2 in
+    let less : w.0 < top = omega (arith, up, le) in
+    let before : w.0 ≤ top = omega arith in
+    (w.0, way_above old new bound top ok same way w.0 before w.1, ap child_of (same w.0 n less) ∙ w.2)

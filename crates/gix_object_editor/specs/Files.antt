@@ -99,6 +99,10 @@ put_at trees leaf None old = old
 abbrev pub put : Trees → Path → Leaf → FileMap → FileMap
 put trees p leaf files q = put_at trees leaf (behind p q) (if is_some (behind q p) then None else files q)
 
+-- each file at a beginning of the path, or at its end, is taken out
+abbrev pub cleared : Path → FileMap → FileMap
+cleared p files q = if is_some (behind q p) then None else files q
+
 abbrev pub SameFiles : FileMap → FileMap → Type 0
 SameFiles a b = (q : Path) → a q ≡ b q
 

@@ -6,3 +6,4 @@ pub mod Writing
 pub mod Written
 pub mod Below
 pub mod Lending
+pub mod Cursor

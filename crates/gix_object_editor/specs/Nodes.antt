@@ -1,5 +1,5 @@
 -- Opened trees as numbered nodes, and the files that they stand for.
-use Rattle.std.specs.Prelude.{ℕ, zero, suc, ◌≡◌, ◌≢◌, ◌<◌, ◌≤◌, ◌+◌, length, slice_index_or, List, [], ◌∷◌, Option, Some, None, Vec, ⊤, true, false}
+use Rattle.std.specs.Prelude.{ℕ, zero, suc, ◌≡◌, ◌≢◌, ◌<◌, ◌≤◌, ◌+◌, length, slice_index_or, List, [], ◌∷◌, ◌++◌, Option, Some, None, Vec, ⊤, true, false}
 use Rattle.std.specs.Map.{lookup}
 use Rattle.std.specs.BTreeMap.{is_at}
 use Rattle.std.specs.Cmp.Lexicographic.{slice_cmp}
@@ -102,6 +102,10 @@ onto (name ∷ way) q = onto way (name ∷ q)
 -- the path leads down to an opened tree, below which the rest of its names is left
 abbrev pub LeadsTo : Slots → Path → ℕ → Path → Type 0
 LeadsTo slots path j rest = (way : Path) × Way slots way j × (onto way rest ≡ path)
+
+-- the path's last name is one of this opened tree, to which the others lead down
+abbrev pub IsPutIn : Slots → Path → ℕ → Type 0
+IsPutIn slots path j = (front : Path) × (name : Bytes) × (path ≡ front ++ name ∷ []) × LeadsTo slots front j []
 
 -- an opened tree's number, or that no file stands below the name
 abbrev pub IsFolderAt : Slots → ℕ → Bytes → Option NodeId → Type 0

@@ -8,6 +8,7 @@ ghost use Rattle.gix_object_editor.specs.Nodes.{slots_of, entry_at};
 ghost use Rattle.gix_object_editor.specs.Editor.{files_of, names_of, leaf_of_kind, LeadsThrough, LeadsInto, EditFault, LeafFault, IsFilled, IsFolder};
 ghost use Rattle.gix_object_entries.specs.WellFormed.{IsWellFormed};
 
+mod cursor;
 mod edits;
 mod entry;
 mod error;
@@ -28,7 +29,7 @@ use gix_hash::ObjectId;
 use gix_object_entries::Tree;
 use gix_object_entries::tree::{EntryKind, EntryRef};
 use gix_object_find::Find;
-pub use state::Editor;
+pub use state::{Cursor, Editor};
 use std::alloc::{AllocError, Global};
 
 impl<S: Find> Editor<S> {

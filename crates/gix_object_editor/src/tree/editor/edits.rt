@@ -1,17 +1,17 @@
 //! Edits below an opened tree.
 
-ghost use Rattle.std.specs.Prelude.{◌≡◌, ◌<◌, ◌≤◌, ◌+◌, length, IfErr, OnOk, OnErr};
-ghost use Rattle.gix_object_editor.specs.Files.{Path, Trees, HasStored, SameFiles, NamesAreFull, HasNoneBelow, removed, put};
-ghost use Rattle.gix_object_editor.specs.Nodes.{slots_of, Way, onto};
+ghost use Rattle.std.specs.Prelude.{◌≡◌, ◌<◌, ◌≤◌, ◌+◌, length, IfErr, OnOk, OnErr, IfOk, []};
+ghost use Rattle.gix_object_editor.specs.Files.{Path, Trees, HasStored, SameFiles, NamesAreFull, HasNoneBelow, removed, put, cleared};
+ghost use Rattle.gix_object_editor.specs.Nodes.{slots_of, Way, onto, LeadsTo};
 ghost use Rattle.gix_object_editor.specs.Editor.{files_of, names_of, leaf_of_kind, LeadsThrough, LeadsInto, EditFault, LeafFault, IsFilled, IsFolder};
 ghost use Rattle.gix_object_editor.specs.declared.tree.editor.error.Error.TheVariants.{EmptyPathComponent};
 
 use crate::tree::editor::filled::refuse_folder;
-use crate::tree::editor::forest::walk;
-use crate::tree::editor::graft::graft;
+use crate::tree::editor::forest::{folder_below, walk};
+use crate::tree::editor::graft::{graft, make_folders};
 use crate::tree::editor::node::{NodeId, Slot, take_at};
 use crate::tree::editor::{Editor, Error};
-use gix_hash::ObjectId;
+use gix_hash::{Kind, ObjectId};
 use gix_object_entries::tree::{EntryKind, EntryMode};
 use gix_object_find::Find;
 use std::alloc::Global;
@@ -29,6 +29,8 @@ impl<S: Find> Editor<S> {
             → SameFiles (files_of trees self.new) (removed (onto way (names_of path.now)) (files_of trees self.old))) }
         ensures unchanged { S.is_honest self.old.store → OnErr result ((trees : Trees) → HasStored (S.table self.old.store) trees
             → SameFiles (files_of trees self.new) (files_of trees self.old)) }
+        ensures kept { (way : Path) → Way (slots_of self.old.nodes.items) way from.0 → Way (slots_of self.new.nodes.items) way from.0 }
+        ensures within { from.0 < length self.new.nodes.items }
         ensures named { OnOk result (NamesAreFull (names_of path.now)) }
         ensures refused { (way : Path) → Way (slots_of self.old.nodes.items) way from.0 → IfErr result (EditFault (S.is_honest self.old.store) (S.may_fail self.old.store) (S.table self.old.store) (names_of path.now)
             (LeadsThrough (λ trees. files_of trees self.new) (onto way (names_of path.now)))) }
@@ -64,6 +66,8 @@ impl<S: Find> Editor<S> {
             → HasNoneBelow (onto way (names_of path.now)) (files_of trees self.old)) }
         ensures unchanged { S.is_honest self.old.store → OnErr result ((trees : Trees) → HasStored (S.table self.old.store) trees
             → SameFiles (files_of trees self.new) (files_of trees self.old)) }
+        ensures kept { (way : Path) → Way (slots_of self.old.nodes.items) way from.0 → Way (slots_of self.new.nodes.items) way from.0 }
+        ensures within { from.0 < length self.new.nodes.items }
         ensures named { OnOk result (NamesAreFull (names_of path.now)) }
         ensures refused { (way : Path) → Way (slots_of self.old.nodes.items) way from.0 → IfErr result (LeafFault (S.is_honest self.old.store) (S.may_fail self.old.store) (S.table self.old.store) (names_of path.now)
             (LeadsInto (λ trees. files_of trees self.new) (onto way (names_of path.now))) (IsFolder (λ trees. IsFilled trees self.new) (λ trees. files_of trees self.new) (onto way (names_of path.now)))) }
@@ -107,6 +111,8 @@ impl<S: Find> Editor<S> {
             → SameFiles (files_of trees self.new) (put trees (onto way (names_of path.now)) (leaf_of_kind kind id) (files_of trees self.old))) }
         ensures unchanged { S.is_honest self.old.store → OnErr result ((trees : Trees) → HasStored (S.table self.old.store) trees
             → SameFiles (files_of trees self.new) (files_of trees self.old)) }
+        ensures kept { (way : Path) → Way (slots_of self.old.nodes.items) way from.0 → Way (slots_of self.new.nodes.items) way from.0 }
+        ensures within { from.0 < length self.new.nodes.items }
         ensures named { OnOk result (NamesAreFull (names_of path.now)) }
         ensures refused { (way : Path) → Way (slots_of self.old.nodes.items) way from.0 → IfErr result (EditFault (S.is_honest self.old.store) (S.may_fail self.old.store) (S.table self.old.store) (names_of path.now)
             (LeadsThrough (λ trees. files_of trees self.new) (onto way (names_of path.now)))) }
@@ -129,6 +135,48 @@ impl<S: Find> Editor<S> {
         };
         graft(&mut self.nodes, alloc, at, &path[depth..], slot)?;
         Ok(())
+    }
+
+    /// The folder at the path, opened, which begins at the root: where none stands, it is made, and each file on the path goes.
+    pub(crate) fn folder_at(
+        &mut self,
+        alloc: Global,
+        path: &[&[u8]],
+        hash: Kind,
+    ) -> Result<NodeId, Error>
+        ensures cleared { S.is_honest self.old.store → OnOk result ((trees : Trees) → HasStored (S.table self.old.store) trees
+            → SameFiles (files_of trees self.new) (cleared (names_of path.now) (files_of trees self.old))) }
+        ensures unchanged { S.is_honest self.old.store → OnErr result ((trees : Trees) → HasStored (S.table self.old.store) trees
+            → SameFiles (files_of trees self.new) (files_of trees self.old)) }
+        ensures leads { IfOk result (λ end. LeadsTo (slots_of self.new.nodes.items) (names_of path.now) end.0 []) }
+        ensures within { IfOk result (λ end. end.0 < length self.new.nodes.items) }
+        ensures named { OnOk result (NamesAreFull (names_of path.now)) }
+        ensures refused { IfErr result (EditFault (S.is_honest self.old.store) (S.may_fail self.old.store) (S.table self.old.store) (names_of path.now)
+            (LeadsInto (λ trees. files_of trees self.new) (names_of path.now))) }
+        ensures counted { self.new.lookups ≤ self.old.lookups + length path.now }
+        ensures store { self.new.store ≡ self.old.store }
+    {
+        check_names(path)?;
+        let (at, depth) = walk(
+            &self.store,
+            &mut self.nodes,
+            &mut self.lookups,
+            alloc,
+            NodeId(0),
+            path,
+        )?;
+        let found = folder_below(
+            &self.store,
+            &mut self.nodes,
+            &mut self.lookups,
+            alloc,
+            at,
+            &path[depth..],
+        )?;
+        match found {
+            Some(folder) => Ok(folder),
+            None => Ok(make_folders(&mut self.nodes, alloc, at, &path[depth..], hash)?),
+        }
     }
 }
 

@@ -1,6 +1,6 @@
 //! Walking down opened trees, and opening more of them.
 
-ghost use Rattle.std.specs.Prelude.{◌≡◌, ◌<◌, ◌≤◌, ◌+◌, ℕ, length, map, drop, slice_index_or, if◌then◌else◌, is_ok, IfOk, IfErr, OnOk, OnErr, Some, None, []};
+ghost use Rattle.std.specs.Prelude.{◌≡◌, ◌<◌, ◌≤◌, ◌+◌, ℕ, length, map, drop, slice_index_or, if◌then◌else◌, is_ok, IfOk, IfErr, OnOk, OnErr, IsSome, Some, None, []};
 ghost use Rattle.gix_hash.specs.Id.{Id, id_of};
 ghost use Rattle.gix_object_editor.specs.Files.{Bytes, Path};
 ghost use Rattle.gix_object_editor.specs.Nodes.{slot_in, slots_of, child_of, IsForest, IsOpened, IsFolderAt, IsUnopened, IsStoppedAt, Way, onto, LeadsTo};
@@ -92,6 +92,7 @@ pub(crate) fn walk<S: Find>(
     requires named { 0 < length path.now }
     ensures opened { IsOpened (S.is_honest store.now) (S.table store.now) (slots_of nodes.old.items) (slots_of nodes.new.items) (length nodes.old.items) (length nodes.new.items) }
     ensures within { IfOk result (λ end. (end.0.0 < length nodes.new.items) × (end.1 < length path.now)) }
+    ensures below { IfOk result (λ end. from.0 ≤ end.0.0) }
     ensures leads { IfOk result (λ end. (way : Path) → Way (slots_of nodes.old.items) way from.0
         → LeadsTo (slots_of nodes.new.items) (onto way (map (λ n. n.now) path.now)) end.0.0 (map (λ n. n.now) (drop end.1 path.now))) }
     ensures stopped { IfOk result (λ end. end.1 + 1 < length path.now → IsFolderAt (slots_of nodes.new.items) end.0.0 (slice_index_or (map (λ n. n.now) path.now) end.1 []) None) }
@@ -109,4 +110,31 @@ pub(crate) fn walk<S: Find>(
         depth += 1;
     }
     Ok((at, depth))
+}
+
+/// The folder at the end of the names that a walk left, opened. `None` where none stands there.
+pub(crate) fn folder_below<S: Find>(
+    store: &S,
+    nodes: &mut Vec<Node>,
+    lookups: &mut u64,
+    alloc: Global,
+    at: NodeId,
+    names: &[&[u8]],
+) -> Result<Option<NodeId>, Error>
+    requires forest { IsForest (slots_of nodes.old.items) (length nodes.old.items) }
+    requires within { at.0 < length nodes.old.items }
+    requires named { 0 < length names.now }
+    requires stopped { 1 < length names.now → IsFolderAt (slots_of nodes.old.items) at.0 (slice_index_or (map (λ n. n.now) names.now) 0 []) None }
+    ensures opened { IsOpened (S.is_honest store.now) (S.table store.now) (slots_of nodes.old.items) (slots_of nodes.new.items) (length nodes.old.items) (length nodes.new.items) }
+    ensures found { IfOk result (IsFolderAt (slots_of nodes.new.items) at.0 (slice_index_or (map (λ n. n.now) names.now) 0 [])) }
+    ensures last { IfOk result (λ found. IsSome found → length names.now ≡ 1) }
+    ensures counted { lookups.new ≤ lookups.old + 1 }
+    ensures refused { IfErr result (λ error. (s : Slot) × (slots_of nodes.new.items at.0 (slice_index_or (map (λ n. n.now) names.now) 0 []) ≡ Some s) × IsUnopened s
+        × OpeningFault (S.is_honest store.now) (S.may_fail store.now) (S.table store.now) (id_of s.oid) error) }
+    ensures alone { OnErr result (length names.now ≡ 1) }
+{
+    if names.len() > 1 {
+        return Ok(None);
+    }
+    open(store, nodes, lookups, alloc, at, names[0])
 }

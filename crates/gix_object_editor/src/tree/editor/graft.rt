@@ -2,23 +2,23 @@
 
 ghost use Rattle.std.specs.Prelude.{◌≡◌, ◌≢◌, ◌<◌, ◌≤◌, ◌+◌, ℕ, length, map, slice_index_or, IfOk, OnOk, OnErr, Some, None, []};
 ghost use Rattle.gix_object_entries.specs.Mode.{is_tree_value};
-ghost use Rattle.gix_object_editor.specs.Files.{Bytes, Path, Trees, SameFiles, put};
-ghost use Rattle.gix_object_editor.specs.Nodes.{slot_in, slots_of, child_of, leaf_in, files_of_node, Way, onto, IsForest, IsFolderAt, IsRung};
+ghost use Rattle.gix_object_editor.specs.Files.{Bytes, Path, Trees, SameFiles, put, cleared};
+ghost use Rattle.gix_object_editor.specs.Nodes.{slot_in, slots_of, child_of, leaf_in, files_of_node, Way, onto, IsForest, IsFolderAt, IsRung, IsPutIn, LeadsTo};
 
-use crate::tree::editor::node::{Node, NodeId, Slot, put_at};
-use gix_hash::ObjectId;
+use crate::tree::editor::node::{Node, NodeId, Slot, put_at, take_at};
+use gix_hash::{Kind, ObjectId};
 use gix_object_entries::tree::{EntryKind, EntryMode};
 use std::alloc::{AllocError, Global};
 
-/// Puts an entry at the end of the names below an opened tree, in folders that are made for it. What stood at the first name
-/// is cut off. Without memory nothing changes.
+/// Puts an entry at the end of the names below an opened tree, in folders that are made for it, and answers the tree in which it
+/// stands. What stood at the first name is cut off. Without memory nothing changes.
 pub(crate) fn graft(
     nodes: &mut Vec<Node>,
     alloc: Global,
     at: NodeId,
     names: &[&[u8]],
     slot: Slot,
-) -> Result<(), AllocError>
+) -> Result<NodeId, AllocError>
     requires forest { IsForest (slots_of nodes.old.items) (length nodes.old.items) }
     requires within { at.0 < length nodes.old.items }
     requires named { 0 < length names.now }
@@ -28,16 +28,19 @@ pub(crate) fn graft(
     ensures longer { length nodes.old.items ≤ length nodes.new.items }
     ensures put { OnOk result ((trees : Trees) (way : Path) → Way (slots_of nodes.old.items) way at.0
         → SameFiles (files_of_node trees (slots_of nodes.new.items) 0) (put trees (onto way (map (λ n. n.now) names.now)) (leaf_in slot) (files_of_node trees (slots_of nodes.old.items) 0))) }
+    ensures end { IfOk result (λ end. (way : Path) → Way (slots_of nodes.old.items) way at.0
+        → IsPutIn (slots_of nodes.new.items) (onto way (map (λ n. n.now) names.now)) end.0) }
+    ensures within { IfOk result (λ end. end.0 < length nodes.new.items) }
     ensures others { (i : ℕ) (m : Bytes) → i < length nodes.old.items → (i ≡ at.0 → m ≡ slice_index_or (map (λ n. n.now) names.now) 0 [] → ⊥) → slots_of nodes.new.items i m ≡ slots_of nodes.old.items i m }
     ensures err { OnErr result ((i : ℕ) (m : Bytes) → slots_of nodes.new.items i m ≡ slots_of nodes.old.items i m) }
 {
     if names.len() == 1 {
         put_at(nodes.as_mut_slice(), alloc, at, names[0], slot)?;
-        return Ok(());
+        return Ok(at);
     }
     let before = nodes.len();
     match hang(nodes, alloc, at, names, slot) {
-        Ok(()) => Ok(()),
+        Ok(end) => Ok(end),
         Err(error) => {
             nodes.truncate(before);
             Err(error)
@@ -45,14 +48,49 @@ pub(crate) fn graft(
     }
 }
 
-// The same for more than one name. Without memory there may be more trees, to which none leads.
+/// Makes folders at the names below an opened tree, the last without entries, and answers the last. What stood at the first name
+/// is cut off. Without memory nothing changes.
+pub(crate) fn make_folders(
+    nodes: &mut Vec<Node>,
+    alloc: Global,
+    at: NodeId,
+    names: &[&[u8]],
+    hash: Kind,
+) -> Result<NodeId, AllocError>
+    requires forest { IsForest (slots_of nodes.old.items) (length nodes.old.items) }
+    requires within { at.0 < length nodes.old.items }
+    requires named { 0 < length names.now }
+    requires plain { IsFolderAt (slots_of nodes.old.items) at.0 (slice_index_or (map (λ n. n.now) names.now) 0 []) None }
+    ensures forest { IsForest (slots_of nodes.new.items) (length nodes.new.items) }
+    ensures cleared { OnOk result ((trees : Trees) (way : Path) → Way (slots_of nodes.old.items) way at.0
+        → SameFiles (files_of_node trees (slots_of nodes.new.items) 0) (cleared (onto way (map (λ n. n.now) names.now)) (files_of_node trees (slots_of nodes.old.items) 0))) }
+    ensures leads { IfOk result (λ end. (way : Path) → Way (slots_of nodes.old.items) way at.0
+        → LeadsTo (slots_of nodes.new.items) (onto way (map (λ n. n.now) names.now)) end.0 []) }
+    ensures within { IfOk result (λ end. end.0 < length nodes.new.items) }
+    ensures err { OnErr result ((i : ℕ) (m : Bytes) → slots_of nodes.new.items i m ≡ slots_of nodes.old.items i m) }
+{
+    // An entry in the last folder, which is taken out again: then nothing is left to fail where the folders stand.
+    let no_name: &[u8] = &[];
+    let mut path = names.to_vec(alloc)?;
+    path.push(no_name)?;
+    let slot = Slot {
+        mode: EntryMode::from(EntryKind::Tree),
+        oid: ObjectId::null(hash),
+        child: None,
+    };
+    let end = graft(nodes, alloc, at, path.as_slice(), slot)?;
+    take_at(nodes.as_mut_slice(), end, no_name);
+    Ok(end)
+}
+
+// Puts an entry below more than one name. Without memory there may be more trees, to which none leads.
 fn hang(
     nodes: &mut Vec<Node>,
     alloc: Global,
     at: NodeId,
     names: &[&[u8]],
     slot: Slot,
-) -> Result<(), AllocError>
+) -> Result<NodeId, AllocError>
     requires forest { IsForest (slots_of nodes.old.items) (length nodes.old.items) }
     requires within { at.0 < length nodes.old.items }
     requires named { 1 < length names.now }
@@ -62,11 +100,15 @@ fn hang(
     ensures longer { length nodes.old.items ≤ length nodes.new.items }
     ensures put { OnOk result ((trees : Trees) (way : Path) → Way (slots_of nodes.old.items) way at.0
         → SameFiles (files_of_node trees (slots_of nodes.new.items) 0) (put trees (onto way (map (λ n. n.now) names.now)) (leaf_in slot) (files_of_node trees (slots_of nodes.old.items) 0))) }
+    ensures end { IfOk result (λ end. (way : Path) → Way (slots_of nodes.old.items) way at.0
+        → IsPutIn (slots_of nodes.new.items) (onto way (map (λ n. n.now) names.now)) end.0) }
+    ensures within { IfOk result (λ end. end.0 < length nodes.new.items) }
     ensures others { (i : ℕ) (m : Bytes) → i < length nodes.old.items → (i ≡ at.0 → m ≡ slice_index_or (map (λ n. n.now) names.now) 0 [] → ⊥) → slots_of nodes.new.items i m ≡ slots_of nodes.old.items i m }
     ensures err { OnErr result ((i : ℕ) (m : Bytes) → i < length nodes.old.items → slots_of nodes.new.items i m ≡ slots_of nodes.old.items i m) }
 {
     let first = NodeId(nodes.len());
     push_ladder(nodes, alloc, &names[1..], slot)?;
+    let end = NodeId(nodes.len() - 1);
     put_at(
         nodes.as_mut_slice(),
         alloc,
@@ -74,7 +116,7 @@ fn hang(
         names[0],
         folder(slot.oid, first),
     )?;
-    Ok(())
+    Ok(end)
 }
 
 // Puts trees behind the others, each with the slot of one name, which leads to the next tree. The last has the slot that is

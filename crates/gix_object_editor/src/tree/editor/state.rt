@@ -1,9 +1,9 @@
-//! What an editor keeps: its definition stands apart from what the contracts say of it.
+//! What an editor and its cursor keep: their definitions stand apart from what the contracts say of them.
 
-ghost use Rattle.std.specs.Prelude.{length};
+ghost use Rattle.std.specs.Prelude.{◌<◌, length};
 ghost use Rattle.gix_object_editor.specs.Nodes.{slots_of, IsForest};
 
-use crate::tree::editor::node::Node;
+use crate::tree::editor::node::{Node, NodeId};
 
 /// A tree that is edited, and the trees below it, which are opened as the edits lead into them.
 #[derive(Debug, Drop)]
@@ -12,4 +12,12 @@ pub struct Editor<S> {
     pub(crate) nodes: Vec<Node>,
     pub(crate) lookups: u64,
     ghost forest: { IsForest (slots_of nodes.items) (length nodes.items) },
+}
+
+/// A folder of an editor, below which edits are made.
+#[derive(Debug, Drop)]
+pub struct Cursor<'a, S> {
+    pub(crate) editor: &'a mut Editor<S>,
+    pub(crate) at: NodeId,
+    ghost within: { at.0 < length editor.now.nodes.items },
 }

@@ -21,6 +21,7 @@ names-preserved g c =
     let found = folder_found (slots_of new) c.names.at.0 _ c.in_ok-child.field-0 c.in-Some.child c.in-Some.is c.in_ok-child.ensures.found in
     record {
       within = c.in_ok-child.ensures.opened.forest.within c.names.at.0 _ c.in-Some.child.0 found;
+      below = let up : c.names.at.0 < c.in-Some.child.0 = c.in_ok-child.ensures.opened.forest.forward c.names.at.0 _ c.in-Some.child.0 found in let from = c.names.invariant.below in omega arith;
       left = omega arith;
       opened = opened_then _ _ (slots_of c.args.nodes.now.items) (slots_of old) (slots_of new) (length c.args.nodes.now.items) (length old) (length new) c.names.invariant.opened c.in_ok-child.ensures.opened;
       leads = λ way w. leads_on (slots_of old) (slots_of new) (onto way (names c.args.path.now)) c.args.path.now c.names.at.0 c.names.depth _ c.in-Some.child.0 lt c.in_ok-child.ensures.opened.links found (c.names.invariant.leads way w);
@@ -30,6 +31,7 @@ names-preserved g c =
 pub names-init : goal.names-init
 names-init g c = record {
   within = c.requires.within;
+  below = omega arith;
   left = c.requires.named;
   opened = opened_none _ _ (slots_of c.args.nodes.now.items) (length c.args.nodes.now.items) c.requires.forest;
   leads = λ way w. (way, w, refl);

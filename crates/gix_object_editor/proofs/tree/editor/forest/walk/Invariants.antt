@@ -7,6 +7,7 @@ use Rattle.gix_object_editor.proofs.tree.editor.forest.walk.Given as goal
 abbrev pub invariant-names : goal.invariant-names
 invariant-names g l = record {
   within : l.at.0 < length l.nodes.items;
+  below : l.fn.from.0 ≤ l.at.0;
   left : l.depth < length l.path;
   opened : IsOpened (g.S.Lookup.is_honest l.store) (g.S.Lookup.table l.store) (slots_of l.initial.nodes.items) (slots_of l.nodes.items) (length l.initial.nodes.items) (length l.nodes.items);
   leads : (way : Path) → Way (slots_of l.initial.nodes.items) way l.fn.from.0 → LeadsTo (slots_of l.nodes.items) (onto way (map (λ n. n.now) l.path)) l.at.0 (map (λ n. n.now) (drop l.depth l.path));

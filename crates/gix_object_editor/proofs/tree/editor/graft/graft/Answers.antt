@@ -1,13 +1,13 @@
-use Rattle.std.proofs.Common.{ℕ, List, ◌≡◌, ◌∙◌, ◌<◌, ◌≤◌, ap, sym, subst, arith, length, []}
+use Rattle.std.proofs.Common.{ℕ, List, ◌≡◌, ◌∙◌, ◌<◌, ◌≤◌, ap, sym, subst, arith, length, map, []}
 use Rattle.std.specs.Borrow.{Bor}
 use Rattle.std.proofs.lemmas.Result.{err_from_is_err_and}
 use Rattle.std.proofs.lemmas.List.{get_or-map, length-take}
 use Rattle.gix_object_editor.specs.declared.tree.editor.node.Node.{Node}
 use Rattle.gix_object_editor.specs.Files.{Bytes}
-use Rattle.gix_object_editor.specs.Nodes.{slots_of, files_of_node, child_of, IsForest}
+use Rattle.gix_object_editor.specs.Nodes.{slots_of, files_of_node, child_of, onto, IsForest, IsPutIn}
 use Rattle.gix_object_editor.proofs.Slots.{back, all_slots, cut_back}
 use Rattle.gix_object_editor.proofs.Opening.{fewer}
-use Rattle.gix_object_editor.proofs.Ladder.{put_forest, put_files}
+use Rattle.gix_object_editor.proofs.Ladder.{put_forest, put_files, put_end}
 use Rattle.gix_object_editor.proofs.tree.editor.graft.graft.Goals as goal
 
 pub returns-in_err-put_at-clause-forest : goal.returns-in_err-put_at-clause-forest
@@ -76,3 +76,16 @@ returns-in-Err-clause-forest c =
     let longer : length old ≤ length c.hang.new.nodes.items = c.hang.ensures.longer in
     let le : length old ≤ length new = omega (arith, ap length c.truncate.ensures.items, length-take c.len-before.result c.hang.new.nodes.items) in
     fewer (slots_of old) (slots_of new) (length old) (length new) c.requires.forest le (λ i m d e. ap child_of (sym (returns-in-Err-clause-err c i m)) ∙ e)
+
+pub returns-then-names-eq1-clause-end : goal.returns-then-names-eq1-clause-end
+returns-then-names-eq1-clause-end c = λ way reached.
+    let old = c.args.nodes.now.items in
+    let new = c.put_at.new.nodes in
+    let path = c.args.names.now in
+    let n : c.args.nodes.now.len ≡ length new = omega (arith, c.put_at.auto.nodes, c.as_mut_slice.ensures.len) in
+    let same_len : length new ≡ length old = omega (arith, c.args.nodes.now.ok.0) in
+    let one : length path ≡ 1 = omega arith in
+    let some : 0 < length path = omega arith in
+    subst (λ (ns : List Node). IsPutIn (slots_of ns) (onto way (map (λ x. x.now) path)) c.args.at.0) (sym (back c.args.nodes.now.len new _ n))
+    (put_end old new c.requires.forest path one c.args.slot c.requires.unopened same_len c.args.at.0 _ (get_or-map (λ (x : Bor (List ℕ)). x.now) path 0 _ [] some) c.in_ok-put_at.ensures.here
+    (λ i m off. c.in_ok-put_at.ensures.others i m off ∙ ap (λ ns. slots_of ns i m) c.as_mut_slice.ensures.value) way reached)

@@ -3,11 +3,13 @@ use Rattle.std.specs.Borrow.{Bor}
 use Rattle.std.proofs.lemmas.Result.{err_from_is_err_and}
 use Rattle.gix_object_editor.specs.declared.tree.editor.state.Editor.{Editor}
 use Rattle.gix_object_editor.specs.Editor.{files_of, names_of, LeadsInto, IsFolder}
-use Rattle.gix_object_editor.specs.Nodes.{slots_of, files_of_node, child_of, onto, LeadsTo, AreFilled, IsForest}
+use Rattle.gix_object_editor.specs.Nodes.{slots_of, files_of_node, child_of, onto, Way, LeadsTo, AreFilled, IsForest}
 use Rattle.gix_object_editor.proofs.Slots.{back}
 use Rattle.gix_object_editor.proofs.Opening.{opened_then}
 use Rattle.gix_object_editor.proofs.Edits.{two_names, removes_at, removes_none, none_below_path, less_forest, stopped_tree, leads_into, leaf_fault, folder_fault, last_split}
 use Rattle.gix_object_editor.proofs.Walked.{names, last_name, leads_kept}
+use Rattle.gix_object_editor.proofs.Ways.{way_kept}
+use Rattle.gix_object_editor.proofs.Folders.{still_way}
 use Rattle.gix_object_editor.proofs.tree.editor.state.Editor.remove_leaf_from.Goals.{then-depth-path+in_ok-refuse_folder, else-depth-path}
 use Rattle.gix_object_editor.proofs.tree.editor.state.Editor.remove_leaf_from.Goals as goal
 
@@ -88,4 +90,30 @@ returns-clause-leaf g c = λ way w_way honest trees has m rest.
           let left = two_names path c.in_ok-at.depth lt in
           none_below_path _ _ (slots_of old) (slots_of mid) (length old) (length mid) c.args.self.now.forest c.in_ok-at.ensures.opened (onto way (names_of path)) c.in_ok-at.at.0
           _ (left.0 ∷ left.1) _ (c.in_ok-at.ensures.leads way w_way) left.2 (c.in_ok-at.ensures.stopped lt) honest trees has m rest
+    ]
+
+pub returns-in_err-at-clause-kept : goal.returns-in_err-at-clause-kept
+returns-in_err-at-clause-kept g c = λ way w. way_kept (slots_of c.args.self.now.nodes.items) (slots_of c.walk.new.nodes.items) c.in_err-at.ensures.opened.links way c.args.from.0 w
+
+pub returns-in_err-refuse_folder-clause-kept : goal.returns-in_err-refuse_folder-clause-kept
+returns-in_err-refuse_folder-clause-kept g c = λ way w.
+    way_kept (slots_of c.args.self.now.nodes.items) (slots_of c.refuse_folder.new.nodes.items)
+    (λ i m k e. c.in_err-refuse_folder.ensures.opened.links i m k (c.in_ok-at.ensures.opened.links i m k e)) way c.args.from.0 w
+
+pub returns-clause-kept : goal.returns-clause-kept
+returns-clause-kept g c = λ way w.
+    let old = c.args.self.now.nodes.items in
+    let mid = c.walk.new.nodes.items in
+    elim c.if-depth-path.branch [
+      | then-depth-path+in_ok-refuse_folder t ↦
+          let more = t.refuse_folder.new.nodes.items in
+          let new = t.take_at.new.nodes in
+          let n : t.refuse_folder.new.nodes.len ≡ length new = omega (arith, t.take_at.auto.nodes, t.as_mut_slice.ensures.len) in
+          subst (λ (e : Editor _). Way (slots_of e.nodes.items) way c.args.from.0) (sym t.self-is)
+          (subst (λ ns. Way (slots_of ns) way c.args.from.0) (sym (back t.refuse_folder.new.nodes.len new _ n))
+          (still_way (slots_of old) (slots_of more) (slots_of new) (length more) c.args.from.0 c.in_ok-at.at.0 t.in_ok-refuse_folder.ensures.opened.forest
+          (λ i m k e. t.in_ok-refuse_folder.ensures.opened.links i m k (c.in_ok-at.ensures.opened.links i m k e)) c.in_ok-at.ensures.below
+          (λ i m lt. t.take_at.ensures.others i m (λ e _. absurd (omega (arith, lt, e))) ∙ ap (λ ns. slots_of ns i m) t.as_mut_slice.ensures.value) way w))
+      | else-depth-path t ↦
+          subst (λ (e : Editor _). Way (slots_of e.nodes.items) way c.args.from.0) (sym t.self-is) (way_kept (slots_of old) (slots_of mid) c.in_ok-at.ensures.opened.links way c.args.from.0 w)
     ]

@@ -6,9 +6,11 @@ use Rattle.gix_object_entries.specs.ModeText.{mode_of}
 use Rattle.gix_object_editor.specs.Files.{Leaf, put}
 use Rattle.std.proofs.lemmas.Result.{err_from_is_err_and}
 use Rattle.gix_object_editor.specs.Editor.{names_of, leaf_of_kind, LeadsThrough}
-use Rattle.gix_object_editor.specs.Nodes.{slots_of, files_of_node, onto, LeadsTo, IsFolderAt}
+use Rattle.gix_object_editor.specs.Nodes.{slots_of, files_of_node, child_of, onto, LeadsTo, IsFolderAt}
 use Rattle.gix_object_editor.proofs.Edits.{rest_is, first_left, upserts_at, stopped_tree, edit_fault}
 use Rattle.gix_object_editor.proofs.Walked.{names}
+use Rattle.gix_object_editor.proofs.Ways.{way_kept}
+use Rattle.gix_object_editor.proofs.Folders.{still_way}
 use Rattle.gix_object_editor.proofs.tree.editor.state.Editor.upsert_from.Goals as goal
 
 pub returns-in_err-at-clause-refused : goal.returns-in_err-at-clause-refused
@@ -42,3 +44,18 @@ returns-clause-put g c = λ way w honest trees has q.
     upserts_at _ _ (slots_of c.args.self.now.nodes.items) (slots_of mid) (length c.args.self.now.nodes.items) (length mid) c.args.self.now.forest c.in_ok-at.ensures.opened (onto way (names path)) c.in_ok-at.at.0
     (slots_of c.graft.new.nodes.items) leaf (names (take (length path - i) (drop i path))) leads c.in_ok-graft.ensures.put honest trees has q
     ∙ ap (λ l. put trees (onto way (names path)) l (files_of_node trees (slots_of c.args.self.now.nodes.items) 0) q) same
+
+pub returns-in_err-at-clause-kept : goal.returns-in_err-at-clause-kept
+returns-in_err-at-clause-kept g c = λ way w. way_kept (slots_of c.args.self.now.nodes.items) (slots_of c.walk.new.nodes.items) c.in_err-at.ensures.opened.links way c.args.from.0 w
+
+pub returns-in_err-graft-clause-kept : goal.returns-in_err-graft-clause-kept
+returns-in_err-graft-clause-kept g c = λ way w.
+    way_kept (slots_of c.args.self.now.nodes.items) (slots_of c.graft.new.nodes.items)
+    (λ i m k e. ap child_of (c.in_err-graft.ensures.err i m) ∙ c.in_ok-at.ensures.opened.links i m k e) way c.args.from.0 w
+
+pub returns-clause-kept : goal.returns-clause-kept
+returns-clause-kept g c = λ way w.
+    let old = c.args.self.now.nodes.items in
+    let mid = c.walk.new.nodes.items in
+    still_way (slots_of old) (slots_of mid) (slots_of c.graft.new.nodes.items) (length mid) c.args.from.0 c.in_ok-at.at.0 c.in_ok-at.ensures.opened.forest c.in_ok-at.ensures.opened.links c.in_ok-at.ensures.below
+    (λ i m lt. let less : i < length mid = omega (arith, lt, c.in_ok-at.ensures.within.0) in c.in_ok-graft.ensures.others i m less (λ e _. absurd (omega (arith, lt, e)))) way w

@@ -1,0 +1,14 @@
+use Rattle.std.proofs.Common.{ℕ, List, ◌≡◌, Some, [], sym, subst, IfErr}
+use Rattle.std.specs.Borrow.{Bor}
+use Rattle.std.proofs.lemmas.List.{get_or-map}
+use Rattle.gix_hash.specs.Id.{id_of}
+use Rattle.gix_object_editor.specs.declared.tree.editor.node.Slot.{Slot}
+use Rattle.gix_object_editor.specs.Nodes.{slots_of, IsUnopened}
+use Rattle.gix_object_editor.specs.Refusals.{OpeningFault}
+use Rattle.gix_object_editor.proofs.tree.editor.forest.folder_below.Goals as goal
+
+pub returns-clause-refused : goal.returns-clause-refused
+returns-clause-refused g c =
+    subst (λ n. IfErr c.open.result (λ error. (x : Slot) × (slots_of c.open.new.nodes.items c.args.at.0 n ≡ Some x) × IsUnopened x
+    × OpeningFault (g.S.Lookup.is_honest c.args.store.now) (g.S.Lookup.may_fail c.args.store.now) (g.S.Lookup.table c.args.store.now) (id_of x.oid) error))
+    (sym (get_or-map (λ (n : Bor (List ℕ)). n.now) c.args.names.now 0 _ [] c.requires.named)) c.open.ensures.refused

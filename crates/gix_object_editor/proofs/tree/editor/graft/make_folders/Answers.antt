@@ -1,0 +1,67 @@
+use Rattle.std.proofs.Common.{ℕ, List, ◌≡◌, ◌∙◌, ◌<◌, ◌++◌, ◌∷◌, [], ap, sym, subst, arith, rules, length, true}
+use Rattle.std.specs.Prelude.{is_ok}
+use Rattle.gix_object_editor.specs.declared.tree.editor.node.Node.{Node}
+use Rattle.gix_hash.specs.Id.{id_of}
+use Rattle.gix_object_entries.specs.ModeText.{mode_of}
+use Rattle.gix_object_editor.specs.Files.{Bytes, Leaf, put}
+use Rattle.gix_object_editor.specs.Nodes.{slots_of, files_of_node, child_of, onto, IsForest, LeadsTo, IsPutIn}
+use Rattle.gix_object_editor.proofs.Paths.{onto-append}
+use Rattle.gix_object_editor.proofs.Slots.{back}
+use Rattle.gix_object_editor.proofs.Edits.{less_forest}
+use Rattle.gix_object_editor.proofs.Walked.{names, names_length}
+use Rattle.gix_object_editor.proofs.Folders.{names_pushed, none_below, made_leads, made_files}
+use Rattle.gix_object_editor.proofs.tree.editor.graft.make_folders.Goals as goal
+
+pub returns-clause-forest : goal.returns-clause-forest
+returns-clause-forest c =
+    let old = c.args.nodes.now.items in
+    let mid = c.graft.new.nodes.items in
+    let new = c.take_at.new.nodes in
+    let path = c.args.names.now in
+    let n : c.graft.new.nodes.len ≡ length new = omega (arith, c.take_at.auto.nodes, c.as_mut_slice.ensures.len) in
+    let others : (i : ℕ) (m : Bytes) → ((i ≡ c.in_ok-end.end.0) → (m ≡ []) → ⊥) → slots_of new i m ≡ slots_of mid i m = λ i m off.
+    c.take_at.ensures.others i m off ∙ ap (λ ns. slots_of ns i m) c.as_mut_slice.ensures.value in
+    let len : length mid ≡ length new = omega (arith, c.graft.new.nodes.ok.0) in
+    let forest = less_forest (slots_of mid) (slots_of new) (length mid) (length new) c.in_ok-end.end.0 [] c.graft.ensures.forest len (ap child_of c.take_at.ensures.here) others in
+    subst (λ (ns : List Node). IsForest (slots_of ns) (length ns)) (sym (back c.graft.new.nodes.len new _ n)) forest
+
+pub returns-clause-leads : goal.returns-clause-leads
+returns-clause-leads c = λ way reached.
+    let old = c.args.nodes.now.items in
+    let mid = c.graft.new.nodes.items in
+    let new = c.take_at.new.nodes in
+    let path = c.args.names.now in
+    let n : c.graft.new.nodes.len ≡ length new = omega (arith, c.take_at.auto.nodes, c.as_mut_slice.ensures.len) in
+    let others : (i : ℕ) (m : Bytes) → ((i ≡ c.in_ok-end.end.0) → (m ≡ []) → ⊥) → slots_of new i m ≡ slots_of mid i m = λ i m off.
+    c.take_at.ensures.others i m off ∙ ap (λ ns. slots_of ns i m) c.as_mut_slice.ensures.value in
+    let ok : is_ok c.push.result ≡ true = search rules in
+    let same : c.in_ok-path.path.items ≡ path = search rules in
+    let longer : names c.as_slice.result.now ≡ names path ++ [] ∷ [] =
+    ap names c.as_slice.ensures.value ∙ names_pushed _ c.in_ok-path.path.items c.push.new.self.items _ ok c.push.ensures.items ∙ ap (λ xs. names xs ++ [] ∷ []) same in
+    let whole : onto way (names c.as_slice.result.now) ≡ onto way (names path) ++ [] ∷ [] = ap (onto way) longer ∙ onto-append way (names path) ([] ∷ []) in
+    let put_in = subst (λ p. IsPutIn (slots_of mid) p c.in_ok-end.end.0) whole (c.in_ok-end.ensures.end way reached) in
+    subst (λ (ns : List Node). LeadsTo (slots_of ns) (onto way (names path)) c.in_ok-end.end.0 []) (sym (back c.graft.new.nodes.len new _ n))
+    (made_leads (slots_of mid) (slots_of new) (length mid) c.graft.ensures.forest (onto way (names path)) [] c.in_ok-end.end.0 put_in c.take_at.ensures.here others)
+
+pub returns-clause-cleared : goal.returns-clause-cleared
+returns-clause-cleared c = λ trees way reached q.
+    let old = c.args.nodes.now.items in
+    let mid = c.graft.new.nodes.items in
+    let new = c.take_at.new.nodes in
+    let path = c.args.names.now in
+    let n : c.graft.new.nodes.len ≡ length new = omega (arith, c.take_at.auto.nodes, c.as_mut_slice.ensures.len) in
+    let others : (i : ℕ) (m : Bytes) → ((i ≡ c.in_ok-end.end.0) → (m ≡ []) → ⊥) → slots_of new i m ≡ slots_of mid i m = λ i m off.
+    c.take_at.ensures.others i m off ∙ ap (λ ns. slots_of ns i m) c.as_mut_slice.ensures.value in
+    let ok : is_ok c.push.result ≡ true = search rules in
+    let same : c.in_ok-path.path.items ≡ path = search rules in
+    let longer : names c.as_slice.result.now ≡ names path ++ [] ∷ [] =
+    ap names c.as_slice.ensures.value ∙ names_pushed _ c.in_ok-path.path.items c.push.new.self.items _ ok c.push.ensures.items ∙ ap (λ xs. names xs ++ [] ∷ []) same in
+    let whole : onto way (names c.as_slice.result.now) ≡ onto way (names path) ++ [] ∷ [] = ap (onto way) longer ∙ onto-append way (names path) ([] ∷ []) in
+    let put_in = subst (λ p. IsPutIn (slots_of mid) p c.in_ok-end.end.0) whole (c.in_ok-end.ensures.end way reached) in
+    let leaf : Leaf = record { mode = mode_of c.from.result; id = id_of c.null.result } in
+    let some : 0 < length (names path) = omega (arith, names_length path) in
+    let none = none_below trees (slots_of old) way c.args.at.0 (names path) reached some c.requires.plain in
+    ap (λ (ns : List Node). files_of_node trees (slots_of ns) 0 q) (back c.graft.new.nodes.len new _ n)
+    ∙ made_files (slots_of mid) (slots_of new) (length mid) c.graft.ensures.forest (onto way (names path)) [] c.in_ok-end.end.0 put_in c.take_at.ensures.here others trees leaf
+    (files_of_node trees (slots_of old) 0) none
+    (λ r. c.in_ok-end.ensures.put trees way reached r ∙ ap (λ p. put trees p leaf (files_of_node trees (slots_of old) 0) r) whole) q

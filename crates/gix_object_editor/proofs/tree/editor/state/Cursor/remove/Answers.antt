@@ -1,0 +1,15 @@
+use Rattle.std.proofs.Common.{subst, OnOk, IfErr}
+use Rattle.gix_object_editor.specs.Editor.{files_of, names_of, LeadsThrough, EditFault}
+use Rattle.gix_object_editor.specs.Files.{Trees, HasStored, SameFiles, removed}
+use Rattle.gix_object_editor.proofs.Folders.{below_base}
+use Rattle.gix_object_editor.proofs.tree.editor.state.Cursor.remove.Goals as goal
+
+pub returns-clause-removed : goal.returns-clause-removed
+returns-clause-removed g c = λ base stands honest.
+    subst (λ p. OnOk c.remove_from.result ((trees : Trees) → HasStored (g.S.Lookup.table c.args.self.now.editor.now.store) trees → SameFiles (files_of trees c.remove_from.new.self) (removed p (files_of trees c.args.self.now.editor.now))))
+    (below_base stands.0 base (names_of c.args.path.now) stands.2) (c.remove_from.ensures.removed stands.0 stands.1 honest)
+
+pub returns-clause-refused : goal.returns-clause-refused
+returns-clause-refused g c = λ base stands.
+    subst (λ p. IfErr c.remove_from.result (EditFault (g.S.Lookup.is_honest c.args.self.now.editor.now.store) (g.S.Lookup.may_fail c.args.self.now.editor.now.store) (g.S.Lookup.table c.args.self.now.editor.now.store) (names_of c.args.path.now) (LeadsThrough (λ trees. files_of trees c.remove_from.new.self) p)))
+    (below_base stands.0 base (names_of c.args.path.now) stands.2) (c.remove_from.ensures.refused stands.0 stands.1)

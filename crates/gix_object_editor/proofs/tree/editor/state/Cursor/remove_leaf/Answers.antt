@@ -1,0 +1,20 @@
+use Rattle.std.proofs.Common.{subst, OnOk, IfErr}
+use Rattle.gix_object_editor.specs.Editor.{files_of, names_of, LeadsInto, LeafFault, IsFilled, IsFolder}
+use Rattle.gix_object_editor.specs.Files.{Trees, HasStored, SameFiles, HasNoneBelow, removed}
+use Rattle.gix_object_editor.proofs.Folders.{below_base}
+use Rattle.gix_object_editor.proofs.tree.editor.state.Cursor.remove_leaf.Goals as goal
+
+pub returns-clause-removed : goal.returns-clause-removed
+returns-clause-removed g c = λ base stands honest.
+    subst (λ p. OnOk c.remove_leaf_from.result ((trees : Trees) → HasStored (g.S.Lookup.table c.args.self.now.editor.now.store) trees → SameFiles (files_of trees c.remove_leaf_from.new.self) (removed p (files_of trees c.args.self.now.editor.now))))
+    (below_base stands.0 base (names_of c.args.path.now) stands.2) (c.remove_leaf_from.ensures.removed stands.0 stands.1 honest)
+
+pub returns-clause-leaf : goal.returns-clause-leaf
+returns-clause-leaf g c = λ base stands honest.
+    subst (λ p. OnOk c.remove_leaf_from.result ((trees : Trees) → HasStored (g.S.Lookup.table c.args.self.now.editor.now.store) trees → HasNoneBelow p (files_of trees c.args.self.now.editor.now)))
+    (below_base stands.0 base (names_of c.args.path.now) stands.2) (c.remove_leaf_from.ensures.leaf stands.0 stands.1 honest)
+
+pub returns-clause-refused : goal.returns-clause-refused
+returns-clause-refused g c = λ base stands.
+    subst (λ p. IfErr c.remove_leaf_from.result (LeafFault (g.S.Lookup.is_honest c.args.self.now.editor.now.store) (g.S.Lookup.may_fail c.args.self.now.editor.now.store) (g.S.Lookup.table c.args.self.now.editor.now.store) (names_of c.args.path.now) (LeadsInto (λ trees. files_of trees c.remove_leaf_from.new.self) p) (IsFolder (λ trees. IsFilled trees c.remove_leaf_from.new.self) (λ trees. files_of trees c.remove_leaf_from.new.self) p)))
+    (below_base stands.0 base (names_of c.args.path.now) stands.2) (c.remove_leaf_from.ensures.refused stands.0 stands.1)

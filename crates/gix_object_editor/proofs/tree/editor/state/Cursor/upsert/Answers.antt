@@ -1,0 +1,15 @@
+use Rattle.std.proofs.Common.{subst, OnOk, IfErr}
+use Rattle.gix_object_editor.specs.Editor.{files_of, names_of, leaf_of_kind, LeadsThrough, EditFault}
+use Rattle.gix_object_editor.specs.Files.{Trees, HasStored, SameFiles, put}
+use Rattle.gix_object_editor.proofs.Folders.{below_base}
+use Rattle.gix_object_editor.proofs.tree.editor.state.Cursor.upsert.Goals as goal
+
+pub returns-clause-put : goal.returns-clause-put
+returns-clause-put g c = λ base stands honest.
+    subst (λ p. OnOk c.upsert_from.result ((trees : Trees) → HasStored (g.S.Lookup.table c.args.self.now.editor.now.store) trees → SameFiles (files_of trees c.upsert_from.new.self) (put trees p (leaf_of_kind c.args.kind c.args.id) (files_of trees c.args.self.now.editor.now))))
+    (below_base stands.0 base (names_of c.args.path.now) stands.2) (c.upsert_from.ensures.put stands.0 stands.1 honest)
+
+pub returns-clause-refused : goal.returns-clause-refused
+returns-clause-refused g c = λ base stands.
+    subst (λ p. IfErr c.upsert_from.result (EditFault (g.S.Lookup.is_honest c.args.self.now.editor.now.store) (g.S.Lookup.may_fail c.args.self.now.editor.now.store) (g.S.Lookup.table c.args.self.now.editor.now.store) (names_of c.args.path.now) (LeadsThrough (λ trees. files_of trees c.upsert_from.new.self) p)))
+    (below_base stands.0 base (names_of c.args.path.now) stands.2) (c.upsert_from.ensures.refused stands.0 stands.1)

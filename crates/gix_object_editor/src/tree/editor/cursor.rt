@@ -1,0 +1,145 @@
+//! Edits below a folder.
+
+ghost use Rattle.std.specs.Prelude.{◌≡◌, ◌≢◌, ◌≤◌, ◌+◌, ◌++◌, [], length, option_map, IfOk, IfErr, OnOk, OnErr, None};
+ghost use Rattle.std.specs.Borrow.{sem};
+ghost use Rattle.gix_hash.specs.Id.{id_of};
+ghost use Rattle.gix_object_entries.specs.Entry.{item_of};
+ghost use Rattle.gix_object_editor.specs.Files.{Path, Trees, HasStored, SameFiles, NamesAreFull, HasNoneBelow, removed, put, cleared};
+ghost use Rattle.gix_object_editor.specs.Nodes.{slots_of, entry_at};
+ghost use Rattle.gix_object_editor.specs.Editor.{files_of, names_of, leaf_of_kind, LeadsThrough, LeadsInto, EditFault, LeafFault, IsFilled, IsFolder};
+ghost use Rattle.gix_object_editor.specs.Written.{WriteFault, Writes};
+ghost use Rattle.gix_object_editor.specs.Cursor.{StandsAt, IsLeft, LendsOrLeaves};
+
+use crate::tree::editor::entry::entry_from;
+use crate::tree::editor::node::NodeId;
+use crate::tree::editor::{Cursor, Editor, Error, write};
+use gix_hash::{Kind, ObjectId};
+use gix_object_entries::Tree;
+use gix_object_entries::tree::{EntryKind, EntryRef};
+use gix_object_find::Find;
+use std::alloc::Global;
+
+impl<S: Find> Editor<S> {
+    /// A cursor at the root.
+    pub fn to_cursor(&mut self) -> Cursor<'_, S>
+        ensures stands { StandsAt result [] }
+        ensures same { result.editor.now ≡ self.old }
+        ensures lent { result.editor.ghost_name ≡ self.entry.ghost_name }
+    {
+        Cursor {
+            editor: self,
+            at: NodeId(0),
+        }
+    }
+
+    /// A cursor at the folder of this path. Where none stands, it is made without entries, and each file at a beginning of the path
+    /// goes. A folder that is made has the null id of this hash function, until it is written.
+    ///
+    /// It is refused as `remove` is, of the trees on the path and of the one at its end. The files are unchanged then.
+    pub fn cursor_at(
+        &mut self,
+        alloc: Global,
+        path: &[&[u8]],
+        hash: Kind,
+    ) -> Result<Cursor<'_, S>, Error>
+        ensures* left { sem 𝓛 (LendsOrLeaves S.row self.entry result (λ left.
+            IfErr result (IsLeft (S.is_honest self.old.store) (S.may_fail self.old.store) (S.table self.old.store) (names_of path.now) self.old left))) }
+        ensures stands { IfOk result (λ cursor. StandsAt cursor (names_of path.now)) }
+        ensures cleared { S.is_honest self.old.store → IfOk result (λ cursor. (trees : Trees) → HasStored (S.table self.old.store) trees
+            → SameFiles (files_of trees cursor.editor.now) (cleared (names_of path.now) (files_of trees self.old))) }
+        ensures named { OnOk result (NamesAreFull (names_of path.now)) }
+        ensures counted { IfOk result (λ cursor. cursor.editor.now.lookups ≤ self.old.lookups + length path.now) }
+        ensures store { IfOk result (λ cursor. cursor.editor.now.store ≡ self.old.store) }
+        ensures lent { IfOk result (λ cursor. cursor.editor.ghost_name ≡ self.entry.ghost_name) }
+    {
+        let at = self.folder_at(alloc, path, hash)?;
+        Ok(Cursor { editor: self, at })
+    }
+}
+
+impl<'c, S: Find> Cursor<'c, S> {
+    /// The entry at the path below the cursor, as `Editor::get` answers it.
+    pub fn get<'a>(&'a self, path: &[&'a [u8]]) -> Option<EntryRef<'a>>
+        ensures entry { (base : Path) → StandsAt self.now base → path.now ≢ []
+            → option_map item_of result ≡ entry_at (slots_of self.now.editor.now.nodes.items) 0 (base ++ names_of path.now) }
+        ensures none { path.now ≡ [] → result ≡ None }
+    {
+        entry_from(self.editor.nodes.as_slice(), self.at, path)
+    }
+
+    /// Takes out what stands at or below the path, which begins at the cursor, as `Editor::remove` does.
+    pub fn remove(&mut self, alloc: Global, path: &[&[u8]]) -> Result<(), Error>
+        ensures removed { (base : Path) → StandsAt self.old base → S.is_honest self.old.editor.now.store → OnOk result ((trees : Trees) → HasStored (S.table self.old.editor.now.store) trees
+            → SameFiles (files_of trees self.new.editor.now) (removed (base ++ names_of path.now) (files_of trees self.old.editor.now))) }
+        ensures unchanged { S.is_honest self.old.editor.now.store → OnErr result ((trees : Trees) → HasStored (S.table self.old.editor.now.store) trees
+            → SameFiles (files_of trees self.new.editor.now) (files_of trees self.old.editor.now)) }
+        ensures stands { (base : Path) → StandsAt self.old base → StandsAt self.new base }
+        ensures named { OnOk result (NamesAreFull (names_of path.now)) }
+        ensures refused { (base : Path) → StandsAt self.old base → IfErr result (EditFault (S.is_honest self.old.editor.now.store) (S.may_fail self.old.editor.now.store) (S.table self.old.editor.now.store) (names_of path.now)
+            (LeadsThrough (λ trees. files_of trees self.new.editor.now) (base ++ names_of path.now))) }
+        ensures counted { self.new.editor.now.lookups ≤ self.old.editor.now.lookups + length path.now }
+        ensures store { self.new.editor.now.store ≡ self.old.editor.now.store }
+        ensures lent { self.new.editor.ghost_name ≡ self.old.editor.ghost_name }
+    {
+        self.editor.remove_from(alloc, self.at, path)
+    }
+
+    /// Takes out the file at the path, which begins at the cursor, as `Editor::remove_leaf` does.
+    pub fn remove_leaf(&mut self, alloc: Global, path: &[&[u8]]) -> Result<(), Error>
+        ensures removed { (base : Path) → StandsAt self.old base → S.is_honest self.old.editor.now.store → OnOk result ((trees : Trees) → HasStored (S.table self.old.editor.now.store) trees
+            → SameFiles (files_of trees self.new.editor.now) (removed (base ++ names_of path.now) (files_of trees self.old.editor.now))) }
+        ensures leaf { (base : Path) → StandsAt self.old base → S.is_honest self.old.editor.now.store → OnOk result ((trees : Trees) → HasStored (S.table self.old.editor.now.store) trees
+            → HasNoneBelow (base ++ names_of path.now) (files_of trees self.old.editor.now)) }
+        ensures unchanged { S.is_honest self.old.editor.now.store → OnErr result ((trees : Trees) → HasStored (S.table self.old.editor.now.store) trees
+            → SameFiles (files_of trees self.new.editor.now) (files_of trees self.old.editor.now)) }
+        ensures stands { (base : Path) → StandsAt self.old base → StandsAt self.new base }
+        ensures named { OnOk result (NamesAreFull (names_of path.now)) }
+        ensures refused { (base : Path) → StandsAt self.old base → IfErr result (LeafFault (S.is_honest self.old.editor.now.store) (S.may_fail self.old.editor.now.store) (S.table self.old.editor.now.store) (names_of path.now)
+            (LeadsInto (λ trees. files_of trees self.new.editor.now) (base ++ names_of path.now))
+            (IsFolder (λ trees. IsFilled trees self.new.editor.now) (λ trees. files_of trees self.new.editor.now) (base ++ names_of path.now))) }
+        ensures counted { self.new.editor.now.lookups ≤ self.old.editor.now.lookups + length path.now }
+        ensures store { self.new.editor.now.store ≡ self.old.editor.now.store }
+        ensures lent { self.new.editor.ghost_name ≡ self.old.editor.ghost_name }
+    {
+        self.editor.remove_leaf_from(alloc, self.at, path)
+    }
+
+    /// Puts an entry of this kind and id at the path, which begins at the cursor, as `Editor::upsert` does.
+    pub fn upsert(
+        &mut self,
+        alloc: Global,
+        path: &[&[u8]],
+        kind: EntryKind,
+        id: ObjectId,
+    ) -> Result<(), Error>
+        ensures put { (base : Path) → StandsAt self.old base → S.is_honest self.old.editor.now.store → OnOk result ((trees : Trees) → HasStored (S.table self.old.editor.now.store) trees
+            → SameFiles (files_of trees self.new.editor.now) (put trees (base ++ names_of path.now) (leaf_of_kind kind id) (files_of trees self.old.editor.now))) }
+        ensures unchanged { S.is_honest self.old.editor.now.store → OnErr result ((trees : Trees) → HasStored (S.table self.old.editor.now.store) trees
+            → SameFiles (files_of trees self.new.editor.now) (files_of trees self.old.editor.now)) }
+        ensures stands { (base : Path) → StandsAt self.old base → StandsAt self.new base }
+        ensures named { OnOk result (NamesAreFull (names_of path.now)) }
+        ensures refused { (base : Path) → StandsAt self.old base → IfErr result (EditFault (S.is_honest self.old.editor.now.store) (S.may_fail self.old.editor.now.store) (S.table self.old.editor.now.store) (names_of path.now)
+            (LeadsThrough (λ trees. files_of trees self.new.editor.now) (base ++ names_of path.now))) }
+        ensures counted { self.new.editor.now.lookups ≤ self.old.editor.now.lookups + length path.now }
+        ensures store { self.new.editor.now.store ≡ self.old.editor.now.store }
+        ensures lent { self.new.editor.ghost_name ≡ self.old.editor.ghost_name }
+    {
+        self.editor.upsert_from(alloc, self.at, path, kind, id)
+    }
+
+    /// Hands out the trees from the cursor's folder down as `Editor::write` does from the root, that folder's last, and answers its
+    /// id.
+    pub fn write<E, F: FnMut(&Tree) -> Result<ObjectId, E>>(
+        &self,
+        alloc: Global,
+        out: &mut F,
+    ) -> Result<ObjectId, write::Error<E>>
+        requires { F.IsAlwaysCallable out.old }
+        ensures written { (base : Path) → StandsAt self.now base → IfOk result (λ id. Writes F.FnMut self.now.editor.now base out.old (id_of id) out.new) }
+        ensures refused { (base : Path) → StandsAt self.now base → IfErr result (λ error.
+            WriteFault F.FnMut (slots_of self.now.editor.now.nodes.items) out.old error out.new) }
+        ensures callable { F.IsAlwaysCallable out.new }
+    {
+        self.editor.write_from(alloc, self.at, out)
+    }
+}
