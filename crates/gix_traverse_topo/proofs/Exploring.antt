@@ -1,6 +1,6 @@
 -- What a walk knows before its first commit comes.
-use Rattle.std.proofs.Common.{◌≡◌, ℕ, ◌+◌, ◌<◌, ◌≤◌, ◌⊎◌, inl, inr, List, [], ◌++◌, length, refl, sym, ◌∙◌, ap, subst, arith, Some, None}
-use Rattle.std.specs.Prelude.{Contains, ⊤, ◌↔◌, IfSome}
+use Rattle.std.proofs.Common.{◌≡◌, ℕ, ◌<◌, ◌≤◌, inl, inr, List, [], ◌++◌, length, refl, sym, ◌∙◌, ap, subst, arith, Some, None}
+use Rattle.std.specs.Prelude.{Contains, ◌↔◌, IfSome}
 use Rattle.std.proofs.lemmas.Option.{slice_get_within}
 use Rattle.gix_hash.specs.declared.object_id.ObjectId.{ObjectId}
 use Rattle.gix_object_find.specs.Table.{Table}
@@ -14,9 +14,10 @@ use Rattle.gix_traverse_commit.specs.declared.parents.Parents.TheVariants.{All}
 use Rattle.gix_traverse_commit.specs.declared.rows.Row.{Row}
 use Rattle.gix_traverse_commit.proofs.Lists.{at_from_contains, contains_from_at, none_at_nil, three}
 use Rattle.gix_traverse_topo.specs.Exploring.{IsPainted, Numbers, IsExplored}
-use Rattle.gix_traverse_topo.specs.Faults.{IsBuildFault, StopsAtEnds, IsFaultOf}
+use Rattle.gix_traverse_topo.specs.Faults.{StopsAtEnds, IsFaultOf}
 use Rattle.gix_traverse_topo.specs.Meeting.{Walks}
 use Rattle.gix_traverse_topo.specs.Nodes.{readings, counts, EachCount, IsOnce, IsReading, ParentsFrom}
+use Rattle.gix_traverse_topo.specs.Standing.{as_read}
 use Rattle.gix_traverse_topo.specs.Turns.{names_of}
 use Rattle.gix_traverse_topo.specs.Walking.{Walking}
 use Rattle.gix_traverse_topo.specs.declared.error.Error.{Error}
@@ -51,7 +52,7 @@ module _ (honest may_fail : Type 0) (rows : List Row) (table : Table) (ends : Li
   once : IsOnce keys
   once = w.once (λ j k x a b. absurd (none_at_nil j x a))
 
-  as_many : length nodes ≡ length keys
+  pub as_many : length nodes ≡ length keys
   as_many = (walks_all honest may_fail rows table All ends [] [] keys nodes w full refl (seen_in keys (readings nodes)) (seen_parents 0 keys (readings nodes) once)).1
 
   read : (n : ℕ) (x : ObjectId) (reading : Reading) → At keys n x → At (readings nodes) n reading → IsReading honest may_fail rows table x reading
@@ -83,8 +84,7 @@ module _ (honest may_fail : Type 0) (rows : List Row) (table : Table) (ends : Li
         id = x;
         cause = subst (λ o. IfSome o (IsFaultOf honest may_fail rows table x)) e (read n x reading a b).cause;
         reached = λ yes g are.
-            let h = fault_in keys (readings nodes) in
-            reached_read h g ends ((one_by_one _ (parents_so honest may_fail rows table keys (readings nodes) once read yes g are) x).0 (contains_from_at keys n x a));
+            reached_read (fault_in keys (readings nodes)) g ends ((one_by_one (as_read (fault_in keys (readings nodes)) g) (parents_so honest may_fail rows table keys (readings nodes) once read yes g are) x).0 (contains_from_at keys n x a));
       }
 
 -- ---- behind it what the tips reach

@@ -1,9 +1,9 @@
 -- Which faults were found, and commits as far as they were read.
-use Rattle.std.proofs.Common.{◌≡◌, ℕ, zero, suc, ◌<◌, ◌≤◌, ◌⊎◌, inl, inr, List, [], ◌∷◌, ◌++◌, length, refl, sym, ◌∙◌, ap, subst, arith, Some, None, Option, Bool, true, false, cond}
-use Rattle.std.specs.Prelude.{Contains, ⊤, IfSome, IsSome, pos}
+use Rattle.std.proofs.Common.{◌≡◌, ℕ, zero, suc, List, [], ◌∷◌, refl, sym, ◌∙◌, ap, subst, arith, Some, None, Option, Bool, true, false, cond}
+use Rattle.std.specs.Prelude.{Contains, IfSome, IsSome, pos}
 use Rattle.gix_hash.specs.declared.object_id.ObjectId.{ObjectId}
 use Rattle.gix_object_find.specs.Table.{Table}
-use Rattle.gix_traverse_commit.specs.Commits.{Commit, Commits, Reached, tip, parent}
+use Rattle.gix_traverse_commit.specs.Commits.{Commit, Commits, tip, parent}
 use Rattle.gix_traverse_commit.specs.Numbered.{same_id}
 use Rattle.gix_traverse_commit.specs.Order.{At}
 use Rattle.gix_traverse_commit.specs.Painting.{ReachedFrom}
@@ -73,11 +73,11 @@ seen_parents low keys told once n x reading l a b = ap (λ (v : Commit ObjectId)
 pub fault_from : (keys : List ObjectId) (told : List Reading) (x : ObjectId) (error : Error) → fault_in keys told x ≡ Some error → (n : ℕ) × (reading : Reading) × At keys n x × At told n reading × (reading.fault ≡ Some error)
 fault_from [] told x error e = let z : ⊥ = cc in absurd z
 fault_from (k ∷ ks) [] x error e = let z : ⊥ = cc in absurd z
-fault_from (k ∷ ks) (r ∷ rs) x error e = go (same_id x k) refl
+fault_from (k ∷ ks) (r ∷ rs) x error e = go (same_id x k) refl (λ g. fault_from ks rs x error g)
   where
-    go : (t : Bool) → same_id x k ≡ t → (n : ℕ) × (reading : Reading) × At (k ∷ ks) n x × At (r ∷ rs) n reading × (reading.fault ≡ Some error)
-    go true f = (0, r, ap Some (sym (same_from_test x k f)), refl, (let g : r.fault ≡ Some error = rw f at e in g))
-    go false f = let g : fault_in ks rs x ≡ Some error = rw f at e in let (n, reading, a, b, h) = fault_from ks rs x error g in (suc n, reading, a, b, h)
+    go : (t : Bool) → same_id x k ≡ t → (fault_in ks rs x ≡ Some error → (n : ℕ) × (reading : Reading) × At ks n x × At rs n reading × (reading.fault ≡ Some error)) → (n : ℕ) × (reading : Reading) × At (k ∷ ks) n x × At (r ∷ rs) n reading × (reading.fault ≡ Some error)
+    go true f rest = (0, r, ap Some (sym (same_from_test x k f)), refl, (let g : r.fault ≡ Some error = rw f at e in g))
+    go false f rest = let g : fault_in ks rs x ≡ Some error = rw f at e in let (n, reading, a, b, h) = rest g in (suc n, reading, a, b, h)
 
 module _ (honest may_fail : Type 0) (rows : List Row) (table : Table) (keys : List ObjectId) (told : List Reading) (once : IsOnce keys) (read : (n : ℕ) (x : ObjectId) (reading : Reading) → At keys n x → At told n reading → IsReading honest may_fail rows table x reading) where
   pub causes : (x : ObjectId) → IfSome (fault_in keys told x) (IsFaultOf honest may_fail rows table x)
@@ -105,7 +105,7 @@ module _ (honest may_fail : Type 0) (rows : List Row) (table : Table) (keys : Li
             }
         go (Some error) e =
             let same : as_read (fault_in keys told) g x ≡ read_so (Some error) (g x) = ap (λ (o : Option Error). read_so o (g x)) (found ∙ e) in
-            let (ps, t, gen) = (read n x reading a b).blank (subst (λ (o : Option Error). IsSome o) (sym e) tt) in
+            let (ps, t, gen) = (read n x reading a b).blank (subst (λ (o : Option Error). IsSome o) (sym e) refl) in
             record {
               parents = ps ∙ ap (λ (v : Commit ObjectId). v.parents) (sym same);
               time = t ∙ ap (λ (v : Commit ObjectId). v.time) (sym same);

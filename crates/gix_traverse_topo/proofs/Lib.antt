@@ -12,3 +12,4 @@ pub mod Starting
 pub mod Stepping
 pub mod Updates
 pub mod Turning
+pub mod Giving

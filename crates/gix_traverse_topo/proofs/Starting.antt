@@ -1,7 +1,6 @@
 -- A walk before its first commit stands.
-use Rattle.std.proofs.Common.{◌≡◌, ℕ, zero, suc, ◌+◌, ◌-◌, ◌<◌, ◌≤◌, ◌⊎◌, inl, inr, List, [], ◌∷◌, ◌++◌, length, map, refl, sym, ◌∙◌, ap, subst, arith, Some, None, Option, Bool, true, false, cond, get_or}
-use Rattle.std.specs.Prelude.{Contains, ⊤, ℤ, ◌<ℤ◌, ◌↔◌, IfSome, IsPermutation}
-use Rattle.std.specs.BinaryHeap.{heap_items, IsHeap}
+use Rattle.std.proofs.Common.{◌≡◌, ℕ, zero, suc, ◌+◌, ◌-◌, ◌<◌, ◌≤◌, ◌⊎◌, inl, inr, List, [], ◌∷◌, ◌++◌, length, refl, sym, ◌∙◌, ap, subst, arith, Some, Bool, true, false, cond, get_or}
+use Rattle.std.specs.Prelude.{Contains, ⊤, ℤ, ◌<ℤ◌, ◌↔◌, IsPermutation}
 use Rattle.std.specs.Cmp.{IsTotalOrder}
 use Rattle.std.specs.List.Sorted.{IsSorted}
 use Rattle.std.specs.Ordering.{nat_cmp, int_cmp, ordering_then, is_lt, MatchOrdering}
@@ -11,11 +10,10 @@ use Rattle.std.proofs.lemmas.Cmp.{int_ranked, ranked, int_cmp_total, nat_cmp_tot
 use Rattle.std.proofs.lemmas.List.Sorted.{sorted_far, ranks_by, Contains-permutation, IsPermutation-sym}
 use Rattle.std.proofs.lemmas.Option.{slice_get_within, get_or_from_slice_get}
 use Rattle.gix_hash.specs.declared.object_id.ObjectId.{ObjectId}
-use Rattle.gix_hash.specs.declared.object_id.ObjectId.TheVariants.{Sha1}
 use Rattle.gix_object_find.specs.Table.{Table}
-use Rattle.gix_traverse_commit.specs.Commits.{Commit, Commits, asked_parents, Reached, tip, parent, Passes, Hides, Listed}
+use Rattle.gix_traverse_commit.specs.Commits.{Commit, Commits, asked_parents, Reached, tip, parent, Passes, Listed}
 use Rattle.gix_traverse_commit.specs.Numbered.{same_id}
-use Rattle.gix_traverse_commit.specs.Order.{At, IsReady, Outranks}
+use Rattle.gix_traverse_commit.specs.Order.{At, Outranks}
 use Rattle.gix_traverse_commit.specs.Painting.{ReachedFrom}
 use Rattle.gix_traverse_commit.specs.Standing.{NotIn}
 use Rattle.gix_traverse_commit.specs.Told.{AreTold}
@@ -25,11 +23,10 @@ use Rattle.gix_traverse_commit.proofs.Ids.{same_id_apart}
 use Rattle.gix_traverse_commit.proofs.Listing.{listed_reached}
 use Rattle.gix_traverse_commit.proofs.Lists.{at_one, at_from_contains, contains_from_at, none_at_nil, three}
 use Rattle.gix_traverse_topo.specs.Exploring.{Numbers, IsExplored}
-use Rattle.gix_traverse_topo.specs.Nodes.{readings, counts, IsOnce, ParentsFrom, Tells}
+use Rattle.gix_traverse_topo.specs.Nodes.{readings, counts, IsOnce, Tells}
 use Rattle.gix_traverse_topo.specs.Standing.{id_at, ids_of, Comes, Ranks, Standing, Stands, Begins, as_read, topo_request, all_accepted}
-use Rattle.gix_traverse_topo.specs.Turns.{times, names_of, Waits, Ranked}
+use Rattle.gix_traverse_topo.specs.Turns.{times, names_of, Waits}
 use Rattle.gix_traverse_topo.specs.Waiting.{pending_cmp, waiting, Sorted, IsFree}
-use Rattle.gix_traverse_topo.specs.declared.error.Error.{Error}
 use Rattle.gix_traverse_topo.specs.declared.init.Sorting.{Sorting}
 use Rattle.gix_traverse_topo.specs.declared.init.Sorting.TheVariants.{DateOrder, TopoOrder}
 use Rattle.gix_traverse_topo.specs.declared.known.Known.{Known}
@@ -72,13 +69,13 @@ sorted_ranks stack k l p q sorted lt a b =
 
 -- ---- each once
 
+once_rest : (x : ObjectId) (xs : List ObjectId) → IsOnce (x ∷ xs) → IsOnce xs
+once_rest x xs once i j z a b = let e = once (suc i) (suc j) z a b in omega arith
+
 once_times : (xs : List ObjectId) (y : ObjectId) → IsOnce xs → times (same_id y) xs ≤ 1
 once_times [] y once = omega arith
-once_times (x ∷ xs) y once = go (same_id y x) refl
+once_times (x ∷ xs) y once = go (same_id y x) refl (once_times xs y (once_rest x xs once))
   where
-    rest : IsOnce xs
-    rest i j z a b = let e = once (suc i) (suc j) z a b in omega arith
-
     one : same_id y x ≡ true → (n : ℕ) → times (same_id y) xs ≡ n → times (same_id y) xs ≤ 0
     one e zero f = omega arith
     one e (suc n) f =
@@ -87,9 +84,9 @@ once_times (x ∷ xs) y once = go (same_id y x) refl
         let z = once 0 (suc k) y here a in
         absurd (omega arith)
 
-    go : (t : Bool) → same_id y x ≡ t → cond (same_id y x) 1 0 + times (same_id y) xs ≤ 1
-    go true e = let l = one e (times (same_id y) xs) refl in rw e (omega arith)
-    go false e = let l = once_times xs y rest in rw e (omega arith)
+    go : (t : Bool) → same_id y x ≡ t → times (same_id y) xs ≤ 1 → cond (same_id y x) 1 0 + times (same_id y) xs ≤ 1
+    go true e m = let l = one e (times (same_id y) xs) refl in rw e (omega arith)
+    go false e m = rw e (omega arith)
 
 -- two places of a list that has y once are one
 times_once : (xs : List ObjectId) (k l : ℕ) (y : ObjectId) → times (same_id y) xs ≤ 1 → k < l → At xs k y → At xs l y → ⊥
@@ -174,22 +171,25 @@ module _ (honest may_fail : Type 0) (rows : List Row) (table : Table) (tips ends
         let (p, c, i) = f.every m reading low (subst (λ (v : ℕ). At (counts known.nodes.items) m v) zero_is a) b in
         let (j, d) = at_from_contains (waiting ready) p (Contains-permutation first (waiting ready) p same c) in
         let here = contains_from_at (ids_of known.ids.keys (waiting ready)) j (id_at known.ids.keys p.number.0) (at_map (λ (v : Pending). id_at known.ids.keys v.number.0) (waiting ready) j p d) in
-        subst (λ (z : ObjectId). Contains (ids_of known.ids.keys (waiting ready)) z) (ap (id_at known.ids.keys) i ∙ at_id known.ids.keys m x k) here
+        subst (λ (z : ObjectId). Contains (ids_of known.ids.keys (waiting ready)) z) (same_key p.number.0 m x i k) here
+      where
+        same_key : (n m : ℕ) (x : ObjectId) → n ≡ m → At known.ids.keys m x → id_at known.ids.keys n ≡ x
+        same_key n m x e a = ap (id_at known.ids.keys) e ∙ at_id known.ids.keys m x a
 
     waits : (Comes : List ObjectId → ObjectId → ObjectId → Type 0) → Waits same_id (asked_parents parents (found_in known g)) (Contains num.xs) Comes [] (ids_of known.ids.keys (waiting ready))
     waits Comes = waits_first same_id same_id_apart (asked_parents parents (found_in known g)) num.xs num.breadth.list.once Comes (ids_of known.ids.keys (waiting ready)) some every single
 
     place_of : (p : Pending) (x : ObjectId) → Contains (waiting ready) p → At known.ids.keys p.number.0 x → At num.xs (p.number.0 - length num.hs) x
     place_of p x c a =
-        let (y, l, rest) = free p c in
+        let (y, l, k, t, s, n) = free p c in
         at_length_append num.hs num.xs (p.number.0 - length num.hs) x (subst (λ (n : ℕ). At (num.hs ++ num.xs) n x) (omega (arith, l, num.hidden_are)) (subst (λ (zs : List ObjectId). At zs p.number.0 x) num.keys_are a))
 
     outranks : (p q : Pending) (k l : ℕ) (x y : ObjectId) → At (waiting ready) k p → At (waiting ready) l q → k < l → id_at known.ids.keys p.number.0 ≡ x → id_at known.ids.keys q.number.0 ≡ y → (p.time <ℤ q.time) ⊎ ((p.time ≡ q.time) × (p.number.0 ≤ q.number.0)) → Outranks (asked_parents parents (found_in known g)) tips (λ z. ((found_in known g) z).time) [] y x
     outranks p q k l x y a b lt is_x is_y ranks =
         let cp = contains_from_at (waiting ready) k p a in
         let cq = contains_from_at (waiting ready) l q b in
-        let (px, low_p, kp, tp, rest_p) = free p cp in
-        let (py, low_q, kq, tq, rest_q) = free q cq in
+        let (px, low_p, kp, tp, sp, np) = free p cp in
+        let (py, low_q, kq, tq, sq, nq) = free q cq in
         let ex : px ≡ x = sym (at_id known.ids.keys p.number.0 px kp) ∙ is_x in
         let ey : py ≡ y = sym (at_id known.ids.keys q.number.0 py kq) ∙ is_y in
         let kp' : At known.ids.keys p.number.0 x = subst (λ (z : ObjectId). At known.ids.keys p.number.0 z) ex kp in
@@ -236,7 +236,7 @@ module _ (honest may_fail : Type 0) (rows : List Row) (table : Table) (tips ends
       all_read = e.all_read;
       tells = λ n x reading l a b out. tells n x reading a b;
       counted = λ n x count l a b. let c = num.counted n x count l a b in omega arith;
-      numbered = λ p c. let (x, l, k, t, rest) = free p c in (x, l, k, t);
+      numbered = λ p c. let (x, l, k, t, s, n) = free p c in (x, l, k, t);
       waits = waits (Comes sorting (asked_parents parents (found_in known g)) tips (λ z. ((found_in known g) z).time));
       ranks = ranks;
     }

@@ -15,7 +15,7 @@ use Rattle.gix_traverse_commit.proofs.Ids.{same_id_apart}
 use Rattle.gix_traverse_commit.proofs.Lists.{at_one, at_from_contains, none_at_nil}
 use Rattle.gix_traverse_commit.proofs.Listing.{asked_parent, listed_reached, listed_from_reached}
 use Rattle.gix_traverse_topo.specs.Nodes.{readings, counts, Tells, IsOnce}
-use Rattle.gix_traverse_topo.specs.Standing.{id_at, ids_of, Comes, Gives, GoesOff, RowOff, Standing, Steps, IsInfo, IsNext, Stands, as_read, read_so, IsTurn, IsTurnOf, topo_request, all_accepted, Answers, NoneReachesItself, weight}
+use Rattle.gix_traverse_topo.specs.Standing.{id_at, ids_of, Comes, Gives, GoesOff, RowOff, Standing, Steps, IsInfo, IsNext, Stands, as_read, IsTurn, IsTurnOf, topo_request, all_accepted, Answers, NoneReachesItself, weight}
 use Rattle.gix_traverse_topo.specs.Turns.{total}
 use Rattle.gix_traverse_topo.specs.Waiting.{waiting, Popped}
 use Rattle.gix_traverse_topo.specs.declared.error.Error.{Error}
@@ -210,6 +210,9 @@ module _ (sorting : Sorting) (rows : List Row) (faults : ObjectId → Option Err
       none_waits : (x : ObjectId) → Contains (ids_of known.ids.keys (waiting ready)) x → ⊥
       none_waits x c = let (k, a) = at_from_contains [] x (subst (λ (zs : List Pending). Contains (ids_of known.ids.keys zs) x) empty c) in none_at_nil k x a
 
+      edges : (x y : ObjectId) → Contains sd.xs x → Contains (as_read faults g x).parents y → as_read faults g x ≡ g x
+      edges x y s n = edges_read faults g x y n
+
       cyclic : (x : ObjectId) → Contains sd.xs x → Reached (asked_parents parents (as_read faults g)) (Contains sd.xs) (asked_parents parents (as_read faults g) x) x → ⊥
       cyclic x s r = acyclic x (in_walk (as_read faults g) sd.xs sd.lists sd.hides edges x s) (conv (as_read faults g) sd.xs sd.lists sd.hides edges x s r)
 
@@ -218,9 +221,6 @@ module _ (sorting : Sorting) (rows : List Row) (faults : ObjectId → Option Err
 
       agree : (x : ObjectId) → Contains sd.xs x → as_read faults g x ≡ g x
       agree x s = read_is faults g x (sd.finished_read x (every x s))
-
-      edges : (x y : ObjectId) → Contains sd.xs x → Contains (as_read faults g x).parents y → as_read faults g x ≡ g x
-      edges x y s n = edges_read faults g x y n
 
       chosen : IsChosen (Contains sd.xs) (IsReady (asked_parents parents (as_read faults g)) (Contains sd.xs)) (Comes sorting (asked_parents parents (as_read faults g)) tips (λ x. (as_read faults g x).time)) sd.finished
       chosen = turns.waits_end same_id same_id_apart (asked_parents parents (as_read faults g)) (Contains sd.xs) (Comes sorting (asked_parents parents (as_read faults g)) tips (λ x. (as_read faults g x).time)) sd.finished (ids_of known.ids.keys (waiting ready)) sd.standing.waits every

@@ -14,7 +14,7 @@ use Rattle.gix_traverse_topo.specs.declared.iter.Topo.{Topo}
 
 -- the ids that the walk's predicate accepts
 abbrev pub accepted_by : {P : Type 0} → (P → Id → Bool) → Topo P → ObjectId → Bool
-accepted_by accepts walk x = accepts walk.predicate (id_of x)
+accepted_by accepts walk = λ x. accepts walk.predicate (id_of x)
 
 -- it has given these, of what these tips reach and these ends don't
 abbrev pub HasGiven : {P : Type 0} → (P → Id → Bool) → Topo P → Sorting → List Row → (ObjectId → Option Error) → Commits ObjectId → List ObjectId → List ObjectId → List ObjectId → Type 0

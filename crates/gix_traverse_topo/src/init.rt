@@ -80,8 +80,8 @@ impl<F: Find + Drop> Builder<F, All> {
     ) -> Result<Builder<F, All>, Error>
         ensures objects { IfOk result (λ builder. builder.find ≡ find) }
         ensures tips { IfOk result (λ builder. builder.tips.items ≡ tips.now) }
-        ensures ends { IfSome ends (λ ids. IfOk result (λ builder. builder.ends.items ≡ ids.now)) }
-        ensures no_ends { IfNone ends (IfOk result (λ builder. builder.ends.items ≡ [])) }
+        ensures ends { IfSome ends.entry (λ ids. IfOk result (λ builder. builder.ends.items ≡ ids.now)) }
+        ensures no_ends { IfNone ends.entry (IfOk result (λ builder. builder.ends.items ≡ [])) }
         ensures sorting { IfOk result (λ builder. builder.sorting ≡ DateOrder) }
         ensures parents { IfOk result (λ builder. builder.parents ≡ AllParents) }
         ensures rows { IfOk result (λ builder. builder.rows ≡ None) }

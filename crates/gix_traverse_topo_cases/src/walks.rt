@@ -46,9 +46,13 @@ pub fn given(alloc: Global, graph: &Graph, asked: Asked) -> Option<Given> {
 // The walk before its first commit.
 fn built(alloc: Global, graph: &Graph, asked: Asked) -> Option<Result<Topo<All>, Error>> {
     let graph = graph.try_clone().ok()?;
-    let builder =
-        Builder::from_iters(alloc, Never, asked.tips.as_slice(), Some(asked.ends.as_slice()))
-            .ok()?;
+    let builder = Builder::from_iters(
+        alloc,
+        Never,
+        asked.tips.as_slice(),
+        Some(asked.ends.as_slice()),
+    )
+    .ok()?;
     Some(
         builder
             .with_predicate(All)
