@@ -1,6 +1,6 @@
 //! Rows that the lines give, the graph that they make, and what is asked of it.
 
-use crate::walks::{Asked, End, Given, given};
+use crate::walks::{Asked, End, Walked, given};
 use gix_hash::ObjectId;
 use gix_traverse_commit::{Graph, ParentIds, Parents, Row};
 use gix_traverse_topo::Sorting;
@@ -116,7 +116,7 @@ fn ids(alloc: Global, text: &str) -> Option<Vec<ObjectId>> {
 }
 
 // The numbers of all that the walk gave, and how it ended.
-fn shown(alloc: Global, given: &Given) -> Option<String> {
+fn shown(alloc: Global, given: &Walked) -> Option<String> {
     let mut text = String::new(alloc);
     for id in given.ids.as_slice() {
         text.push_str(format!(in alloc; "{} ", number(id)).ok()?.as_str())

@@ -17,7 +17,7 @@ pub struct Asked {
 
 /// What a walk gives, and how it ends.
 #[derive(Drop)]
-pub struct Given {
+pub struct Walked {
     pub ids: Vec<ObjectId>,
     pub end: End,
 }
@@ -32,10 +32,10 @@ pub enum End {
 }
 
 /// What the walk gives. `None` where there is another error than a commit that isn't found.
-pub fn given(alloc: Global, graph: &Graph, asked: Asked) -> Option<Given> {
+pub fn given(alloc: Global, graph: &Graph, asked: Asked) -> Option<Walked> {
     match built(alloc, graph, asked)? {
         Ok(walk) => collect(alloc, walk),
-        Err(Error::Find(_)) => Some(Given {
+        Err(Error::Find(_)) => Some(Walked {
             ids: Vec::new(alloc),
             end: End::NotFound,
         }),
@@ -69,20 +69,20 @@ fn step(walk: &mut Topo<All>) -> Option<Result<Info, Error>> {
 }
 
 // The commits that come, up to the end or the first that isn't found.
-fn collect(alloc: Global, mut walk: Topo<All>) -> Option<Given> {
+fn collect(alloc: Global, mut walk: Topo<All>) -> Option<Walked> {
     let mut ids = Vec::new(alloc);
     for _ in 0..100_000u32 {
         match step(&mut walk) {
             Some(Ok(info)) => ids.push(info.id).ok()?,
             Some(Err(Error::Find(_))) => {
-                return Some(Given {
+                return Some(Walked {
                     ids,
                     end: End::NotFound,
                 });
             }
             Some(Err(_)) => return None,
             None => {
-                return Some(Given {
+                return Some(Walked {
                     ids,
                     end: End::All(walk.lookups()),
                 });
