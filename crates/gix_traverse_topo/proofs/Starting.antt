@@ -7,6 +7,7 @@ use Rattle.std.specs.Ordering.{nat_cmp, int_cmp, ordering_then, is_lt, MatchOrde
 use Rattle.std.specs.declared.cmp.Ordering.{Ordering}
 use Rattle.std.specs.declared.cmp.Ordering.TheVariants.{Less, Equal, Greater}
 use Rattle.std.proofs.lemmas.Cmp.{int_ranked, ranked, int_cmp_total, nat_cmp_total, on_total, then_total}
+use Rattle.std.proofs.lemmas.List.Elements.{Contains-append_cases}
 use Rattle.std.proofs.lemmas.List.Sorted.{sorted_far, ranks_by, Contains-permutation, IsPermutation-sym}
 use Rattle.std.proofs.lemmas.Option.{slice_get_within, get_or_from_slice_get}
 use Rattle.gix_hash.specs.declared.object_id.ObjectId.{ObjectId}
@@ -37,9 +38,10 @@ use Rattle.gix_traverse_topo.specs.declared.ready.Ready.{Ready}
 use Rattle.gix_traverse_topo.specs.declared.ready.Ready.TheVariants.{ByDate, Topological}
 use Rattle.gix_traverse_topo.proofs.Begins.{waits_first, first_outranks}
 use Rattle.gix_traverse_topo.proofs.Counting.{at_id, number_in, in_set}
-use Rattle.gix_traverse_topo.proofs.Found.{read_is, reached_read, fault_in, fault_at, causes, tells_so, parents_so}
+use Rattle.gix_traverse_topo.proofs.Found.{read_is, edges_read, reached_read, fault_in, fault_at, causes, tells_so, parents_so}
 use Rattle.gix_traverse_topo.proofs.Meeting.{at_length_append, length_map, at_map, from_map}
 use Rattle.gix_traverse_topo.proofs.Stepping.{ids_permuted, from_ids}
+use Rattle.gix_traverse_topo.proofs.Turning.{in_walk}
 use Rattle.gix_traverse_topo.proofs.Turns.{contains_times, times_at}
 use Rattle.gix_traverse_topo.proofs.Updates.{at_within}
 
@@ -160,6 +162,12 @@ module _ (honest may_fail : Type 0) (rows : List Row) (table : Table) (tips ends
         let (y, l, k, t, s, n) = free p d in
         subst (λ (z : ObjectId). Contains num.xs z × (names_of same_id (asked_parents parents (found_in known g)) z num.xs ≡ 0)) (sym (at_id known.ids.keys p.number.0 y k) ∙ i) (s, n)
 
+    named : (p : Pending) → Contains first p → (m : ℕ) (x : ObjectId) → p.number.0 ≡ m → At known.ids.keys m x → Contains (ids_of known.ids.keys (waiting ready)) x
+    named p c m x i k =
+        let (j, d) = at_from_contains (waiting ready) p (Contains-permutation first (waiting ready) p same c) in
+        let here = contains_from_at (ids_of known.ids.keys (waiting ready)) j (id_at known.ids.keys p.number.0) (at_map (λ (v : Pending). id_at known.ids.keys v.number.0) (waiting ready) j p d) in
+        subst (λ (z : ObjectId). Contains (ids_of known.ids.keys (waiting ready)) z) (ap (id_at known.ids.keys) i ∙ at_id known.ids.keys m x k) here
+
     every : (x : ObjectId) → Contains num.xs x → names_of same_id (asked_parents parents (found_in known g)) x num.xs ≡ 0 → Contains (ids_of known.ids.keys (waiting ready)) x
     every x s n =
         let (m, l, k) = number_in known.ids.keys num.hs num.xs x num.keys_are s in
@@ -169,12 +177,7 @@ module _ (honest may_fail : Type 0) (rows : List Row) (table : Table) (tips ends
         let low : known.hidden ≤ m = omega (arith, num.hidden_are) in
         let zero_is : count ≡ 0 = num.counted m x count low k a ∙ n in
         let (p, c, i) = f.every m reading low (subst (λ (v : ℕ). At (counts known.nodes.items) m v) zero_is a) b in
-        let (j, d) = at_from_contains (waiting ready) p (Contains-permutation first (waiting ready) p same c) in
-        let here = contains_from_at (ids_of known.ids.keys (waiting ready)) j (id_at known.ids.keys p.number.0) (at_map (λ (v : Pending). id_at known.ids.keys v.number.0) (waiting ready) j p d) in
-        subst (λ (z : ObjectId). Contains (ids_of known.ids.keys (waiting ready)) z) (same_key p.number.0 m x i k) here
-      where
-        same_key : (n m : ℕ) (x : ObjectId) → n ≡ m → At known.ids.keys m x → id_at known.ids.keys n ≡ x
-        same_key n m x e a = ap (id_at known.ids.keys) e ∙ at_id known.ids.keys m x a
+        named p c m x i k
 
     waits : (Comes : List ObjectId → ObjectId → ObjectId → Type 0) → Waits same_id (asked_parents parents (found_in known g)) (Contains num.xs) Comes [] (ids_of known.ids.keys (waiting ready))
     waits Comes = waits_first same_id same_id_apart (asked_parents parents (found_in known g)) num.xs num.breadth.list.once Comes (ids_of known.ids.keys (waiting ready)) some every single
@@ -292,9 +295,17 @@ module _ (honest may_fail : Type 0) (rows : List Row) (table : Table) (tips ends
       given_are = refl;
     }
 
+    -- what is known, ends or tips reach
+    reached : (x : ObjectId) → Contains known.ids.keys x → ReachedFrom g ends x ⊎ Listed g (topo_request tips ends parents all_accepted) x
+    reached x c = elim (Contains-append_cases num.hs num.xs x (subst (λ (zs : List ObjectId). Contains zs x) num.keys_are c)) [
+      | inl d ↦ inl (reached_read (fault_in known.ids.keys (readings known.nodes.items)) g ends ((num.hides x).0 d))
+      | inr d ↦ inr (in_walk sorting rows (fault_in known.ids.keys (readings known.nodes.items)) g tips ends parents all_accepted (found_in known g) num.xs lists (λ y. ((λ r. reached_read (fault_in known.ids.keys (readings known.nodes.items)) g ends r), (λ r. hidden_back r))) (λ y z s n. edges_read (fault_in known.ids.keys (readings known.nodes.items)) g y z n) x d)
+    ]
+
   pub begins : (accepts : ObjectId → Bool) → Begins honest may_fail sorting rows table tips ends parents accepts known ready
   begins accepts = record {
     faults = fault_in known.ids.keys (readings known.nodes.items);
     causes = causes honest may_fail rows table known.ids.keys (readings known.nodes.items) e.once e.read;
+    known_reached = λ yes g are. reached yes g are;
     stands = λ yes g are. stands yes g are accepts;
   }

@@ -8,6 +8,7 @@ use Rattle.gix_traverse_commit.specs.Fetching.{HasRowsGeneration}
 use Rattle.gix_traverse_commit.specs.Numbered.{same_id}
 use Rattle.gix_traverse_commit.specs.Order.{At, IsReady, NewestFirst, Outranks}
 use Rattle.gix_object_find.specs.Table.{Table}
+use Rattle.gix_traverse_commit.specs.Painting.{ReachedFrom}
 use Rattle.gix_traverse_commit.specs.Told.{AreTold}
 use Rattle.gix_traverse_commit.specs.Walks.{InDate, InTopological, unfiltered}
 use Rattle.gix_traverse_commit.specs.declared.info.Info.{Info}
@@ -166,10 +167,11 @@ pub record Stands (sorting : Sorting) (rows : List Row) (faults : ObjectId → O
   pub finished_read : (x : ObjectId) → Contains finished x → faults x ≡ None
   pub given_are : given ≡ filter accepts finished
 
--- why a commit isn't read is known of each, and the walk stands before its first commit
+-- why a commit isn't read is known of each; ends or tips reach all that is known; and the walk stands before its first commit
 pub record Begins (honest may_fail : Type 0) (sorting : Sorting) (rows : List Row) (table : Table) (tips ends : List ObjectId) (parents : Parents) (accepts : ObjectId → Bool) (known : Known) (ready : Ready) : Type 0 where
   pub faults : ObjectId → Option Error
   pub causes : (x : ObjectId) → IfSome (faults x) (IsFaultOf honest may_fail rows table x)
+  pub known_reached : honest → (g : Commits ObjectId) → AreTold rows table g → (x : ObjectId) → Contains known.ids.keys x → ReachedFrom g ends x ⊎ Listed g (topo_request tips ends parents all_accepted) x
   pub stands : honest → (g : Commits ObjectId) → AreTold rows table g → Stands sorting rows faults g tips ends parents accepts [] known ready
 
 -- the walk has given these, and of all its commits, as far as they were read, it is the turn of x

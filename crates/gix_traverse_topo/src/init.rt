@@ -71,7 +71,7 @@ impl<F: Find + Drop> Builder<F, All> {
         }
     }
 
-    /// A walk from these tips, without what the ends reach.
+    /// A walk from these tips, without what the ends reach. It is an error where there is no memory for them.
     pub fn from_iters(
         alloc: Global,
         find: F,
@@ -117,7 +117,7 @@ impl<F: Find + Drop, P: Accept + Drop> Builder<F, P> {
         }
     }
 
-    /// The same walk with further tips.
+    /// The same walk with further tips. It is an error where there is no memory for them.
     pub fn with_tips(self, tips: &[ObjectId]) -> Result<Builder<F, P>, Error>
         ensures tips { IfOk result (λ builder. builder.tips.items ≡ self.tips.items ++ tips.now) }
         ensures ends { IfOk result (λ builder. builder.ends ≡ self.ends) }
@@ -134,7 +134,7 @@ impl<F: Find + Drop, P: Accept + Drop> Builder<F, P> {
         })
     }
 
-    /// The same walk with further ends.
+    /// The same walk with further ends. It is an error where there is no memory for them.
     pub fn with_ends(self, ends: &[ObjectId]) -> Result<Builder<F, P>, Error>
         ensures ends { IfOk result (λ builder. builder.ends.items ≡ self.ends.items ++ ends.now) }
         ensures tips { IfOk result (λ builder. builder.tips ≡ self.tips) }
