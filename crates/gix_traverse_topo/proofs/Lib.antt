@@ -6,6 +6,10 @@ pub mod Begins
 pub mod Freeing
 pub mod Meeting
 pub mod Counting
+pub mod Found
+pub mod Exploring
+pub mod Starting
 pub mod Stepping
 pub mod Updates
 pub mod Turning
+pub mod Giving

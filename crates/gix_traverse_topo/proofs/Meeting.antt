@@ -1,12 +1,12 @@
 -- How far a walk has numbered and read the commits that it comes to.
-use Rattle.std.proofs.Common.{◌≡◌, ℕ, zero, suc, ◌+◌, ◌<◌, ◌≤◌, inl, inr, List, [], ◌∷◌, ◌++◌, length, map, refl, sym, ◌∙◌, ap, subst, arith, Some, Bool, true, false, cond, length-append, append_assoc, append-nil}
+use Rattle.std.proofs.Common.{◌≡◌, ℕ, zero, suc, ◌+◌, ◌<◌, ◌≤◌, ◌⊎◌, inl, inr, List, [], ◌∷◌, ◌++◌, length, map, take, refl, sym, ◌∙◌, ap, subst, arith, Some, Bool, true, false, cond, length-append, append_assoc, append-nil}
 use Rattle.std.specs.Prelude.{Contains}
 use Rattle.std.specs.List.{list_any, find}
 use Rattle.std.proofs.lemmas.Option.{slice_get_within, slice_get-get_or}
 use Rattle.std.proofs.lemmas.List.Elements.{Contains-append_left, Contains-append_right, Contains-append_cases}
 use Rattle.gix_hash.specs.declared.object_id.ObjectId.{ObjectId}
 use Rattle.gix_object_find.specs.Table.{Table}
-use Rattle.gix_traverse_commit.specs.Commits.{Commits, asked, asked_parents, Reached}
+use Rattle.gix_traverse_commit.specs.Commits.{Commits, asked, asked_parents, Reached, tip, parent}
 use Rattle.gix_traverse_commit.specs.Numbered.{same_id}
 use Rattle.gix_traverse_commit.specs.Order.{At, Named}
 use Rattle.gix_traverse_commit.specs.Reading.{Read}
@@ -16,13 +16,15 @@ use Rattle.gix_traverse_commit.specs.declared.parents.Parents.TheVariants.{All, 
 use Rattle.gix_traverse_commit.specs.declared.rows.Row.{Row}
 use Rattle.gix_traverse_commit.proofs.Frontier.{read_none, read_skip, read_push, read_next, read_all}
 use Rattle.gix_traverse_commit.proofs.Ids.{same_id_apart}
-use Rattle.gix_traverse_commit.proofs.Lists.{at_one, contains_from_at, at_push, at_from_push}
+use Rattle.gix_traverse_commit.proofs.Lists.{at_one, at_from_contains, contains_from_at, none_at_nil, at_push, at_from_push, at_from_take}
 use Rattle.gix_traverse_commit.proofs.Slow.{contains_from_any, any_from_contains}
 use Rattle.gix_traverse_topo.specs.Meeting.{IsRow, Met, Walks}
-use Rattle.gix_traverse_topo.specs.Nodes.{readings, counts, IsReading, ParentsFrom}
+use Rattle.gix_traverse_commit.specs.Rows.{AllHeld}
+use Rattle.gix_traverse_topo.specs.Nodes.{readings, counts, IsOnce, IsReading, ParentsFrom}
 use Rattle.gix_traverse_topo.specs.Walking.{Visits, Walking}
 use Rattle.gix_traverse_topo.specs.declared.known.Node.{Node}
 use Rattle.gix_traverse_topo.specs.declared.known.Reading.{Reading}
+use Rattle.gix_traverse_topo.proofs.Turns.{at_append_cases}
 
 -- the first m names of a row are met
 pub record MetSo (way : ObjectId → List ObjectId) (tips hs keys : List ObjectId) (p m : ℕ) (names : List ObjectId) : Type 0 where
@@ -118,11 +120,47 @@ at_back xs ys kept k x l a =
     let same = at_one ys k _ x there a in
     subst (λ (z : _). At xs k z) same here
 
+-- ---- one row of names
+
+reached_passes : {along : ObjectId → List ObjectId} {P : ObjectId → Type 0} {tips : List ObjectId} {x : ObjectId} → Reached along P tips x → P x
+reached_passes (tip t p) = p
+reached_passes (parent r n p) = p
+
+-- without parents only the tips are reached
+reached_tip : {P : ObjectId → Type 0} {tips : List ObjectId} {x : ObjectId} → Reached (λ _. []) P tips x → Contains tips x
+reached_tip (tip t p) = t
+reached_tip (parent {y = y} r n p) = let (k, a) = at_from_contains [] y n in absurd (none_at_nil k y a)
+
+pub row_met : (keys keys' names : List ObjectId) → ((way : ObjectId → List ObjectId) (tips hs xs : List ObjectId) (p : ℕ) → keys ≡ hs ++ xs → Read way tips (NotIn hs) xs p 0 → IsRow way tips xs p names → Met way tips hs keys' p) → Met (λ _. []) names keys keys' 0
+row_met keys keys' names met = met (λ _. []) names keys [] 0 (sym (append-nil keys)) (read_none (λ _. []) names (NotIn keys)) refl
+
+-- no key stands twice
+pub met_once : (way : ObjectId → List ObjectId) (tips keys keys' : List ObjectId) (p : ℕ) → Met way tips keys keys' p → IsOnce keys → IsOnce keys'
+met_once way tips keys keys' p m once j k x a b = go (at_append_cases keys m.xs j x (subst (λ (zs : List ObjectId). At zs j x) m.keys_are a)) (at_append_cases keys m.xs k x (subst (λ (zs : List ObjectId). At zs k x) m.keys_are b))
+  where
+    go : At keys j x ⊎ ((i : ℕ) × (j ≡ length keys + i) × At m.xs i x) → At keys k x ⊎ ((i : ℕ) × (k ≡ length keys + i) × At m.xs i x) → j ≡ k
+    go (inl c) (inl d) = once j k x c d
+    go (inl c) (inr (i, e, d)) = absurd (reached_passes (m.read.reached i x d) (contains_from_at keys j x c))
+    go (inr (i, e, c)) (inl d) = absurd (reached_passes (m.read.reached i x c) (contains_from_at keys k x d))
+    go (inr (i, e, c)) (inr (l, f, d)) = e ∙ ap (λ (n : ℕ). length keys + n) (m.read.once i l x c d) ∙ sym f
+
+-- where the names have rows, all keys do
+pub met_held : (rows : List Row) (names keys keys' : List ObjectId) → Met (λ _. []) names keys keys' 0 → AllHeld rows keys → AllHeld rows names → AllHeld rows keys'
+met_held rows names keys keys' m held all x c = elim (Contains-append_cases keys m.xs x (subst (λ (zs : List ObjectId). Contains zs x) m.keys_are c)) [
+  | inl d ↦ held x d
+  | inr d ↦ (let (k, a) = at_from_contains m.xs x d in all x (reached_tip (m.read.reached k x a)))
+]
+
+pub asked_held : (rows : List Row) (along : Parents) (ids : List ObjectId) → AllHeld rows ids → AllHeld rows (asked along ids)
+asked_held rows All ids held = held
+asked_held rows First ids held = λ x c. let (k, a) = at_from_contains (take 1 ids) x c in let b = at_from_take ids 1 k x a in held x (contains_from_at ids k x b.1)
+
 module _ (honest may_fail : Type 0) (rows : List Row) (table : Table) (along : Parents) (tips keys : List ObjectId) (nodes : List Node) where
   -- after the tips
   pub walking_none : (keys' : List ObjectId) → ((k : ℕ) (x : ObjectId) → At keys k x → At keys' k x) → ((way : ObjectId → List ObjectId) (tips' hs xs : List ObjectId) (p : ℕ) → keys ≡ hs ++ xs → Read way tips' (NotIn hs) xs p 0 → IsRow way tips' xs p tips → Met way tips' hs keys' p) → Walking honest may_fail rows table along tips keys nodes keys' nodes
   walking_none keys' kept met = record {
     keys_kept = kept;
+    once = met_once (λ _. []) tips keys keys' 0 (row_met keys keys' tips met);
     nodes_kept = λ k node a. a;
     read = λ n x r l a b. absurd (let w = slice_get_within (readings nodes) n r b in let e = length_map (λ (node : Node). node.reading) nodes in omega arith);
     unnamed = λ n c l b. absurd (let w = slice_get_within (counts nodes) n c b in let e = length_map (λ (node : Node). node.names) nodes in omega arith);
@@ -135,6 +173,7 @@ module _ (honest may_fail : Type 0) (rows : List Row) (table : Table) (along : P
   pub walking_step : (keys' : List ObjectId) (nodes' : List Node) (keys'' : List ObjectId) (nodes'' : List Node) (id : ObjectId) → Walking honest may_fail rows table along tips keys nodes keys' nodes' → At keys' (length nodes') id → Visits honest may_fail rows table along id keys' nodes' keys'' nodes'' → Walking honest may_fail rows table along tips keys nodes keys'' nodes''
   walking_step keys' nodes' keys'' nodes'' id w here v = record {
     keys_kept = λ k x a. v.kept k x (w.keys_kept k x a);
+    once = λ o. met_once (λ _. []) (asked along v.reading.parents.items) keys' keys'' 0 (row_met keys' keys'' (asked along v.reading.parents.items) v.met) (w.once o);
     nodes_kept = λ k node a. subst (λ (zs : List Node). At zs k node) (sym v.pushed) (at_push nodes' (record { reading = v.reading; names = 0 }) k node (w.nodes_kept k node a));
     read = λ n x r l a b. elim (at_from_push (readings nodes') v.reading n r (subst (λ (zs : List Reading). At zs n r) told b)) [
       | inl c ↦ (let m = slice_get_within (readings nodes') n r c in w.read n x r l (at_back keys' keys'' v.kept n x (omega (arith, long_told, room)) a) c)

@@ -15,7 +15,7 @@ use Rattle.gix_traverse_commit.proofs.Ids.{same_id_apart}
 use Rattle.gix_traverse_commit.proofs.Lists.{at_one, at_from_contains, none_at_nil}
 use Rattle.gix_traverse_commit.proofs.Listing.{asked_parent, listed_reached, listed_from_reached}
 use Rattle.gix_traverse_topo.specs.Nodes.{readings, counts, Tells, IsOnce}
-use Rattle.gix_traverse_topo.specs.Standing.{id_at, ids_of, Comes, Gives, GoesOff, RowOff, Standing, Steps, IsInfo, IsNext, Stands, topo_request, all_accepted, Answers, NoneReachesItself, weight}
+use Rattle.gix_traverse_topo.specs.Standing.{id_at, ids_of, Comes, Gives, GoesOff, RowOff, Standing, Steps, IsInfo, IsNext, Stands, as_read, IsTurn, IsTurnOf, topo_request, all_accepted, Answers, NoneReachesItself, weight}
 use Rattle.gix_traverse_topo.specs.Turns.{total}
 use Rattle.gix_traverse_topo.specs.Waiting.{waiting, Popped}
 use Rattle.gix_traverse_topo.specs.declared.error.Error.{Error}
@@ -27,8 +27,9 @@ use Rattle.gix_traverse_topo.specs.declared.known.Node.{Node}
 use Rattle.gix_traverse_topo.specs.declared.known.Reading.{Reading}
 use Rattle.gix_traverse_topo.specs.declared.ready.Pending.{Pending}
 use Rattle.gix_traverse_topo.specs.declared.ready.Ready.{Ready}
-use Rattle.gix_traverse_topo.proofs.Counting.{at_id}
+use Rattle.gix_traverse_topo.proofs.Counting.{at_id, number_in}
 use Rattle.gix_traverse_topo.proofs.Ends.{all_given}
+use Rattle.gix_traverse_topo.proofs.Found.{read_is, edges_read}
 use Rattle.gix_traverse_topo.proofs.Meeting.{asked_same, length_map}
 use Rattle.gix_traverse_topo.proofs.Moved.{date_moved, topological_moved}
 use Rattle.gix_traverse_topo.proofs.Stepping as stepping
@@ -126,20 +127,18 @@ filter_yes p y e = rw e refl
 pub filter_no : (p : ObjectId → Bool) (y : ObjectId) → p y ≡ false → filter p (y ∷ []) ≡ []
 filter_no p y e = rw e refl
 
-module _ (sorting : Sorting) (rows : List Row) (g : Commits ObjectId) (tips ends : List ObjectId) (parents : Parents) (accepts : ObjectId → Bool) where
-  pub stands_step : (given : List ObjectId) (old new : Known) (ready ready' : Ready) (info : Info) → new.ids ≡ old.ids → (sd : Stands sorting rows g tips ends parents accepts given old ready) → Steps sorting rows sd.h tips parents sd.hs sd.xs sd.finished old ready new ready' info → Stands sorting rows g tips ends parents accepts (given ++ filter accepts (info.id ∷ [])) new ready' × IsInfo rows g info
+module _ (sorting : Sorting) (rows : List Row) (faults : ObjectId → Option Error) (g : Commits ObjectId) (tips ends : List ObjectId) (parents : Parents) (accepts : ObjectId → Bool) where
+  pub stands_step : (given : List ObjectId) (old new : Known) (ready ready' : Ready) (info : Info) → new.ids ≡ old.ids → (sd : Stands sorting rows faults g tips ends parents accepts given old ready) → Steps sorting rows (as_read faults g) tips parents sd.hs sd.xs sd.finished old ready new ready' info → Stands sorting rows faults g tips ends parents accepts (given ++ filter accepts (info.id ∷ [])) new ready' × IsInfo rows g info
   stands_step given old new ready ready' info same_ids sd s = (
     record {
-      h = sd.h;
       hs = sd.hs;
       xs = sd.xs;
       finished = sd.finished ++ info.id ∷ [];
       standing = s.standing;
       lists = sd.lists;
       hides = sd.hides;
-      agrees = λ n x reading l a b out none. sd.agrees n x reading (subst (λ (k : ℕ). k ≤ n) hidden_same l) (back n x a) (s.others n reading (λ e. out (subst (λ (z : ObjectId). Contains (sd.finished ++ info.id ∷ []) z) (at_one old.ids.keys s.number info.id x s.id (subst (λ (k : ℕ). At old.ids.keys k x) e (back n x a))) (Contains-push sd.finished info.id))) b) (λ c. out (more x c)) none;
-      edges = sd.edges;
-      finished_agree = λ x c. elim (Contains-push_cases sd.finished info.id x c) [ inl d ↦ sd.finished_agree x d | inr e ↦ subst (λ (z : ObjectId). sd.h z ≡ g z) e same ];
+      faulty = λ n x reading l a b out. sd.faulty n x reading (subst (λ (k : ℕ). k ≤ n) hidden_same l) (back n x a) (s.others n reading (λ e. out (subst (λ (z : ObjectId). Contains (sd.finished ++ info.id ∷ []) z) (at_one old.ids.keys s.number info.id x s.id (subst (λ (k : ℕ). At old.ids.keys k x) e (back n x a))) (Contains-push sd.finished info.id))) b) (λ c. out (more x c));
+      finished_read = λ x c. elim (Contains-push_cases sd.finished info.id x c) [ inl d ↦ sd.finished_read x d | inr e ↦ subst (λ (z : ObjectId). faults z ≡ None) e unfaulted ];
       given_are = ap (λ (zs : List ObjectId). zs ++ filter accepts (info.id ∷ [])) sd.given_are ∙ sym (filter_push accepts sd.finished info.id);
     },
     record {
@@ -158,8 +157,11 @@ module _ (sorting : Sorting) (rows : List Row) (g : Commits ObjectId) (tips ends
       more : (x : ObjectId) → Contains sd.finished x → Contains (sd.finished ++ info.id ∷ []) x
       more x c = Contains-append_left sd.finished (info.id ∷ []) x c
 
-      same : sd.h info.id ≡ g info.id
-      same = sd.agrees s.number info.id s.reading s.behind s.id s.at s.new_one s.read
+      unfaulted : faults info.id ≡ None
+      unfaulted = sym (sd.faulty s.number info.id s.reading s.behind s.id s.at s.new_one) ∙ s.read
+
+      same : as_read faults g info.id ≡ g info.id
+      same = read_is faults g info.id unfaulted
 
   -- ---- the end
 
@@ -202,27 +204,30 @@ module _ (sorting : Sorting) (rows : List Row) (g : Commits ObjectId) (tips ends
         λ l. (lists x).1 (to_h (listed_reached g (topo_request tips ends parents all_accepted) l.0 l.1), λ k. l.1 ((hides x).0 k)),
       )
 
-  pub answers : (given : List ObjectId) (known : Known) (ready : Ready) → Stands sorting rows g tips ends parents accepts given known ready → waiting ready ≡ [] → NoneReachesItself g (topo_request tips ends parents all_accepted) → Answers sorting g (topo_request tips ends parents accepts) given
+  pub answers : (given : List ObjectId) (known : Known) (ready : Ready) → Stands sorting rows faults g tips ends parents accepts given known ready → waiting ready ≡ [] → NoneReachesItself g (topo_request tips ends parents all_accepted) → Answers sorting g (topo_request tips ends parents accepts) given
   answers given known ready sd empty acyclic = go sorting chosen
     where
       none_waits : (x : ObjectId) → Contains (ids_of known.ids.keys (waiting ready)) x → ⊥
       none_waits x c = let (k, a) = at_from_contains [] x (subst (λ (zs : List Pending). Contains (ids_of known.ids.keys zs) x) empty c) in none_at_nil k x a
 
-      cyclic : (x : ObjectId) → Contains sd.xs x → Reached (asked_parents parents sd.h) (Contains sd.xs) (asked_parents parents sd.h x) x → ⊥
-      cyclic x s r = acyclic x (in_walk sd.h sd.xs sd.lists sd.hides sd.edges x s) (conv sd.h sd.xs sd.lists sd.hides sd.edges x s r)
+      edges : (x y : ObjectId) → Contains sd.xs x → Contains (as_read faults g x).parents y → as_read faults g x ≡ g x
+      edges x y s n = edges_read faults g x y n
+
+      cyclic : (x : ObjectId) → Contains sd.xs x → Reached (asked_parents parents (as_read faults g)) (Contains sd.xs) (asked_parents parents (as_read faults g) x) x → ⊥
+      cyclic x s r = acyclic x (in_walk (as_read faults g) sd.xs sd.lists sd.hides edges x s) (conv (as_read faults g) sd.xs sd.lists sd.hides edges x s r)
 
       every : (x : ObjectId) → Contains sd.xs x → Contains sd.finished x
-      every = all_given same_id same_id_apart (asked_parents parents sd.h) sd.xs sd.finished cyclic (λ x s n r. none_waits x (sd.standing.waits.all x s n r))
+      every = all_given same_id same_id_apart (asked_parents parents (as_read faults g)) sd.xs sd.finished cyclic (λ x s n r. none_waits x (sd.standing.waits.all x s n r))
 
-      agree : (x : ObjectId) → Contains sd.xs x → sd.h x ≡ g x
-      agree x s = sd.finished_agree x (every x s)
+      agree : (x : ObjectId) → Contains sd.xs x → as_read faults g x ≡ g x
+      agree x s = read_is faults g x (sd.finished_read x (every x s))
 
-      chosen : IsChosen (Contains sd.xs) (IsReady (asked_parents parents sd.h) (Contains sd.xs)) (Comes sorting (asked_parents parents sd.h) tips (λ x. (sd.h x).time)) sd.finished
-      chosen = turns.waits_end same_id same_id_apart (asked_parents parents sd.h) (Contains sd.xs) (Comes sorting (asked_parents parents sd.h) tips (λ x. (sd.h x).time)) sd.finished (ids_of known.ids.keys (waiting ready)) sd.standing.waits every
+      chosen : IsChosen (Contains sd.xs) (IsReady (asked_parents parents (as_read faults g)) (Contains sd.xs)) (Comes sorting (asked_parents parents (as_read faults g)) tips (λ x. (as_read faults g x).time)) sd.finished
+      chosen = turns.waits_end same_id same_id_apart (asked_parents parents (as_read faults g)) (Contains sd.xs) (Comes sorting (asked_parents parents (as_read faults g)) tips (λ x. (as_read faults g x).time)) sd.finished (ids_of known.ids.keys (waiting ready)) sd.standing.waits every
 
-      go : (s : Sorting) → IsChosen (Contains sd.xs) (IsReady (asked_parents parents sd.h) (Contains sd.xs)) (Comes s (asked_parents parents sd.h) tips (λ x. (sd.h x).time)) sd.finished → Answers s g (topo_request tips ends parents accepts) given
-      go DateOrder c = (sd.finished, date_moved (asked_parents parents sd.h) (asked_parents parents g) (Contains sd.xs) (Listed g (topo_request tips ends parents all_accepted)) (same_set sd.h sd.xs sd.lists sd.hides sd.edges agree) (ways_agree sd.h sd.xs sd.lists sd.hides sd.edges agree) (λ x. (sd.h x).time) (λ x. (g x).time) (λ x s. ap (λ (v : Commit ObjectId). v.time) (agree x s)) sd.finished c, sd.given_are)
-      go TopoOrder c = (sd.finished, topological_moved (asked_parents parents sd.h) (asked_parents parents g) (Contains sd.xs) (Listed g (topo_request tips ends parents all_accepted)) (same_set sd.h sd.xs sd.lists sd.hides sd.edges agree) (ways_agree sd.h sd.xs sd.lists sd.hides sd.edges agree) (λ x. (sd.h x).time) (λ x. (g x).time) (λ x s. ap (λ (v : Commit ObjectId). v.time) (agree x s)) tips sd.finished c, sd.given_are)
+      go : (s : Sorting) → IsChosen (Contains sd.xs) (IsReady (asked_parents parents (as_read faults g)) (Contains sd.xs)) (Comes s (asked_parents parents (as_read faults g)) tips (λ x. (as_read faults g x).time)) sd.finished → Answers s g (topo_request tips ends parents accepts) given
+      go DateOrder c = (sd.finished, date_moved (asked_parents parents (as_read faults g)) (asked_parents parents g) (Contains sd.xs) (Listed g (topo_request tips ends parents all_accepted)) (same_set (as_read faults g) sd.xs sd.lists sd.hides edges agree) (ways_agree (as_read faults g) sd.xs sd.lists sd.hides edges agree) (λ x. (as_read faults g x).time) (λ x. (g x).time) (λ x s. ap (λ (v : Commit ObjectId). v.time) (agree x s)) sd.finished c, sd.given_are)
+      go TopoOrder c = (sd.finished, topological_moved (asked_parents parents (as_read faults g)) (asked_parents parents g) (Contains sd.xs) (Listed g (topo_request tips ends parents all_accepted)) (same_set (as_read faults g) sd.xs sd.lists sd.hides edges agree) (ways_agree (as_read faults g) sd.xs sd.lists sd.hides edges agree) (λ x. (as_read faults g x).time) (λ x. (g x).time) (λ x s. ap (λ (v : Commit ObjectId). v.time) (agree x s)) tips sd.finished c, sd.given_are)
 
 -- ---- what a call gave
 
@@ -262,15 +267,43 @@ pub take_falls : (r : Result Info Error) (old mid new : Known) (ready ready' : R
 take_falls (Ok info) old mid new ready ready' e l = let f = ap (total (λ (c : ℕ). c)) e in omega arith
 take_falls (Err x) old mid new ready ready' e l = tt
 
-module _ (sorting : Sorting) (rows : List Row) (g : Commits ObjectId) (tips ends : List ObjectId) (parents parents' : Parents) (same_parents : parents' ≡ parents) (accepts : ObjectId → Bool) (given : List ObjectId) (old new : Known) (ready ready' : Ready) (info : Info) (same_ids : new.ids ≡ old.ids) (sd : Stands sorting rows g tips ends parents accepts given old ready) (stood : (s : Sorting) (rs : List Row) (h : Commits ObjectId) (ts hs xs finished : List ObjectId) → Standing s rs h ts parents' hs xs finished old ready → Steps s rs h ts parents' hs xs finished old ready new ready' info) where
-  next_stands : Stands sorting rows g tips ends parents accepts (given ++ filter accepts (info.id ∷ [])) new ready' × IsInfo rows g info
+module _ (sorting : Sorting) (rows : List Row) (faults : ObjectId → Option Error) (g : Commits ObjectId) (tips ends : List ObjectId) (parents parents' : Parents) (same_parents : parents' ≡ parents) (accepts : ObjectId → Bool) (given : List ObjectId) (old new : Known) (ready ready' : Ready) (info : Info) (same_ids : new.ids ≡ old.ids) (sd : Stands sorting rows faults g tips ends parents accepts given old ready) (stood : (s : Sorting) (rs : List Row) (h : Commits ObjectId) (ts hs xs finished : List ObjectId) → Standing s rs h ts parents' hs xs finished old ready → Steps s rs h ts parents' hs xs finished old ready new ready' info) where
+  next_stands : Stands sorting rows faults g tips ends parents accepts (given ++ filter accepts (info.id ∷ [])) new ready' × IsInfo rows g info
   next_stands =
-      let st : Standing sorting rows sd.h tips parents' sd.hs sd.xs sd.finished old ready = subst (λ (p : Parents). Standing sorting rows sd.h tips p sd.hs sd.xs sd.finished old ready) (sym same_parents) sd.standing in
-      let step : Steps sorting rows sd.h tips parents sd.hs sd.xs sd.finished old ready new ready' info = subst (λ (p : Parents). Steps sorting rows sd.h tips p sd.hs sd.xs sd.finished old ready new ready' info) same_parents (stood sorting rows sd.h tips sd.hs sd.xs sd.finished st) in
-      stands_step sorting rows g tips ends parents accepts given old new ready ready' info same_ids sd step
+      let st : Standing sorting rows (as_read faults g) tips parents' sd.hs sd.xs sd.finished old ready = subst (λ (p : Parents). Standing sorting rows (as_read faults g) tips p sd.hs sd.xs sd.finished old ready) (sym same_parents) sd.standing in
+      let step : Steps sorting rows (as_read faults g) tips parents sd.hs sd.xs sd.finished old ready new ready' info = subst (λ (p : Parents). Steps sorting rows (as_read faults g) tips p sd.hs sd.xs sd.finished old ready new ready' info) same_parents (stood sorting rows (as_read faults g) tips sd.hs sd.xs sd.finished st) in
+      stands_step sorting rows faults g tips ends parents accepts given old new ready ready' info same_ids sd step
 
-  pub stands_yes : accepts info.id ≡ true → Stands sorting rows g tips ends parents accepts (given ++ info.id ∷ []) new ready' × IsInfo rows g info
-  stands_yes e = (subst (λ (zs : List ObjectId). Stands sorting rows g tips ends parents accepts (given ++ zs) new ready') (filter_yes accepts info.id e) next_stands.0, next_stands.1)
+  pub stands_yes : accepts info.id ≡ true → Stands sorting rows faults g tips ends parents accepts (given ++ info.id ∷ []) new ready' × IsInfo rows g info
+  stands_yes e = (subst (λ (zs : List ObjectId). Stands sorting rows faults g tips ends parents accepts (given ++ zs) new ready') (filter_yes accepts info.id e) next_stands.0, next_stands.1)
 
-  pub stands_no : accepts info.id ≡ false → Stands sorting rows g tips ends parents accepts given new ready'
-  stands_no e = subst (λ (zs : List ObjectId). Stands sorting rows g tips ends parents accepts zs new ready') (ap (λ (zs : List ObjectId). given ++ zs) (filter_no accepts info.id e) ∙ append-nil given) next_stands.0
+  pub stands_no : accepts info.id ≡ false → Stands sorting rows faults g tips ends parents accepts given new ready'
+  stands_no e = subst (λ (zs : List ObjectId). Stands sorting rows faults g tips ends parents accepts zs new ready') (ap (λ (zs : List ObjectId). given ++ zs) (filter_no accepts info.id e) ∙ append-nil given) next_stands.0
+
+-- ---- why nothing more comes
+
+module _ (sorting : Sorting) (rows : List Row) (faults : ObjectId → Option Error) (g : Commits ObjectId) (tips ends : List ObjectId) (parents parents' : Parents) (same_parents : parents' ≡ parents) (accepts : ObjectId → Bool) (given : List ObjectId) (known : Known) (ready : Ready) (sd : Stands sorting rows faults g tips ends parents accepts given known ready) (error : Error) (refused : (s : Sorting) (rs : List Row) (ts finished : List ObjectId) → IsTurnOf s rs ts parents' finished known ready error) where
+  turn_next : (x : ObjectId) → IsNext sorting (as_read faults g) tips parents (Contains sd.xs) sd.finished x → IsTurn sorting faults g (topo_request tips ends parents accepts) given x
+  turn_next x next = record {
+    finished = sd.finished;
+    given_are = sd.given_are;
+    read = sd.finished_read;
+    next = record {
+      listed = (sd.lists x).0 next.listed;
+      new = next.new;
+      ready = λ c s n. next.ready c ((sd.lists c).1 s) n;
+      first = λ y s n r d. next.first y ((sd.lists y).1 s) n (λ c t m. r c ((sd.lists c).0 t) m) d;
+    };
+    listed = in_walk sorting rows faults g tips ends parents accepts (as_read faults g) sd.xs sd.lists sd.hides (λ y z s n. edges_read faults g y z n) x next.listed;
+  }
+
+  pub turn_fault : (error ≡ Memory) ⊎ ((x : ObjectId) × (faults x ≡ Some error) × IsTurn sorting faults g (topo_request tips ends parents accepts) given x)
+  turn_fault =
+      let all : IsTurnOf sorting rows tips parents sd.finished known ready error = subst (λ (p : Parents). IsTurnOf sorting rows tips p sd.finished known ready error) same_parents (refused sorting rows tips sd.finished) in
+      elim (all (as_read faults g) sd.hs sd.xs sd.standing) [
+        | inl m ↦ inl m
+        | inr (x, n, reading, a, b, f, next) ↦ (
+            let (m, l, a') = number_in known.ids.keys sd.hs sd.xs x sd.standing.keys_are next.listed in
+            let same : n ≡ m = sd.standing.keys_once n m x a a' in
+            inr (x, sym (sd.faulty n x reading (omega (arith, l, same, sd.standing.hidden_are)) a b next.new) ∙ f, turn_next x next))
+      ]

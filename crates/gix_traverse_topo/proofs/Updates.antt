@@ -236,6 +236,9 @@ off_falls cs cs' n count a e = ap (λ (zs : List ℕ). total (λ c. c) zs + 1) e
 pub many_counts : (a b : List Node) → readings a ≡ readings b → length (counts a) ≡ length b
 many_counts a b e = length_map (λ (v : Node). v.names) a ∙ sym (length_map (λ (v : Node). v.reading) a) ∙ ap length e ∙ length_map (λ (v : Node). v.reading) b
 
+pub many_nodes : (a b : List Node) → readings a ≡ readings b → length a ≡ length b
+many_nodes a b e = sym (length_map (λ (v : Node). v.reading) a) ∙ ap length e ∙ length_map (λ (v : Node). v.reading) b
+
 pub names_none : (way : ObjectId → List ObjectId) (y : ObjectId) (n : ℕ) (xs : List ObjectId) → names_of same_id way y (take (n - n) xs) ≡ 0
 names_none way y n xs = let e : n - n ≡ 0 = omega arith in ap (λ (k : ℕ). names_of same_id way y (take k xs)) e ∙ go xs
   where

@@ -4,4 +4,6 @@ pub mod Nodes
 pub mod Meeting
 pub mod Walking
 pub mod Waiting
+pub mod Exploring
 pub mod Standing
+pub mod Giving

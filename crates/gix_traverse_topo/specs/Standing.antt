@@ -1,16 +1,20 @@
 -- Where a walk stands, and what it gives.
-use Rattle.std.specs.Prelude.{◌≡◌, ◌↔◌, ◌⊎◌, ℕ, ◌+◌, ◌<◌, ◌≤◌, Bool, ℤ, List, [], ◌∷◌, ◌++◌, length, map, filter, Contains, None, Some, ⊤, true, slice_set, slice_index_or}
+use Rattle.std.specs.Prelude.{◌≡◌, ◌↔◌, ◌⊎◌, ℕ, ◌+◌, ◌<◌, ◌≤◌, Bool, ℤ, pos, List, [], ◌∷◌, ◌++◌, length, map, filter, Contains, Option, None, Some, IfSome, ⊤, true, slice_set, slice_index_or}
 use Rattle.std.specs.BinaryHeap.{heap_items, IsHeap}
 use Rattle.gix_hash.specs.declared.object_id.ObjectId.{ObjectId}
 use Rattle.gix_hash.specs.declared.object_id.ObjectId.TheVariants.{Sha1}
-use Rattle.gix_traverse_commit.specs.Commits.{Commits, WalkRequest, asked, asked_parents, Reached, Hides, Listed}
+use Rattle.gix_traverse_commit.specs.Commits.{Commit, Commits, WalkRequest, asked, asked_parents, Reached, Hides, Listed}
 use Rattle.gix_traverse_commit.specs.Fetching.{HasRowsGeneration}
 use Rattle.gix_traverse_commit.specs.Numbered.{same_id}
 use Rattle.gix_traverse_commit.specs.Order.{At, IsReady, NewestFirst, Outranks}
-use Rattle.gix_traverse_commit.specs.Walks.{InDate, InTopological}
+use Rattle.gix_object_find.specs.Table.{Table}
+use Rattle.gix_traverse_commit.specs.Painting.{ReachedFrom}
+use Rattle.gix_traverse_commit.specs.Told.{AreTold}
+use Rattle.gix_traverse_commit.specs.Walks.{InDate, InTopological, unfiltered}
 use Rattle.gix_traverse_commit.specs.declared.info.Info.{Info}
 use Rattle.gix_traverse_commit.specs.declared.parents.Parents.{Parents}
 use Rattle.gix_traverse_commit.specs.declared.rows.Row.{Row}
+use Rattle.gix_traverse_topo.specs.Faults.{IsFaultOf}
 use Rattle.gix_traverse_topo.specs.Nodes.{readings, counts, Tells, EachCount, IsOnce}
 use Rattle.gix_traverse_topo.specs.Turns.{total, names_of, named_so_far, Freed, Waits, Ranked}
 use Rattle.gix_traverse_topo.specs.Waiting.{pending_cmp, waiting, Joined}
@@ -142,19 +146,41 @@ Answers TopoOrder g q given = InTopological g q given
 abbrev pub NoneReachesItself : Commits ObjectId → WalkRequest ObjectId → Type 0
 NoneReachesItself g q = (x : ObjectId) → Listed g q x → Reached (λ y. (g y).parents) (λ _. ⊤) (g x).parents x → ⊥
 
--- the walk has given these of the commits that are accepted; h are the commits as far as they were read
-pub record Stands (sorting : Sorting) (rows : List Row) (g : Commits ObjectId) (tips ends : List ObjectId) (parents : Parents) (accepts : ObjectId → Bool) (given : List ObjectId) (known : Known) (ready : Ready) : Type 0 where
-  pub h : Commits ObjectId
+-- a commit as far as it was read: one that wasn't, for some fault, counts as one without parents, of time 0
+abbrev pub read_so : Option Error → Commit ObjectId → Commit ObjectId
+read_so None commit = commit
+read_so (Some fault) commit = record { parents = []; time = pos 0 }
+
+-- the commits as far as they were read, where these faults were found
+abbrev pub as_read : (ObjectId → Option Error) → Commits ObjectId → Commits ObjectId
+as_read faults g x = read_so (faults x) (g x)
+
+-- the walk has given these of the commits that are accepted; why a commit isn't read, faults tells
+pub record Stands (sorting : Sorting) (rows : List Row) (faults : ObjectId → Option Error) (g : Commits ObjectId) (tips ends : List ObjectId) (parents : Parents) (accepts : ObjectId → Bool) (given : List ObjectId) (known : Known) (ready : Ready) : Type 0 where
   pub hs : List ObjectId
   pub xs : List ObjectId
   pub finished : List ObjectId
-  pub standing : Standing sorting rows h tips parents hs xs finished known ready
-  pub lists : (x : ObjectId) → Contains xs x ↔ Listed h (topo_request tips ends parents all_accepted) x
-  pub hides : (x : ObjectId) → Hides h (topo_request tips ends parents all_accepted) x ↔ Hides g (topo_request tips ends parents all_accepted) x
-  pub agrees : (n : ℕ) (x : ObjectId) (reading : Reading) → known.hidden ≤ n → At known.ids.keys n x → At (readings known.nodes.items) n reading → (Contains finished x → ⊥) → reading.fault ≡ None → h x ≡ g x
-  pub edges : (x y : ObjectId) → Contains xs x → Contains (h x).parents y → h x ≡ g x
-  pub finished_agree : (x : ObjectId) → Contains finished x → h x ≡ g x
+  pub standing : Standing sorting rows (as_read faults g) tips parents hs xs finished known ready
+  pub lists : (x : ObjectId) → Contains xs x ↔ Listed (as_read faults g) (topo_request tips ends parents all_accepted) x
+  pub hides : (x : ObjectId) → Hides (as_read faults g) (topo_request tips ends parents all_accepted) x ↔ Hides g (topo_request tips ends parents all_accepted) x
+  pub faulty : (n : ℕ) (x : ObjectId) (reading : Reading) → known.hidden ≤ n → At known.ids.keys n x → At (readings known.nodes.items) n reading → (Contains finished x → ⊥) → reading.fault ≡ faults x
+  pub finished_read : (x : ObjectId) → Contains finished x → faults x ≡ None
   pub given_are : given ≡ filter accepts finished
+
+-- why a commit isn't read is known of each; ends or tips reach all that is known; and the walk stands before its first commit
+pub record Begins (honest may_fail : Type 0) (sorting : Sorting) (rows : List Row) (table : Table) (tips ends : List ObjectId) (parents : Parents) (accepts : ObjectId → Bool) (known : Known) (ready : Ready) : Type 0 where
+  pub faults : ObjectId → Option Error
+  pub causes : (x : ObjectId) → IfSome (faults x) (IsFaultOf honest may_fail rows table x)
+  pub known_reached : honest → (g : Commits ObjectId) → AreTold rows table g → (x : ObjectId) → Contains known.ids.keys x → ReachedFrom g ends x ⊎ Listed g (topo_request tips ends parents all_accepted) x
+  pub stands : honest → (g : Commits ObjectId) → AreTold rows table g → Stands sorting rows faults g tips ends parents accepts [] known ready
+
+-- the walk has given these, and of all its commits, as far as they were read, it is the turn of x
+pub record IsTurn (sorting : Sorting) (faults : ObjectId → Option Error) (g : Commits ObjectId) (q : WalkRequest ObjectId) (given : List ObjectId) (x : ObjectId) : Type 0 where
+  pub finished : List ObjectId
+  pub given_are : given ≡ filter q.accepts finished
+  pub read : (y : ObjectId) → Contains finished y → faults y ≡ None
+  pub next : IsNext sorting (as_read faults g) q.tips q.parents (Listed (as_read faults g) (unfiltered q)) finished x
+  pub listed : Listed g (unfiltered q) x
 
 -- of the commits that wait, it is the turn of one that isn't read, for this cause
 abbrev pub IsTurnOf : Sorting → List Row → List ObjectId → Parents → List ObjectId → Known → Ready → Error → Type 0

@@ -9,7 +9,7 @@ use Rattle.gix_traverse_commit.specs.Standing.{NotIn}
 use Rattle.gix_traverse_commit.specs.declared.parents.Parents.{Parents}
 use Rattle.gix_traverse_commit.specs.declared.rows.Row.{Row}
 use Rattle.gix_traverse_topo.specs.Meeting.{IsRow, Met}
-use Rattle.gix_traverse_topo.specs.Nodes.{readings, counts, IsReading, ParentsFrom}
+use Rattle.gix_traverse_topo.specs.Nodes.{readings, counts, IsOnce, IsReading, ParentsFrom}
 use Rattle.gix_traverse_topo.specs.declared.known.Node.{Node}
 use Rattle.gix_traverse_topo.specs.declared.known.Reading.{Reading}
 
@@ -24,6 +24,7 @@ pub record Visits (honest may_fail : Type 0) (rows : List Row) (table : Table) (
 -- behind the commits that were known some are read, of all that are numbered
 pub record Walking (honest may_fail : Type 0) (rows : List Row) (table : Table) (along : Parents) (tips keys : List ObjectId) (nodes : List Node) (keys' : List ObjectId) (nodes' : List Node) : Type 0 where
   pub keys_kept : (k : ℕ) (x : ObjectId) → At keys k x → At keys' k x
+  pub once : IsOnce keys → IsOnce keys'
   pub nodes_kept : (k : ℕ) (node : Node) → At nodes k node → At nodes' k node
   pub read : (n : ℕ) (x : ObjectId) (reading : Reading) → length nodes ≤ n → At keys' n x → At (readings nodes') n reading → IsReading honest may_fail rows table x reading
   pub unnamed : (n count : ℕ) → length nodes ≤ n → At (counts nodes') n count → count ≡ 0

@@ -1,7 +1,14 @@
 //! What a walk is asked for.
 
-ghost use Rattle.std.specs.Prelude.{◌≡◌, ◌++◌, [], IfOk, None};
+ghost use Rattle.std.specs.Prelude.{◌≡◌, ◌+◌, ◌≤◌, ◌++◌, [], length, IfOk, IfErr, IfSome, IfNone, None};
+ghost use Rattle.gix_hash.specs.Id.{id_of};
+ghost use Rattle.gix_traverse_commit.specs.Rows.{AllHeld};
+ghost use Rattle.gix_traverse_commit.specs.Told.{rows_of};
 ghost use Rattle.gix_traverse_commit.specs.declared.parents.Parents.TheVariants.{All as AllParents};
+ghost use Rattle.gix_traverse_topo.specs.Exploring.{IsPainted, IsExplored};
+ghost use Rattle.gix_traverse_topo.specs.Faults.{IsBuildFault};
+ghost use Rattle.gix_traverse_topo.specs.Standing.{Begins};
+ghost use Rattle.gix_traverse_topo.specs.declared.error.Error.TheVariants.{Memory};
 ghost use Rattle.gix_traverse_topo.specs.declared.init.Sorting.TheVariants.{DateOrder};
 
 use crate::known::Known;
@@ -36,7 +43,8 @@ pub struct Builder<F, P> {
 
 // These ids, with others behind them.
 fn with_more(mut ids: Vec<ObjectId>, more: &[ObjectId]) -> Result<Vec<ObjectId>, Error>
-    ensures { IfOk result (λ all. all.items ≡ ids.items ++ more.now) }
+    ensures all { IfOk result (λ all. all.items ≡ ids.items ++ more.now) }
+    ensures refused { IfErr result (λ error. error ≡ Memory) }
 {
     ids.extend_from_slice(more)?;
     Ok(ids)
@@ -63,13 +71,22 @@ impl<F: Find + Drop> Builder<F, All> {
         }
     }
 
-    /// A walk from these tips, without what the ends reach.
+    /// A walk from these tips, without what the ends reach. It is an error where there is no memory for them.
     pub fn from_iters(
         alloc: Global,
         find: F,
         tips: &[ObjectId],
         ends: Option<&[ObjectId]>,
-    ) -> Result<Builder<F, All>, Error> {
+    ) -> Result<Builder<F, All>, Error>
+        ensures objects { IfOk result (λ builder. builder.find ≡ find) }
+        ensures tips { IfOk result (λ builder. builder.tips.items ≡ tips.now) }
+        ensures ends { IfSome ends.entry (λ ids. IfOk result (λ builder. builder.ends.items ≡ ids.now)) }
+        ensures no_ends { IfNone ends.entry (IfOk result (λ builder. builder.ends.items ≡ [])) }
+        ensures sorting { IfOk result (λ builder. builder.sorting ≡ DateOrder) }
+        ensures parents { IfOk result (λ builder. builder.parents ≡ AllParents) }
+        ensures rows { IfOk result (λ builder. builder.rows ≡ None) }
+        ensures refused { IfErr result (λ error. error ≡ Memory) }
+    {
         let builder = Builder::new(alloc, find).with_tips(tips)?;
         match ends {
             Some(ends) => builder.with_ends(ends),
@@ -80,7 +97,15 @@ impl<F: Find + Drop> Builder<F, All> {
 
 impl<F: Find + Drop, P: Accept + Drop> Builder<F, P> {
     /// The same walk, which gives the commits alone that the predicate accepts. It goes through the others all the same.
-    pub fn with_predicate<Q: Accept + Drop>(self, predicate: Q) -> Builder<F, Q> {
+    pub fn with_predicate<Q: Accept + Drop>(self, predicate: Q) -> Builder<F, Q>
+        ensures predicate { result.predicate ≡ predicate }
+        ensures objects { result.find ≡ self.find }
+        ensures tips { result.tips ≡ self.tips }
+        ensures ends { result.ends ≡ self.ends }
+        ensures sorting { result.sorting ≡ self.sorting }
+        ensures parents { result.parents ≡ self.parents }
+        ensures rows { result.rows ≡ self.rows }
+    {
         Builder {
             find: self.find,
             predicate,
@@ -92,12 +117,16 @@ impl<F: Find + Drop, P: Accept + Drop> Builder<F, P> {
         }
     }
 
-    /// The same walk with further tips.
+    /// The same walk with further tips. It is an error where there is no memory for them.
     pub fn with_tips(self, tips: &[ObjectId]) -> Result<Builder<F, P>, Error>
         ensures tips { IfOk result (λ builder. builder.tips.items ≡ self.tips.items ++ tips.now) }
         ensures ends { IfOk result (λ builder. builder.ends ≡ self.ends) }
         ensures sorting { IfOk result (λ builder. builder.sorting ≡ self.sorting) }
         ensures parents { IfOk result (λ builder. builder.parents ≡ self.parents) }
+        ensures objects { IfOk result (λ builder. builder.find ≡ self.find) }
+        ensures predicate { IfOk result (λ builder. builder.predicate ≡ self.predicate) }
+        ensures rows { IfOk result (λ builder. builder.rows ≡ self.rows) }
+        ensures refused { IfErr result (λ error. error ≡ Memory) }
     {
         Ok(Builder {
             tips: with_more(self.tips, tips)?,
@@ -105,12 +134,16 @@ impl<F: Find + Drop, P: Accept + Drop> Builder<F, P> {
         })
     }
 
-    /// The same walk with further ends.
+    /// The same walk with further ends. It is an error where there is no memory for them.
     pub fn with_ends(self, ends: &[ObjectId]) -> Result<Builder<F, P>, Error>
         ensures ends { IfOk result (λ builder. builder.ends.items ≡ self.ends.items ++ ends.now) }
         ensures tips { IfOk result (λ builder. builder.tips ≡ self.tips) }
         ensures sorting { IfOk result (λ builder. builder.sorting ≡ self.sorting) }
         ensures parents { IfOk result (λ builder. builder.parents ≡ self.parents) }
+        ensures objects { IfOk result (λ builder. builder.find ≡ self.find) }
+        ensures predicate { IfOk result (λ builder. builder.predicate ≡ self.predicate) }
+        ensures rows { IfOk result (λ builder. builder.rows ≡ self.rows) }
+        ensures refused { IfErr result (λ error. error ≡ Memory) }
     {
         Ok(Builder {
             ends: with_more(self.ends, ends)?,
@@ -124,6 +157,9 @@ impl<F: Find + Drop, P: Accept + Drop> Builder<F, P> {
         ensures tips { result.tips ≡ self.tips }
         ensures ends { result.ends ≡ self.ends }
         ensures parents { result.parents ≡ self.parents }
+        ensures objects { result.find ≡ self.find }
+        ensures predicate { result.predicate ≡ self.predicate }
+        ensures rows { result.rows ≡ self.rows }
     {
         Builder { sorting, ..self }
     }
@@ -134,6 +170,9 @@ impl<F: Find + Drop, P: Accept + Drop> Builder<F, P> {
         ensures tips { result.tips ≡ self.tips }
         ensures ends { result.ends ≡ self.ends }
         ensures sorting { result.sorting ≡ self.sorting }
+        ensures objects { result.find ≡ self.find }
+        ensures predicate { result.predicate ≡ self.predicate }
+        ensures rows { result.rows ≡ self.rows }
     {
         Builder { parents, ..self }
     }
@@ -145,14 +184,25 @@ impl<F: Find + Drop, P: Accept + Drop> Builder<F, P> {
         ensures ends { result.ends ≡ self.ends }
         ensures sorting { result.sorting ≡ self.sorting }
         ensures parents { result.parents ≡ self.parents }
+        ensures objects { result.find ≡ self.find }
+        ensures predicate { result.predicate ≡ self.predicate }
     {
         Builder { rows, ..self }
     }
 
-    /// The walk, which has read all its commits.
+    /// The walk, which has read all its commits. It is an error where there is no memory, and where a commit that the ends
+    /// reach isn't read.
     pub fn build(self) -> Result<Topo<P>, Error>
         ensures predicate { IfOk result (λ walk. walk.predicate ≡ self.predicate) }
         ensures parents { IfOk result (λ walk. walk.parents ≡ self.parents) }
+        ensures begins { IfOk result (λ walk. Begins (F.is_honest self.find) (F.may_fail self.find) self.sorting
+            (rows_of self.rows) (F.table self.find) self.tips.items self.ends.items self.parents
+            (λ x. P.accepts self.predicate (id_of x)) walk.known walk.ready) }
+        ensures counted { IfOk result (λ walk. walk.lookups ≤ length walk.known.ids.keys) }
+        ensures rowed { AllHeld (rows_of self.rows) self.tips.items → AllHeld (rows_of self.rows) self.ends.items
+            → IfOk result (λ walk. walk.lookups ≡ 0) }
+        ensures refused { IfErr result (IsBuildFault (F.is_honest self.find) (F.may_fail self.find)
+            (rows_of self.rows) (F.table self.find) self.ends.items) }
     {
         let alloc: Global = *self.tips.allocator();
         let mut source = Source {
@@ -179,6 +229,33 @@ impl<F: Find + Drop, P: Accept + Drop> Builder<F, P> {
     }
 }
 
+// All that the ends reach.
+fn explore_ends<F: Find>(
+    alloc: Global,
+    source: &mut Source<F>,
+    ends: &[ObjectId],
+) -> Result<Known, Error>
+    ensures objects { source.new.objects ≡ source.old.objects }
+    ensures rows { source.new.rows ≡ source.old.rows }
+    ensures painted { IfOk result (IsPainted (F.is_honest source.old.objects) (F.may_fail source.old.objects)
+        (rows_of source.old.rows) (F.table source.old.objects) ends.now) }
+    ensures counted { IfOk result (λ known. source.new.lookups ≤ source.old.lookups + length known.ids.keys) }
+    ensures rowed { AllHeld (rows_of source.old.rows) ends.now → IfOk result (λ known.
+        AllHeld (rows_of source.old.rows) known.ids.keys × (source.new.lookups ≡ source.old.lookups)) }
+    ensures refused { IfErr result (IsBuildFault (F.is_honest source.old.objects) (F.may_fail source.old.objects)
+        (rows_of source.old.rows) (F.table source.old.objects) ends.now) }
+{
+    let mut known = Known::new(alloc);
+    known.walk(source, ends, Parents::All)?;
+    match known.first_fault() {
+        Some(error) => Err(error),
+        None => {
+            known.hidden = known.ids.len();
+            Ok(known)
+        }
+    }
+}
+
 // All that the ends reach, and behind it all that the tips reach past it, with the counts of names.
 fn explore<F: Find>(
     alloc: Global,
@@ -186,13 +263,16 @@ fn explore<F: Find>(
     tips: &[ObjectId],
     ends: &[ObjectId],
     parents: Parents,
-) -> Result<Known, Error> {
-    let mut known = Known::new(alloc);
-    known.walk(source, ends, Parents::All)?;
-    if let Some(error) = known.first_fault() {
-        return Err(error);
-    }
-    known.hidden = known.ids.len();
+) -> Result<Known, Error>
+    ensures explored { IfOk result (IsExplored (F.is_honest source.old.objects) (F.may_fail source.old.objects)
+        (rows_of source.old.rows) (F.table source.old.objects) tips.now ends.now parents) }
+    ensures counted { IfOk result (λ known. source.new.lookups ≤ source.old.lookups + length known.ids.keys) }
+    ensures rowed { AllHeld (rows_of source.old.rows) tips.now → AllHeld (rows_of source.old.rows) ends.now
+        → IfOk result (λ _. source.new.lookups ≡ source.old.lookups) }
+    ensures refused { IfErr result (IsBuildFault (F.is_honest source.old.objects) (F.may_fail source.old.objects)
+        (rows_of source.old.rows) (F.table source.old.objects) ends.now) }
+{
+    let mut known = explore_ends(alloc, source, ends)?;
     known.walk(source, tips, parents)?;
     known.count(parents)?;
     Ok(known)

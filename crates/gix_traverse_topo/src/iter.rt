@@ -1,16 +1,18 @@
 //! The walk.
 
-ghost use Rattle.std.specs.Prelude.{true, false, ◌≡◌, ◌+◌, ◌<◌, ◌≤◌, ◌++◌, ◌∷◌, [], ℕ, List, OnOk, IfOk, IfErr, OnErr, IfSome, IfNone, IsNone, ◌⊎◌, length};
+ghost use Rattle.std.specs.Prelude.{true, false, ◌≡◌, ◌+◌, ◌<◌, ◌≤◌, ◌++◌, ◌∷◌, [], ℕ, List, OnOk, IfOk, IfErr, OnErr, IfSome, IfNone, IsNone, Option, Some, ◌⊎◌, length};
 ghost use Rattle.gix_hash.specs.declared.object_id.ObjectId.{ObjectId};
 ghost use Rattle.gix_traverse_commit.specs.Commits.{Commits, asked};
 ghost use Rattle.gix_traverse_commit.specs.Order.{At};
 ghost use Rattle.gix_traverse_commit.specs.declared.rows.Row.{Row};
 ghost use Rattle.gix_traverse_topo.specs.declared.init.Sorting.{Sorting};
 ghost use Rattle.gix_traverse_topo.specs.Nodes.{readings, counts, IsOnce};
-ghost use Rattle.gix_traverse_topo.specs.Standing.{Answers, CountsOff, Gives, GoesOff, IsInfo, IsTurnOf, NoneReachesItself, NotCounted, RowOff, Standing, Stands, Steps, all_accepted, topo_request, weight};
+ghost use Rattle.gix_traverse_topo.specs.Giving.{GivesNext};
+ghost use Rattle.gix_traverse_topo.specs.Standing.{Answers, CountsOff, Gives, GoesOff, IsInfo, IsTurn, IsTurnOf, NoneReachesItself, NotCounted, RowOff, Standing, Stands, Steps, all_accepted, topo_request, weight};
 ghost use Rattle.gix_traverse_topo.specs.Waiting.{waiting};
 ghost use Rattle.gix_hash.specs.Id.{id_of};
 ghost use Rattle.gix_traverse_topo.specs.declared.known.Reading.{Reading};
+ghost use Rattle.gix_traverse_topo.specs.declared.error.Error.{Error};
 ghost use Rattle.gix_traverse_topo.specs.declared.error.Error.TheVariants.{Memory};
 
 use crate::Error;
@@ -137,6 +139,7 @@ impl<P: Accept + Drop> Topo<P> {
             (tips finished : List ObjectId)
             → IsTurnOf sorting rows tips self.old.parents finished self.old.known self.old.ready error)) }
         ensures failed { IfSome result (λ given. OnErr given (waiting self.new.ready ≡ [])) }
+        ensures over { IfNone result (waiting self.new.ready ≡ []) }
         ensures ended { waiting self.old.ready ≡ [] → IsNone result }
         ensures falls { IfSome result (λ given. OnOk given (weight self.new.known self.new.ready
             < weight self.old.known self.old.ready)) }
@@ -156,26 +159,33 @@ impl<P: Accept + Drop> Topo<P> {
         }
     }
 
-    /// The next commit. It is an error where that isn't read, and where no memory is left; and nothing where all are given, or an
-    /// error was.
-    pub fn next(&mut self) -> Option<Result<Info, Error>>
+    // The next commit that is accepted.
+    fn advance(&mut self) -> Option<Result<Info, Error>>
         ensures parents { self.new.parents ≡ self.old.parents }
         ensures accepts { P.accepts self.new.predicate ≡ P.accepts self.old.predicate }
         ensures lookups { self.new.lookups ≡ self.old.lookups }
         ensures more { IfSome result (λ given. IfOk given (λ info. (sorting : Sorting) (rows : List Row)
-            (g : Commits ObjectId) (tips ends listed : List ObjectId)
-            → Stands sorting rows g tips ends self.old.parents (λ x. P.accepts self.old.predicate (id_of x)) listed
-            self.old.known self.old.ready
-            → Stands sorting rows g tips ends self.old.parents (λ x. P.accepts self.old.predicate (id_of x))
+            (faults : ObjectId → Option Error) (g : Commits ObjectId) (tips ends listed : List ObjectId)
+            → Stands sorting rows faults g tips ends self.old.parents (λ x. P.accepts self.old.predicate (id_of x))
+            listed self.old.known self.old.ready
+            → Stands sorting rows faults g tips ends self.old.parents (λ x. P.accepts self.old.predicate (id_of x))
             (listed ++ info.id ∷ []) self.new.known self.new.ready × IsInfo rows g info)) }
-        ensures end { IfNone result ((sorting : Sorting) (rows : List Row) (g : Commits ObjectId)
-            (tips ends listed : List ObjectId)
-            → Stands sorting rows g tips ends self.old.parents (λ x. P.accepts self.old.predicate (id_of x)) listed
-            self.old.known self.old.ready
+        ensures end { IfNone result ((sorting : Sorting) (rows : List Row) (faults : ObjectId → Option Error)
+            (g : Commits ObjectId) (tips ends listed : List ObjectId)
+            → Stands sorting rows faults g tips ends self.old.parents (λ x. P.accepts self.old.predicate (id_of x))
+            listed self.old.known self.old.ready
             → NoneReachesItself g (topo_request tips ends self.old.parents all_accepted)
             → Answers sorting g (topo_request tips ends self.old.parents (λ x. P.accepts self.old.predicate (id_of x)))
             listed) }
+        ensures refused { IfSome result (λ given. IfErr given (λ error. (sorting : Sorting) (rows : List Row)
+            (faults : ObjectId → Option Error) (g : Commits ObjectId) (tips ends listed : List ObjectId)
+            → Stands sorting rows faults g tips ends self.old.parents (λ x. P.accepts self.old.predicate (id_of x))
+            listed self.old.known self.old.ready
+            → (error ≡ Memory) ⊎ ((x : ObjectId) × (faults x ≡ Some error)
+            × IsTurn sorting faults g (topo_request tips ends self.old.parents
+            (λ x. P.accepts self.old.predicate (id_of x))) listed x))) }
         ensures failed { IfSome result (λ given. OnErr given (waiting self.new.ready ≡ [])) }
+        ensures over { IfNone result (waiting self.new.ready ≡ []) }
         ensures ended { waiting self.old.ready ≡ [] → IsNone result }
     {
         'turns: while let Some(given) = self.turn() {
@@ -188,5 +198,17 @@ impl<P: Accept + Drop> Topo<P> {
             }
         }
         None
+    }
+}
+
+impl<P: Accept + Drop> Iterator for Topo<P> {
+    type Item = Result<Info, Error>;
+
+    ghost next_gives = { λ before item after. GivesNext P.accepts before item after };
+
+    /// The next commit. It is an error where that isn't read, and where no memory is left; and nothing where all are given, or an
+    /// error was.
+    fn next(&mut self) -> Option<Result<Info, Error>> {
+        self.advance()
     }
 }

@@ -6,6 +6,7 @@ ghost use Rattle.gix_traverse_commit.specs.Commits.{Commits, asked, asked_parent
 ghost use Rattle.gix_traverse_commit.specs.Numbered.{same_id};
 ghost use Rattle.gix_traverse_commit.specs.Order.{At};
 ghost use Rattle.gix_traverse_commit.specs.Reading.{Read};
+ghost use Rattle.gix_traverse_commit.specs.Rows.{AllHeld, Holds};
 ghost use Rattle.gix_traverse_commit.specs.Standing.{NotIn};
 ghost use Rattle.gix_traverse_commit.specs.Told.{rows_of};
 ghost use Rattle.gix_traverse_topo.specs.Meeting.{IsRow, Met, Walks};
@@ -101,6 +102,9 @@ fn read<F: Find>(source: &mut Source<F>, id: &ObjectId) -> Result<Reading, Error
     ensures read { IfOk result (IsReading (F.is_honest source.old.objects) (F.may_fail source.old.objects)
         (rows_of source.old.rows) (F.table source.old.objects) id.now) }
     ensures counted { source.new.lookups ≤ source.old.lookups + 1 }
+    ensures rowed { Holds (rows_of source.old.rows) id.now → source.new.lookups ≡ source.old.lookups }
+    ensures closed { Holds (rows_of source.old.rows) id.now
+        → IfOk result (λ reading. AllHeld (rows_of source.old.rows) reading.parents.items) }
     ensures refused { IfErr result (λ error. error ≡ Memory) }
 {
     let alloc: Global = *source.buffer.allocator();
@@ -120,6 +124,7 @@ fn add_name(nodes: &mut Vec<Node>, number: Number) -> Result<(), Error>
     ensures readings { readings nodes.new.items ≡ readings nodes.old.items }
     ensures added { OnOk result ((count : ℕ) × At (counts nodes.old.items) number.0 count
         × (counts nodes.new.items ≡ slice_set (counts nodes.old.items) number.0 (count + 1))) }
+    ensures refused { IfErr result (λ error. (error ≡ Memory) ⊎ (length nodes.old.items ≤ number.0)) }
 {
     let names = nodes
         .get(number.0)
@@ -192,6 +197,9 @@ impl Known {
             (rows_of source.old.rows) (F.table source.old.objects) along id.now
             self.old.ids.keys self.old.nodes.items self.new.ids.keys self.new.nodes.items) }
         ensures counted { source.new.lookups ≤ source.old.lookups + 1 }
+        ensures rowed { Holds (rows_of source.old.rows) id.now → AllHeld (rows_of source.old.rows) self.old.ids.keys
+            → OnOk result (AllHeld (rows_of source.old.rows) self.new.ids.keys
+            × (source.new.lookups ≡ source.old.lookups)) }
         ensures refused { IfErr result (λ error. error ≡ Memory) }
     {
         let reading = read(source, id)?;
@@ -216,6 +224,9 @@ impl Known {
         ensures all { OnOk result (length self.new.ids.keys ≤ length self.new.nodes.items) }
         ensures counted { OnOk result (source.new.lookups + length self.old.nodes.items
             ≤ source.old.lookups + length self.new.nodes.items) }
+        ensures rowed { OnOk result (AllHeld (rows_of source.old.rows) self.old.ids.keys
+            → AllHeld (rows_of source.old.rows) tips.now → AllHeld (rows_of source.old.rows) self.new.ids.keys
+            × (source.new.lookups ≡ source.old.lookups)) }
         ensures refused { IfErr result (λ error. error ≡ Memory) }
     {
         meet(&mut self.ids, tips)?;
@@ -273,6 +284,8 @@ impl Known {
         ensures readings { readings self.new.nodes.items ≡ readings self.old.nodes.items }
         ensures counted { OnOk result (NamesOne self.old.hidden self.old.ids.keys (counts self.old.nodes.items) id.now
             (counts self.new.nodes.items)) }
+        ensures refused { length self.old.ids.keys ≤ length self.old.nodes.items
+            → IfErr result (λ error. error ≡ Memory) }
     {
         match self.number_of(id) {
             Some(number) => add_name(&mut self.nodes, number),
@@ -291,6 +304,8 @@ impl Known {
             (λ y count. count ≡ names_of same_id way y before)
             → EachCount self.old.hidden self.old.ids.keys (counts self.new.nodes.items)
             (λ y count. count ≡ names_of same_id way y before + times (same_id y) (asked along reading.parents.items))) }
+        ensures refused { length self.old.ids.keys ≤ length self.old.nodes.items
+            → IfErr result (λ error. error ≡ Memory) }
     {
         let mut index: usize = 0;
         'row: while let Some(parent) = self.parent(number, index, along) {
@@ -312,6 +327,8 @@ impl Known {
             → EachCount self.old.hidden self.old.ids.keys (counts self.old.nodes.items) (λ _ count. count ≡ 0)
             → EachCount self.old.hidden self.old.ids.keys (counts self.new.nodes.items)
             (λ y count. count ≡ names_of same_id (asked_parents along h) y xs)) }
+        ensures refused { length self.old.ids.keys ≤ length self.old.nodes.items
+            → IfErr result (λ error. error ≡ Memory) }
     {
         'commits: for place in self.hidden..self.nodes.as_slice().len() {
             self.count_row(Number(place), along)?;

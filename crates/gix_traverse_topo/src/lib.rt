@@ -5,6 +5,7 @@ mod error;
 mod init;
 mod iter;
 mod known;
+pub mod laws;
 mod ready;
 
 pub use crate::error::Error;

@@ -55,6 +55,7 @@ impl Ready {
     pub fn pop(&mut self) -> Option<Pending>
         ensures popped { IfSome result (λ pending. Popped self.old pending self.new) }
         ensures none { IfNone result (waiting self.old ≡ []) }
+        ensures over { IfNone result (waiting self.new ≡ []) }
     {
         match self {
             Ready::ByDate(heap) => heap.pop(),

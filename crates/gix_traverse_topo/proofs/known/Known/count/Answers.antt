@@ -1,4 +1,5 @@
 use Rattle.std.proofs.Common.{◌≡◌, ℕ, ◌+◌, ◌-◌, ◌<◌, List, length, take, refl, sym, ◌∙◌, ap, subst, arith}
+use Rattle.std.proofs.lemmas.Result.{err_from_is_err_and}
 use Rattle.gix_hash.specs.declared.object_id.ObjectId.{ObjectId}
 use Rattle.gix_traverse_commit.specs.Commits.{asked, asked_parents}
 use Rattle.gix_traverse_commit.specs.Numbered.{same_id}
@@ -9,7 +10,7 @@ use Rattle.gix_traverse_topo.specs.declared.known.Node.{Node}
 use Rattle.gix_traverse_topo.specs.declared.known.Reading.{Reading}
 use Rattle.gix_traverse_topo.proofs.Counting.{each_kept}
 use Rattle.gix_traverse_topo.proofs.Meeting.{length_map}
-use Rattle.gix_traverse_topo.proofs.Updates.{count_next, names_none, names_all, at_within}
+use Rattle.gix_traverse_topo.proofs.Updates.{count_next, names_none, names_all, at_within, many_nodes}
 use Rattle.gix_traverse_topo.proofs.known.Known.count.Goals as goal
 
 pub commits-init : goal.commits-init
@@ -54,3 +55,10 @@ returns-clause-counted c = λ h hs xs e f once len t zero.
     let way : ObjectId → List ObjectId = asked_parents c.args.along h in
     each_kept c.args.self.now.hidden c.args.self.now.ids.keys (counts c.commits.self.nodes.items) (λ y count. count ≡ names_of same_id way y (take (c.commits.place - c.args.self.now.hidden) xs)) (λ y count. count ≡ names_of same_id way y xs) (inv.counted h hs xs e f once len t zero)
     (λ n y k l a p. p ∙ names_all way y hs xs c.args.self.now.hidden c.commits.place (length c.args.self.now.nodes.items) f (omega (arith, c.commits-test.false, ap length c.as_slice-place-end.ensures.value)) (len ∙ ap length e))
+
+pub returns-in_err-count_row-clause-refused : goal.returns-in_err-count_row-clause-refused
+returns-in_err-count_row-clause-refused c =
+    let p = err_from_is_err_and c.from_residual.result c.from_residual.ensures.1 in
+    let keys_same = ap (λ (i : _). length i.keys) c.commits.invariant.ids in
+    let nodes_same = many_nodes c.commits.self.nodes.items c.args.self.now.nodes.items c.commits.invariant.told in
+    rw (p.1, p.2) (λ l. c.in_err-count_row.ensures.refused (omega (arith, l, keys_same, nodes_same)))

@@ -1,4 +1,5 @@
-use Rattle.std.proofs.Common.{◌≡◌, ℕ, ◌+◌, List, refl, sym, ◌∙◌, ap, subst}
+use Rattle.std.proofs.Common.{◌≡◌, ℕ, ◌+◌, List, refl, sym, ◌∙◌, ap, subst, arith, length}
+use Rattle.std.proofs.lemmas.Result.{err_from_is_err_and}
 use Rattle.gix_hash.specs.declared.object_id.ObjectId.{ObjectId}
 use Rattle.gix_traverse_commit.specs.Commits.{asked}
 use Rattle.gix_traverse_commit.specs.Numbered.{same_id}
@@ -7,7 +8,7 @@ use Rattle.gix_traverse_topo.specs.Nodes.{counts, NamesOne}
 use Rattle.gix_traverse_topo.specs.Turns.{names_of, named_so_far, times}
 use Rattle.gix_traverse_topo.specs.declared.known.Reading.{Reading}
 use Rattle.gix_traverse_topo.proofs.Counting.{count_more, each_kept}
-use Rattle.gix_traverse_topo.proofs.Updates.{none_so_far, all_so_far, past_end}
+use Rattle.gix_traverse_topo.proofs.Updates.{none_so_far, all_so_far, past_end, many_nodes}
 use Rattle.gix_traverse_topo.proofs.known.Known.count_row.Goals as goal
 
 pub row-init : goal.row-init
@@ -42,3 +43,10 @@ returns-clause-counted c = λ way before reading once at each.
     let row : List ObjectId = asked c.args.along reading.parents.items in
     let long = past_end row c.row.index (sym (c.in_default.ensures.parent reading (subst (λ (zs : List Reading). At zs c.args.number.0 reading) (sym inv.told) at))) in
     each_kept c.args.self.now.hidden c.args.self.now.ids.keys (counts c.row.self.nodes.items) (λ y count. count ≡ named_so_far same_id way before row c.row.index y) (λ y count. count ≡ names_of same_id way y before + times (same_id y) row) (inv.counted way before reading once at each) (λ n y k l a p. p ∙ all_so_far way before row c.row.index y long)
+
+pub returns-in_err-count_name-clause-refused : goal.returns-in_err-count_name-clause-refused
+returns-in_err-count_name-clause-refused c =
+    let p = err_from_is_err_and c.from_residual.result c.from_residual.ensures.1 in
+    let keys_same = ap (λ (i : _). length i.keys) c.row.invariant.ids in
+    let nodes_same = many_nodes c.row.self.nodes.items c.args.self.now.nodes.items c.row.invariant.told in
+    rw (p.1, p.2) (λ l. c.in_err-count_name.ensures.refused (omega (arith, l, keys_same, nodes_same)))

@@ -1,19 +1,20 @@
-use Rattle.std.proofs.Common.{◌≡◌, List, []}
+use Rattle.std.proofs.Common.{◌≡◌, List, [], Option}
 use Rattle.gix_hash.specs.declared.object_id.ObjectId.{ObjectId}
 use Rattle.gix_hash.specs.Id.{id_of}
 use Rattle.gix_traverse_commit.specs.Commits.{Commits}
 use Rattle.gix_traverse_commit.specs.declared.rows.Row.{Row}
 use Rattle.gix_traverse_topo.specs.Standing.{Stands, weight}
 use Rattle.gix_traverse_topo.specs.Waiting.{waiting}
+use Rattle.gix_traverse_topo.specs.declared.error.Error.{Error}
 use Rattle.gix_traverse_topo.specs.declared.init.Sorting.{Sorting}
-use Rattle.gix_traverse_topo.proofs.iter.Topo.next.Given as goal
+use Rattle.gix_traverse_topo.proofs.iter.Topo.advance.Given as goal
 
 abbrev pub invariant-turns : goal.invariant-turns
 invariant-turns g l = record {
   parents : l.self.parents ≡ l.initial.self.parents;
   predicate : g.P.Accept.accepts l.self.predicate ≡ g.P.Accept.accepts l.initial.self.predicate;
   lookups : l.self.lookups ≡ l.initial.self.lookups;
-  stands : (sorting : Sorting) (rows : List Row) (h : Commits ObjectId) (tips ends listed : List ObjectId) → Stands sorting rows h tips ends l.initial.self.parents (λ x. g.P.Accept.accepts l.initial.self.predicate (id_of x)) listed l.initial.self.known l.initial.self.ready → Stands sorting rows h tips ends l.initial.self.parents (λ x. g.P.Accept.accepts l.initial.self.predicate (id_of x)) listed l.self.known l.self.ready;
+  stands : (sorting : Sorting) (rows : List Row) (faults : ObjectId → Option Error) (h : Commits ObjectId) (tips ends listed : List ObjectId) → Stands sorting rows faults h tips ends l.initial.self.parents (λ x. g.P.Accept.accepts l.initial.self.predicate (id_of x)) listed l.initial.self.known l.initial.self.ready → Stands sorting rows faults h tips ends l.initial.self.parents (λ x. g.P.Accept.accepts l.initial.self.predicate (id_of x)) listed l.self.known l.self.ready;
   ended : waiting l.initial.self.ready ≡ [] → waiting l.self.ready ≡ [];
 }
 

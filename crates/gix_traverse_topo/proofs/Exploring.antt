@@ -1,0 +1,145 @@
+-- What a walk knows before its first commit comes.
+use Rattle.std.proofs.Common.{◌≡◌, ℕ, ◌<◌, ◌≤◌, inl, inr, List, [], ◌++◌, length, refl, sym, ◌∙◌, ap, subst, arith, Some, None}
+use Rattle.std.specs.Prelude.{Contains, ◌↔◌, IfSome}
+use Rattle.std.proofs.lemmas.Option.{slice_get_within}
+use Rattle.gix_hash.specs.declared.object_id.ObjectId.{ObjectId}
+use Rattle.gix_object_find.specs.Table.{Table}
+use Rattle.gix_traverse_commit.specs.Commits.{Commits, asked_parents, Reached, tip, parent}
+use Rattle.gix_traverse_commit.specs.Numbered.{same_id}
+use Rattle.gix_traverse_commit.specs.Order.{At}
+use Rattle.gix_traverse_commit.specs.Painting.{ReachedFrom}
+use Rattle.gix_traverse_commit.specs.Standing.{NotIn}
+use Rattle.gix_traverse_commit.specs.declared.parents.Parents.{Parents}
+use Rattle.gix_traverse_commit.specs.declared.parents.Parents.TheVariants.{All}
+use Rattle.gix_traverse_commit.specs.declared.rows.Row.{Row}
+use Rattle.gix_traverse_commit.proofs.Lists.{at_from_contains, contains_from_at, none_at_nil, three}
+use Rattle.gix_traverse_topo.specs.Exploring.{IsPainted, Numbers, IsExplored}
+use Rattle.gix_traverse_topo.specs.Faults.{StopsAtEnds, IsFaultOf}
+use Rattle.gix_traverse_topo.specs.Meeting.{Walks}
+use Rattle.gix_traverse_topo.specs.Nodes.{readings, counts, EachCount, IsOnce, IsReading, ParentsFrom}
+use Rattle.gix_traverse_topo.specs.Standing.{as_read}
+use Rattle.gix_traverse_topo.specs.Turns.{names_of}
+use Rattle.gix_traverse_topo.specs.Walking.{Walking}
+use Rattle.gix_traverse_topo.specs.declared.error.Error.{Error}
+use Rattle.gix_traverse_topo.specs.declared.known.Known.{Known}
+use Rattle.gix_traverse_topo.specs.declared.known.Node.{Node}
+use Rattle.gix_traverse_topo.specs.declared.known.Reading.{Reading}
+use Rattle.gix_traverse_topo.proofs.Found.{seen_in, seen_parents, fault_in, parents_so, reached_read}
+use Rattle.gix_traverse_topo.proofs.Meeting.{walks_all, length_map, at_map, from_map, at_back}
+use Rattle.gix_traverse_topo.proofs.Updates.{at_within}
+
+-- without parents asked for, the parents
+module _ (honest may_fail : Type 0) (rows : List Row) (table : Table) (ends : List ObjectId) (keys : List ObjectId) (nodes : List Node) (w : Walking honest may_fail rows table All ends [] [] keys nodes) (full : length keys ≤ length nodes) where
+  one_by_one : (h : Commits ObjectId) → ParentsFrom 0 h keys (readings nodes) → (x : ObjectId) → Contains keys x ↔ ReachedFrom h ends x
+  one_by_one h t x =
+      let walks = (walks_all honest may_fail rows table All ends [] [] keys nodes w full refl h t).0 in
+      let each = walks.breadth.list.each x in (
+        (λ c. plain h (each.0 (subst (λ (zs : List ObjectId). Contains zs x) walks.keys_are c))),
+        (λ r. subst (λ (zs : List ObjectId). Contains zs x) (sym walks.keys_are) (each.1 (passing h r))),
+      )
+    where
+      plain : (h : Commits ObjectId) {y : ObjectId} → Reached (asked_parents All h) (NotIn []) ends y → ReachedFrom h ends y
+      plain h (tip t p) = tip t tt
+      plain h (parent r n p) = parent (plain h r) n tt
+
+      none : (y : ObjectId) → NotIn [] y
+      none y c = let (k, a) = at_from_contains [] y c in none_at_nil k y a
+
+      passing : (h : Commits ObjectId) {y : ObjectId} → ReachedFrom h ends y → Reached (asked_parents All h) (NotIn []) ends y
+      passing h (tip {x = y} t p) = tip t (none y)
+      passing h (parent {y = y} r n p) = parent (passing h r) n (none y)
+
+  once : IsOnce keys
+  once = w.once (λ j k x a b. absurd (none_at_nil j x a))
+
+  pub as_many : length nodes ≡ length keys
+  as_many = (walks_all honest may_fail rows table All ends [] [] keys nodes w full refl (seen_in keys (readings nodes)) (seen_parents 0 keys (readings nodes) once)).1
+
+  read : (n : ℕ) (x : ObjectId) (reading : Reading) → At keys n x → At (readings nodes) n reading → IsReading honest may_fail rows table x reading
+  read n x reading a b = w.read n x reading (omega arith) a b
+
+  -- all that the ends reach is read
+  pub painted : (known : Known) → known.ids.keys ≡ keys → known.nodes.items ≡ nodes → known.hidden ≡ length keys → ((n : ℕ) (reading : Reading) → At (readings nodes) n reading → reading.fault ≡ None) → IsPainted honest may_fail rows table ends known
+  painted known e f l no_fault = record {
+    once = subst (λ (ks : List ObjectId). IsOnce ks) (sym e) once;
+    all_read = ap length f ∙ as_many ∙ sym (ap length e);
+    all_hidden = l ∙ sym (ap length e);
+    read = λ n x reading a b. read n x reading (key e n x a) (told f n reading b);
+    no_fault = λ n reading b. no_fault n reading (told f n reading b);
+    hides = λ h t x. subst (λ (ks : List ObjectId). Contains ks x ↔ ReachedFrom h ends x) (sym e) (one_by_one h (λ n y r m a b. t n y r m (subst (λ (ks : List ObjectId). At ks n y) (sym e) a) (subst (λ (ns : List Node). At (readings ns) n r) (sym f) b)) x);
+  }
+    where
+      key : known.ids.keys ≡ keys → (n : ℕ) (x : ObjectId) → At known.ids.keys n x → At keys n x
+      key e n x a = subst (λ (ks : List ObjectId). At ks n x) e a
+
+      told : known.nodes.items ≡ nodes → (n : ℕ) (r : Reading) → At (readings known.nodes.items) n r → At (readings nodes) n r
+      told f n r b = subst (λ (ns : List Node). At (readings ns) n r) f b
+
+  -- a commit that isn't read is one that the ends reach
+  pub stops : (n : ℕ) (reading : Reading) (error : Error) → At (readings nodes) n reading → reading.fault ≡ Some error → StopsAtEnds honest may_fail rows table ends error
+  stops n reading error b e =
+      let long = length_map (λ (v : Node). v.reading) nodes in
+      let (x, a) = at_within keys n (omega (arith, slice_get_within (readings nodes) n reading b, as_many)) in
+      record {
+        id = x;
+        cause = subst (λ o. IfSome o (IsFaultOf honest may_fail rows table x)) e (read n x reading a b).cause;
+        reached = λ yes g are.
+            reached_read (fault_in keys (readings nodes)) g ends ((one_by_one (as_read (fault_in keys (readings nodes)) g) (parents_so honest may_fail rows table keys (readings nodes) once read yes g are) x).0 (contains_from_at keys n x a));
+      }
+
+-- ---- behind it what the tips reach
+
+module _ (honest may_fail : Type 0) (rows : List Row) (table : Table) (tips ends : List ObjectId) (parents : Parents) (old mid : Known) (p : IsPainted honest may_fail rows table ends old) (w : Walking honest may_fail rows table parents tips old.ids.keys old.nodes.items mid.ids.keys mid.nodes.items) (full : length mid.ids.keys ≤ length mid.nodes.items) (hidden : mid.hidden ≡ old.hidden) where
+  forward : (n : ℕ) (r : Reading) → At (readings old.nodes.items) n r → At (readings mid.nodes.items) n r
+  forward n r b =
+      let (node, a, e) = from_map (λ (v : Node). v.reading) old.nodes.items n r b in
+      subst (λ (s : Reading). At (readings mid.nodes.items) n s) e (at_map (λ (v : Node). v.reading) mid.nodes.items n node (w.nodes_kept n node a))
+
+  back : (n : ℕ) (r : Reading) → n < length old.nodes.items → At (readings mid.nodes.items) n r → At (readings old.nodes.items) n r
+  back n r l b = at_back (readings old.nodes.items) (readings mid.nodes.items) forward n r (omega (arith, length_map (λ (v : Node). v.reading) old.nodes.items)) b
+
+  mid_once : IsOnce mid.ids.keys
+  mid_once = w.once p.once
+
+  mid_read : (n : ℕ) (x : ObjectId) (reading : Reading) → At mid.ids.keys n x → At (readings mid.nodes.items) n reading → IsReading honest may_fail rows table x reading
+  mid_read n x reading a b = elim (three n (length old.nodes.items)) [
+    | inl lt ↦ p.read n x reading (at_back old.ids.keys mid.ids.keys w.keys_kept n x (omega (arith, p.all_read)) a) (back n reading lt b)
+    | inr (inl e) ↦ w.read n x reading (omega arith) a b
+    | inr (inr gt) ↦ w.read n x reading (omega arith) a b
+  ]
+
+  mid_hidden : mid.hidden ≡ length old.ids.keys
+  mid_hidden = hidden ∙ p.all_hidden
+
+  pub explored : (new : Known) → new.ids ≡ mid.ids → new.hidden ≡ mid.hidden → readings new.nodes.items ≡ readings mid.nodes.items
+      → ((h : Commits ObjectId) (hs xs : List ObjectId) → mid.ids.keys ≡ hs ++ xs → mid.hidden ≡ length hs → IsOnce mid.ids.keys → length mid.nodes.items ≡ length mid.ids.keys → ParentsFrom mid.hidden h mid.ids.keys (readings mid.nodes.items) → EachCount mid.hidden mid.ids.keys (counts mid.nodes.items) (λ _ count. count ≡ 0) → EachCount mid.hidden mid.ids.keys (counts new.nodes.items) (λ y count. count ≡ names_of same_id (asked_parents parents h) y xs))
+      → IsExplored honest may_fail rows table tips ends parents new
+  explored new ids same_hidden same_told count =
+      let keys_same : new.ids.keys ≡ mid.ids.keys = ap (λ i. i.keys) ids in
+      let long : length new.nodes.items ≡ length mid.nodes.items = sym (length_map (λ (v : Node). v.reading) new.nodes.items) ∙ ap length same_told ∙ length_map (λ (v : Node). v.reading) mid.nodes.items in
+      let many : length mid.nodes.items ≡ length mid.ids.keys = (walks_with (seen_in mid.ids.keys (readings mid.nodes.items)) (seen_parents 0 mid.ids.keys (readings mid.nodes.items) mid_once)).1 in
+      record {
+        once = subst (λ (ks : List ObjectId). IsOnce ks) (sym keys_same) mid_once;
+        all_read = long ∙ many ∙ sym (ap length keys_same);
+        read = λ n x reading a b. mid_read n x reading (subst (λ (ks : List ObjectId). At ks n x) keys_same a) (subst (λ (rs : List Reading). At rs n reading) same_told b);
+        no_fault = λ n reading l b. p.no_fault n reading (back n reading (omega (arith, l, same_hidden, mid_hidden, p.all_read)) (subst (λ (rs : List Reading). At rs n reading) same_told b));
+        numbers = λ h t. numbers_of h keys_same many (λ n x r l a b. t n x r l (subst (λ (ks : List ObjectId). At ks n x) (sym keys_same) a) (subst (λ (rs : List Reading). At rs n r) (sym same_told) b));
+      }
+    where
+      walks_with : (h : Commits ObjectId) → ParentsFrom 0 h mid.ids.keys (readings mid.nodes.items) → Walks (asked_parents parents h) tips old.ids.keys mid.ids.keys × (length mid.nodes.items ≡ length mid.ids.keys)
+      walks_with h t = walks_all honest may_fail rows table parents tips old.ids.keys old.nodes.items mid.ids.keys mid.nodes.items w full p.all_read h (λ n x r l a b. t n x r (omega arith) a b)
+
+      numbers_of : (h : Commits ObjectId) → new.ids.keys ≡ mid.ids.keys → length mid.nodes.items ≡ length mid.ids.keys → ParentsFrom 0 h mid.ids.keys (readings mid.nodes.items) → Numbers h tips ends parents new
+      numbers_of h keys_same many t =
+          let walks = (walks_with h t).0 in
+          record {
+            hs = old.ids.keys;
+            xs = walks.xs;
+            keys_are = keys_same ∙ walks.keys_are;
+            hidden_are = same_hidden ∙ mid_hidden;
+            hides = p.hides h (λ n x r l a b. t n x r l (w.keys_kept n x a) (forward n r b));
+            breadth = walks.breadth;
+            counted = subst (λ (lo : ℕ). EachCount lo new.ids.keys (counts new.nodes.items) (λ y c. c ≡ names_of same_id (asked_parents parents h) y walks.xs)) (sym same_hidden)
+                (subst (λ (ks : List ObjectId). EachCount mid.hidden ks (counts new.nodes.items) (λ y c. c ≡ names_of same_id (asked_parents parents h) y walks.xs)) (sym keys_same)
+                (count h old.ids.keys walks.xs walks.keys_are mid_hidden mid_once many (λ n x r l a b. t n x r (omega arith) a b) (λ n x c l a b. w.unnamed n c (omega (arith, l, mid_hidden, p.all_read)) b)));
+          }

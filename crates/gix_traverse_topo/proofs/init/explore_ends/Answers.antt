@@ -1,0 +1,43 @@
+use Rattle.std.proofs.Common.{◌≡◌, List, [], inr, length, refl, subst, arith}
+use Rattle.gix_hash.specs.declared.object_id.ObjectId.{ObjectId}
+use Rattle.gix_traverse_commit.specs.Told.{rows_of}
+use Rattle.gix_traverse_commit.specs.declared.parents.Parents.TheVariants.{All}
+use Rattle.gix_traverse_topo.specs.Walking.{Walking}
+use Rattle.gix_traverse_topo.specs.declared.known.Node.{Node}
+use Rattle.gix_traverse_topo.proofs.Exploring.{painted, stops, as_many}
+use Rattle.gix_traverse_topo.proofs.init.explore_ends.Goals as goal
+
+pub returns-in-Some-clause-refused : goal.returns-in-Some-clause-refused
+returns-in-Some-clause-refused g c =
+    let honest = g.F.Lookup.is_honest c.args.source.now.objects in
+    let may_fail = g.F.Lookup.may_fail c.args.source.now.objects in
+    let rows = rows_of c.args.source.now.rows in
+    let table = g.F.Lookup.table c.args.source.now.objects in
+    let keys : List ObjectId = c.walk.new.self.ids.keys in
+    let nodes : List Node = c.walk.new.self.nodes.items in
+    let w : Walking honest may_fail rows table All c.args.ends.now [] [] keys nodes = subst (λ (ks : List ObjectId). Walking honest may_fail rows table All c.args.ends.now ks [] keys nodes) c.new-known.ensures.ids (subst (λ (ns : List Node). Walking honest may_fail rows table All c.args.ends.now c.new-known.result.ids.keys ns keys nodes) c.new-known.ensures.nodes c.in_ok-walk.ensures.walking) in
+    let (n, reading, a, e) = c.in-Some.ensures.fault in
+    inr (stops honest may_fail rows table c.args.ends.now keys nodes w c.in_ok-walk.ensures.all n reading c.in-Some.error a e)
+
+pub returns-in-None-clause-painted : goal.returns-in-None-clause-painted
+returns-in-None-clause-painted g c =
+    let honest = g.F.Lookup.is_honest c.args.source.now.objects in
+    let may_fail = g.F.Lookup.may_fail c.args.source.now.objects in
+    let rows = rows_of c.args.source.now.rows in
+    let table = g.F.Lookup.table c.args.source.now.objects in
+    let keys : List ObjectId = c.walk.new.self.ids.keys in
+    let nodes : List Node = c.walk.new.self.nodes.items in
+    let w : Walking honest may_fail rows table All c.args.ends.now [] [] keys nodes = subst (λ (ks : List ObjectId). Walking honest may_fail rows table All c.args.ends.now ks [] keys nodes) c.new-known.ensures.ids (subst (λ (ns : List Node). Walking honest may_fail rows table All c.args.ends.now c.new-known.result.ids.keys ns keys nodes) c.new-known.ensures.nodes c.in_ok-walk.ensures.walking) in
+    painted honest may_fail rows table c.args.ends.now keys nodes w c.in_ok-walk.ensures.all (record { ids = c.walk.new.self.ids; nodes = c.walk.new.self.nodes; hidden = c.len.result }) refl refl c.len.ensures.len c.in-None.ensures.none
+
+pub returns-in-None-clause-counted : goal.returns-in-None-clause-counted
+returns-in-None-clause-counted g c =
+    let honest = g.F.Lookup.is_honest c.args.source.now.objects in
+    let may_fail = g.F.Lookup.may_fail c.args.source.now.objects in
+    let rows = rows_of c.args.source.now.rows in
+    let table = g.F.Lookup.table c.args.source.now.objects in
+    let keys : List ObjectId = c.walk.new.self.ids.keys in
+    let nodes : List Node = c.walk.new.self.nodes.items in
+    let w : Walking honest may_fail rows table All c.args.ends.now [] [] keys nodes = subst (λ (ks : List ObjectId). Walking honest may_fail rows table All c.args.ends.now ks [] keys nodes) c.new-known.ensures.ids (subst (λ (ns : List Node). Walking honest may_fail rows table All c.args.ends.now c.new-known.result.ids.keys ns keys nodes) c.new-known.ensures.nodes c.in_ok-walk.ensures.walking) in
+    let many : length nodes ≡ length keys = as_many honest may_fail rows table c.args.ends.now keys nodes w c.in_ok-walk.ensures.all in
+    omega (arith, c.in_ok-walk.ensures.counted, many)

@@ -1,0 +1,34 @@
+-- What one call of a walk gives.
+use Rattle.std.specs.Prelude.{◌≡◌, ◌⊎◌, List, [], ◌∷◌, ◌++◌, Bool, Option, Some, Result, IfOk, IfErr, OnErr, IfSome, IfNone, IsNone}
+use Rattle.gix_hash.specs.Id.{Id, id_of}
+use Rattle.gix_hash.specs.declared.object_id.ObjectId.{ObjectId}
+use Rattle.gix_traverse_commit.specs.Commits.{Commits}
+use Rattle.gix_traverse_commit.specs.declared.info.Info.{Info}
+use Rattle.gix_traverse_commit.specs.declared.rows.Row.{Row}
+use Rattle.gix_traverse_topo.specs.Standing.{Answers, IsInfo, IsTurn, NoneReachesItself, Stands, all_accepted, topo_request}
+use Rattle.gix_traverse_topo.specs.Waiting.{waiting}
+use Rattle.gix_traverse_topo.specs.declared.error.Error.{Error}
+use Rattle.gix_traverse_topo.specs.declared.error.Error.TheVariants.{Memory}
+use Rattle.gix_traverse_topo.specs.declared.init.Sorting.{Sorting}
+use Rattle.gix_traverse_topo.specs.declared.iter.Topo.{Topo}
+
+-- the ids that the walk's predicate accepts
+abbrev pub accepted_by : {P : Type 0} → (P → Id → Bool) → Topo P → ObjectId → Bool
+accepted_by accepts walk = λ x. accepts walk.predicate (id_of x)
+
+-- it has given these, of what these tips reach and these ends don't
+abbrev pub HasGiven : {P : Type 0} → (P → Id → Bool) → Topo P → Sorting → List Row → (ObjectId → Option Error) → Commits ObjectId → List ObjectId → List ObjectId → List ObjectId → Type 0
+HasGiven accepts walk sorting rows faults g tips ends given = Stands sorting rows faults g tips ends walk.parents (accepted_by accepts walk) given walk.known walk.ready
+
+pub record GivesNext {P : Type 0} (accepts : P → Id → Bool) (before : Topo P) (item : Option (Result Info Error)) (after : Topo P) : Type 0 where
+  pub lookups : after.lookups ≡ before.lookups
+  pub more : (sorting : Sorting) (rows : List Row) (faults : ObjectId → Option Error) (g : Commits ObjectId) (tips ends given : List ObjectId) → HasGiven accepts before sorting rows faults g tips ends given
+      → IfSome item (λ answer. IfOk answer (λ info. HasGiven accepts after sorting rows faults g tips ends (given ++ info.id ∷ []) × IsInfo rows g info))
+  pub end : (sorting : Sorting) (rows : List Row) (faults : ObjectId → Option Error) (g : Commits ObjectId) (tips ends given : List ObjectId) → HasGiven accepts before sorting rows faults g tips ends given
+      → NoneReachesItself g (topo_request tips ends before.parents all_accepted)
+      → IfNone item (Answers sorting g (topo_request tips ends before.parents (accepted_by accepts before)) given)
+  pub refused : (sorting : Sorting) (rows : List Row) (faults : ObjectId → Option Error) (g : Commits ObjectId) (tips ends given : List ObjectId) → HasGiven accepts before sorting rows faults g tips ends given
+      → IfSome item (λ answer. IfErr answer (λ error. (error ≡ Memory) ⊎ ((x : ObjectId) × (faults x ≡ Some error) × IsTurn sorting faults g (topo_request tips ends before.parents (accepted_by accepts before)) given x)))
+  pub failed : IfSome item (λ answer. OnErr answer (waiting after.ready ≡ []))
+  pub over : IfNone item (waiting after.ready ≡ [])
+  pub ended : waiting before.ready ≡ [] → IsNone item
