@@ -137,7 +137,7 @@ insert_flat files path content is h = all_keys is_offered_path (insert files pat
     go q true e k = ap is_offered_path (one_text q path e) ∙ is
     go q false e k = each_key is_offered_path files h q k
 
-edit_flat : (files : FileMap) (edit : Edit) → is_offered_path (edit_path edit) ≡ true → is_flat files ≡ true → is_flat (edited files edit) ≡ true
+pub edit_flat : (files : FileMap) (edit : Edit) → is_offered_path (edit_path edit) ≡ true → is_flat files ≡ true → is_flat (edited files edit) ≡ true
 edit_flat files (Put kind path bytes) is h = insert_flat (retain_keys files (λ q. not (is_within path q || is_within q path))) path (record { kind = kind; bytes = bytes }) is (retain_flat files _ h)
 edit_flat files (Remove path) is h = retain_flat files _ h
 edit_flat files (RemoveFile path) is h = retain_flat files _ h

@@ -5,14 +5,14 @@ use Rattle.std.specs.Fmt.{digits}
 use Rattle.history_model.specs.Bytes.{Bytes, line, is_empty}
 use Rattle.history_model.specs.Commands.{Command, Commit, Files, Show, CommitCommand, Expect, EditLine, PutLine, RemoveLine, RemoveFileLine}
 use Rattle.history_model.specs.Spelling.{Part, Line, Field, parts_of, edit_parts, actor_parts, message_parts, end_part, signed_parts, parent_part, is_part, has_spelling}
-use Rattle.history_model.specs.Stage.{is_put, is_offered, is_commit_name}
+use Rattle.history_model.specs.Stage.{is_put, is_offered}
 use Rattle.history_model.specs.Commands as commands
 use Rattle.history_model.specs.Grammar.{is_command, GoesOn, LineFits}
 use Rattle.history_model.specs.LineTable.{Role, Author, Committer, Heading, CommitHeading, PutHeading, ActorHeading, MessageHeading, EndHeading, FilesHeading, ShowHeading, ShowPathHeading, role_word, words_of, sizes, are_sizes, Place, Start, Edits, ToCommitter, ToMessage, ToEnd, Done, next}
 use Rattle.history_model.specs.TableRuns.{Progress, begin, done, part_step, run_from, reached, IsLineAt, TableTellsCommands, TableTellsWhatGoesOn, TableTellsFields, TableTellsLines, TableTellsWhatFits, TableTakesLines, TableTakesFields}
 use Rattle.std.proofs.lemmas.List.{length-replicate}
 use Rattle.history_model.proofs.PartLemmas.{both_true, head_same, tail_same}
-use Rattle.history_model.proofs.TableLines.{and_true, if_taken, then_some}
+use Rattle.history_model.proofs.TableLines.{and_true, then_some}
 use Rattle.history_model.proofs.TableRunLemmas.{at, line_step, line_goes, field_goes, run_append, commands_run}
 
 -- ---- a command's parts
@@ -93,13 +93,12 @@ command_reaches : (command : Command) → is_command command ≡ true → reache
 command_reaches (Commit c) h =
     let both = both_true (has_spelling (Commit c)) (is_offered (Commit c)) h in
     let spelled = both_true (list_all is_part (parts_of (Commit c))) true both.0 in
-    let offered = both_true (is_commit_name c.name && is_empty c.parents) (list_all is_put c.edits) both.1 in
-    let front = both_true (is_commit_name c.name) (is_empty c.parents) offered.0 in
-    let cut = without_parents c.parents (flat_map edit_parts c.edits ++ signed_parts c) front.1 in
+    let offered = both_true (is_empty c.parents) (list_all is_put c.edits) both.1 in
+    let cut = without_parents c.parents (flat_map edit_parts c.edits ++ signed_parts c) offered.0 in
     let heading : Heading = CommitHeading c.name c.expect in
     let behind = flat_map edit_parts c.edits ++ signed_parts c in
     let parts = subst (λ ps. list_all is_part (Line (words_of heading) ∷ ps) ≡ true) cut spelled.0 in
-    let first = no_field Start Edits heading behind refl (if_taken (is_commit_name c.name) (Some Edits) front.0) parts in
+    let first = no_field Start Edits heading behind refl refl parts in
     let puts = puts_reach c.edits (signed_parts c) offered.1 first.1 in
     let author = actor_reach Author Edits ToCommitter c.author (actor_parts (codes "committer") c.committer ++ (message_parts c.message ++ end_part)) refl puts.1 in
     let committer = actor_reach Committer ToCommitter ToMessage c.committer (message_parts c.message ++ end_part) refl author.1 in

@@ -5,7 +5,7 @@ use Rattle.history_model.specs.Bytes.{Bytes}
 use Rattle.history_model.specs.Commands.{Command, Commit, Files, Show, CommitCommand, Expect, EditLine, PutLine, RemoveLine, RemoveFileLine}
 use Rattle.history_model.specs.Spelling.{Part, Line, Field, parts_of, expect_words, kind_word, edit_parts, actor_parts, message_parts, end_part, is_part, has_spelling, has_enough}
 use Rattle.history_model.specs.Grammar.{is_command}
-use Rattle.history_model.specs.Stage.{is_put, is_offered, is_commit_name}
+use Rattle.history_model.specs.Stage.{is_put, is_offered}
 use Rattle.history_model.specs.Commands as commands
 use Rattle.history_model.specs.LineTable.{Role, Author, Committer, Heading, CommitHeading, PutHeading, ActorHeading, MessageHeading, EndHeading, FilesHeading, ShowHeading, ShowPathHeading, role_word, words_of, sizes, are_sizes, heading_of, Place, Start, Edits, ToCommitter, ToMessage, ToEnd, Done, next}
 use Rattle.history_model.specs.TableRuns.{Progress, done, after_line, part_step, run_from, reached}
@@ -269,12 +269,11 @@ record StartRun (parts : List Part) : Type 0 where
 
 start_line : (h : Heading) (following : Place) (rest : List Part) → next Start h ≡ Some following → run_from (at (sizes h) following) rest ≡ Some done → StartRun (Line (words_of h) ∷ rest)
 start_line (CommitHeading name expect) following rest s e =
-    let found = if_some (is_commit_name name) (Some Edits) following s in
-    let run = edits_run (suc (length rest)) rest (omega arith) (placed Edits following [] rest found.1 e) in
+    let run = edits_run (suc (length rest)) rest (omega arith) (placed Edits following [] rest s e) in
     record {
       command = Commit (record { name = name; expect = expect; parents = []; edits = run.edits; author = run.author; committer = run.committer; message = run.message });
       enough = refl;
-      offered = and_true (is_commit_name name && true) (list_all is_put run.edits) (and_true (is_commit_name name) true found.0 refl) run.puts;
+      offered = run.puts;
       is = ap (λ ps. Line (codes "commit" ∷ name ∷ expect_words expect) ∷ ps) (sym run.is);
     }
 start_line (FilesHeading word) following rest s e =

@@ -5,7 +5,6 @@ use Rattle.std.specs.Option.{option_and_then}
 use Rattle.history_model.specs.Bytes.{Bytes, is_decimal, digits_value}
 use Rattle.history_model.specs.Commands.{Expect, Any, New, At}
 use Rattle.history_model.specs.Spelling.{expect_words, kind_word}
-use Rattle.history_model.specs.Stage.{is_commit_name}
 use Rattle.history_model.specs.declared.FileKind.{FileKind}
 use Rattle.history_model.specs.declared.FileKind.TheVariants.{File, Exec, Link}
 
@@ -64,7 +63,7 @@ pub data Place : Type 0 where
 
 -- the lines that may stand at a place, and the place of the line that follows
 abbrev pub next : Place → Heading → Option Place
-next Start (CommitHeading name expect) = if is_commit_name name then Some Edits else None
+next Start (CommitHeading name expect) = Some Edits
 next Start (FilesHeading word) = Some Done
 next Start (ShowHeading word) = Some Done
 next Start (ShowPathHeading word path) = Some Done

@@ -4,17 +4,17 @@ use Rattle.std.specs.List.{list_all, flat_map}
 use Rattle.std.specs.FinMap.{entries, keys, get, insert}
 use Rattle.history_model.specs.Bytes.{Bytes}
 use Rattle.history_model.specs.FileMap.{FileMap, Content, folders_of, put_at}
-use Rattle.history_model.specs.Stage.{main_name, is_offered, is_offered_path}
+use Rattle.history_model.specs.Stage.{is_offered, is_offered_path}
 use Rattle.history_model.specs.Objects.{Value, StoredCommit, StoredTag, StoredBytes, StoredFolder, entry_text, mode_of, blob_id, root}
 use Rattle.gix_hash.specs.Id.{Id}
-use Rattle.history_model.specs.Repository.{Repository, IsStored, IsWholeStore, HasWholeNames, stands, fresh}
+use Rattle.history_model.specs.Repository.{Repository, IsStored, IsWholeStore, HasWholeNames, first_branch, fresh}
 use Rattle.history_model.specs.Commands.{Command}
 use Rattle.history_model.specs.Meaning.{after}
 use Rattle.history_model.specs.Causes.{holds, first_cause}
 use Rattle.history_model.specs.Places.{Pair, file_at, packed_place}
 use Rattle.gix_hash.specs.declared.kind.Kind.{Kind}
 use Rattle.history_model.specs.declared.Cause.{Cause}
-use Rattle.history_model.specs.declared.Cause.TheVariants.{UnknownWord, UnbornHead, Taken, BadPath, NoSuchPath, BadActor, BadTime, BadMessage, TooLarge}
+use Rattle.history_model.specs.declared.Cause.TheVariants.{BadName, PrivateName, UnknownWord, UnbornHead, NoSuchName, Taken, NotExpected, Collides, TooManyParents, DuplicateParent, BadPath, NoSuchPath, BadActor, BadTime, BadMessage, TooLarge}
 
 -- no folders: each path has one component
 abbrev pub is_flat : FileMap → Bool
@@ -27,10 +27,10 @@ IsOfferedValue (StoredTag tag) = ⊥
 IsOfferedValue (StoredBytes bytes) = ⊤
 IsOfferedValue (StoredFolder files) = IsTrue (is_flat files)
 
+-- No tag is stored, and each folder is flat; HEAD is on the first branch.
 pub record IsOffered (r : Repository) : Type 0 where
   pub values : (id : Id) (value : Value) → get r.objects id ≡ Some value → IsOfferedValue value
-  pub names : (name : Bytes) → IsTrue (stands r name) → name ≡ main_name
-  pub branch : r.branch ≡ main_name
+  pub branch : r.branch ≡ first_branch
 
 -- What is true at this stage, beside that the pair stands for the repository: its commands have left it, and pack no names.
 pub record IsOfStage (r : Repository) (pair : Pair) : Type 0 where
@@ -71,7 +71,8 @@ OfferedStays = (r : Repository) (command : Command) → IsOffered r → IsTrue (
 
 -- the causes that may be the first
 abbrev pub offered_causes : List Cause
-offered_causes = UnknownWord ∷ UnbornHead ∷ Taken ∷ BadPath ∷ NoSuchPath ∷ BadActor ∷ BadTime ∷ BadMessage ∷ TooLarge ∷ []
+offered_causes = BadName ∷ PrivateName ∷ UnknownWord ∷ UnbornHead ∷ NoSuchName ∷ Taken ∷ NotExpected ∷ Collides ∷ TooManyParents ∷ DuplicateParent
+    ∷ BadPath ∷ NoSuchPath ∷ BadActor ∷ BadTime ∷ BadMessage ∷ TooLarge ∷ []
 
 abbrev pub FirstOfferedCause : Type 0
 FirstOfferedCause = (r : Repository) (command : Command) → IsOffered r → HasWholeNames r → IsTrue (is_offered command)
