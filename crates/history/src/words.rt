@@ -8,15 +8,13 @@ ghost use Rattle.history.specs.Acts.{word_cause};
 ghost use Rattle.history.specs.Readings.{reading_of};
 ghost use Rattle.gix_hash.specs.Id.{id_of};
 
+use crate::naming::{HEAD, is_private};
 use crate::repository::Repository;
 use crate::stopped::Stopped;
 use gix_hash::ObjectId;
 use gix_ref_file::Files;
 use history_model::Cause;
 use std::alloc::{AllocError, Global};
-
-/// The word, and the name in commands, that stands for HEAD's branch.
-pub(crate) const HEAD: &[u8] = b"HEAD";
 
 /// What a word reads as.
 #[derive(Clone, Copy, Debug, PartialEq, Eq)]
@@ -47,15 +45,6 @@ fn joined(alloc: Global, front: &[u8], word: &[u8], back: &[u8]) -> Result<Vec<u
     name.extend_from_slice(word)?;
     name.extend_from_slice(back)?;
     Ok(name)
-}
-
-/// Whether the name belongs to one working tree.
-fn is_private(name: &[u8]) -> bool
-    ensures { result ≡ is_private name.now }
-{
-    name.starts_with(b"refs/bisect/")
-        || name.starts_with(b"refs/worktree/")
-        || name.starts_with(b"refs/rewritten/")
 }
 
 /// Whether a word may mean this name.

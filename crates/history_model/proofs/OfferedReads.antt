@@ -1,17 +1,19 @@
 -- What words and names stand for, and what a commit stores, in a repository of this stage.
-use Rattle.std.proofs.Common.{◌≡◌, Bool, true, false, cond, [], ◌∷◌, ◌++◌, map, refl, ◌∙◌, ap, Option, Some, None, is_some, option_map, option_and_then, unwrap_or, bytes_eq, find, append_assoc}
-use Rattle.std.specs.List.{flat_map}
+use Rattle.std.proofs.Common.{◌≡◌, inl, inr, Bool, true, false, cond, List, [], ◌∷◌, ◌++◌, map, refl, ◌∙◌, ap, Option, Some, None, is_some, option_map, option_and_then, unwrap_or, bytes_eq, find, append_assoc}
+use Rattle.std.specs.List.{AllByRecursion, flat_map}
 use Rattle.std.specs.FinMap.{get}
 use Rattle.history_model.specs.Bytes.{Bytes}
 use Rattle.history_model.specs.Objects.{CommitValue, Value, StoredCommit, StoredTag, StoredBytes, StoredFolder}
 use Rattle.gix_hash.specs.Id.{Id}
-use Rattle.history_model.specs.Repository.{Repository, HasWholeNames, id_at, stands, peeled, peeled_value}
+use Rattle.history_model.specs.Repository.{Repository, HasWholeNames, HoldsCommit, id_at, stands, peeled, peeled_value}
 use Rattle.history_model.specs.Words.{WordReading, ReadsAs, Unborn, Unknown, Ambiguous, word_reading, name_reading, candidates, head_word, commit_read}
-use Rattle.history_model.specs.Meaning.{edits_of, new_commit, put_bytes}
+use Rattle.history_model.specs.Meaning.{parents_of, edits_of, new_commit, put_bytes}
 use Rattle.history_model.specs.Offered.{IsOffered}
-use Rattle.history_model.specs.OfferedWords.{read_id, WordsReadNames, NoneIsAmbiguous, NamesHoldCommits, NamesStandForTheirs, WordsStandForTheirs, CommitsStoreFlat}
+use Rattle.history_model.specs.OfferedWords.{read_id, WordsReadNames, NoneIsAmbiguous, NamesHoldCommits, NamesStandForTheirs, WordsStandForTheirs, ParentsAreCommits, CommitsStoreFlat}
 use Rattle.history_model.proofs.OfferedFiles.{flat_folders}
 use Rattle.history_model.proofs.OfferedSteps.{new_flat}
+use Rattle.history_model.proofs.WholeLists.{In}
+use Rattle.history_model.proofs.WholeReads.{parents_hold}
 
 pub commits_store_flat : CommitsStoreFlat
 commits_store_flat r c o good =
@@ -92,3 +94,12 @@ names_stand_for_theirs r name o w = held_peels r o w name
 
 pub words_stand_for_theirs : WordsStandForTheirs
 words_stand_for_theirs r word o w = word_stands r o w word
+
+-- ---- parents
+
+each_in : {X : Type 0} (P : X → Type 0) (xs : List X) → ((x : X) → In x xs → P x) → AllByRecursion P xs
+each_in P [] h = tt
+each_in P (x ∷ xs) h = (h x (inl refl), each_in P xs (λ y i. h y (inr i)))
+
+pub parents_are_commits : ParentsAreCommits
+parents_are_commits r c store = each_in (HoldsCommit r) (parents_of r c) (λ id i. parents_hold r store c id i)

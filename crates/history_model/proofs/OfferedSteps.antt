@@ -13,7 +13,7 @@ use Rattle.history_model.specs.Forms.{max_path}
 use Rattle.history_model.specs.Commands.{Command, Commit, Tag, Move, Rename, Delete, Switch, Pack, Index, Names, Files, Past, Log, Show, CommitCommand, EditLine, PutLine, RemoveLine, RemoveFileLine}
 use Rattle.history_model.specs.CommandParts.{edit_paths, paths_in}
 use Rattle.history_model.specs.Meaning.{after, parents_of, files_at, first_files, edits_of, read_edit, new_commit, put_bytes, store_one, store_all, stored_by}
-use Rattle.history_model.specs.Causes.{holds, first_cause, is_bad_path}
+use Rattle.history_model.specs.Causes.{holds, first_cause, some_collide, is_bad_path}
 use Rattle.history_model.specs.Offered.{is_flat, IsOfferedValue, IsOffered, FreshIsOffered, OfferedStays}
 use Rattle.gix_hash.specs.declared.kind.Kind.{Kind}
 use Rattle.history_model.specs.declared.Cause.{Cause}
@@ -88,6 +88,11 @@ pub no_bad_path : (r : Repository) (command : Command) → first_cause r command
 no_bad_path r command h = none_there (λ cause. holds cause r command)
     (BadName ∷ PrivateName ∷ NameTwice ∷ UnknownWord ∷ AmbiguousWord ∷ UnbornHead ∷ NotACommit ∷ NoSuchName ∷ Taken ∷ NotExpected ∷ Collides ∷ HoldsTag ∷ TooManyParents ∷ DuplicateParent ∷ [])
     BadPath (IsFolder ∷ NoSuchPath ∷ BadActor ∷ BadTime ∷ BadMessage ∷ TooLarge ∷ NothingMoves ∷ OrderWithParents ∷ []) h
+
+pub no_collision : (r : Repository) (command : Command) → first_cause r command ≡ None → some_collide r command ≡ false
+no_collision r command h = none_there (λ cause. holds cause r command)
+    (BadName ∷ PrivateName ∷ NameTwice ∷ UnknownWord ∷ AmbiguousWord ∷ UnbornHead ∷ NotACommit ∷ NoSuchName ∷ Taken ∷ NotExpected ∷ [])
+    Collides (HoldsTag ∷ TooManyParents ∷ DuplicateParent ∷ BadPath ∷ IsFolder ∷ NoSuchPath ∷ BadActor ∷ BadTime ∷ BadMessage ∷ TooLarge ∷ NothingMoves ∷ OrderWithParents ∷ []) h
 
 -- ---- the values
 

@@ -1,9 +1,9 @@
 -- The repositories of this stage: what its commands leave, from a new one on.
 use Rattle.std.specs.Prelude.{◌≡◌, ⊤, Bool, List, [], ◌∷◌, Some, None, find, IsTrue}
 use Rattle.std.specs.List.{list_all, flat_map}
-use Rattle.std.specs.FinMap.{entries, keys, get, insert}
+use Rattle.std.specs.FinMap.{entries, keys, get, insert, remove}
 use Rattle.history_model.specs.Bytes.{Bytes}
-use Rattle.history_model.specs.FileMap.{FileMap, Content, folders_of, put_at}
+use Rattle.history_model.specs.FileMap.{FileMap, Content, folders_of, put_at, removed}
 use Rattle.history_model.specs.Stage.{is_offered, is_offered_path}
 use Rattle.history_model.specs.Objects.{Value, StoredCommit, StoredTag, StoredBytes, StoredFolder, entry_text, mode_of, blob_id, root}
 use Rattle.gix_hash.specs.Id.{Id}
@@ -53,6 +53,10 @@ FlatFolders = (files : FileMap) → IsTrue (is_flat files) → folders_of files 
 -- A `put` replaces the file of its path, and no other.
 abbrev pub FlatPuts : Type 0
 FlatPuts = (files : FileMap) (path : Bytes) (content : Content) → IsTrue (is_flat files) → IsTrue (is_offered_path path) → put_at path content files ≡ insert files path content
+
+-- A removal takes out the file of its path, and no other.
+abbrev pub FlatRemovals : Type 0
+FlatRemovals = (files : FileMap) (path : Bytes) → IsTrue (is_flat files) → removed path files ≡ remove files path
 
 -- The bytes of each file of a stored folder are stored.
 abbrev pub FilesAreStored : Type 0

@@ -1,15 +1,15 @@
 -- What words and names stand for, and what a commit stores, in a repository of this stage.
 use Rattle.std.specs.Prelude.{◌≡◌, ◌≢◌, [], ◌∷◌, ◌++◌, Option, Some, None, IsFalse}
-use Rattle.std.specs.List.{list_any, flat_map}
+use Rattle.std.specs.List.{AllByRecursion, list_any, flat_map}
 use Rattle.std.specs.FinMap.{get}
 use Rattle.history_model.specs.Bytes.{Bytes}
 use Rattle.history_model.specs.Objects.{CommitValue, StoredCommit, StoredFolder}
 use Rattle.gix_hash.specs.Id.{Id}
-use Rattle.history_model.specs.Repository.{Repository, HasWholeNames, id_at}
+use Rattle.history_model.specs.Repository.{Repository, IsWholeStore, HasWholeNames, HoldsCommit, id_at}
 use Rattle.history_model.specs.Words.{WordReading, ReadsAs, Unborn, Unknown, Ambiguous, word_reading, commit_of}
 use Rattle.history_model.specs.Commands.{Commit, CommitCommand}
 use Rattle.history_model.specs.CommandParts.{paths_in}
-use Rattle.history_model.specs.Meaning.{name_commit, edits_of, new_commit, put_bytes, stored_by}
+use Rattle.history_model.specs.Meaning.{name_commit, parents_of, edits_of, new_commit, put_bytes, stored_by}
 use Rattle.history_model.specs.Causes.{is_bad_path}
 use Rattle.history_model.specs.Offered.{IsOffered}
 
@@ -39,6 +39,10 @@ NamesStandForTheirs = (r : Repository) (name : Bytes) → IsOffered r → HasWho
 -- A word stands for the commit that it reads as.
 abbrev pub WordsStandForTheirs : Type 0
 WordsStandForTheirs = (r : Repository) (word : Bytes) → IsOffered r → HasWholeNames r → commit_of r word ≡ read_id (word_reading r word)
+
+-- Each parent of a commit is a stored commit.
+abbrev pub ParentsAreCommits : Type 0
+ParentsAreCommits = (r : Repository) (c : CommitCommand) → IsWholeStore r → AllByRecursion (HoldsCommit r) (parents_of r c)
 
 -- A commit stores the bytes of each `put`, its flat folder, and itself.
 abbrev pub CommitsStoreFlat : Type 0

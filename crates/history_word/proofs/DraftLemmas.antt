@@ -6,7 +6,6 @@ use Rattle.std.proofs.lemmas.List.{length-append}
 use Rattle.history_model.specs.Bytes.{Bytes, line}
 use Rattle.history_model.specs.Commands as model
 use Rattle.history_model.specs.Spelling as spelling
-use Rattle.history_model.specs.Stage.{is_commit_name}
 use Rattle.history_model.specs.LineTable as table
 use Rattle.history_model.specs.TableRuns.{run_from}
 use Rattle.history_model.specs.declared.FileKind.{FileKind}
@@ -64,14 +63,9 @@ takes_parts p q from to old new h xs taken fields t sizes is_from is_to split co
 
 -- ---- where each line stands, and what it leads to
 
-chosen : (b : Bool) (q : Place) → b ≡ true → (if b then Some table.Edits else None) ≡ Some (place_of q) → q ≡ place.Edits
-chosen true place.Edits h e = refl
-chosen true q h e = cc
-chosen false q h e = cc
-
-pub commit_place : (p q : Place) (n : Bytes) (x : model.Expect) → is_commit_name n ≡ true → table.next (place_of p) (table.CommitHeading n x) ≡ Some (place_of q) → (p ≡ place.Start) × (q ≡ place.Edits)
-commit_place place.Start q n x h e = (refl, chosen (is_commit_name n) q h e)
-commit_place p q n x h e = cc
+pub commit_place : (p q : Place) (n : Bytes) (x : model.Expect) → table.next (place_of p) (table.CommitHeading n x) ≡ Some (place_of q) → (p ≡ place.Start) × (q ≡ place.Edits)
+commit_place place.Start place.Edits n x e = (refl, refl)
+commit_place p q n x e = cc
 
 pub put_place : (p q : Place) (kind : FileKind) (m n : ℕ) → table.next (place_of p) (table.PutHeading kind m n) ≡ Some (place_of q) → (p ≡ place.Edits) × (q ≡ place.Edits)
 put_place place.Edits place.Edits kind m n e = (refl, refl)

@@ -6,7 +6,7 @@ use Rattle.std.proofs.lemmas.List.{append-nil}
 use Rattle.history_model.specs.Bytes.{Bytes, line}
 use Rattle.history_model.specs.Commands as model
 use Rattle.history_model.specs.Spelling as spelling
-use Rattle.history_model.specs.Stage.{is_offered, is_commit_name}
+use Rattle.history_model.specs.Stage.{is_offered}
 use Rattle.history_model.specs.LineTable as table
 use Rattle.history_model.specs.TableRuns.{run_from}
 use Rattle.history_model.specs.declared.Cause.{Cause}
@@ -51,8 +51,8 @@ actor_said role m n seconds offset (table.ActorHeading r a b s o) e = (s, o, (λ
 actor_said role m n seconds offset h e = absurd e
 
 pub commit_said : (name : Word) (expect : Option Expect) (h : table.Heading) → IsHeading (heading.Commit name expect) h
-    → (n : Bytes) × (x : model.Expect) × (h ≡ table.CommitHeading n x) × IfSome name (λ w. w.items ≡ n) × IfSome expect (λ e. IsExpect e x) × IsTrue (is_commit_name n)
-commit_said name expect (table.CommitHeading n x) e = (n, x, refl, e.0, e.1, e.2)
+    → (n : Bytes) × (x : model.Expect) × (h ≡ table.CommitHeading n x) × IfSome name (λ w. w.items ≡ n) × IfSome expect (λ e. IsExpect e x)
+commit_said name expect (table.CommitHeading n x) e = (n, x, refl, e.0, e.1)
 commit_said name expect h e = absurd e
 
 pub files_said : (word : Word) (h : table.Heading) → IsHeading (heading.Files word) h → (w : Bytes) × (h ≡ table.FilesHeading w) × IfSome word (λ x. x.items ≡ w)
@@ -172,10 +172,10 @@ commit_parts p q name expect xs old new t f =
     let said = commit_said name expect t.heading t.is in
     let h = table.CommitHeading said.0 said.1 in
     let s = as_said p q (heading.Commit name expect) h xs t said.2 in
-    let places = commit_place p q said.0 said.1 said.5 s.stands in
+    let places = commit_place p q said.0 said.1 s.stands in
     let order : model.CommitCommand = record { name = said.0; expect = said.1; parents = []; edits = []; author = nobody; committer = nobody; message = [] } in
     takes_parts p q place.Start place.Edits old new h xs xs [] s refl places.0 places.1 (sym (append-nil xs))
-    (λ before come. (order, ap (λ x. x ++ parts_with h []) come, f order said.3 said.4 refl (both_true (is_commit_name said.0 && true) true (both_true (is_commit_name said.0) true said.5 refl) refl) refl))
+    (λ before come. (order, ap (λ x. x ++ parts_with h []) come, f order said.3 said.4 refl refl refl))
 
 pub actor_parts : (p q : Place) (role : Role) (m n : ℕ) (seconds offset : Word) (xs ys zs : Bytes) (old new : Draft) → TakesLine p (heading.Actor role m n seconds offset) q xs
     → (a b : Bytes) → length a ≡ m → ys ≡ line a → length b ≡ n → zs ≡ line b → (A B : Bytes → Type 0)

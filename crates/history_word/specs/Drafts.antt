@@ -4,7 +4,7 @@ use Rattle.std.specs.List.{flat_map, join_with_byte}
 use Rattle.history_model.specs.Bytes.{Bytes}
 use Rattle.history_model.specs.Commands as model
 use Rattle.history_model.specs.Spelling as spelling
-use Rattle.history_model.specs.Stage.{is_offered, is_commit_name}
+use Rattle.history_model.specs.Stage.{is_offered}
 use Rattle.history_model.specs.LineTable as table
 use Rattle.history_model.specs.TableRuns as runs
 use Rattle.history_word.specs.Fields.{Keeps}
@@ -34,7 +34,7 @@ place_of place.Done = table.Done
 
 -- The line is this one. A word that found no memory may be any.
 abbrev pub IsHeading : Heading → table.Heading → Type 0
-IsHeading (heading.Commit name expect) (table.CommitHeading n e) = IfSome name (λ word. word.items ≡ n) × IfSome expect (λ x. IsExpect x e) × IsTrue (is_commit_name n)
+IsHeading (heading.Commit name expect) (table.CommitHeading n e) = IfSome name (λ word. word.items ≡ n) × IfSome expect (λ x. IsExpect x e)
 IsHeading (heading.Put kind path content) (table.PutHeading k m n) = (kind ≡ k) × (path ≡ m) × (content ≡ n)
 IsHeading (heading.Actor role name email seconds offset) (table.ActorHeading r m n s o) = (role_of role ≡ r) × (name ≡ m) × (email ≡ n) × IfSome seconds (λ word. word.items ≡ s) × IfSome offset (λ word. word.items ≡ o)
 IsHeading (heading.Message size) (table.MessageHeading n) = size ≡ n

@@ -1,7 +1,6 @@
 //! What the first line of a part says.
 
 ghost use Rattle.std.specs.Prelude.{◌≡◌, ◌∷◌, ◌≤◌, length, IfSome, IfNone, OnSome, IsTrue};
-ghost use Rattle.history_model.specs.Stage.{is_commit_name};
 ghost use Rattle.history_model.specs.LineTable.{Place, heading_of, expect_of, commit_of_words, put_of_words, actor_of_words, message_of_words, end_of_words, files_of_words, show_of_words};
 ghost use Rattle.history_model.specs.TableRuns.{IsLineAt};
 ghost use Rattle.history_word.specs.Held.{IsUnbroken};
@@ -63,13 +62,6 @@ fn kept(alloc: Global, word: &[u8]) -> Option<Vec<u8>>
     Vec::from_slice(alloc, word).ok()
 }
 
-/// Whether a commit may move this name.
-fn is_commit_name(name: &[u8]) -> bool
-    ensures { result ≡ is_commit_name name.now }
-{
-    name == b"refs/heads/main".as_slice() || name == b"HEAD".as_slice()
-}
-
 /// `any`, `new` or `at <word>`. It is `Some(None)` where the word found no memory.
 fn expect(alloc: Global, words: &mut Words) -> Option<Option<Expect>>
     ensures { SaysExpect result (expect_of (left words.old)) }
@@ -96,9 +88,6 @@ fn commit(alloc: Global, words: &mut Words) -> Option<Heading>
     ensures { Says result (commit_of_words (left words.old)) }
 {
     let name = words.next()?;
-    if !is_commit_name(name) {
-        return None;
-    }
     let expect = expect(alloc, words)?;
     Some(Heading::Commit {
         name: kept(alloc, name),

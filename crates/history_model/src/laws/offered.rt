@@ -1,7 +1,7 @@
 //! Laws of the repositories of this stage, over the definitions alone.
 
-ghost use Rattle.history_model.specs.Offered.{FlatRoots, FlatFolders, FlatPuts, FilesAreStored, FreshIsOffered, OfferedStays, FirstOfferedCause};
-ghost use Rattle.history_model.specs.OfferedWords.{CommitsStoreFlat, WordsReadNames, NoneIsAmbiguous, NamesHoldCommits, NamesStandForTheirs, WordsStandForTheirs};
+ghost use Rattle.history_model.specs.Offered.{FlatRoots, FlatFolders, FlatPuts, FlatRemovals, FilesAreStored, FreshIsOffered, OfferedStays, FirstOfferedCause};
+ghost use Rattle.history_model.specs.OfferedWords.{CommitsStoreFlat, WordsReadNames, NoneIsAmbiguous, NamesHoldCommits, NamesStandForTheirs, WordsStandForTheirs, ParentsAreCommits};
 
 /// The tree of flat files is their entries, one after another.
 pub fn flat_roots()
@@ -16,6 +16,11 @@ pub fn flat_folders()
 /// A `put` to flat files replaces the file of its path, and no other.
 pub fn flat_puts()
     ensures { FlatPuts }
+{}
+
+/// A removal takes out of flat files the file of its path, and no other.
+pub fn flat_removals()
+    ensures { FlatRemovals }
 {}
 
 /// The bytes of each file of a stored folder are stored.
@@ -66,4 +71,9 @@ pub fn names_stand_for_theirs()
 /// A word stands for the commit that it reads as.
 pub fn words_stand_for_theirs()
     ensures { WordsStandForTheirs }
+{}
+
+/// Each parent of a commit is a stored commit.
+pub fn parents_are_commits()
+    ensures { ParentsAreCommits }
 {}

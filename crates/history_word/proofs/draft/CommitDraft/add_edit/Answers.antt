@@ -4,7 +4,6 @@ use Rattle.std.specs.Prelude.{IfSome}
 use Rattle.history_word.specs.Commands.{AreEdits}
 use Rattle.history_model.specs.Commands as model
 use Rattle.history_model.specs.Bytes.{is_empty}
-use Rattle.history_model.specs.Stage.{is_commit_name}
 use Rattle.history_model.specs.Stage.{is_put, is_offered}
 use Rattle.history_word.specs.Drafts.{with_edit}
 use Rattle.history_word.proofs.draft.CommitDraft.add_edit.Goals as goal
@@ -23,8 +22,8 @@ puts_more (l ∷ lines) line h k = let parts = and_parts (is_put l) (list_all is
 
 offered_more : (order : model.CommitCommand) (line : model.EditLine) → is_offered (model.Commit order) ≡ true → is_put line ≡ true → is_offered (model.Commit (with_edit order line)) ≡ true
 offered_more order line h k =
-    let parts = and_parts (is_commit_name order.name && is_empty order.parents) (list_all is_put order.edits) h in
-    both (is_commit_name order.name && is_empty order.parents) (list_all is_put (order.edits ++ line ∷ [])) parts.0 (puts_more order.edits line parts.1 k)
+    let parts = and_parts (is_empty order.parents) (list_all is_put order.edits) h in
+    both (is_empty order.parents) (list_all is_put (order.edits ++ line ∷ [])) parts.0 (puts_more order.edits line parts.1 k)
 
 pub returns : goal.returns
 returns c = λ order line d e put. record {
