@@ -18,8 +18,14 @@ main_name = first_branch
 abbrev pub is_commit_name : Bytes → Bool
 is_commit_name name = bytes_eq name main_name || bytes_eq name (codes "HEAD")
 
+-- The commands that a stream has: commits, and the readings `files` and `show`. Any other line is one that the grammar doesn't allow.
+abbrev pub is_spoken : Command → Bool
+is_spoken (Commit c) = true
+is_spoken (Files word) = true
+is_spoken (Show word path) = true
+is_spoken _ = false
+
 -- A commit on the first branch without parent lines, whose edits are all `put`, and the readings `files` and `show`.
--- In a stream any other line is one that the grammar doesn't allow.
 abbrev pub is_offered : Command → Bool
 is_offered (Commit c) = is_commit_name c.name && is_empty c.parents && list_all is_put c.edits
 is_offered (Files word) = true
