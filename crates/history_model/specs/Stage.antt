@@ -1,21 +1,18 @@
--- What is offered at this stage. The other modules state all commands; each of the four cuts below is applied at one place
--- of them (the grammar, its table of lines, the words, the test for a bad path), and to offer more is to widen this module alone.
-use Rattle.std.specs.Prelude.{Bool, true, false, not, ◌&&◌}
-use Rattle.std.specs.List.{list_all}
-use Rattle.history_model.specs.Bytes.{Bytes, is_empty, has_byte}
-use Rattle.history_model.specs.Commands.{Command, Commit, Files, Show, EditLine, PutLine}
+-- What is offered at this stage. The other modules state all commands; each of the three cuts below is applied at one place
+-- of them (the grammar, the words, the test for a bad path), and to offer more is to widen this module alone.
+use Rattle.std.specs.Prelude.{Bool, true, false, not}
+use Rattle.history_model.specs.Bytes.{Bytes, has_byte}
+use Rattle.history_model.specs.Commands.{Command, Commit, Files, Show}
 
-abbrev pub is_put : EditLine → Bool
-is_put (PutLine kind path content) = true
-is_put _ = false
-
--- A commit without parent lines, whose edits are all `put`, and the readings `files` and `show`.
--- In a stream any other line is one that the grammar doesn't allow.
+-- Commits, and the readings `files` and `show`. In a stream any other line is one that the grammar doesn't allow.
 abbrev pub is_offered : Command → Bool
-is_offered (Commit c) = is_empty c.parents && list_all is_put c.edits
+is_offered (Commit c) = true
 is_offered (Files word) = true
 is_offered (Show word path) = true
 is_offered _ = false
+
+abbrev pub is_spoken : Command → Bool
+is_spoken = is_offered
 
 -- A path has one component: any other is a bad path.
 abbrev pub is_offered_path : Bytes → Bool
