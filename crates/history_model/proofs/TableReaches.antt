@@ -2,17 +2,16 @@
 use Rattle.std.proofs.Common.{◌≡◌, ◌≢◌, ℕ, Bool, true, false, ◌&&◌, List, [], ◌∷◌, ◌++◌, length, map, replicate, refl, sym, ap, ◌∙◌, subst, Some, None, option_and_then, codes, flat_map}
 use Rattle.std.specs.List.{list_all, join_with_byte}
 use Rattle.std.specs.Fmt.{digits}
-use Rattle.history_model.specs.Bytes.{Bytes, line, is_empty}
+use Rattle.history_model.specs.Bytes.{Bytes, line}
 use Rattle.history_model.specs.Commands.{Command, Commit, Files, Show, CommitCommand, Expect, EditLine, PutLine, RemoveLine, RemoveFileLine}
 use Rattle.history_model.specs.Spelling.{Part, Line, Field, parts_of, edit_parts, actor_parts, message_parts, end_part, signed_parts, parent_part, is_part, has_spelling}
-use Rattle.history_model.specs.Stage.{is_spoken}
 use Rattle.history_model.specs.Commands as commands
 use Rattle.history_model.specs.Grammar.{is_command, GoesOn, LineFits}
 use Rattle.history_model.specs.LineTable.{Role, Author, Committer, Heading, CommitHeading, ParentHeading, PutHeading, RemoveHeading, RemoveFileHeading, ActorHeading, MessageHeading, EndHeading, FilesHeading, ShowHeading, ShowPathHeading, role_word, words_of, sizes, are_sizes, Place, Start, Parents, Edits, ToCommitter, ToMessage, ToEnd, Done, next_edit, next}
 use Rattle.history_model.specs.TableRuns.{Progress, begin, done, part_step, run_from, reached, IsLineAt, TableTellsCommands, TableTellsWhatGoesOn, TableTellsFields, TableTellsLines, TableTellsWhatFits, TableTakesLines, TableTakesFields}
 use Rattle.std.proofs.lemmas.List.{length-replicate}
 use Rattle.history_model.proofs.PartLemmas.{both_true, head_same, tail_same}
-use Rattle.history_model.proofs.TableLines.{and_true, if_taken, then_some}
+use Rattle.history_model.proofs.TableLines.{and_true, then_some}
 use Rattle.history_model.proofs.TableRunLemmas.{at, line_step, line_goes, field_goes, run_append, commands_run}
 
 -- ---- a command's parts

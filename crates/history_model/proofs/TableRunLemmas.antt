@@ -1,5 +1,5 @@
 -- The parts that lead from the table's start to its end are those of a command.
-use Rattle.std.proofs.Common.{◌≡◌, ◌≢◌, ℕ, zero, suc, ◌^◌, ◌<◌, ◌≤◌, Bool, true, false, ◌&&◌, ◌==◌, List, [], ◌∷◌, ◌++◌, length, map, refl, sym, ap, ◌∙◌, subst, Option, Some, None, option_map, option_and_then, codes, decimal, nat_lt, if◌then◌else◌, IsTrue, flat_map, arith, tests}
+use Rattle.std.proofs.Common.{◌≡◌, ◌≢◌, ℕ, zero, suc, ◌^◌, ◌<◌, ◌≤◌, Bool, true, false, ◌==◌, List, [], ◌∷◌, ◌++◌, length, map, refl, sym, ap, ◌∙◌, subst, Option, Some, None, option_map, option_and_then, codes, decimal, nat_lt, if◌then◌else◌, IsTrue, flat_map, arith, tests}
 use Rattle.std.specs.List.{list_all}
 use Rattle.history_model.specs.Bytes.{Bytes}
 use Rattle.history_model.specs.Commands.{Command, Commit, Files, Show, CommitCommand, Expect, EditLine, PutLine, RemoveLine, RemoveFileLine}

@@ -1,5 +1,5 @@
 -- The lines of the command grammar as a table: what each line says and which fields follow it, where it may stand, and where the next line then stands.
-use Rattle.std.specs.Prelude.{◌≡◌, ◌↔◌, ℕ, ◌^◌, Bool, ◌&&◌, ◌||◌, List, [], ◌∷◌, nat_lt, Option, Some, None, option_map, bytes_eq, codes, decimal, if◌then◌else◌, IsTrue}
+use Rattle.std.specs.Prelude.{◌≡◌, ◌↔◌, ℕ, ◌^◌, Bool, ◌&&◌, List, [], ◌∷◌, nat_lt, Option, Some, None, option_map, bytes_eq, codes, decimal, if◌then◌else◌, IsTrue}
 use Rattle.std.specs.List.{list_all}
 use Rattle.std.specs.Option.{option_and_then}
 use Rattle.history_model.specs.Bytes.{Bytes, is_decimal, digits_value}
