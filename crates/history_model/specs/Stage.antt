@@ -11,9 +11,6 @@ is_offered (Files word) = true
 is_offered (Show word path) = true
 is_offered _ = false
 
-abbrev pub is_spoken : Command → Bool
-is_spoken = is_offered
-
 -- A path has one component: any other is a bad path.
 abbrev pub is_offered_path : Bytes → Bool
 is_offered_path path = not (has_byte 47 path)
