@@ -1,5 +1,5 @@
 -- What a draft has after each line.
-use Rattle.std.proofs.Common.{◌≡◌, ℕ, ◌<◌, Bool, true, false, List, [], ◌∷◌, ◌++◌, length, map, Some, None, ◌⊎◌, inl, inr, refl, sym, ap, subst, ◌∙◌, arith, flat_map}
+use Rattle.std.proofs.Common.{◌≡◌, ℕ, ◌<◌, true, List, [], ◌∷◌, ◌++◌, length, map, Some, ◌⊎◌, inl, inr, refl, sym, ap, subst, ◌∙◌, arith, flat_map}
 use Rattle.std.specs.List.{join_with_byte}
 use Rattle.std.proofs.lemmas.List.{append-nil, length-append}
 use Rattle.history_model.specs.Bytes.{Bytes, line}
@@ -7,7 +7,6 @@ use Rattle.history_model.specs.Commands as model
 use Rattle.history_model.specs.Spelling as spelling
 use Rattle.history_model.specs.LineTable as table
 use Rattle.history_model.specs.TableRuns.{run_from}
-use Rattle.history_model.specs.declared.FileKind.{FileKind}
 use Rattle.history_model.proofs.TableLaws.{at}
 use Rattle.history_word.specs.Drafts.{place_of, edit_heading, to_parents, HasCome, TakesLine, TakesParts}
 use Rattle.history_word.specs.declared.heading.Heading.{Heading}

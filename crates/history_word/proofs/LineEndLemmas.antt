@@ -1,6 +1,6 @@
 -- What a line that was taken, and the fields behind it, leave in the draft.
-use Rattle.std.proofs.Common.{◌≡◌, ℕ, true, List, [], ◌∷◌, ◌++◌, length, map, Option, Some, None, refl, sym, ap, ◌∙◌, append_assoc, codes, flat_map, ◌&&◌, Bool, false}
-use Rattle.std.specs.Prelude.{IfSome, IsTrue}
+use Rattle.std.proofs.Common.{◌≡◌, ℕ, List, [], ◌∷◌, ◌++◌, length, map, Option, Some, None, refl, sym, ap, ◌∙◌, append_assoc, codes, flat_map}
+use Rattle.std.specs.Prelude.{IfSome}
 use Rattle.std.proofs.lemmas.Grind.{flat_map-append}
 use Rattle.std.proofs.lemmas.List.{append-nil, map-append}
 use Rattle.history_model.specs.Bytes.{Bytes, line}
@@ -9,7 +9,6 @@ use Rattle.history_model.specs.Spelling as spelling
 use Rattle.history_model.specs.LineTable as table
 use Rattle.history_model.specs.TableRuns.{run_from}
 use Rattle.history_model.specs.declared.Cause.{Cause}
-use Rattle.history_model.specs.declared.FileKind.{FileKind}
 use Rattle.history_model.proofs.TableLaws.{at}
 use Rattle.history_word.specs.Commands.{IsExpect}
 use Rattle.history_word.specs.Progress.{IsNoField, StopsFrom}
