@@ -1,31 +1,33 @@
 -- What a commit stands on, and the causes that its words, its name and its parents tell.
 use Rattle.std.specs.declared.alloc.Global.{Global}
 use Rattle.std.specs.Prelude.{Vec, Result}
-use Rattle.std.proofs.Common.{◌≡◌, ℕ, Bool, true, false, cond, not, ◌||◌, List, [], ◌∷◌, ◌++◌, map, filter, length, refl, sym, ◌∙◌, ap, subst, Option, Some, None, option_map, option_to_list, is_some, nat_lt, Err, Ok}
-use Rattle.std.specs.List.{list_any, list_all, filter_map}
-use Rattle.std.proofs.lemmas.List.{append-nil}
-use Rattle.history_model.specs.Bytes.{Bytes, is_empty, has_twice}
-use Rattle.history_model.specs.Stage.{is_offered, is_put}
+use Rattle.std.proofs.Common.{◌≡◌, ℕ, Bool, true, false, cond, not, ◌||◌, List, [], ◌∷◌, ◌++◌, map, filter, refl, sym, ◌∙◌, ap, subst, Option, Some, None, option_map, option_to_list, Err}
+use Rattle.std.specs.List.{list_any, filter_map, cons_option}
+use Rattle.std.proofs.lemmas.List.{map-append}
+use Rattle.history_model.specs.Bytes.{Bytes}
 use Rattle.gix_hash.specs.Id.{Id, id_of}
 use Rattle.gix_hash.specs.Order.{id_eq}
 use Rattle.history_model.specs.Repository.{Repository, HasWholeNames, id_at, stands}
-use Rattle.history_model.specs.Forms.{max_parents}
+use Rattle.history_model.specs.Words as model
 use Rattle.history_model.specs.Words.{WordReading, ReadsAs, Unborn, Unknown, Ambiguous, word_reading, commit_of}
 use Rattle.history_model.specs.Commands.{Commit, CommitCommand, Expect, Any, New, At}
 use Rattle.history_model.specs.CommandParts.{at_word}
 use Rattle.history_model.specs.Meaning.{branch_or_name, name_commit, parents_of}
-use Rattle.history_model.specs.Causes.{is_unknown, is_unborn, is_new, is_at, is_elsewhere, same_id}
+use Rattle.history_model.specs.Causes.{is_new, is_at, is_elsewhere, same_id, is_unknown, is_unborn}
 use Rattle.history_model.specs.Offered.{IsOffered}
 use Rattle.history_model.specs.OfferedWords.{read_id}
 use Rattle.history_model.specs.declared.Cause.{Cause}
-use Rattle.history_model.specs.declared.Cause.TheVariants.{UnknownWord, UnbornHead, NoSuchName, Taken, NotExpected, TooManyParents, DuplicateParent}
-use Rattle.history_model.proofs.OfferedReads.{none_is_ambiguous, names_stand_for_theirs, words_stand_for_theirs}
+use Rattle.history_model.specs.declared.Cause.TheVariants.{UnknownWord, UnbornHead, NoSuchName, Taken, NotExpected}
+use Rattle.history_model.proofs.OfferedReads.{names_stand_for_theirs, words_stand_for_theirs}
 use Rattle.history_word.specs.Commands.{IsExpect}
 use Rattle.history_word.specs.declared.command.Expect.TheVariants as sent
 use Rattle.gix_hash.specs.declared.object_id.ObjectId.{ObjectId}
-use Rattle.history.specs.Acts.{ReadsWord, word_cause}
-use Rattle.history.specs.Bases.{IsExpected, held_cause}
-use Rattle.history.specs.CommitCauses.{first_among, word_causes, held_causes, parent_causes, IsToldBy, Tests}
+use Rattle.history.specs.Acts.{IsReadingFault, Gives}
+use Rattle.history.specs.Bases.{IsExpected, expected_readings, words_cause, held_cause, reads_as, parents_cause}
+use Rattle.history.specs.CommitCauses.{first_among, word_causes, held_causes, parent_causes, IsToldBy}
+use Rattle.history.specs.Readings.{reading_of, commit_in}
+use Rattle.history.specs.declared.words.WordReading as own
+use Rattle.history.specs.declared.words.WordReading.TheVariants as read
 use Rattle.history.specs.declared.base.Expected.{Expected}
 use Rattle.history.specs.declared.base.Expected.TheVariants as expected
 use Rattle.history.specs.declared.stopped.Stopped.{Stopped}
@@ -34,70 +36,66 @@ use Rattle.history.proofs.WordReads.{stands_so}
 
 -- ---- what is expected
 
-any_sent : (expect : Expect) → IsExpect sent.Any expect → expect ≡ Any
-any_sent Any h = refl
-any_sent New h = absurd h
-any_sent (At word) h = absurd h
+pub any_sent : (r : Repository) (expect : Expect) → IsExpect sent.Any expect → IsExpected r expect expected.Any
+any_sent r Any h = tt
+any_sent r New h = absurd h
+any_sent r (At word) h = absurd h
 
-new_sent : (expect : Expect) → IsExpect sent.New expect → expect ≡ New
-new_sent Any h = absurd h
-new_sent New h = refl
-new_sent (At word) h = absurd h
+pub new_sent : (r : Repository) (expect : Expect) → IsExpect sent.New expect → IsExpected r expect expected.New
+new_sent r Any h = absurd h
+new_sent r New h = tt
+new_sent r (At word) h = absurd h
 
-at_sent : (word : Vec ℕ Global) (expect : Expect) → IsExpect (sent.At word) expect → expect ≡ At word.items
-at_sent word Any h = absurd h
-at_sent word New h = absurd h
-at_sent word (At bytes) h = ap At (sym h)
+pub at_sent : (r : Repository) (word : Vec ℕ Global) (reading : own.WordReading) (expect : Expect) → IsExpect (sent.At word) expect → reading_of reading ≡ word_reading r word.items → IsExpected r expect (expected.At reading)
+at_sent r word reading Any h is = absurd h
+at_sent r word reading New h is = absurd h
+at_sent r word reading (At bytes) h is = is ∙ ap (word_reading r) h
 
--- a commit of this stage has no words but that of its expectation
-pub no_parents : (order : CommitCommand) → is_offered (Commit order) ≡ true → order.parents ≡ []
-no_parents order offered = go order.parents offered
-  where
-    go : (parents : List Bytes) → (is_empty parents && list_all is_put order.edits) ≡ true → parents ≡ []
-    go [] h = refl
-    go (word ∷ parents) h = cc
+-- a fault of reading is told whatever the causes
+pub fault_told : (MayFail : Type 0) (causes : List Cause) (r : Repository) (order : CommitCommand) (stopped : Stopped) → IsReadingFault MayFail stopped → IsToldBy MayFail causes r order stopped
+fault_told MayFail causes r order (Refused cause) h = absurd h
+fault_told MayFail causes r order (Fault fault) h = h
 
--- the causes of words
-abbrev words_of : Repository → List Bytes → Option Cause
-words_of r words =
-    cond (list_any (λ word. is_unknown (word_reading r word)) words) (Some UnknownWord)
-    (cond (list_any (λ word. is_unborn (word_reading r word)) words) (Some UnbornHead) None)
+pub gives_told : {A : Type 0} (MayFail : Type 0) (P : A → Type 0) (causes : List Cause) (r : Repository) (order : CommitCommand) (result : Result A Stopped) (stopped : Stopped) → result ≡ Err stopped → Gives MayFail P result → IsToldBy MayFail causes r order stopped
+gives_told {A} MayFail P causes r order result stopped was gives = fault_told MayFail causes r order stopped (subst (λ (x : Result A Stopped). Gives MayFail P x) was gives)
 
-module _ (MayFail : Type 0) (r : Repository) (order : CommitCommand) (none : order.parents ≡ []) where
-  words_told : (expect : Expect) → order.expect ≡ expect → first_among word_causes r (Commit order) ≡ words_of r (at_word expect ++ [])
-  words_told expect is = λ i. words_of r (at_word (is i) ++ none i)
+-- ---- words
 
-  pub any_expected : IsExpect sent.Any order.expect → Tests MayFail word_causes r order (IsExpected r order.expect) (Ok expected.Any)
-  any_expected sends =
-      let is = any_sent order.expect sends in
-      (words_told Any is, subst (λ e. IsExpected r e expected.Any) (sym is) tt)
+any_map : {X Y : Type 0} (p : Y → Bool) (f : X → Y) (xs : List X) → list_any p (map f xs) ≡ list_any (λ x. p (f x)) xs
+any_map p f [] = refl
+any_map p f (x ∷ xs) = ap (λ b. p (f x) || b) (any_map p f xs)
 
-  pub new_expected : IsExpect sent.New order.expect → Tests MayFail word_causes r order (IsExpected r order.expect) (Ok expected.New)
-  new_expected sends =
-      let is = new_sent order.expect sends in
-      (words_told New is, subst (λ e. IsExpected r e expected.New) (sym is) tt)
+map_map : {X Y Z : Type 0} (f : Y → Z) (g : X → Y) (xs : List X) → map f (map g xs) ≡ map (λ x. f (g x)) xs
+map_map f g [] = refl
+map_map f g (x ∷ xs) = ap (λ zs. f (g x) ∷ zs) (map_map f g xs)
 
-  at_told : (word : Vec ℕ Global) → IsExpect (sent.At word) order.expect → (read : WordReading) → word_reading r word.items ≡ read
-      → first_among word_causes r (Commit order) ≡ cond (is_unknown read || false) (Some UnknownWord) (cond (is_unborn read || false) (Some UnbornHead) None)
-  at_told word sends read e =
-      words_told (At word.items) (at_sent word order.expect sends)
-      ∙ ap (λ x. cond (is_unknown x || false) (Some UnknownWord) (cond (is_unborn x || false) (Some UnbornHead) None)) e
+module _ (r : Repository) (order : CommitCommand) where
+  words_told : first_among word_causes r (Commit order) ≡ words_cause (map (word_reading r) (at_word order.expect ++ order.parents))
+  words_told = λ i.
+      let words = at_word order.expect ++ order.parents in
+      cond (sym (any_map is_unknown (word_reading r) words) i) (Some UnknownWord) (cond (sym (any_map is_unborn (word_reading r) words) i) (Some UnbornHead) None)
 
-  pub at_expected : (word : Vec ℕ Global) (id : ObjectId) → IsExpect (sent.At word) order.expect → word_reading r word.items ≡ ReadsAs (id_of id)
-      → Tests MayFail word_causes r order (IsExpected r order.expect) (Ok (expected.At id))
-  at_expected word id sends reads =
-      let is = at_sent word order.expect sends in
-      (at_told word sends (ReadsAs (id_of id)) reads, subst (λ e. IsExpected r e (expected.At id)) (sym is) reads)
+  at_readings : (expect : Expect) (what : Expected) → IsExpected r expect what → expected_readings what ≡ map (word_reading r) (at_word expect)
+  at_readings Any expected.Any is = refl
+  at_readings New expected.New is = refl
+  at_readings (At word) (expected.At reading) is = ap (λ x. x ∷ []) is
+  at_readings Any expected.New is = absurd is
+  at_readings Any (expected.At reading) is = absurd is
+  at_readings New expected.Any is = absurd is
+  at_readings New (expected.At reading) is = absurd is
+  at_readings (At word) expected.Any is = absurd is
+  at_readings (At word) expected.New is = absurd is
 
-  pub at_refused : (word : Vec ℕ Global) (stopped : Stopped) → IsExpect (sent.At word) order.expect → ReadsWord MayFail r word.items (Err stopped) → IsToldBy MayFail word_causes r order stopped
-  at_refused word (Fault fault) sends h = h
-  at_refused word (Refused cause) sends h = by_reading (word_reading r word.items) refl h
-    where
-      by_reading : (read : WordReading) → word_reading r word.items ≡ read → word_cause read ≡ Some cause → first_among word_causes r (Commit order) ≡ Some cause
-      by_reading (ReadsAs id) e h = cc
-      by_reading Unborn e h = at_told word sends Unborn e ∙ h
-      by_reading Unknown e h = at_told word sends Unknown e ∙ h
-      by_reading Ambiguous e h = absurd (none_is_ambiguous r word.items e)
+  -- what the parents' words read as
+  pub parent_readings : (words : List (Vec ℕ Global)) (readings : List own.WordReading) → map (λ (word : Vec ℕ Global). word.items) words ≡ order.parents
+      → map reading_of readings ≡ map (λ (word : Vec ℕ Global). word_reading r word.items) words → map reading_of readings ≡ map (word_reading r) order.parents
+  parent_readings words readings are is = is ∙ sym (map_map (word_reading r) (λ (word : Vec ℕ Global). word.items) words) ∙ ap (map (word_reading r)) are
+
+  pub words_so : (what : Expected) (readings : List own.WordReading) → IsExpected r order.expect what → map reading_of readings ≡ map (word_reading r) order.parents
+      → first_among word_causes r (Commit order) ≡ words_cause (expected_readings what ++ map reading_of readings)
+  words_so what readings is are =
+      words_told
+      ∙ ap words_cause (map-append (word_reading r) (at_word order.expect) order.parents ∙ (λ i. sym (at_readings order.expect what is) i ++ sym are i))
 
 -- ---- what the name holds
 
@@ -111,24 +109,30 @@ module _ (r : Repository) (order : CommitCommand) (o : IsOffered r) (w : HasWhol
       (cond (list_any (stands r) (map (λ (e : Bytes × Expect). e.0) (filter (λ (e : Bytes × Expect). is_new e.1) ((name, expect) ∷ [])))) (Some Taken)
       (cond (list_any (is_elsewhere r) ((name, expect) ∷ [])) (Some NotExpected) None))
 
+  compared : (id : Id) (x : WordReading) → cond (not (same_id (Some id) (read_id x)) || false) (Some NotExpected) None ≡ reads_as id x
+  compared id (ReadsAs other) = go (id_eq id other)
+    where
+      go : (b : Bool) → cond (not b || false) (Some NotExpected) None ≡ cond b None (Some NotExpected)
+      go true = refl
+      go false = refl
+  compared id Unborn = refl
+  compared id Unknown = refl
+  compared id Ambiguous = refl
+
   by_expect : (expect : Expect) (what : Expected) (held : Option Id) → IsExpected r expect what → id_at r name ≡ held → of_expect expect ≡ held_cause what held
   by_expect Any expected.Any held is at = refl
   by_expect New expected.New None is at = ap (λ s. cond (s || false) (Some Taken) None) (stands_so r name None at)
   by_expect New expected.New (Some id) is at = ap (λ s. cond (s || false) (Some Taken) None) (stands_so r name (Some id) at)
-  by_expect (At word) (expected.At wanted) None is at =
+  by_expect (At word) (expected.At reading) None is at =
       ap (λ s. cond (not s || false) (Some NoSuchName) (cond (list_any (is_elsewhere r) ((name, At word) ∷ [])) (Some NotExpected) None)) (stands_so r name None at)
-  by_expect (At word) (expected.At wanted) (Some id) is at =
+  by_expect (At word) (expected.At reading) (Some id) is at =
       ap (λ s. cond (not s || false) (Some NoSuchName) (cond (list_any (is_elsewhere r) ((name, At word) ∷ [])) (Some NotExpected) None)) (stands_so r name (Some id) at)
-      ∙ (λ i. cond (not (same_id ((names_stand_for_theirs r name o w ∙ at) i) ((words_stand_for_theirs r word o w ∙ ap read_id is) i)) || false) (Some NotExpected) None)
-      ∙ last (id_eq id (id_of wanted))
-    where
-      last : (b : Bool) → cond (not b || false) (Some NotExpected) None ≡ cond b None (Some NotExpected)
-      last true = refl
-      last false = refl
+      ∙ (λ i. cond (not (same_id ((names_stand_for_theirs r name o w ∙ at) i) ((words_stand_for_theirs r word o w ∙ ap read_id (sym is)) i)) || false) (Some NotExpected) None)
+      ∙ compared id (reading_of reading)
   by_expect Any expected.New held is at = absurd is
-  by_expect Any (expected.At wanted) held is at = absurd is
+  by_expect Any (expected.At reading) held is at = absurd is
   by_expect New expected.Any held is at = absurd is
-  by_expect New (expected.At wanted) held is at = absurd is
+  by_expect New (expected.At reading) held is at = absurd is
   by_expect (At word) expected.Any held is at = absurd is
   by_expect (At word) expected.New held is at = absurd is
 
@@ -137,22 +141,31 @@ module _ (r : Repository) (order : CommitCommand) (o : IsOffered r) (w : HasWhol
 
   -- ---- the parents
 
-  module _ (none : order.parents ≡ []) where
-    parents_so : parents_of r order ≡ option_to_list (id_at r name)
-    parents_so =
-        ap (λ ps. option_to_list (name_commit r name) ++ filter_map (commit_of r) ps) none ∙ append-nil (option_to_list (name_commit r name))
-        ∙ ap option_to_list (names_stand_for_theirs r name o w)
+  ids_read : (readings : List own.WordReading) → map id_of (filter_map commit_in readings) ≡ filter_map read_id (map reading_of readings)
+  ids_read [] = refl
+  ids_read (read.Commit id ∷ readings) = ap (λ ids. id_of id ∷ ids) (ids_read readings)
+  ids_read (read.Unborn ∷ readings) = ids_read readings
+  ids_read (read.Unknown ∷ readings) = ids_read readings
 
-    pub few_parents : first_among parent_causes r (Commit order) ≡ None
-    few_parents = ap (λ ids. cond (nat_lt max_parents (length ids)) (Some TooManyParents) (cond (has_twice id_eq ids) (Some DuplicateParent) None)) parents_so ∙ go (id_at r name)
-      where
-        go : (held : Option Id) → cond (nat_lt max_parents (length (option_to_list held))) (Some TooManyParents) (cond (has_twice id_eq (option_to_list held)) (Some DuplicateParent) None) ≡ None
-        go None = refl
-        go (Some id) = refl
+  commits_read : (words : List Bytes) → filter_map (commit_of r) words ≡ filter_map read_id (map (word_reading r) words)
+  commits_read [] = refl
+  commits_read (word ∷ words) = λ i. cons_option (words_stand_for_theirs r word o w i) (commits_read words i)
 
-    pub parents_told : (held : Option ObjectId) (parents : List ObjectId) → option_map id_of held ≡ id_at r name → parents ≡ option_to_list held → map id_of parents ≡ parents_of r order
-    parents_told held parents at is = ap (map id_of) is ∙ told held ∙ ap option_to_list at ∙ sym parents_so
-      where
-        told : (held : Option ObjectId) → map id_of (option_to_list held) ≡ option_to_list (option_map id_of held)
-        told None = refl
-        told (Some id) = refl
+  pub parents_told : (held : Option ObjectId) (readings : List own.WordReading) (parents : List ObjectId) → option_map id_of held ≡ id_at r name → map reading_of readings ≡ map (word_reading r) order.parents
+      → parents ≡ option_to_list held ++ filter_map commit_in readings → map id_of parents ≡ parents_of r order
+  parents_told held readings parents at are is =
+      ap (map id_of) is ∙ map-append id_of (option_to_list held) (filter_map commit_in readings)
+      ∙ (λ i. first i ++ second i)
+    where
+      told : (held : Option ObjectId) → map id_of (option_to_list held) ≡ option_to_list (option_map id_of held)
+      told None = refl
+      told (Some id) = refl
+
+      first : map id_of (option_to_list held) ≡ option_to_list (name_commit r name)
+      first = told held ∙ ap option_to_list (at ∙ sym (names_stand_for_theirs r name o w))
+
+      second : map id_of (filter_map commit_in readings) ≡ filter_map (commit_of r) order.parents
+      second = ids_read readings ∙ ap (filter_map read_id) are ∙ sym (commits_read order.parents)
+
+  pub parents_so : (parents : List ObjectId) → map id_of parents ≡ parents_of r order → first_among parent_causes r (Commit order) ≡ parents_cause (map id_of parents)
+  parents_so parents is = ap parents_cause (sym is)

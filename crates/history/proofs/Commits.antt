@@ -19,7 +19,7 @@ use Rattle.history_model.specs.Commands.{CommitCommand, Commit}
 use Rattle.history_model.specs.Replies.{Committed, reply_text}
 use Rattle.history_model.specs.Spelling.{Line, part_text}
 use Rattle.history_model.specs.Meaning.{branch_or_name, new_commit, stored_by, store_all, takes_id, after}
-use Rattle.history_model.specs.Stage.{is_offered}
+use Rattle.history_model.specs.Stage.{is_spoken}
 use Rattle.history_model.specs.Causes.{holds, first_cause}
 use Rattle.history_model.specs.declared.Cause.TheVariants.{BadName, PrivateName}
 use Rattle.history_model.specs.Steps.{Accepts}
@@ -93,7 +93,7 @@ module _ {F : Type 0} (IsHonest : F → Type 0) (history : F → History) where
       }
 
   -- The values are put, the names stay; then the name moves, and the objects stay.
-  module _ (old mid new : Repository F) (r : plain.Repository) (order : CommitCommand) (h : Serves IsHonest history old r) (offered : IsTrue (is_offered (Commit order)))
+  module _ (old mid new : Repository F) (r : plain.Repository) (order : CommitCommand) (h : Serves IsHonest history old r) (offered : IsTrue (is_spoken (Commit order)))
       (none : first_cause r (Commit order) ≡ None) (free : IsFalse (takes_id r (Commit order)))
       (kept : KeepsAllButObjects old mid) (honest : IsHonest (objects_part mid)) (kind : mid.objects.kind ≡ old.objects.kind)
       (held : HoldsValues r.kind (objects_tree history mid) (after r (Commit order)).objects)

@@ -16,7 +16,7 @@ use Rattle.history_model.specs.Commands.{CommitCommand, Commit}
 use Rattle.history_model.specs.CommandParts.{paths_in, contents_in}
 use Rattle.history_model.specs.Meaning.{branch_or_name, first_files, parents_of, edits_of, new_commit, read_actor, stored_by}
 use Rattle.history_model.specs.Causes.{first_cause, is_bad_path, is_too_large}
-use Rattle.history_model.specs.Stage.{is_offered}
+use Rattle.history_model.specs.Stage.{is_spoken}
 use Rattle.history_model.specs.Offered.{IsOffered, is_flat}
 use Rattle.history_model.specs.TreeSteps.{move_entry}
 use Rattle.history_model.specs.declared.Cause.{Cause}
@@ -84,7 +84,7 @@ fault_planned {A} MayFail P r order result ends stopped was is_end gives =
 pub refusal_planned : (MayFail : Type 0) (r : plain.Repository) (order : CommitCommand) (cause : Cause) (ends : Result Plan Stopped) → ends ≡ Err (Refused cause) → first_cause r (Commit order) ≡ Some cause → Plans MayFail r order ends
 refusal_planned MayFail r order cause ends is_end is = subst (Plans MayFail r order) (sym is_end) is
 
-module _ (r : plain.Repository) (order : CommitCommand) (o : IsOffered r) (w : HasWholeNames r) (offered : is_offered (Commit order) ≡ true) where
+module _ (r : plain.Repository) (order : CommitCommand) (o : IsOffered r) (w : HasWholeNames r) (offered : is_spoken (Commit order) ≡ true) where
   pub base_planned : (MayFail : Type 0) (result : Result Base Stopped) (ends : Result Plan Stopped) (stopped : Stopped) → result ≡ Err stopped → ends ≡ Err stopped
       → Tests MayFail name_causes r order (IsBase r order) result → Plans MayFail r order ends
   base_planned MayFail result ends stopped was is_end tests =

@@ -51,16 +51,20 @@ fn has_bad_path(edit: &Edit) -> bool
     ensures { (line : EditLine) → IsEdit edit.now line
         → result ≡ list_any is_bad_path (edit_paths line) }
 {
-    let Edit::Put(put) = edit;
-    is_bad_path(&put.path)
+    match edit {
+        Edit::Put(put) => is_bad_path(&put.path),
+        Edit::Remove(path) | Edit::RemoveFile(path) => is_bad_path(path),
+    }
 }
 
 fn has_long_content(edit: &Edit) -> bool
     ensures { (line : EditLine) → IsEdit edit.now line
         → result ≡ list_any is_long (put_contents line) }
 {
-    let Edit::Put(put) = edit;
-    is_too_long(&put.content)
+    match edit {
+        Edit::Put(put) => is_too_long(&put.content),
+        Edit::Remove(_) | Edit::RemoveFile(_) => false,
+    }
 }
 
 fn have_bad_path(edits: &[Edit]) -> bool

@@ -1,6 +1,6 @@
 //! Which names a command may move.
 
-ghost use Rattle.std.specs.Prelude.{◌≡◌, IsTrue, MatchResult, Some};
+ghost use Rattle.std.specs.Prelude.{◌≡◌, MatchResult, None, Some};
 ghost use Rattle.history_model.specs.Forms.{is_name, is_private};
 ghost use Rattle.history_model.specs.Commands.{CommitCommand as CommitOrder};
 ghost use Rattle.history_model.specs.Repository as plain;

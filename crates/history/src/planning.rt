@@ -24,7 +24,7 @@ ghost use Rattle.gix_hash.specs.Id.{id_of};
 use crate::actors::actor_at;
 use crate::base::Base;
 use crate::causes::{read_times, title};
-use crate::fields::into_kept;
+use crate::fields::{into_kept, kept};
 use crate::repository::Repository;
 use crate::stopped::Stopped;
 use gix_hash::ObjectId;
@@ -112,8 +112,10 @@ impl<F: Files> Repository<F> {
     {
         let mut blobs = Vec::with_capacity(alloc, edits.len())?;
         for edit in edits {
-            let Edit::Put(put) = edit;
-            blobs.push(self.put_file(alloc, tree, put)?)?;
+            match edit {
+                Edit::Put(put) => blobs.push(self.put_file(alloc, tree, put)?)?,
+                Edit::Remove(path) | Edit::RemoveFile(path) => tree.remove(kept(&path)),
+            }
         }
         Ok(blobs)
     }

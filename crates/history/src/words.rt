@@ -1,10 +1,11 @@
 //! What a word of a command stands for.
 
-ghost use Rattle.std.specs.Prelude.{◌≡◌, ◌++◌, ◌&&◌, not, Some, IfOk, MatchResult, codes};
+ghost use Rattle.std.specs.Prelude.{◌≡◌, ◌++◌, ◌&&◌, not, Some, None, IfOk, MatchResult, codes};
 ghost use Rattle.history_model.specs.Bytes.{begins};
 ghost use Rattle.history_model.specs.Forms.{is_private};
 ghost use Rattle.history_model.specs.Words.{word_reading, ReadsAs};
 ghost use Rattle.history.specs.Acts.{word_cause};
+ghost use Rattle.history.specs.Bases.{reads_as};
 ghost use Rattle.history.specs.Readings.{reading_of};
 ghost use Rattle.gix_hash.specs.Id.{id_of};
 
@@ -55,6 +56,19 @@ fn is_candidate(name: &[u8]) -> bool
 }
 
 impl WordReading {
+    /// Tests that the word reads as what its name holds.
+    pub(crate) fn test(self, held: ObjectId) -> Result<(), Cause>
+        ensures { MatchResult result (λ _. reads_as (id_of held) (reading_of self) ≡ None)
+            (λ cause. reads_as (id_of held) (reading_of self) ≡ Some cause) }
+    {
+        match self {
+            WordReading::Commit(id) if held == id => Ok(()),
+            WordReading::Commit(_) | WordReading::Unborn | WordReading::Unknown => {
+                Err(Cause::NotExpected)
+            }
+        }
+    }
+
     /// The commit, where there is one; else why there is none.
     pub(crate) fn commit(self) -> Result<ObjectId, Cause>
         ensures { MatchResult result (λ id. reading_of self ≡ ReadsAs (id_of id)) (λ cause. word_cause (reading_of self) ≡ Some cause) }

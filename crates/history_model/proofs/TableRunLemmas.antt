@@ -5,7 +5,7 @@ use Rattle.history_model.specs.Bytes.{Bytes}
 use Rattle.history_model.specs.Commands.{Command, Commit, Files, Show, CommitCommand, Expect, EditLine, PutLine, RemoveLine, RemoveFileLine}
 use Rattle.history_model.specs.Spelling.{Part, Line, Field, parts_of, expect_words, kind_word, parent_part, edit_parts, actor_parts, message_parts, end_part, is_part, has_spelling, has_enough}
 use Rattle.history_model.specs.Grammar.{is_command}
-use Rattle.history_model.specs.Stage.{is_offered}
+use Rattle.history_model.specs.Stage.{is_spoken}
 use Rattle.history_model.specs.Commands as commands
 use Rattle.history_model.specs.LineTable.{Role, Author, Committer, Heading, CommitHeading, ParentHeading, PutHeading, RemoveHeading, RemoveFileHeading, ActorHeading, MessageHeading, EndHeading, FilesHeading, ShowHeading, ShowPathHeading, role_word, words_of, sizes, are_sizes, heading_of, Place, Start, Parents, Edits, ToCommitter, ToMessage, ToEnd, Done, next_edit, next}
 use Rattle.history_model.specs.TableRuns.{Progress, done, after_line, part_step, run_from, reached}
@@ -315,7 +315,7 @@ parents_run (Line words ∷ parts) e =
 record StartRun (parts : List Part) : Type 0 where
   command : Command
   enough : has_enough command ≡ true
-  spoken : is_offered command ≡ true
+  spoken : is_spoken command ≡ true
   is : parts_of command ≡ parts
 
 start_line : (h : Heading) (following : Place) (rest : List Part) → next Start h ≡ Some following → run_from (at (sizes h) following) rest ≡ Some done → StartRun (Line (words_of h) ∷ rest)
@@ -345,6 +345,6 @@ commands_run parts e =
     let is = run.is ∙ sym line.is in
     let parts_are = subst (λ ps. list_all is_part ps ≡ true) (sym is) (parts_fit parts [] Start done refl e).0 in (
       run.command,
-      and_true (has_spelling run.command) (is_offered run.command) (and_true (list_all is_part (parts_of run.command)) (has_enough run.command) parts_are run.enough) run.spoken,
+      and_true (has_spelling run.command) (is_spoken run.command) (and_true (list_all is_part (parts_of run.command)) (has_enough run.command) parts_are run.enough) run.spoken,
       is,
     )

@@ -4,7 +4,7 @@ use Rattle.std.specs.List.{list_all, flat_map}
 use Rattle.std.specs.FinMap.{entries, keys, get, insert, remove}
 use Rattle.history_model.specs.Bytes.{Bytes}
 use Rattle.history_model.specs.FileMap.{FileMap, Content, folders_of, put_at, removed}
-use Rattle.history_model.specs.Stage.{is_offered, is_offered_path}
+use Rattle.history_model.specs.Stage.{is_spoken, is_offered_path}
 use Rattle.history_model.specs.Objects.{Value, StoredCommit, StoredTag, StoredBytes, StoredFolder, entry_text, mode_of, blob_id, root}
 use Rattle.gix_hash.specs.Id.{Id}
 use Rattle.history_model.specs.Repository.{Repository, IsStored, IsWholeStore, HasWholeNames, first_branch, fresh}
@@ -69,7 +69,7 @@ abbrev pub FreshIsOffered : Type 0
 FreshIsOffered = (kind : Kind) → IsOffered (fresh kind)
 
 abbrev pub OfferedStays : Type 0
-OfferedStays = (r : Repository) (command : Command) → IsOffered r → IsTrue (is_offered command) → first_cause r command ≡ None → IsOffered (after r command)
+OfferedStays = (r : Repository) (command : Command) → IsOffered r → IsTrue (is_spoken command) → first_cause r command ≡ None → IsOffered (after r command)
 
 -- ---- causes
 
@@ -79,5 +79,5 @@ offered_causes = BadName ∷ PrivateName ∷ UnknownWord ∷ UnbornHead ∷ NoSu
     ∷ BadPath ∷ NoSuchPath ∷ BadActor ∷ BadTime ∷ BadMessage ∷ TooLarge ∷ []
 
 abbrev pub FirstOfferedCause : Type 0
-FirstOfferedCause = (r : Repository) (command : Command) → IsOffered r → HasWholeNames r → IsTrue (is_offered command)
+FirstOfferedCause = (r : Repository) (command : Command) → IsOffered r → HasWholeNames r → IsTrue (is_spoken command)
     → first_cause r command ≡ find (λ cause. holds cause r command) offered_causes

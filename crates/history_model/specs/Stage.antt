@@ -5,11 +5,11 @@ use Rattle.history_model.specs.Bytes.{Bytes, has_byte}
 use Rattle.history_model.specs.Commands.{Command, Commit, Files, Show}
 
 -- Commits, and the readings `files` and `show`. In a stream any other line is one that the grammar doesn't allow.
-abbrev pub is_offered : Command → Bool
-is_offered (Commit c) = true
-is_offered (Files word) = true
-is_offered (Show word path) = true
-is_offered _ = false
+abbrev pub is_spoken : Command → Bool
+is_spoken (Commit c) = true
+is_spoken (Files word) = true
+is_spoken (Show word path) = true
+is_spoken _ = false
 
 -- A path has one component: any other is a bad path.
 abbrev pub is_offered_path : Bytes → Bool
