@@ -1,13 +1,14 @@
 -- Which files stand above and below a path.
 use Rattle.std.proofs.Common.{◌≡◌, ◌≢◌, ◌⊎◌, inl, inr, refl, sym, ◌∙◌, ap, subst, ℕ, zero, suc, ◌+◌, ◌<◌, ◌≤◌, Bool, true, false, cond, List, [], ◌∷◌, ◌++◌, length, take, get_or, arith, filter_map}
-use Rattle.std.specs.Prelude.{IsTrue, IsSome, is_some, nat_le, Option, Some, None}
+use Rattle.std.specs.Prelude.{IsTrue, IsSome, is_some, nat_le, Option, Some, None, Result, Ok, Err, IfOk}
+use Rattle.gix_ref_file.specs.declared.files.FileError.{FileError}
+use Rattle.history_model.specs.Forms.{is_name}
 use Rattle.std.specs.List.{after_last}
 use Rattle.std.specs.FinMap.{get, keys, contains_key-keys}
 use Rattle.std.proofs.lemmas.Bool.Decides.{nat_tests}
 use borrow.Author.Tests.{leb-true}
 use Rattle.gix_ref_file.specs.Tree.{Tree, Node, file, folder, same_path, is_slash, parent, name_in, node_at, names_at, place_of, bytes_of, is_folder, IsRooted}
 use Rattle.gix_ref_file.specs.Changes.{is_file_at}
-use Rattle.gix_ref_file.specs.declared.files.Place.{Place}
 use Rattle.gix_ref_file.specs.declared.files.Place.TheVariants as places
 use Rattle.gix_ref_file.proofs.Trees.{one_path}
 use Rattle.gix_ref_file.proofs.Below.{path_in_folder, parent_behind}
@@ -15,19 +16,34 @@ use Rattle.history_model.specs.Bytes.{Bytes}
 use Rattle.history_model.specs.Places.{file_at}
 use Rattle.history_store.specs.Parts.{path_in}
 use Rattle.history_store.specs.Stores.{IsAbove, NoFileAbove}
-use Rattle.history_store.specs.References.{NoFileBelow}
+use Rattle.history_store.specs.References.{NoFileBelow, TellsBelow, TellsCollision}
 use Rattle.history_store.proofs.FoldersMade.{above_above, above_shorter, front_of}
 use Rattle.history_store.proofs.Surveys.{in_folder, found}
 
 -- ---- what stands at a path
 
-pub no_file : (tree : Tree) (path : Bytes) (place : Place) → place ≡ place_of (node_at tree path) → ((size : ℕ) → place ≢ places.File size) → file_at tree path ≡ None
-no_file tree path place is none = go (node_at tree path) is
+pub no_file_at : (tree : Tree) (path : Bytes) → false ≡ is_file_at tree path → file_at tree path ≡ None
+no_file_at tree path none = go (bytes_of (node_at tree path)) none
   where
-    go : (o : Option Node) → place ≡ place_of o → bytes_of o ≡ None
+    go : (o : Option Bytes) → false ≡ is_some o → o ≡ None
     go None e = refl
-    go (Some (file bytes)) e = absurd (none (length bytes) e)
+    go (Some bytes) e = cc
+
+pub folder_no_file : (tree : Tree) (path : Bytes) → place_of (node_at tree path) ≡ places.Folder → false ≡ is_file_at tree path
+folder_no_file tree path is = go (node_at tree path) is
+  where
+    go : (o : Option Node) → place_of o ≡ places.Folder → false ≡ is_some (bytes_of o)
+    go None e = cc
+    go (Some (file bytes)) e = cc
     go (Some folder) e = refl
+
+pub absent_no_file : (tree : Tree) (path : Bytes) → place_of (node_at tree path) ≡ places.Absent → false ≡ is_file_at tree path
+absent_no_file tree path is = go (node_at tree path) is
+  where
+    go : (o : Option Node) → place_of o ≡ places.Absent → false ≡ is_some (bytes_of o)
+    go None e = refl
+    go (Some (file bytes)) e = cc
+    go (Some folder) e = cc
 
 -- ---- above
 
@@ -105,7 +121,7 @@ module _ (tree : Tree) (rooted : IsRooted tree) (place : Bytes) (some : place �
 
   first_part : (n : ℕ) (path : Bytes) → length path ≤ n → IsSome (get tree path) → IsAbove place path → FirstPart path
   first_part zero path short there above = absurd (omega (arith, short, above_shorter place path above))
-  first_part (suc n) path short there above = go (under_folder place path some above)
+  first_part (suc n) path short there above = go (λ q few is over. first_part n q few is over) (under_folder place path some above)
     where
       behind : FirstPart (parent path) → IsAbove (parent path) path → FirstPart path
       behind f over = record {
@@ -118,12 +134,12 @@ module _ (tree : Tree) (rooted : IsRooted tree) (place : Bytes) (some : place �
         ]);
       }
 
-      go : (parent path ≡ place) ⊎ IsAbove place (parent path) → FirstPart path
-      go (inl same) = record { part = path; there = there; in_place = same; leads = inl refl }
-      go (inr beyond) =
+      go : ((q : Bytes) → length q ≤ n → IsSome (get tree q) → IsAbove place q → FirstPart q) → (parent path ≡ place) ⊎ IsAbove place (parent path) → FirstPart path
+      go rest (inl same) = record { part = path; there = there; in_place = same; leads = inl refl }
+      go rest (inr beyond) =
           let long = above_shorter place (parent path) beyond in
           let over : IsAbove (parent path) path = (after_last is_slash path, path_in_folder path (omega (arith, long))) in
-          behind (first_part n (parent path) (omega (arith, short, above_shorter (parent path) path over)) (folder_stands (parent path) beyond (rooted path there).1) beyond) over
+          behind (rest (parent path) (omega (arith, short, above_shorter (parent path) path over)) (folder_stands (parent path) beyond (rooted path there).1) beyond) over
 
   module _ (names : List Bytes) (listed : names ≡ names_at tree place) (free : (i : ℕ) → i < length names → IsFreeFrom tree (path_in place (get_or names i []))) where
     child : (path : Bytes) → IsSome (get tree path) → parent path ≡ place → IsFreeFrom tree path
@@ -155,3 +171,17 @@ module _ (tree : Tree) (rooted : IsRooted tree) (place : Bytes) (some : place �
               | inl same ↦ subst (λ p. file_at tree p ≡ None) same free_there.0
               | inr over ↦ free_there.1 path over
             ]
+
+-- a path below isn't the root's
+pub longer_too : (place path : Bytes) → IsAbove place path → path ≢ []
+longer_too place path above none = omega (arith, above_shorter place path above, ap length none)
+
+-- ---- names
+
+pub name_not_root : (name : Bytes) → is_name name ≡ true → name ≢ []
+name_not_root name formed none = let wrong : false ≡ true = ap is_name (sym none) ∙ formed in cc wrong
+
+pub collision_told : (name : Bytes) (tree : Tree) (result : Result Bool FileError) → NoFileAbove name tree → IfOk result (λ found. TellsBelow name tree found) → IfOk result (λ found. TellsCollision name tree found)
+collision_told name tree (Ok true) above (other, below, there) = (other, inr below, there)
+collision_told name tree (Ok false) above below = record { above = above; below = below }
+collision_told name tree (Err error) above below = below

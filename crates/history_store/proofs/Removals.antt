@@ -1,5 +1,5 @@
 -- What is left of a map, and of a tree, without one name.
-use Rattle.std.proofs.Common.{◌≡◌, Bool, true, false, cond, not, T, List, [], ◌∷◌, map, filter, Option, None, refl, sym, ◌∙◌, ap, subst, bytes_eq, Vec, ℕ}
+use Rattle.std.proofs.Common.{◌≡◌, Bool, true, false, cond, not, ◌&&◌, T, List, [], ◌∷◌, map, filter, Option, None, refl, sym, ◌∙◌, ap, subst, bytes_eq, Vec, ℕ}
 use Rattle.std.specs.Ordering.{is_eq, is_lt, eq_by_cmp}
 use Rattle.std.specs.Map.{remove_entry}
 use Rattle.std.specs.declared.cmp.Ordering.{Ordering}

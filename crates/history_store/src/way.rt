@@ -2,7 +2,7 @@
 ghost use Rattle.std.specs.Prelude.{◌≡◌, ◌≢◌, ◌≤◌, [], IfOk, OnOk, IsErrOf, IsTrue, Some};
 ghost use Rattle.std.specs.FinMap.{get};
 ghost use Rattle.gix_ref_file.specs.Tree.{folder, is_path};
-ghost use Rattle.gix_ref_file.specs.Changes.{may_hold_file};
+ghost use Rattle.gix_ref_file.specs.Changes.{is_file_at, may_hold_file};
 ghost use Rattle.gix_ref_file.specs.Calls.{Achieves, Finds, HasFault, Passes};
 ghost use Rattle.gix_ref_file.specs.declared.files.FileError.TheVariants.{Failed};
 ghost use Rattle.history_store.specs.Stores.{SameFiles, FoldersAbove};
@@ -58,6 +58,19 @@ fn clear_way<F: Files>(alloc: Global, files: &mut F, place: &[u8]) -> Result<(),
     files.remove_empty_folder(alloc, place)
 }
 
+// Whether a file stands at the path.
+fn is_file<F: Files>(files: &F, path: &[u8]) -> Result<bool, FileError>
+    ensures found { Finds F.is_honest F.history files.now
+        (λ tree. IfOk result (λ found. found ≡ is_file_at tree path.now)) }
+    ensures failed { IsErrOf result Failed → F.reading_may_fail }
+{
+    match files.kind_of(path)? {
+        Place::File(_) => Ok(true),
+        Place::Folder => Ok(false),
+        Place::Absent => Ok(false),
+    }
+}
+
 /// Whether a file stands where the path needs a folder.
 pub fn has_file_above<F: Files>(files: &F, path: &[u8]) -> Result<bool, FileError>
     ensures found { Finds F.is_honest F.history files.now
@@ -66,7 +79,7 @@ pub fn has_file_above<F: Files>(files: &F, path: &[u8]) -> Result<bool, FileErro
 {
     for (end, byte) in path.iter().enumerate() {
         if *byte == b'/' {
-            if let Place::File(_) = files.kind_of(&path[..end])? {
+            if is_file(files, &path[..end])? {
                 return Ok(true);
             }
         }
@@ -82,15 +95,13 @@ pub fn has_file_below<F: Files>(alloc: Global, files: &F, path: &[u8]) -> Result
 {
     for name in &files.list(alloc, path)? {
         let inner = joined(alloc, path, name)?;
-        match files.kind_of(&inner)? {
-            Place::Folder if is_deeper(&inner, path) => {
-                if has_file_below(alloc, files, &inner)? {
-                    return Ok(true);
-                }
+        if is_file(files, &inner)? {
+            return Ok(true);
+        }
+        if is_deeper(&inner, path) {
+            if has_file_below(alloc, files, &inner)? {
+                return Ok(true);
             }
-            Place::File(_) => return Ok(true),
-            // A name without a place: the folder changed while it was read.
-            Place::Folder | Place::Absent => {}
         }
     }
     Ok(false)
