@@ -1,10 +1,10 @@
 -- What a commit stands on, and the causes that its words, its name and its parents tell.
 use Rattle.std.specs.declared.alloc.Global.{Global}
-use Rattle.std.specs.Prelude.{Vec, Result}
-use Rattle.std.proofs.Common.{◌≡◌, ℕ, Bool, true, false, cond, not, ◌||◌, List, [], ◌∷◌, ◌++◌, map, filter, refl, sym, ◌∙◌, ap, subst, Option, Some, None, option_map, option_to_list, Err}
+use Rattle.std.specs.Prelude.{Vec, Result, IsErrOf}
+use Rattle.std.proofs.Common.{◌≡◌, ℕ, zero, suc, ◌+◌, ◌<◌, length, take, drop, get_or, arith, append_assoc, Bool, true, false, cond, not, ◌||◌, List, [], ◌∷◌, ◌++◌, map, filter, refl, sym, ◌∙◌, ap, subst, Option, Some, None, option_map, option_to_list, Err}
 use Rattle.std.specs.List.{list_any, filter_map, cons_option}
 use Rattle.std.proofs.lemmas.List.{map-append}
-use Rattle.history_model.specs.Bytes.{Bytes}
+use Rattle.history_model.specs.Bytes.{Bytes, has_twice}
 use Rattle.gix_hash.specs.Id.{Id, id_of}
 use Rattle.gix_hash.specs.Order.{id_eq}
 use Rattle.history_model.specs.Repository.{Repository, HasWholeNames, id_at, stands}
@@ -24,7 +24,7 @@ use Rattle.history_word.specs.declared.command.Expect.TheVariants as sent
 use Rattle.gix_hash.specs.declared.object_id.ObjectId.{ObjectId}
 use Rattle.history.specs.Acts.{IsReadingFault, Gives}
 use Rattle.history.specs.Bases.{IsExpected, expected_readings, words_cause, held_cause, reads_as, parents_cause}
-use Rattle.history.specs.CommitCauses.{first_among, word_causes, held_causes, parent_causes, IsToldBy}
+use Rattle.history.specs.CommitCauses.{first_among, word_causes, held_causes, parent_causes, IsToldBy, Tests}
 use Rattle.history.specs.Readings.{reading_of, commit_in}
 use Rattle.history.specs.declared.words.WordReading as own
 use Rattle.history.specs.declared.words.WordReading.TheVariants as read
@@ -33,6 +33,16 @@ use Rattle.history.specs.declared.base.Expected.TheVariants as expected
 use Rattle.history.specs.declared.stopped.Stopped.{Stopped}
 use Rattle.history.specs.declared.stopped.Stopped.TheVariants.{Refused, Fault}
 use Rattle.history.proofs.WordReads.{stands_so}
+use Rattle.gix_ref_file.specs.History.{History}
+use Rattle.gix_ref_file.specs.declared.files.FileError.{FileError}
+use Rattle.gix_ref_file.specs.declared.files.FileError.TheVariants.{Failed, Memory}
+use Rattle.history_model.specs.Forms.{is_name}
+use Rattle.history_store.specs.References.{NameHolds}
+use Rattle.history.specs.Face.{names_part}
+use Rattle.history.specs.Faults.{file_fault}
+use Rattle.history.specs.Stands.{Serves}
+use Rattle.history.specs.declared.repository.Repository as own_repository
+use Rattle.history.proofs.NameReads.{held, refs_front}
 
 -- ---- what is expected
 
@@ -61,7 +71,7 @@ gives_told {A} MayFail P causes r order result stopped was gives = fault_told Ma
 
 -- ---- words
 
-any_map : {X Y : Type 0} (p : Y → Bool) (f : X → Y) (xs : List X) → list_any p (map f xs) ≡ list_any (λ x. p (f x)) xs
+pub any_map : {X Y : Type 0} (p : Y → Bool) (f : X → Y) (xs : List X) → list_any p (map f xs) ≡ list_any (λ x. p (f x)) xs
 any_map p f [] = refl
 any_map p f (x ∷ xs) = ap (λ b. p (f x) || b) (any_map p f xs)
 
@@ -169,3 +179,68 @@ module _ (r : Repository) (order : CommitCommand) (o : IsOffered r) (w : HasWhol
 
   pub parents_so : (parents : List ObjectId) → map id_of parents ≡ parents_of r order → first_among parent_causes r (Commit order) ≡ parents_cause (map id_of parents)
   parents_so parents is = ap parents_cause (sym is)
+
+-- ---- one word after another
+
+take_one : {X : Type 0} (xs : List X) (i : ℕ) (d : X) → i < length xs → take (suc i) xs ≡ take i xs ++ get_or xs i d ∷ []
+take_one [] i d less = absurd (omega (arith, less))
+take_one (x ∷ xs) zero d less = refl
+take_one (x ∷ xs) (suc i) d less = ap (λ ys. x ∷ ys) (take_one xs i d (omega (arith, less)))
+
+one_further : {X : Type 0} (xs : List X) (i : ℕ) (x : X) → i < length xs → x ≡ get_or xs i x → take (i + 1) xs ≡ take i xs ++ x ∷ []
+one_further xs i x less is =
+    let next : i + 1 ≡ suc i = omega arith in
+    ap (λ n. take n xs) next ∙ take_one xs i x less ∙ ap (λ y. take i xs ++ y ∷ []) (sym is)
+
+filter_map_more : {X Y : Type 0} (f : X → Option Y) (xs : List X) (x : X) → filter_map f (xs ++ x ∷ []) ≡ filter_map f xs ++ option_to_list (f x)
+filter_map_more f [] x = go (f x)
+  where
+    go : (o : Option Y) → cons_option o [] ≡ option_to_list o
+    go None = refl
+    go (Some y) = refl
+filter_map_more f (z ∷ xs) x = go (f z) (filter_map_more f xs x)
+  where
+    go : (o : Option Y) → filter_map f (xs ++ x ∷ []) ≡ filter_map f xs ++ option_to_list (f x) → cons_option o (filter_map f (xs ++ x ∷ [])) ≡ cons_option o (filter_map f xs) ++ option_to_list (f x)
+    go None e = e
+    go (Some y) e = ap (λ ys. y ∷ ys) e
+
+-- one word more of the parents
+pub parent_added : (held : Option ObjectId) (words : List own.WordReading) (i : ℕ) (word : own.WordReading) (found : Option ObjectId) (parents more : List ObjectId) → i < length words → word ≡ get_or words i word
+    → found ≡ commit_in word → parents ≡ option_to_list held ++ filter_map commit_in (take i words) → more ≡ parents ++ option_to_list found → more ≡ option_to_list held ++ filter_map commit_in (take (i + 1) words)
+parent_added held words i word found parents more less is read so_far added =
+    added ∙ (λ j. so_far j ++ option_to_list (read j)) ∙ append_assoc (option_to_list held) (filter_map commit_in (take i words)) (option_to_list (commit_in word))
+    ∙ ap (λ ids. option_to_list held ++ ids) (sym (ap (filter_map commit_in) (one_further words i word less is) ∙ filter_map_more commit_in (take i words) word))
+
+-- one reading more of the words
+pub reading_added : (r : Repository) (words : List (Vec ℕ Global)) (i : ℕ) (word : Vec ℕ Global) (reading : own.WordReading) (readings more : List own.WordReading) → i < length words → word ≡ get_or words i word
+    → reading_of reading ≡ word_reading r word.items → map reading_of readings ≡ map (λ (word : Vec ℕ Global). word_reading r word.items) (take i words) → more ≡ readings ++ reading ∷ []
+    → map reading_of more ≡ map (λ (word : Vec ℕ Global). word_reading r word.items) (take (i + 1) words)
+reading_added r words i word reading readings more less is read so_far added =
+    ap (map reading_of) added ∙ map-append reading_of readings (reading ∷ []) ∙ (λ j. so_far j ++ read j ∷ [])
+    ∙ sym (ap (map (λ (word : Vec ℕ Global). word_reading r word.items)) (one_further words i word less is) ∙ map-append (λ (word : Vec ℕ Global). word_reading r word.items) (take i words) (word ∷ []))
+
+-- ---- ids that stand twice
+
+pub twice_told : (ids : List ObjectId) (d : ObjectId) → 0 < length ids
+    → has_twice id_eq (map id_of ids) ≡ (list_any (λ id. id_eq (id_of (get_or ids 0 d)) (id_of id)) (drop 1 ids) || has_twice id_eq (map id_of (drop 1 ids)))
+twice_told [] d some = absurd (omega (arith, some))
+twice_told (x ∷ xs) d some = ap (λ b. b || has_twice id_eq (map id_of xs)) (any_map (id_eq (id_of x)) id_of xs)
+
+-- ---- a repository with its files
+
+-- what the file of a commit's name tells is what the name holds
+pub name_held : {F : Type 0} (IsHonest : F → Type 0) (history : F → History) (repository : own_repository.Repository F) (r : Repository) (order : CommitCommand) → Serves IsHonest history repository r
+    → (name : Bytes) → name ≡ branch_or_name r order.name → is_name name ≡ true → (found : Option ObjectId) → NameHolds repository.names.kind (history (names_part repository)).tree name found
+    → option_map id_of found ≡ id_at r (branch_or_name r order.name)
+name_held IsHonest history repository r order stand name named formed found holds =
+    held IsHonest history repository r stand name (refs_front name formed) found (subst (λ kind. NameHolds kind (history (names_part repository)).tree name found) stand.stands.names_kind holds) ∙ ap (id_at r) named
+
+-- a call of the files that failed
+pub file_told : {A B : Type 0} (MayFail : Type 0) (causes : List Cause) (r : Repository) (order : CommitCommand) (Q : B → Type 0) (result : Result A FileError) (ends : Result B Stopped) (error : FileError)
+    → result ≡ Err error → ends ≡ Err (Fault (file_fault error)) → (IsErrOf result Failed → MayFail) → Tests MayFail causes r order Q ends
+file_told {A} {B} MayFail causes r order Q result ends error was is_end failed =
+    subst (λ (x : Result B Stopped). Tests MayFail causes r order Q x) (sym is_end) (by_error error (subst (λ (x : Result A FileError). IsErrOf x Failed → MayFail) was failed))
+  where
+    by_error : (error : FileError) → (IsErrOf (Err {A = A} error) Failed → MayFail) → IsReadingFault MayFail (Fault (file_fault error))
+    by_error Failed may = may refl
+    by_error Memory may = tt

@@ -1,5 +1,5 @@
 -- What a commit stands on, and why it can't stand on it.
-use Rattle.std.specs.Prelude.{◌≡◌, List, [], ◌∷◌, map, length, nat_lt, Option, Some, None, option_map, if◌then◌else◌}
+use Rattle.std.specs.Prelude.{◌≡◌, ⊤, List, [], ◌∷◌, map, length, nat_lt, Option, Some, None, option_map, if◌then◌else◌}
 use Rattle.std.specs.List.{list_any}
 use Rattle.history_model.specs.Bytes.{has_twice}
 use Rattle.history_model.specs.Repository as plain

@@ -53,14 +53,22 @@ impl Expected {
     fn is_unknown(self) -> bool
         ensures { result ≡ list_any is_unknown (expected_readings self) }
     {
-        matches!(self, Expected::At(WordReading::Unknown))
+        match self {
+            Expected::Any => false,
+            Expected::New => false,
+            Expected::At(reading) => reading.is_unknown(),
+        }
     }
 
     /// Whether the word is HEAD, whose branch doesn't stand.
     fn is_unborn(self) -> bool
         ensures { result ≡ list_any is_unborn (expected_readings self) }
     {
-        matches!(self, Expected::At(WordReading::Unborn))
+        match self {
+            Expected::Any => false,
+            Expected::New => false,
+            Expected::At(reading) => reading.is_unborn(),
+        }
     }
 
     /// Tests what the name holds.
@@ -100,17 +108,13 @@ fn test_words(expected: Expected, parents: &[WordReading]) -> Result<(), Cause>
 fn have_unknown(readings: &[WordReading]) -> bool
     ensures { result ≡ list_any is_unknown (map reading_of readings.now) }
 {
-    readings
-        .iter()
-        .any(|reading| matches!(reading, WordReading::Unknown))
+    readings.iter().any(|reading| reading.is_unknown())
 }
 
 fn have_unborn(readings: &[WordReading]) -> bool
     ensures { result ≡ list_any is_unborn (map reading_of readings.now) }
 {
-    readings
-        .iter()
-        .any(|reading| matches!(reading, WordReading::Unborn))
+    readings.iter().any(|reading| reading.is_unborn())
 }
 
 /// The parents of a commit: what its name holds, and then what its words read as.
@@ -126,8 +130,8 @@ fn parents_of(
         parents.push(id)?;
     }
     for word in words {
-        if let WordReading::Commit(id) = word {
-            parents.push(*id)?;
+        if let Some(id) = word.id() {
+            parents.push(id)?;
         }
     }
     Ok(parents)
@@ -150,10 +154,12 @@ fn test_parents(parents: &[ObjectId]) -> Result<(), Cause>
 fn has_twice(ids: &[ObjectId]) -> bool
     ensures { result ≡ has_twice id_eq (map id_of ids.now) }
 {
-    match ids {
-        [first, rest @ ..] => rest.iter().any(|id| first == id) || has_twice(rest),
-        [] => false,
+    if ids.is_empty() {
+        return false;
     }
+    let first = ids[0];
+    let rest = &ids[1..];
+    rest.iter().any(|id| first == *id) || has_twice(rest)
 }
 
 impl<F: Files> Repository<F> {
@@ -196,7 +202,10 @@ impl<F: Files> Repository<F> {
             → option_map id_of held ≡ id_at r (branch_or_name r order.name)
             → Tests F.reading_may_fail place_causes r order (λ _. ⊤) result }
     {
-        if held.is_none() && self.names.collides(alloc, name)? {
+        if held.is_some() {
+            return Ok(());
+        }
+        if self.names.collides(alloc, name)? {
             return Err(Stopped::Refused(Cause::Collides));
         }
         Ok(())

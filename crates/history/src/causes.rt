@@ -53,7 +53,8 @@ fn has_bad_path(edit: &Edit) -> bool
 {
     match edit {
         Edit::Put(put) => is_bad_path(&put.path),
-        Edit::Remove(path) | Edit::RemoveFile(path) => is_bad_path(path),
+        Edit::Remove(path) => is_bad_path(path),
+        Edit::RemoveFile(path) => is_bad_path(path),
     }
 }
 
@@ -63,7 +64,8 @@ fn has_long_content(edit: &Edit) -> bool
 {
     match edit {
         Edit::Put(put) => is_too_long(&put.content),
-        Edit::Remove(_) | Edit::RemoveFile(_) => false,
+        Edit::Remove(_) => false,
+        Edit::RemoveFile(_) => false,
     }
 }
 

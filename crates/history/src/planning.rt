@@ -1,6 +1,6 @@
 //! What a `commit` is to store, and how its name is to move.
 
-ghost use Rattle.std.specs.Prelude.{◌≡◌, ◌≤◌, ◌<◌, List, ◌∷◌, [], IfOk, IsTrue, MatchResult, map, length};
+ghost use Rattle.std.specs.Prelude.{◌≡◌, ◌≤◌, ◌<◌, List, ◌∷◌, [], IfOk, IsTrue, MatchResult, map, option_to_list, length};
 ghost use Rattle.std.specs.List.{AllByRecursion};
 ghost use Rattle.history_model.specs.FileMap.{FileMap};
 ghost use Rattle.history_model.specs.Forms.{max_content};
@@ -98,6 +98,31 @@ impl<F: Files> Repository<F> {
         Ok(blob)
     }
 
+    /// Makes one edit, and gives the object of its content, if it has one. Where files are flat a removal meets no folder.
+    fn make_edit(
+        &self,
+        alloc: Global,
+        tree: &mut Tree,
+        edit: Edit,
+    ) -> Result<Option<NewObject>, AllocError>
+        ensures { (r : plain.Repository) (files : FileMap) (line : orders.EditLine)
+            → IsEdit edit line → AreWithin (line ∷ []) → IsTrue (is_flat files)
+            → IsTreeOf (kind_of_objects self.now.objects) tree.old files
+            → IfOk result (λ blob. HasEdited r (kind_of_objects self.now.objects) files (line ∷ []) (option_to_list blob) tree.new) }
+    {
+        match edit {
+            Edit::Put(put) => Ok(Some(self.put_file(alloc, tree, put)?)),
+            Edit::Remove(path) => {
+                tree.remove(kept(&path));
+                Ok(None)
+            }
+            Edit::RemoveFile(path) => {
+                tree.remove(kept(&path));
+                Ok(None)
+            }
+        }
+    }
+
     /// Changes the files by the edits in order, and gives the objects of their contents.
     fn edit(
         &self,
@@ -112,9 +137,8 @@ impl<F: Files> Repository<F> {
     {
         let mut blobs = Vec::with_capacity(alloc, edits.len())?;
         for edit in edits {
-            match edit {
-                Edit::Put(put) => blobs.push(self.put_file(alloc, tree, put)?)?,
-                Edit::Remove(path) | Edit::RemoveFile(path) => tree.remove(kept(&path)),
+            if let Some(blob) = self.make_edit(alloc, tree, edit)? {
+                blobs.push(blob)?;
             }
         }
         Ok(blobs)

@@ -2,11 +2,12 @@
 
 ghost use Rattle.std.specs.Prelude.{◌≡◌, ◌++◌, ◌&&◌, not, Some, None, IfOk, MatchResult, codes};
 ghost use Rattle.history_model.specs.Bytes.{begins};
+ghost use Rattle.history_model.specs.Causes.{is_unborn, is_unknown};
 ghost use Rattle.history_model.specs.Forms.{is_private};
 ghost use Rattle.history_model.specs.Words.{word_reading, ReadsAs};
 ghost use Rattle.history.specs.Acts.{word_cause};
 ghost use Rattle.history.specs.Bases.{reads_as};
-ghost use Rattle.history.specs.Readings.{reading_of};
+ghost use Rattle.history.specs.Readings.{commit_in, reading_of};
 ghost use Rattle.gix_hash.specs.Id.{id_of};
 
 use crate::naming::{HEAD, is_private};
@@ -62,10 +63,48 @@ impl WordReading {
             (λ cause. reads_as (id_of held) (reading_of self) ≡ Some cause) }
     {
         match self {
-            WordReading::Commit(id) if held == id => Ok(()),
-            WordReading::Commit(_) | WordReading::Unborn | WordReading::Unknown => {
-                Err(Cause::NotExpected)
+            WordReading::Commit(id) => {
+                if held == id {
+                    Ok(())
+                } else {
+                    Err(Cause::NotExpected)
+                }
             }
+            WordReading::Unborn => Err(Cause::NotExpected),
+            WordReading::Unknown => Err(Cause::NotExpected),
+        }
+    }
+
+    /// The id that the word reads as.
+    pub(crate) fn id(self) -> Option<ObjectId>
+        ensures { result ≡ commit_in self }
+    {
+        match self {
+            WordReading::Commit(id) => Some(id),
+            WordReading::Unborn => None,
+            WordReading::Unknown => None,
+        }
+    }
+
+    /// Whether the word reads as nothing.
+    pub(crate) fn is_unknown(self) -> bool
+        ensures { result ≡ is_unknown (reading_of self) }
+    {
+        match self {
+            WordReading::Commit(_) => false,
+            WordReading::Unborn => false,
+            WordReading::Unknown => true,
+        }
+    }
+
+    /// Whether the word is HEAD, whose branch doesn't stand.
+    pub(crate) fn is_unborn(self) -> bool
+        ensures { result ≡ is_unborn (reading_of self) }
+    {
+        match self {
+            WordReading::Commit(_) => false,
+            WordReading::Unborn => true,
+            WordReading::Unknown => false,
         }
     }
 

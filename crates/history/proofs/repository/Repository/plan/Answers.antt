@@ -33,8 +33,8 @@ pub returns-in_err-base : goal.returns-in_err-base
 returns-in_err-base g c = λ r order asked.
     let h = asked.serves in
     let w = ((h.stands.whole).whole).names in
-    let stopped = err_from_is_err_and c.from_residual-in_err-base.result c.from_residual-in_err-base.ensures.1 in
-    base_planned r order h.stage.offered w asked.offered g.F.Files.reading_may_fail c.base.result c.from_residual-in_err-base.result c.in_err-base.field-0.0 c.in_err-base.was (stopped.1 ∙ ap Err stopped.2)
+    let stopped = err_from_is_err_and c.from_residual.result c.from_residual.ensures.1 in
+    base_planned r order h.stage.offered w asked.offered g.F.Files.reading_may_fail c.base.result c.from_residual.result c.in_err-base.field-0.0 c.in_err-base.was (stopped.1 ∙ ap Err stopped.2)
     (c.base.ensures r order asked)
 
 pub returns-in_err-times : goal.returns-in_err-times
