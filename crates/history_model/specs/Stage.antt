@@ -5,6 +5,7 @@ use Rattle.std.specs.List.{list_all}
 use Rattle.history_model.specs.Bytes.{Bytes, is_empty, has_byte}
 use Rattle.history_model.specs.Repository.{first_branch}
 use Rattle.history_model.specs.Commands.{Command, Commit, Files, Show, EditLine, PutLine}
+use Rattle.history_model.specs.LineTable.{Heading, CommitHeading, FilesHeading, ShowHeading, first_line}
 
 abbrev pub is_put : EditLine → Bool
 is_put (PutLine kind path content) = true
@@ -18,12 +19,16 @@ main_name = first_branch
 abbrev pub is_commit_name : Bytes → Bool
 is_commit_name name = bytes_eq name main_name || bytes_eq name (codes "HEAD")
 
--- The commands that a stream has: commits, and the readings `files` and `show`. Any other line is one that the grammar doesn't allow.
+-- The lines that may begin a command of a stream: those of commits, and of the readings `files` and `show`. Any other is one that
+-- the grammar doesn't allow.
+abbrev pub opens : Heading → Bool
+opens (CommitHeading name expect) = true
+opens (FilesHeading word) = true
+opens (ShowHeading word path) = true
+opens _ = false
+
 abbrev pub is_spoken : Command → Bool
-is_spoken (Commit c) = true
-is_spoken (Files word) = true
-is_spoken (Show word path) = true
-is_spoken _ = false
+is_spoken command = opens (first_line command)
 
 -- A commit on the first branch without parent lines, whose edits are all `put`, and the readings `files` and `show`.
 abbrev pub is_offered : Command → Bool
