@@ -58,7 +58,10 @@ fn check_storing<R: Abort>(
     assert!(rt; is_stored(alloc, &objects, &stored, ObjectKind::Blob, b"hello"));
     let empty_tree = put(alloc, &mut objects, ObjectKind::Tree, b"")?;
     assert!(rt; is_stored(alloc, &objects, &empty_tree, ObjectKind::Tree, b""));
-    assert!(rt; objects.ids().count() == 2);
+    let mut ids = objects.ids();
+    assert!(rt; ids.next().is_some());
+    assert!(rt; ids.next().is_some());
+    assert!(rt; ids.next() == None);
     let null = ObjectId::null(kind);
     assert!(rt; !objects.contains(&null));
     assert!(rt; is_absent(alloc, &objects, &null));
