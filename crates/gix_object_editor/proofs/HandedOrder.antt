@@ -90,7 +90,7 @@ module _ (slots : Slots) (bound : ℕ) (ok : IsForest slots bound) where
         let below : d.path ≡ path ++ item.name ∷ [] =
         sym d.leads.2 ∙ ap (λ p. onto p []) same ∙ onto-append (way ++ base) [] (item.name ∷ []) ∙ ap (λ p. p ++ item.name ∷ []) leads in
         let named_so = unless_is (folder_item item.name id) item e in
-        inl (record { path = d.path; items = d.items; id = id }, found, below, ap (λ (x : Item). x.id) (sym named_so.0))
+        inl (record { path = d.path; items = d.items; id = id }, found, below, ap (λ (x : Item). x.id) (sym named_so.0), ap (λ (x : Item). x.mode) named_so.0)
 
     slot_known : (item : Item) (o : Option Slot) → slots i item.name ≡ o → through o (written_item ids item.name) ≡ Some item → IsKnown slots handed path item
     slot_known item None at e = absurd (cc e)

@@ -17,14 +17,14 @@ use Rattle.gix_object_editor.specs.declared.tree.editor.node.Node.{Node}
 use Rattle.gix_object_editor.specs.declared.tree.editor.write.error.Error.{Error}
 use Rattle.gix_object_editor.specs.declared.tree.editor.write.error.Error.TheVariants.{Out, Memory}
 use Rattle.gix_object_editor.specs.declared.tree.editor.state.Editor.{Editor}
-use Rattle.gix_object_editor.specs.Files.{Path, Trees, is_null, through, behind, files_of_tree}
+use Rattle.gix_object_editor.specs.Files.{Bytes, Path, Trees, is_null, through, behind, named, files_of_tree}
 use Rattle.gix_object_editor.specs.Nodes.{Slots, slot_in, slots_of, Way, onto, LeadsTo, IsForest, files_of_node}
 use Rattle.gix_object_editor.specs.Writing.{Ids, ids_of, IsReached, written_item, HasEntries, IsTreeOf}
 use Rattle.gix_object_editor.specs.Written.{HandedOut, HasHandedOut, HandsOut, WriteFault, EachBehind, StandsUnopened, IsKnown, IsHandedOut, IsWritten}
 use Rattle.gix_object_editor.specs.Below.{IsAnswered, IsDone, IsOneFrom, IsHandedOutFrom, Answered}
 use Rattle.gix_object_editor.proofs.HandedOrder.{not_above, each_more, entries_kept, all_known, none_null}
 use Rattle.gix_object_editor.proofs.Slots.{node_at}
-use Rattle.gix_object_editor.proofs.WrittenFiles.{tree_files, files_below}
+use Rattle.gix_object_editor.proofs.WrittenFiles.{tree_files, files_below, no_entry}
 use Rattle.gix_object_editor.proofs.WrittenEntries.{once_named}
 
 -- ---- ids at their numbers
@@ -69,6 +69,13 @@ module _ (slots : Slots) (base : Path) (bound : ℕ) (ok : IsForest slots bound)
           let to : LeadsTo slots path i [] = (way ++ base, w, leads) in
           tree_files slots bound ok ids handed base i done trees stands q i items le (way, w) tree.entries ∙ files_below trees slots path i q to
 
+    none_at : All (λ (earlier : HandedOut). is_null earlier.id ≡ false) handed → (name : Bytes) (rest : Path) → named name items ≡ None → (trees : Trees) → files_of_node trees slots 0 (path ++ name ∷ rest) ≡ None
+    none_at some name rest none trees =
+        let le : i ≤ i = omega arith in
+        let to : LeadsTo slots path i [] = (way ++ base, w, leads) in
+        sym (files_below trees slots path i (name ∷ rest) to)
+        ∙ no_entry slots bound ok ids handed base i done (λ x h. All-contains (λ (t : HandedOut). is_null t.id ≡ false) handed x some h) trees rest i items name le (way, w) tree.entries none
+
     -- a tree that is handed out behind those of greater numbers
     pub is_next : (id : Id) → IsHandedOut slots handed (record { path = path; items = items; id = id })
     is_next id =
@@ -81,6 +88,7 @@ module _ (slots : Slots) (base : Path) (bound : ℕ) (ok : IsForest slots bound)
           no_null = none_null slots bound ok ids handed i base done way path w leads items tree.entries (once_named items tree.once);
           no_empty = λ trees has. All-weaker (IsKnown slots handed path) (λ (item : Item). trees item.id ≡ Some [] → StandsUnopened slots path item) (filled trees has) items known;
           well_formed = tree.well_formed;
+          complete = none_at;
           files = files;
         }
 

@@ -88,6 +88,54 @@ module _ (slots : Slots) (bound : ℕ) (ok : IsForest slots bound) (ids : Ids) (
   tree_files (n ∷ rest) j items from reached e =
       ap (λ o. through o (λ item. files_of_entry trees rest (leaf_of item))) (e n) ∙ one_slot rest (tree_files rest) j n from reached (slots j n) refl
 
+-- what isn't written has the null id
+null_is : (x : Item) → unless_null x ≡ None → is_null x.id ≡ true
+null_is x e = elim (by_test (is_null x.id)) [
+  | inl t ↦ t
+  | inr f ↦ let some : Some x ≡ None = ap (λ b. if b then None else Some x) (sym f) ∙ e in absurd (cc some)
+]
+
+module _ (slots : Slots) (bound : ℕ) (ok : IsForest slots bound) (ids : Ids) (handed : List HandedOut) (base : Path) (at : ℕ) (done : (j : ℕ) → at < j → j < bound → IsReached slots base j → IsDone slots ids handed j)
+    (some : (tree : HandedOut) → Contains handed tree → is_null tree.id ≡ false) (trees : Trees) where
+  -- a folder that isn't written has no entries
+  unwritten : (name : Bytes) (c : ℕ) → at < c → c < bound → IsReached slots base c → (o : Option Id) → ids c ≡ o → through o (λ id. unless_null (folder_item name id)) ≡ None → HasEntries ids (slots c) []
+  unwritten name c up within reached None e none =
+      let d = done c up within reached in
+      let empty : d.items ≡ [] = subst (λ x. IsAnswered x handed d.path d.items) e d.answered in
+      subst (HasEntries ids (slots c)) empty d.entries
+  unwritten name c up within reached (Some id) e none =
+      let d = done c up within reached in
+      let found : Contains handed (record { path = d.path; items = d.items; id = id }) = subst (λ x. IsAnswered x handed d.path d.items) e d.answered in
+      let not : is_null id ≡ false = some (record { path = d.path; items = d.items; id = id }) found in
+      absurd (cc (sym (null_is (folder_item name id) none) ∙ not))
+
+  none_in_slot : (rest : Path) → ((c : ℕ) → at ≤ c → IsReached slots base c → HasEntries ids (slots c) [] → files_of_node trees slots c rest ≡ None)
+      → (j : ℕ) (name : Bytes) → at ≤ j → IsReached slots base j → (o : Option Slot) → slots j name ≡ o → through o (written_item ids name) ≡ None → through o (files_of_slot trees slots rest) ≡ None
+  none_in_slot rest later j name from reached None e none = refl
+  none_in_slot rest later j name from reached (Some s) e none = split rest ∙ by_child s.child refl none
+    where
+      split : (rest : Path) → files_of_slot trees slots rest s ≡ child_or s.child (λ c. files_of_node trees slots c rest) (files_of_entry trees rest (leaf_in s))
+      split [] = refl
+      split (n ∷ rest) = refl
+
+      by_child : (child : Option NodeId) → s.child ≡ child
+          → child_or child (λ c. through (ids c) (λ id. unless_null (folder_item name id))) (unless_null (slot_item name s)) ≡ None
+          → child_or child (λ c. files_of_node trees slots c rest) (files_of_entry trees rest (leaf_in s)) ≡ None
+      by_child None closed none = null_entry trees rest (leaf_in s) (null_is (slot_item name s) none)
+      by_child (Some c) opened none =
+          let is : child_of (slots j name) ≡ Some c.0 = ap child_of e ∙ ap (λ o. child_or o (λ c. Some c) None) opened in
+          let up : j < c.0 = ok.forward j name c.0 is in
+          let more : at < c.0 = omega (arith, from) in
+          let to = reached_child slots base j c.0 name reached is in
+          let le : at ≤ c.0 = omega arith in
+          later c.0 le to (unwritten name c.0 more (ok.within j name c.0 is) to (ids c.0) refl none)
+
+  -- no file stands below a name without an entry
+  pub no_entry : (rest : Path) (j : ℕ) (items : List Item) (name : Bytes) → at ≤ j → IsReached slots base j → HasEntries ids (slots j) items → named name items ≡ None → files_of_node trees slots j (name ∷ rest) ≡ None
+  no_entry [] j items name from reached e none = none_in_slot [] (λ c le to empty. refl) j name from reached (slots j name) refl (sym (e name) ∙ none)
+  no_entry (m ∷ rest) j items name from reached e none =
+      none_in_slot (m ∷ rest) (λ c le to empty. no_entry rest c [] m le to empty refl) j name from reached (slots j name) refl (sym (e name) ∙ none)
+
 -- the files of an opened tree are the root's below its path
 pub files_below : (trees : Trees) (slots : Slots) (path : Path) (j : ℕ) (q : Path) → LeadsTo slots path j [] → files_of_node trees slots j q ≡ files_of_node trees slots 0 (path ++ q)
 files_below trees slots path j q to = at_path q ∙ ap (files_of_node trees slots 0) (onto-append to.0 [] q ∙ ap (λ p. p ++ q) to.2)

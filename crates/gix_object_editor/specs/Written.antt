@@ -12,9 +12,10 @@ use Rattle.gix_object_editor.specs.declared.tree.editor.node.Slot.{Slot}
 use Rattle.gix_object_editor.specs.declared.tree.editor.state.Editor.{Editor}
 use Rattle.gix_object_editor.specs.declared.tree.editor.write.error.Error.{Error}
 use Rattle.gix_object_editor.specs.declared.tree.editor.write.error.Error.TheVariants.{Out, Memory}
-use Rattle.gix_object_editor.specs.Files.{Path, FileMap, Trees, SameFiles, is_null, leaf_of, through, behind, files_of_tree}
+use Rattle.gix_object_editor.specs.Files.{Bytes, Path, FileMap, Trees, SameFiles, is_null, leaf_of, named, through, behind, files_of_tree}
 use Rattle.gix_object_editor.specs.Nodes.{Slots, slots_of, leaf_in, files_of_node, LeadsTo}
 use Rattle.gix_object_editor.specs.Editor.{files_of}
+use Rattle.gix_object_editor.specs.Writing.{folder_mode}
 
 -- a tree that was handed out: the folder that it is, its entries, and the id that was answered
 pub record HandedOut : Type 0 where
@@ -41,10 +42,13 @@ EachBehind R before (x ∷ xs) = R before x × EachBehind R (before ++ x ∷ [])
 abbrev pub StandsUnopened : Slots → Path → Item → Type 0
 StandsUnopened slots path item = (j : ℕ) × (s : Slot) × LeadsTo slots path j [] × (slots j item.name ≡ Some s) × (s.child ≡ None) × (leaf_in s ≡ leaf_of item)
 
--- the entry names a folder's tree that was handed out before, or it stood so
+-- the entry names a folder's tree that was handed out before
+abbrev pub NamesFolder : List HandedOut → Path → Item → Type 0
+NamesFolder before path item = (child : HandedOut) × Contains before child × (child.path ≡ path ++ item.name ∷ []) × (child.id ≡ item.id) × (item.mode ≡ folder_mode)
+
+-- it does, or it stood so
 abbrev pub IsKnown : Slots → List HandedOut → Path → Item → Type 0
-IsKnown slots before path item =
-    ((child : HandedOut) × Contains before child × (child.path ≡ path ++ item.name ∷ []) × (child.id ≡ item.id)) ⊎ StandsUnopened slots path item
+IsKnown slots before path item = NamesFolder before path item ⊎ StandsUnopened slots path item
 
 -- a tree that is handed out behind these
 pub record IsHandedOut (slots : Slots) (before : List HandedOut) (tree : HandedOut) : Type 0 where
@@ -57,6 +61,9 @@ pub record IsHandedOut (slots : Slots) (before : List HandedOut) (tree : HandedO
   -- an entry that names the empty tree stood so
   pub no_empty : (trees : Trees) → HasHandedOut before trees → All (λ item. trees item.id ≡ Some [] → StandsUnopened slots tree.path item) tree.items
   pub well_formed : All (λ item. IsFilename item.name) tree.items → IsWellFormed tree.items
+  -- no file stands at or below a name that has no entry, unless the null id was answered for a tree
+  pub complete : All (λ earlier. is_null earlier.id ≡ false) before → (name : Bytes) (rest : Path) → named name tree.items ≡ None
+      → (trees : Trees) → files_of_node trees slots 0 (tree.path ++ name ∷ rest) ≡ None
   -- it has the files below its path
   pub files : (trees : Trees) → HasHandedOut before trees → (q : Path) → files_of_tree trees tree.items q ≡ files_of_node trees slots 0 (tree.path ++ q)
 
