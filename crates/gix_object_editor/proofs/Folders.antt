@@ -1,9 +1,11 @@
 -- Folders that are made by an entry below them that is taken out again, and cursors that stand at them.
-use Rattle.std.proofs.Common.{ℕ, ◌≡◌, ◌≢◌, ◌<◌, ◌≤◌, Bool, true, false, List, [], ◌∷◌, ◌++◌, Option, Some, None, refl, sym, ap, ◌∙◌, inl, inr, arith, length, get_or, if◌then◌else◌}
+use Rattle.std.proofs.Common.{ℕ, ◌≡◌, ◌≢◌, ◌<◌, ◌≤◌, Bool, true, false, List, [], ◌∷◌, ◌++◌, Option, Some, None, refl, sym, ap, subst, ◌∙◌, inl, inr, arith, length, get_or, if◌then◌else◌}
 use Rattle.std.specs.Prelude.{bytes_eq, is_some}
 use Rattle.std.specs.Borrow.{Bor}
 use Rattle.gix_object_editor.specs.Files.{Bytes, Path, Leaf, FileMap, Trees, HasNoneBelow, behind, removed, put, put_at, cleared, through}
 use Rattle.gix_object_editor.specs.Nodes.{Slots, child_of, files_of_node, entry_at, Way, onto, IsForest, IsFolderAt, LeadsTo, IsPutIn}
+use Rattle.gix_object_editor.specs.Marks.{Mark, Marks, AreMarksKept, AreOnPath}
+use Rattle.gix_object_editor.proofs.Opening.{at_or_off}
 use Rattle.gix_object_editor.proofs.Paths.{same_name, name_itself, by_test, behind_is, onto-append}
 use Rattle.gix_object_editor.proofs.Ways.{down, child_no_file, removes, way_above, way_kept}
 use Rattle.gix_object_editor.proofs.Walked.{names}
@@ -123,6 +125,31 @@ module _ (mid new : Slots) (more : ℕ) (ok : IsForest mid more) (path : Path) (
       ∙ ap (λ y. if is_some (behind (path ++ x ∷ []) q) then None else y) (puts q)
       ∙ cleared_by trees path x leaf files none q
 
+-- a slot without an opened tree is taken out
+module _ (mid new : Slots) (x : Bytes) (end : ℕ) (here : new end x ≡ None) (others : (i : ℕ) (m : Bytes) → ((i ≡ end) → (m ≡ x) → ⊥) → new i m ≡ mid i m) where
+  pub taken_link : (i : ℕ) (n : Bytes) (c : ℕ) → child_of (new i n) ≡ Some c → new i n ≡ mid i n
+  taken_link i n c e = elim (at_or_off i end n x) [
+    | inl y ↦
+        let none : child_of (new i n) ≡ None = ap (λ k. child_of (new k n)) y.0 ∙ ap (λ k. child_of (new end k)) y.1 ∙ ap child_of here in
+        absurd (cc (sym none ∙ e))
+    | inr off ↦ others i n off
+  ]
+
+  pub taken_marks : (state : Bool) (old : Slots) (was now fin : Marks) (bound more : ℕ) → ((i : ℕ) → fin i ≡ now i) → AreMarksKept state old mid was now bound more → AreMarksKept state old new was fin bound more
+  taken_marks state old was now fin bound more same kept = record {
+    same = λ i lt. same i ∙ kept.same i lt;
+    fresh = λ i le lt. ap (λ (m : Mark). m.changed) (same i) ∙ kept.fresh i le lt;
+    before = λ i le lt. subst (λ (m : Mark). m.parent < i) (sym (same i)) (kept.before i le lt);
+    up = λ i n c e le. ap (λ (m : Mark). m.parent) (same c) ∙ kept.up i n c (ap child_of (sym (taken_link i n c e)) ∙ e) le;
+    links = λ i n c e lt. taken_link i n c e ∙ kept.links i n c (ap child_of (sym (taken_link i n c e)) ∙ e) lt;
+  }
+
+  pub taken_ways : (more : ℕ) → IsForest mid more → (path : Path) (bound : ℕ) → ((j : ℕ) → j < more → j ≤ end) → AreOnPath mid path bound more → AreOnPath new path bound more
+  taken_ways more ok path bound last made j le lt =
+      let so = made j le lt in
+      let same : (i : ℕ) (m : Bytes) → i < end → new i m ≡ mid i m = λ i m less. others i m (λ e _. absurd (omega (arith, e, less))) in
+      (so.0, so.1, so.2, so.3, (so.4.0, way_above mid new more end ok same so.4.0 j (last j lt) so.4.1, so.4.2))
+
 names_push : (xs : List (Bor (List ℕ))) (x : Bor (List ℕ)) → names (xs ++ x ∷ []) ≡ names xs ++ x.now ∷ []
 names_push [] x = refl
 names_push (y ∷ xs) x = ap (λ p. y.now ∷ p) (names_push xs x)
@@ -161,3 +188,16 @@ pub entry_below : (slots : Slots) (base : Path) (j : ℕ) (p : List (Bor (List �
 entry_below slots base j [] leads some = absurd (some refl)
 entry_below slots base j (n ∷ p) leads some =
     sym (entry_at_way slots leads.0 j n.now (names p) leads.1) ∙ ap (entry_at slots 0) (below_base leads.0 base (names (n ∷ p)) leads.2)
+
+-- ---- names with one more
+
+pub two_long : (p : Path) (xs : List (Bor (List ℕ))) → names xs ≡ p ++ [] ∷ [] → 0 < length p → 1 < length xs
+two_long [] xs e some = absurd (omega (arith, some))
+two_long (n ∷ p) [] e some = absurd (cc e)
+two_long (n ∷ []) (x ∷ []) e some = absurd (cc e)
+two_long (n ∷ m ∷ p) (x ∷ []) e some = absurd (cc e)
+two_long (n ∷ p) (x ∷ y ∷ xs) e some = omega arith
+
+pub same_first_name : (p q : Path) → 0 < length p → get_or (p ++ q) 0 [] ≡ get_or p 0 []
+same_first_name [] q some = absurd (omega (arith, some))
+same_first_name (n ∷ p) q some = refl

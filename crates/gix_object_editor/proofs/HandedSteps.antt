@@ -22,6 +22,9 @@ use Rattle.gix_object_editor.specs.Nodes.{Slots, slot_in, slots_of, Way, onto, L
 use Rattle.gix_object_editor.specs.Writing.{Ids, ids_of, IsReached, written_item, HasEntries, IsTreeOf}
 use Rattle.gix_object_editor.specs.Written.{HandedOut, HasHandedOut, HandsOut, WriteFault, EachBehind, StandsUnopened, IsKnown, IsHandedOut, IsWritten}
 use Rattle.gix_object_editor.specs.Below.{IsAnswered, IsDone, IsOneFrom, IsHandedOutFrom, Answered}
+use Rattle.gix_object_editor.specs.Editor.{IsChanged}
+use Rattle.gix_object_editor.specs.Marks.{marks_of, changed_in, slot_if, slots_if, due, due_in}
+use Rattle.gix_object_editor.proofs.Due.{due_forest, due_row, due_files, way_due, due_changed}
 use Rattle.gix_object_editor.proofs.HandedOrder.{not_above, each_more, entries_kept, all_known, none_null}
 use Rattle.gix_object_editor.proofs.Slots.{node_at}
 use Rattle.gix_object_editor.proofs.WrittenFiles.{tree_files, files_below, no_entry}
@@ -174,9 +177,13 @@ module _ (slots : Slots) (base : Path) (bound : ℕ) (ok : IsForest slots bound)
 
 -- ---- calls
 
-pub tree_at : (ids : Ids) (nodes : List Node) (i : ℕ) (d : Node) (items : List Item) → i < length nodes → d ≡ get_or nodes i d → IsTreeOf ids (slot_in d) items → IsTreeOf ids (slots_of nodes i) items
-tree_at ids nodes i d items lt is tree = record {
-  entries = λ m. tree.entries m ∙ ap (λ o. through o (written_item ids m)) (sym (node_at nodes i d m lt ∙ ap (λ n. slot_in n m) (sym is)));
+pub tree_at : (ids : Ids) (nodes : List Node) (from : ℕ) → IsForest (slots_of nodes) (length nodes) → (i : ℕ) → from ≤ i → (d : Node) (items : List Item) → i < length nodes → d ≡ get_or nodes i d
+    → IsTreeOf ids (slots_if (changed_in nodes) (slot_in d)) items → IsTreeOf ids (due_in nodes from i) items
+tree_at ids nodes from ok i le d items lt is tree = record {
+  entries = λ m.
+      tree.entries m
+      ∙ ap (λ o. through (through o (λ s. Some (slot_if (changed_in nodes) s))) (written_item ids m)) (sym (node_at nodes i d m lt ∙ ap (λ n. slot_in n m) (sym is)))
+      ∙ ap (λ o. through o (written_item ids m)) (sym (due_row (slots_of nodes) (marks_of nodes) from (length nodes) ok i le m));
   once = tree.once;
   well_formed = tree.well_formed;
 }
@@ -251,14 +258,26 @@ module _ (slots : Slots) (base : Path) (bound : ℕ) (ok : IsForest slots bound)
         All-front : (P : HandedOut → Type 0) (xs ys : List HandedOut) → All P (xs ++ ys) → All P xs
         All-front P xs ys all k d lt = All-contains P (xs ++ ys) (get_or xs k d) all (Contains-append_left xs ys (get_or xs k d) (Contains-get_or xs k d lt))
 
-pub written : {S : Type 0} (editor : Editor S) (base : Path) (from : ℕ) → Way (slots_of editor.nodes.items) base from → (ids : Ids) (handed : List HandedOut)
-    → IsHandedOutFrom (slots_of editor.nodes.items) base (length editor.nodes.items) ids handed (from + 1)
-    → (items : List Item) → IsTreeOf ids (slots_of editor.nodes.items from) items → (id : Id) → IsWritten editor (onto base []) (handed ++ record { path = onto base []; items = items; id = id } ∷ []) id
+pub written : {S : Type 0} (editor : Editor S) (base : Path) (from : ℕ) → Way (due_in editor.nodes.items from) base from → (ids : Ids) (handed : List HandedOut)
+    → IsHandedOutFrom (due_in editor.nodes.items from) base (length editor.nodes.items) ids handed (from + 1)
+    → (items : List Item) → IsTreeOf ids (due_in editor.nodes.items from from) items → (id : Id) → IsWritten editor from (onto base []) (handed ++ record { path = onto base []; items = items; id = id } ∷ []) id
 written editor base from w ids handed so items tree id =
     let slots = slots_of editor.nodes.items in
+    let marks = marks_of editor.nodes.items in
     let bound = length editor.nodes.items in
+    let ok = due_forest slots marks from bound editor.forest in
     record {
-      in_order = last_behind slots base bound editor.forest from w ids handed so items tree id;
-      last = (handed, items, refl, so.some);
-      files = λ trees has q. last_files slots base bound editor.forest from w ids handed so items tree id trees has q;
+      in_order = last_behind (due slots marks from) base bound ok from w ids handed so items tree id;
+      last = (handed, items, refl, λ k d lt. (so.some k d lt, let one = so.ones k d lt in is_changed (get_or handed k d).path one.0 one.1 one.3));
+      files = λ trees has read q.
+          last_files (due slots marks from) base bound ok from w ids handed so items tree id trees has q
+          ∙ due_files trees slots marks from read (onto base [] ++ q) 0;
     }
+  where
+    is_changed : (path : Path) (j : ℕ) → from + 1 ≤ j → LeadsTo (due_in editor.nodes.items from) path j [] → IsChanged editor path
+    is_changed path j le to =
+        let lt : from < j = omega (arith, le) in (
+          j,
+          (to.0, way_due (slots_of editor.nodes.items) (marks_of editor.nodes.items) from to.0 j to.1, to.2),
+          due_changed (slots_of editor.nodes.items) (marks_of editor.nodes.items) from to.0 j lt to.1,
+        )

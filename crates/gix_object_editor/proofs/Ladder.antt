@@ -1,5 +1,5 @@
 -- Trees with one slot each, put behind the others and then linked.
-use Rattle.std.proofs.Common.{ℕ, suc, ◌≡◌, ◌≢◌, ◌<◌, ◌≤◌, ◌+◌, ◌-◌, true, List, [], ◌∷◌, Some, None, refl, sym, ap, subst, ◌∙◌, inl, inr, arith, length, get_or, drop, if◌then◌else◌}
+use Rattle.std.proofs.Common.{ℕ, zero, suc, ◌≡◌, ◌≢◌, ◌<◌, ◌≤◌, ◌+◌, ◌-◌, ◌++◌, Bool, true, List, [], ◌∷◌, Some, None, refl, sym, ap, subst, ◌∙◌, inl, inr, arith, length, get_or, drop, if◌then◌else◌}
 use Rattle.std.specs.Prelude.{bytes_eq, is_some}
 use Rattle.std.specs.Borrow.{Bor}
 use Rattle.std.proofs.lemmas.List.{length-drop}
@@ -7,7 +7,8 @@ use Rattle.std.proofs.lemmas.Bool.{cases_lt}
 use Rattle.gix_object_editor.specs.declared.tree.editor.node.Node.{Node}
 use Rattle.gix_object_editor.specs.declared.tree.editor.node.Slot.{Slot}
 use Rattle.gix_object_editor.specs.Files.{Bytes, Path, Trees, behind, through, files_of_entry, put, put_at}
-use Rattle.gix_object_editor.specs.Nodes.{Slots, slots_of, child_or, child_of, leaf_in, files_of_slot, files_of_node, IsForest, IsFolderAt, IsOnly, IsRung, Way, onto, IsPutIn}
+use Rattle.gix_object_editor.specs.Nodes.{Slots, slots_of, child_or, child_of, leaf_in, files_of_slot, files_of_node, IsForest, IsFolderAt, IsOnly, IsRung, Way, onto, LeadsTo, IsPutIn}
+use Rattle.gix_object_editor.specs.Marks.{Mark, Marks, mark_below, rung_parent, AreMarksKept, AreOnPath}
 use Rattle.gix_object_editor.proofs.Opening.{same_through, linked_more, at_or_off}
 use Rattle.gix_object_editor.proofs.Paths.{same_name, name_itself, by_test, onto-append}
 use Rattle.gix_object_editor.proofs.Slots.{none_past}
@@ -119,6 +120,30 @@ ladder_end new s closed (name ∷ next ∷ more) n way w some rungs =
     subst (IsPutIn new (onto way (name ∷ next ∷ more))) at
     (ladder_end new s closed (next ∷ more) (suc (n + 0)) (name ∷ way) (n, w, link) later
     (λ j lt. let less : suc j < length (name ∷ next ∷ more) = omega arith in next_rung (λ id. None) new s closed name next more n j (rungs (suc j) less)))
+
+-- each tree of a ladder lies on the way down it
+pub ladder_way : (new : Slots) (s : Slot) (closed : s.child ≡ None) (names : Path) (n : ℕ) (way : Path) → Way new way n → (k : ℕ) → k < length names → ((k : ℕ) → k < length names → IsRung new n names s k)
+    → (front : Path) × (rest : Path) × (rest ≢ []) × (front ++ rest ≡ onto way names) × LeadsTo new front (n + k) []
+ladder_way new s closed [] n way w k lt rungs = absurd (omega (arith, lt))
+ladder_way new s closed (name ∷ more) n way w zero lt rungs =
+    let at : n ≡ n + 0 = omega arith in
+    (onto way [], name ∷ more, λ e. cc e, sym (onto-append way [] (name ∷ more)), (way, subst (Way new way) at w, refl))
+ladder_way new s closed (name ∷ []) n way w (suc k) lt rungs = absurd (omega (arith, lt))
+ladder_way new s closed (name ∷ next ∷ more) n way w (suc k) lt rungs =
+    let some : 0 < length (name ∷ next ∷ more) = omega arith in
+    let r = rungs 0 some in
+    let two : 1 < length (name ∷ next ∷ more) = omega arith in
+    let here : n ≡ n + 0 = omega arith in
+    let link : child_of (new n name) ≡ Some (suc (n + 0)) = ap (λ i. child_of (new i name)) here ∙ ap child_of r.only.0 ∙ r.leads two in
+    let less : k < length (next ∷ more) = omega (arith, lt) in
+    let at : suc (n + 0) + k ≡ n + suc k = omega arith in
+    let later = ladder_way new s closed (next ∷ more) (suc (n + 0)) (name ∷ way) (n, w, link) k less
+    (λ j lt. let more_lt : suc j < length (name ∷ next ∷ more) = omega (arith, lt) in next_rung (λ id. None) new s closed name next more n j (rungs (suc j) more_lt)) in
+    (later.0, later.1, later.2, later.3, subst (λ j. LeadsTo new later.0 j []) at later.4)
+
+rung_less : (at first k : ℕ) → at < first → rung_parent at first k < first + k
+rung_less at first zero lt = omega (arith, lt)
+rung_less at first (suc k) lt = omega arith
 
 -- ---- a ladder behind a forest
 
@@ -245,6 +270,70 @@ module _ (slots mid : Slots) (bound more : ℕ) (ok : IsForest slots bound) (nam
         let down : Way new way at = way_above slots new bound at ok same way at (omega arith) reached in
         ladder_end new s closed names bound (name ∷ way) (at, down, ap child_of stands ∙ linked) some (λ k lt. rung_stays k (rungs k lt))
 
+    is_linked : child_of (new at name) ≡ Some bound
+    is_linked = ap child_of stands ∙ linked
+
+    rung_mark : (now : Marks) → ((k : ℕ) → k < length names → now (bound + k) ≡ mark_below (rung_parent at bound k) true) → (i : ℕ) → bound ≤ i → i < more → now i ≡ mark_below (rung_parent at bound (i - bound)) true
+    rung_mark now made i le lt =
+        let is : i ≡ bound + (i - bound) = omega (arith, le) in
+        let less : i - bound < length names = omega (arith, le, lt, len) in
+        ap now is ∙ made (i - bound) less
+
+    pub linked_marks : (was now : Marks) → ((i : ℕ) → i < bound → now i ≡ was i) → ((k : ℕ) → k < length names → now (bound + k) ≡ mark_below (rung_parent at bound k) true) → AreMarksKept true slots new was now bound more
+    linked_marks was now same made = record {
+      same = same;
+      fresh = λ i le lt. ap (λ (x : Mark). x.changed) (rung_mark now made i le lt);
+      before = λ i le lt.
+          let up : rung_parent at bound (i - bound) < bound + (i - bound) = rung_less at bound (i - bound) below in
+          let less : rung_parent at bound (i - bound) < i = omega (arith, up, le) in
+          subst (λ (x : Mark). x.parent < i) (sym (rung_mark now made i le lt)) less;
+      up = λ i n c e le. elim (cases_lt i bound) [
+        | inl early ↦ elim (at_or_off i at n name) [
+          | inl x ↦
+              let here : child_of (new i n) ≡ Some bound = ap (λ k. child_of (new k n)) x.0 ∙ ap (λ k. child_of (new at k)) x.1 ∙ is_linked in
+              let is : c ≡ bound = one c bound (sym e ∙ here) in
+              let first : bound ≡ bound + 0 = omega arith in
+              ap (λ k. (now k).parent) (is ∙ first) ∙ ap (λ (x : Mark). x.parent) (made 0 some) ∙ sym x.0
+          | inr off ↦
+              let w : c < bound = ok.within i n c (ap child_of (sym (front i n early)) ∙ ap child_of (sym (others i n off)) ∙ e) in
+              absurd (omega (arith, w, le))
+        ]
+        | inr late ↦
+            let link : child_of (mid i n) ≡ Some c = ap child_of (sym (others i n (λ is _. absurd (omega (arith, is, late, below))))) ∙ e in
+            let r = rung_link i n c late link in
+            let is = r.1 in
+            let within = r.2 in
+            let at_c : c ≡ bound + suc (i - bound) = omega (arith, is, late) in
+            let less : suc (i - bound) < length names = omega (arith, within, late, len) in
+            let back : bound + (i - bound) ≡ i = omega (arith, late) in
+            ap (λ k. (now k).parent) at_c ∙ ap (λ (x : Mark). x.parent) (made (suc (i - bound)) less) ∙ back
+      ];
+      links = λ i n c e lt. elim (at_or_off i at n name) [
+        | inl x ↦
+            let here : child_of (new i n) ≡ Some bound = ap (λ k. child_of (new k n)) x.0 ∙ ap (λ k. child_of (new at k)) x.1 ∙ is_linked in
+            let is : c ≡ bound = one c bound (sym e ∙ here) in
+            absurd (omega (arith, is, lt))
+        | inr off ↦
+            let up : i < c = linked_forest.forward i n c e in
+            let early : i < bound = omega (arith, up, lt) in
+            others i n off ∙ front i n early
+      ];
+    }
+      where
+        one : (c d : ℕ) → Some c ≡ Some d → c ≡ d
+        one c d e = cc
+
+    pub linked_ways : (way : Path) → Way slots way at → AreOnPath new (onto way (name ∷ names)) bound more
+    linked_ways way reached i le lt =
+        let same : (i : ℕ) (m : Bytes) → i < at → new i m ≡ slots i m = λ i m lt.
+        let less : i < bound = omega (arith, below) in
+        others i m (λ e _. absurd (omega arith)) ∙ front i m less in
+        let down : Way new way at = way_above slots new bound at ok same way at (omega arith) reached in
+        let is : bound + (i - bound) ≡ i = omega (arith, le) in
+        let less : i - bound < length names = omega (arith, le, lt, len) in
+        let so = ladder_way new s closed names bound (name ∷ way) (at, down, is_linked) (i - bound) less (λ k lt. rung_stays k (rungs k lt)) in
+        (so.0, so.1, so.2, so.3, subst (λ j. LeadsTo new so.0 j []) is so.4)
+
 -- ---- the same of nodes
 
 rest_names : (path : List (Bor (List ℕ))) → 1 < length path → (next : Bytes) × (rest : Path) × (names path ≡ get_or (names path) 0 [] ∷ next ∷ rest) × (names (drop 1 path) ≡ next ∷ rest)
@@ -296,6 +385,21 @@ module _ (old mid new : List Node) (ok : IsForest (slots_of old) (length old)) (
       (subst (λ p. IsPutIn (slots_of new) (onto way p) (length old + (length (names tail) - 1))) is
       (linked_end (slots_of old) (slots_of mid) (length old) (length mid) ok (names tail) s closed front rungs_named long past (slots_of new) at name top below some stands linked others way reached))
 
+  pub hung_marks : (was now : Marks) → ((i : ℕ) → i < length old → now i ≡ was i) → ((k : ℕ) → k < length tail → now (length old + k) ≡ mark_below (rung_parent at (length old) k) true)
+      → AreMarksKept true (slots_of old) (slots_of new) was now (length old) (length new)
+  hung_marks was now same made =
+      subst (AreMarksKept true (slots_of old) (slots_of new) was now (length old)) (sym same_len)
+      (linked_marks (slots_of old) (slots_of mid) (length old) (length mid) ok (names tail) s closed front rungs_named long past (slots_of new) at name top below some stands linked others
+      was now same (λ k lt. let less : k < length tail = omega (arith, tail_long, lt) in made k less))
+
+  pub hung_ways : (way : Path) → Way (slots_of old) way at → AreOnPath (slots_of new) (onto way (names path)) (length old) (length new)
+  hung_ways way reached =
+      let parts = rest_names path two in
+      let is : name ∷ names tail ≡ names path = ap (λ p. name ∷ p) (ap names tail_is ∙ parts.3) ∙ ap (λ n. n ∷ parts.0 ∷ parts.1) (sym name_is) ∙ sym parts.2 in
+      subst (AreOnPath (slots_of new) (onto way (names path)) (length old)) (sym same_len)
+      (subst (λ p. AreOnPath (slots_of new) (onto way p) (length old) (length mid)) is
+      (linked_ways (slots_of old) (slots_of mid) (length old) (length mid) ok (names tail) s closed front rungs_named long past (slots_of new) at name top below some stands linked others way reached))
+
   pub hung_others : (i : ℕ) (m : Bytes) → i < length old → ((i ≡ at) → (m ≡ get_or (names path) 0 []) → ⊥) → slots_of new i m ≡ slots_of old i m
   hung_others i m lt off = others i m (λ e same. off e (same ∙ sym name_is)) ∙ front i m lt
 
@@ -327,3 +431,20 @@ module _ (old new : List Node) (ok : IsForest (slots_of old) (length old)) (path
       let same : (i : ℕ) (m : Bytes) → i < at → slots_of new i m ≡ slots_of old i m = λ i m lt. others i m (λ e _. absurd (omega arith)) in
       let down : Way (slots_of new) way at = way_above (slots_of old) (slots_of new) (length old) at ok same way at (omega arith) reached in
       subst (λ p. IsPutIn (slots_of new) (onto way p) at) (sym is) (onto way [], name, onto-append way [] (name ∷ []), (way, down, refl))
+
+  pub put_marks : (state : Bool) (was now : Marks) → ((i : ℕ) → now i ≡ was i) → AreMarksKept state (slots_of old) (slots_of new) was now (length old) (length new)
+  put_marks state was now same = record {
+    same = λ i lt. same i;
+    fresh = λ i le lt. absurd (omega (arith, le, lt, same_len));
+    before = λ i le lt. absurd (omega (arith, le, lt, same_len));
+    up = λ i n c e le. let w = ok.within i n c (ap child_of (sym (kept i n c e)) ∙ e) in absurd (omega (arith, le, w));
+    links = λ i n c e lt. kept i n c e;
+  }
+    where
+      kept : (i : ℕ) (n : Bytes) (c : ℕ) → child_of (slots_of new i n) ≡ Some c → slots_of new i n ≡ slots_of old i n
+      kept i n c e = elim (at_or_off i at n name) [
+        | inl x ↦
+            let none : child_of (slots_of new i n) ≡ None = ap (λ k. child_of (slots_of new k n)) x.0 ∙ ap (λ k. child_of (slots_of new at k)) x.1 ∙ ap child_of stands ∙ ap (λ o. child_or o (λ d. Some d) None) closed in
+            absurd (cc (sym none ∙ e))
+        | inr off ↦ others i n off
+      ]

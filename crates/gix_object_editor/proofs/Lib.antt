@@ -2,6 +2,8 @@ pub mod Edits
 pub mod Filled
 pub mod Ladder
 pub mod Loaded
+pub mod Marked
+pub mod Due
 pub mod Opening
 pub mod Paths
 pub mod Slots
@@ -13,3 +15,4 @@ pub mod HandedOrder
 pub mod WrittenFiles
 pub mod HandedSteps
 pub mod Folders
+pub mod Changes

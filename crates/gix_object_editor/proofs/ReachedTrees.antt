@@ -146,6 +146,7 @@ reached_child slots base p c m r e = (m ∷ r.0, (p, r.1, e))
 -- what the marks say once the first nodes have marked the trees that lie in them
 pub record AreMarked (slots : Slots) (from : ℕ) (marks : List Bool) (i : ℕ) : Type 0 where
   pub rooted : get_or marks from false ≡ true
+  pub below : (j : ℕ) → get_or marks j false ≡ true → from ≤ j
   pub sound : (base : Path) → Way slots base from → (j : ℕ) → get_or marks j false ≡ true → IsReached slots base j
   pub whole : (p : ℕ) (m : Bytes) (c : ℕ) → p < i → get_or marks p false ≡ true → child_of (slots p m) ≡ Some c → get_or marks c false ≡ true
 
@@ -168,6 +169,13 @@ none_set (suc n) (suc j) = none_set n j
 pub root_marked : (slots : Slots) (n from : ℕ) (marks : List Bool) → marks ≡ replicate n false → from < length marks → AreMarked slots from (slice_set marks from true) 0
 root_marked slots n from marks e lt = record {
   rooted = get_or-set_same marks from true false lt;
+  below = λ j is. elim (cases_eq j from) [
+    | inl same ↦ omega (arith, same)
+    | inr ne ↦
+        let off : get_or marks j false ≡ false = ap (λ ms. get_or ms j false) e ∙ none_set n j in
+        let both : true ≡ false = sym is ∙ get_or-set_other marks from j true false ne ∙ off in
+        absurd (cc both)
+  ];
   sound = λ base w j is. elim (cases_eq j from) [
     | inl same ↦ ([], subst (λ k. Way slots base k) (sym same) w)
     | inr ne ↦
@@ -186,6 +194,10 @@ module _ (slots : Slots) (from bound : ℕ) (ok : IsForest slots bound) where
       → AreMarked slots from new (i + 1)
   marked_more old new i so here kept children others = record {
     rooted = kept from so.rooted;
+    below = λ j is. elim (others j is) [
+      | inl was ↦ so.below j was
+      | inr child ↦ let up : i < j = ok.forward i child.0 j child.1 in let le : from ≤ i = so.below i here in omega (arith, up, le)
+    ];
     sound = λ base w j is. elim (others j is) [
       | inl was ↦ so.sound base w j was
       | inr child ↦ reached_child slots base i j child.0 (so.sound base w i here) child.1
@@ -203,6 +215,7 @@ module _ (slots : Slots) (from bound : ℕ) (ok : IsForest slots bound) where
   pub unmarked_more : (marks : List Bool) (i : ℕ) → AreMarked slots from marks i → get_or marks i false ≡ false → AreMarked slots from marks (i + 1)
   unmarked_more marks i so here = record {
     rooted = so.rooted;
+    below = so.below;
     sound = so.sound;
     whole = λ p m c lt is child. elim (cases_lt p i) [
       | inl before ↦ so.whole p m c before is child

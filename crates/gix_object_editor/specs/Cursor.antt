@@ -8,7 +8,7 @@ use Rattle.gix_object_find.specs.Table.{Table}
 use Rattle.gix_object_editor.specs.declared.tree.editor.error.Error.{Error}
 use Rattle.gix_object_editor.specs.Files.{Path, Trees, HasStored, SameFiles}
 use Rattle.gix_object_editor.specs.Nodes.{slots_of, LeadsTo}
-use Rattle.gix_object_editor.specs.Editor.{files_of, LeadsInto, EditFault}
+use Rattle.gix_object_editor.specs.Editor.{files_of, LeadsInto, EditFault, IsChanged, IsAsRead}
 
 -- the cursor stands at the opened tree at this path's end
 abbrev pub StandsAt : {S : Type 0} → Cursor S → Path → Type 0
@@ -17,6 +17,8 @@ StandsAt cursor path = LeadsTo (slots_of cursor.editor.now.nodes.items) path cur
 -- what an editor is left as where no cursor is given, and why
 pub record IsLeft {S : Type 0} (honest may_fail : Type 0) (table : Table) (path : Path) (old left : Editor S) (error : Error) : Type 0 where
   pub files : honest → (trees : Trees) → HasStored table trees → SameFiles (files_of trees left) (files_of trees old)
+  pub as_read : honest → (trees : Trees) → HasStored table trees → IsAsRead trees old → IsAsRead trees left
+  pub still : (tree : Path) → IsChanged left tree → IsChanged old tree
   pub fault : EditFault honest may_fail table path (LeadsInto (λ trees. files_of trees left) path) error
   pub counted : left.lookups ≤ old.lookups + length path
   pub store : left.store ≡ old.store

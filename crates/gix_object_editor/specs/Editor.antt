@@ -1,5 +1,5 @@
 -- An editor as its files.
-use Rattle.std.specs.Prelude.{ℕ, ◌≡◌, false, List, [], ◌∷◌, ◌++◌, map, Option, Some, None, IsTrue, ⊤}
+use Rattle.std.specs.Prelude.{ℕ, ◌≡◌, ◌≢◌, true, false, List, [], ◌∷◌, ◌++◌, map, Option, Some, None, IsTrue, ⊤}
 use Rattle.std.specs.Borrow.{Bor}
 use Rattle.gix_hash.specs.Id.{Id, id_of}
 use Rattle.gix_hash.specs.declared.object_id.ObjectId.{ObjectId}
@@ -10,12 +10,29 @@ use Rattle.gix_object_editor.specs.declared.tree.editor.state.Editor.{Editor}
 use Rattle.gix_object_editor.specs.declared.tree.editor.error.Error.{Error}
 use Rattle.gix_object_editor.specs.declared.tree.editor.error.Error.TheVariants.{EmptyPathComponent, FindExistingObject, CannotRemoveNonLeaf, MalformedTree, Memory}
 use Rattle.gix_object_editor.specs.Files.{Bytes, Path, Leaf, FileMap, Trees, NamesAreFull}
-use Rattle.gix_object_editor.specs.Nodes.{slots_of, files_of_node, AreFilled}
+use Rattle.gix_object_editor.specs.Nodes.{slots_of, files_of_node, AreFilled, LeadsTo}
+use Rattle.gix_object_editor.specs.Marks.{marks_of, AreAsRead}
 use Rattle.gix_object_editor.specs.Refusals.{OpeningFault}
 
 -- the files of the edited root, over a table of trees
 abbrev pub files_of : {S : Type 0} → Trees → Editor S → FileMap
 files_of trees editor = files_of_node trees (slots_of editor.nodes.items) 0
+
+-- the tree at the path was opened, and an edit changed it, or one that lies in it
+abbrev pub IsChanged : {S : Type 0} → Editor S → Path → Type 0
+IsChanged editor path = (j : ℕ) × LeadsTo (slots_of editor.nodes.items) path j [] × ((marks_of editor.nodes.items j).changed ≡ true)
+
+-- each opened tree that no edit changed has the files that the table has of its entry
+abbrev pub IsAsRead : {S : Type 0} → Trees → Editor S → Type 0
+IsAsRead trees editor = AreAsRead trees (slots_of editor.nodes.items) (marks_of editor.nodes.items)
+
+-- what stands at the second path lies in the tree at the first
+abbrev pub IsAbove : Path → Path → Type 0
+IsAbove tree path = (rest : Path) × (rest ≢ []) × (tree ++ rest ≡ path)
+
+-- the first path begins the second
+abbrev pub Begins : Path → Path → Type 0
+Begins tree path = (rest : Path) × (tree ++ rest ≡ path)
 
 abbrev pub names_of : List (Bor (List ℕ)) → Path
 names_of path = map (λ name. name.now) path

@@ -1,5 +1,6 @@
 pub mod Files
 pub mod Nodes
+pub mod Marks
 pub mod Refusals
 pub mod Editor
 pub mod Writing

@@ -13,8 +13,9 @@ use Rattle.gix_object_editor.specs.declared.tree.editor.state.Editor.{Editor}
 use Rattle.gix_object_editor.specs.declared.tree.editor.write.error.Error.{Error}
 use Rattle.gix_object_editor.specs.declared.tree.editor.write.error.Error.TheVariants.{Out, Memory}
 use Rattle.gix_object_editor.specs.Files.{Bytes, Path, FileMap, Trees, SameFiles, is_null, leaf_of, named, through, behind, files_of_tree}
-use Rattle.gix_object_editor.specs.Nodes.{Slots, slots_of, leaf_in, files_of_node, LeadsTo}
-use Rattle.gix_object_editor.specs.Editor.{files_of}
+use Rattle.gix_object_editor.specs.Nodes.{Slots, leaf_in, files_of_node, LeadsTo}
+use Rattle.gix_object_editor.specs.Editor.{files_of, IsChanged, IsAsRead}
+use Rattle.gix_object_editor.specs.Marks.{due_in}
 use Rattle.gix_object_editor.specs.Writing.{folder_mode}
 
 -- a tree that was handed out: the folder that it is, its entries, and the id that was answered
@@ -67,13 +68,14 @@ pub record IsHandedOut (slots : Slots) (before : List HandedOut) (tree : HandedO
   -- it has the files below its path
   pub files : (trees : Trees) → HasHandedOut before trees → (q : Path) → files_of_tree trees tree.items q ≡ files_of_node trees slots 0 (tree.path ++ q)
 
--- what is handed out of an editor for the id of the tree at a path
-pub record IsWritten {S : Type 0} (editor : Editor S) (path : Path) (handed : List HandedOut) (id : Id) : Type 0 where
-  pub in_order : EachBehind (IsHandedOut (slots_of editor.nodes.items)) [] handed
-  -- this tree comes last, and no other is empty
+-- what is handed out of an editor for the id of the tree at a path, which has this number
+pub record IsWritten {S : Type 0} (editor : Editor S) (from : ℕ) (path : Path) (handed : List HandedOut) (id : Id) : Type 0 where
+  pub in_order : EachBehind (IsHandedOut (due_in editor.nodes.items from)) [] handed
+  -- this tree comes last; each other was changed by an edit, and isn't empty
   pub last : (below : List HandedOut) × (items : List Item) × (handed ≡ below ++ record { path = path; items = items; id = id } ∷ [])
-      × All (λ tree. tree.items ≢ []) below
-  pub files : (trees : Trees) → HasHandedOut handed trees → SameFiles (files_under trees id) (λ q. files_of trees editor (path ++ q))
+      × All (λ tree. (tree.items ≢ []) × IsChanged editor tree.path) below
+  -- over each table that has them and what no edit changed
+  pub files : (trees : Trees) → HasHandedOut handed trees → IsAsRead trees editor → SameFiles (files_under trees id) (λ q. files_of trees editor (path ++ q))
 
 -- ---- calls
 
@@ -83,8 +85,8 @@ module _ {F E : Type 0} (calls : Mut F (Bor Tree × Unit {0}) (Result ObjectId E
   HandsOut before tree after = (shown : Tree) × (oid : ObjectId) × CalledAt calls before shown (Ok oid) after × (map own_item shown.entries.items ≡ tree.items) × (id_of oid ≡ tree.id)
 
   -- what is written of the tree at a path is handed out, and this is its id
-  abbrev pub Writes : {S : Type 0} → Editor S → Path → F → Id → F → Type 0
-  Writes editor path out id after = (handed : List HandedOut) × FoldsTo HandsOut out handed after × IsWritten editor path handed id
+  abbrev pub Writes : {S : Type 0} → Editor S → ℕ → Path → F → Id → F → Type 0
+  Writes editor from path out id after = (handed : List HandedOut) × FoldsTo HandsOut out handed after × IsWritten editor from path handed id
 
   -- trees of these slots are handed out, one after another
   pub record HandsOutSome (slots : Slots) (out : F) (handed : List HandedOut) (after : F) : Type 0 where

@@ -75,6 +75,16 @@ def upsert(path, mode, oid):
     return f"upsert:{path_word(path)}:{KINDS[mode]}:{oid}"
 
 
+def below(files, base):
+    """The files below a folder."""
+    return {q[len(base) :]: file for q, file in files.items() if begins(base, q) and q != base}
+
+
+def cleared(files, base):
+    """Without the files at a beginning of a path."""
+    return {q: file for q, file in files.items() if not begins(q, base)}
+
+
 def row(git, root, more, edits, answers):
     trees = ",".join(sorted(content.hex() for content in git.trees(root) | set().union(*[git.trees(t) | {git.content(t)} for t in more])))
     rows.append((" ".join([git.kind, git.content(root).hex() or "-", trees or "-"] + edits), " ".join(answers)))
@@ -134,6 +144,59 @@ def random_row(git, chance):
     row(git, root, more, edits + ["write"], answers + [f"{git.tree(files)} known+"])
 
 
+def cursor_row(git, chance):
+    """Edits below cursors, each of which stands at some folder."""
+    names = chance.sample(NAMES, chance.choice([2, 3]))
+    files = some_files(git, chance, names, 12)
+    root = git.tree(files)
+    edits, answers = [], []
+    for _ in range(chance.randrange(1, 7)):
+        base = chance.choice([(), some_path(chance, names)[:2]])
+        path = some_path(chance, names)[:2]
+        what = chance.choice(["put", "put", "remove", "leaf", "get", "write"])
+        if what == "get" and base + path[:1] not in files:
+            continue
+        files = cleared(files, base)
+        if what == "put":
+            mode, oid = chance.choice(list(KINDS)[:4]), chance.choice(git.blobs)
+            files = put(files, base + path, {(): (mode, oid)})
+            edits.append(f"at:{path_word(base)}:{upsert(path, mode, oid)}")
+            answers.append("ok")
+        elif what == "remove":
+            files = removed(files, base + path)
+            edits.append(f"at:{path_word(base)}:remove:{path_word(path)}")
+            answers.append("ok")
+        elif what == "leaf":
+            edits.append(f"at:{path_word(base)}:remove_leaf:{path_word(path)}")
+            if below(files, base + path):
+                answers.append(f"CannotRemoveNonLeaf({path[-1].hex()})")
+                continue
+            files = removed(files, base + path)
+            answers.append("ok")
+        elif what == "get":
+            mode, oid = files[base + path[:1]]
+            edits.append(f"at:{path_word(base)}:get:{path_word(path[:1])}")
+            answers.append(f"{mode} {oid}")
+        else:
+            edits.append(f"at:{path_word(base)}:write:-")
+            answers.append(git.tree(below(files, base)))
+    row(git, root, [], edits + ["write"], answers + [f"{git.tree(files)} known+"])
+
+
+def count_rows(git):
+    """How many trees are handed out: those of edited folders, and the root."""
+    x, y = git.blobs[0], git.blobs[1]
+    nested = git.tree({(b"a", b"b", b"e"): ("100644", x), (b"a", b"f"): ("100644", y), (b"g",): ("100755", x), (b"h", b"i"): ("100755", y)})
+    deep, flat = upsert((b"a", b"b", b"c"), "100644", x), upsert((b"g",), "100644", y)
+    leaf, nothing = "remove_leaf:" + path_word((b"a", b"b")), "remove:" + path_word((b"a", b"b", b"z"))
+    row(git, nested, [], ["written", deep, "written", "written"], ["1", "ok", "3", "3"])
+    row(git, nested, [], [leaf, "written", nothing, "written", flat, "written"], [f"CannotRemoveNonLeaf({b'b'.hex()})", "1", "ok", "1", "ok", "1"])
+    row(git, nested, [], [f"at:{path_word((b'a',))}:get:{path_word((b'f',))}", "written"], [f"100644 {y}", "1"])
+    row(git, nested, [], [f"at:{path_word((b'a',))}:remove:{path_word((b'f',))}", "written"], ["ok", "2"])
+    row(git, nested, [], [f"at:{path_word((b'n', b'm'))}:{upsert((b'f',), '100644', x)}", "written"], ["ok", "3"])
+    row(git, nested, [], [nothing.replace(b"z".hex(), b"e".hex()), "written", "write"], ["ok", "2", f"{git.tree({(b'a', b'f'): ('100644', y), (b'g',): ('100755', x), (b'h', b'i'): ('100755', y)})} known+"])
+
+
 def chosen_rows(git):
     x, y = git.blobs[0], git.blobs[1]
     nested = git.tree({(b"a", b"b", b"e"): ("100644", x), (b"a", b"f"): ("100644", y), (b"g",): ("100755", x)})
@@ -164,6 +227,9 @@ for kind in LENGTH:
     chosen_rows(git)
     for _ in range(250):
         random_row(git, chance)
+    count_rows(git)
+    for _ in range(60):
+        cursor_row(git, chance)
 
 with open("stdin", "w") as lines, open("stdout", "w") as answers:
     for line, answer in rows:

@@ -4,8 +4,9 @@ use crate::case::{Case, read_case, read_entry_kind, read_id, read_path};
 use crate::page::Page;
 use crate::store::{Row, Trees, row_of};
 use gix_hash::{Kind, ObjectId};
-use gix_object_editor::tree::editor::{Editor, Error};
+use gix_object_editor::tree::editor::{Cursor, Editor, Error};
 use gix_object_entries::Tree;
+use gix_object_entries::tree::EntryRef;
 use std::alloc::{AllocError, Global};
 
 /// What the words of a line answer.
@@ -46,6 +47,8 @@ fn act(
             Some(())
         }
         "write" => write(alloc, kind, editor, page),
+        "written" => count_written(alloc, kind, editor, page),
+        _ if word.starts_with("at:") => at_cursor(alloc, kind, editor, word, page),
         _ => at_path(alloc, editor, word, page),
     }
 }
@@ -61,7 +64,7 @@ fn at_path(alloc: Global, editor: &mut Editor<Trees>, word: &str, page: &mut Pag
     }
     let path = path.as_slice();
     match what {
-        "get" => show_entry(editor, path, page),
+        "get" => show_entry(editor.get(path), page),
         "remove" => show_done(editor.remove(alloc, path), page),
         "remove_leaf" => show_done(editor.remove_leaf(alloc, path), page),
         "upsert" => {
@@ -74,8 +77,92 @@ fn at_path(alloc: Global, editor: &mut Editor<Trees>, word: &str, page: &mut Pag
     Some(())
 }
 
-fn show_entry(editor: &Editor<Trees>, path: &[&[u8]], page: &mut Page) {
-    match editor.get(path) {
+// An edit or a question below a cursor, which is made for it.
+fn at_cursor(
+    alloc: Global,
+    kind: Kind,
+    editor: &mut Editor<Trees>,
+    word: &str,
+    page: &mut Page,
+) -> Option<()> {
+    let mut parts = word.split(':');
+    parts.next()?;
+    let base = read_path(alloc, parts.next()?)?;
+    let mut folder = Vec::new(alloc);
+    for name in &base {
+        folder.push(name.as_slice()).ok()?;
+    }
+    let what = parts.next()?;
+    let below = read_path(alloc, parts.next()?)?;
+    let mut path = Vec::new(alloc);
+    for name in &below {
+        path.push(name.as_slice()).ok()?;
+    }
+    let path = path.as_slice();
+    let mut cursor = match cursor_of(alloc, kind, editor, folder.as_slice()) {
+        Ok(cursor) => cursor,
+        Err(error) => {
+            show_done(Err(error), page);
+            return Some(());
+        }
+    };
+    match what {
+        "get" => show_entry(cursor.get(path), page),
+        "remove" => show_done(cursor.remove(alloc, path), page),
+        "remove_leaf" => show_done(cursor.remove_leaf(alloc, path), page),
+        "upsert" => {
+            let entry_kind = read_entry_kind(parts.next()?)?;
+            let id = read_id(parts.next()?)?;
+            show_done(cursor.upsert(alloc, path, entry_kind, id), page);
+        }
+        "write" => {
+            let root = cursor.write(
+                alloc,
+                &mut |tree: &Tree| -> Result<ObjectId, AllocError> {
+                    id_of_tree(alloc, kind, tree)
+                },
+            );
+            page.value(root.ok()?);
+        }
+        _ => return None,
+    }
+    Some(())
+}
+
+// A cursor at the folder of this path, or at the root.
+fn cursor_of<'a>(
+    alloc: Global,
+    kind: Kind,
+    editor: &'a mut Editor<Trees>,
+    folder: &[&[u8]],
+) -> Result<Cursor<'a, Trees>, Error> {
+    if folder.is_empty() {
+        return Ok(editor.to_cursor());
+    }
+    editor.cursor_at(alloc, folder, kind)
+}
+
+fn id_of_tree(alloc: Global, kind: Kind, tree: &Tree) -> Result<ObjectId, AllocError> {
+    Ok(row_of(alloc, kind, tree).ok_or(AllocError)?.oid)
+}
+
+// How many trees are handed out.
+fn count_written(alloc: Global, kind: Kind, editor: &Editor<Trees>, page: &mut Page) -> Option<()> {
+    let mut count: u64 = 0;
+    let root = editor.write(
+        alloc,
+        &mut |tree: &Tree| -> Result<ObjectId, AllocError> {
+            count = count.saturating_add(1);
+            id_of_tree(alloc, kind, tree)
+        },
+    );
+    root.ok()?;
+    page.value(count);
+    Some(())
+}
+
+fn show_entry(entry: Option<EntryRef<'_>>, page: &mut Page) {
+    match entry {
         Some(entry) => {
             page.word("");
             page.octal(entry.mode.value());

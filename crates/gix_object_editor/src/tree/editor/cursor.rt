@@ -1,12 +1,13 @@
 //! Edits below a folder.
 
-ghost use Rattle.std.specs.Prelude.{◌≡◌, ◌≢◌, ◌≤◌, ◌+◌, ◌++◌, [], length, option_map, IfOk, IfErr, OnOk, OnErr, None};
+ghost use Rattle.std.specs.Prelude.{◌≡◌, ◌≢◌, ◌≤◌, ◌+◌, ◌++◌, ◌⊎◌, [], length, option_map, IfOk, IfErr, OnOk, OnErr, None};
 ghost use Rattle.std.specs.Borrow.{sem};
 ghost use Rattle.gix_hash.specs.Id.{id_of};
 ghost use Rattle.gix_object_entries.specs.Entry.{item_of};
 ghost use Rattle.gix_object_editor.specs.Files.{Path, Trees, HasStored, SameFiles, NamesAreFull, HasNoneBelow, removed, put, cleared};
 ghost use Rattle.gix_object_editor.specs.Nodes.{slots_of, entry_at};
-ghost use Rattle.gix_object_editor.specs.Editor.{files_of, names_of, leaf_of_kind, LeadsThrough, LeadsInto, EditFault, LeafFault, IsFilled, IsFolder};
+ghost use Rattle.gix_object_editor.specs.Editor.{files_of, names_of, leaf_of_kind, LeadsThrough, LeadsInto, EditFault, LeafFault, IsFilled, IsFolder, IsChanged, IsAsRead, IsAbove, Begins};
+ghost use Rattle.gix_object_editor.specs.Marks.{due_in};
 ghost use Rattle.gix_object_editor.specs.Written.{WriteFault, Writes};
 ghost use Rattle.gix_object_editor.specs.Cursor.{StandsAt, IsLeft, LendsOrLeaves};
 
@@ -48,6 +49,10 @@ impl<S: Find> Editor<S> {
         ensures cleared { S.is_honest self.old.store → IfOk result (λ cursor. (trees : Trees) → HasStored (S.table self.old.store) trees
             → SameFiles (files_of trees cursor.editor.now) (cleared (names_of path.now) (files_of trees self.old))) }
         ensures named { OnOk result (NamesAreFull (names_of path.now)) }
+        ensures as_read { S.is_honest self.old.store → IfOk result (λ cursor. (trees : Trees) → HasStored (S.table self.old.store) trees
+            → IsAsRead trees self.old → IsAsRead trees cursor.editor.now) }
+        ensures changed { IfOk result (λ cursor. (tree : Path) → IsChanged cursor.editor.now tree
+            → IsChanged self.old tree ⊎ Begins tree (names_of path.now)) }
         ensures counted { IfOk result (λ cursor. cursor.editor.now.lookups ≤ self.old.lookups + length path.now) }
         ensures store { IfOk result (λ cursor. cursor.editor.now.store ≡ self.old.store) }
         ensures lent { IfOk result (λ cursor. cursor.editor.ghost_name ≡ self.entry.ghost_name) }
@@ -77,6 +82,11 @@ impl<'c, S: Find> Cursor<'c, S> {
         ensures named { OnOk result (NamesAreFull (names_of path.now)) }
         ensures refused { (base : Path) → StandsAt self.old base → IfErr result (EditFault (S.is_honest self.old.editor.now.store) (S.may_fail self.old.editor.now.store) (S.table self.old.editor.now.store) (names_of path.now)
             (LeadsThrough (λ trees. files_of trees self.new.editor.now) (base ++ names_of path.now))) }
+        ensures as_read { S.is_honest self.old.editor.now.store → (trees : Trees) → HasStored (S.table self.old.editor.now.store) trees
+            → IsAsRead trees self.old.editor.now → IsAsRead trees self.new.editor.now }
+        ensures changed { (base : Path) → StandsAt self.old base → (tree : Path) → IsChanged self.new.editor.now tree
+            → IsChanged self.old.editor.now tree ⊎ IsAbove tree (base ++ names_of path.now) }
+        ensures still { OnErr result ((tree : Path) → IsChanged self.new.editor.now tree → IsChanged self.old.editor.now tree) }
         ensures counted { self.new.editor.now.lookups ≤ self.old.editor.now.lookups + length path.now }
         ensures store { self.new.editor.now.store ≡ self.old.editor.now.store }
         ensures lent { self.new.editor.ghost_name ≡ self.old.editor.ghost_name }
@@ -97,6 +107,11 @@ impl<'c, S: Find> Cursor<'c, S> {
         ensures refused { (base : Path) → StandsAt self.old base → IfErr result (LeafFault (S.is_honest self.old.editor.now.store) (S.may_fail self.old.editor.now.store) (S.table self.old.editor.now.store) (names_of path.now)
             (LeadsInto (λ trees. files_of trees self.new.editor.now) (base ++ names_of path.now))
             (IsFolder (λ trees. IsFilled trees self.new.editor.now) (λ trees. files_of trees self.new.editor.now) (base ++ names_of path.now))) }
+        ensures as_read { S.is_honest self.old.editor.now.store → (trees : Trees) → HasStored (S.table self.old.editor.now.store) trees
+            → IsAsRead trees self.old.editor.now → IsAsRead trees self.new.editor.now }
+        ensures changed { (base : Path) → StandsAt self.old base → (tree : Path) → IsChanged self.new.editor.now tree
+            → IsChanged self.old.editor.now tree ⊎ IsAbove tree (base ++ names_of path.now) }
+        ensures still { OnErr result ((tree : Path) → IsChanged self.new.editor.now tree → IsChanged self.old.editor.now tree) }
         ensures counted { self.new.editor.now.lookups ≤ self.old.editor.now.lookups + length path.now }
         ensures store { self.new.editor.now.store ≡ self.old.editor.now.store }
         ensures lent { self.new.editor.ghost_name ≡ self.old.editor.ghost_name }
@@ -120,6 +135,11 @@ impl<'c, S: Find> Cursor<'c, S> {
         ensures named { OnOk result (NamesAreFull (names_of path.now)) }
         ensures refused { (base : Path) → StandsAt self.old base → IfErr result (EditFault (S.is_honest self.old.editor.now.store) (S.may_fail self.old.editor.now.store) (S.table self.old.editor.now.store) (names_of path.now)
             (LeadsThrough (λ trees. files_of trees self.new.editor.now) (base ++ names_of path.now))) }
+        ensures as_read { S.is_honest self.old.editor.now.store → (trees : Trees) → HasStored (S.table self.old.editor.now.store) trees
+            → IsAsRead trees self.old.editor.now → IsAsRead trees self.new.editor.now }
+        ensures changed { (base : Path) → StandsAt self.old base → (tree : Path) → IsChanged self.new.editor.now tree
+            → IsChanged self.old.editor.now tree ⊎ IsAbove tree (base ++ names_of path.now) }
+        ensures still { OnErr result ((tree : Path) → IsChanged self.new.editor.now tree → IsChanged self.old.editor.now tree) }
         ensures counted { self.new.editor.now.lookups ≤ self.old.editor.now.lookups + length path.now }
         ensures store { self.new.editor.now.store ≡ self.old.editor.now.store }
         ensures lent { self.new.editor.ghost_name ≡ self.old.editor.ghost_name }
@@ -135,9 +155,9 @@ impl<'c, S: Find> Cursor<'c, S> {
         out: &mut F,
     ) -> Result<ObjectId, write::Error<E>>
         requires { F.IsAlwaysCallable out.old }
-        ensures written { (base : Path) → StandsAt self.now base → IfOk result (λ id. Writes F.FnMut self.now.editor.now base out.old (id_of id) out.new) }
+        ensures written { (base : Path) → StandsAt self.now base → IfOk result (λ id. Writes F.FnMut self.now.editor.now self.now.at.0 base out.old (id_of id) out.new) }
         ensures refused { (base : Path) → StandsAt self.now base → IfErr result (λ error.
-            WriteFault F.FnMut (slots_of self.now.editor.now.nodes.items) out.old error out.new) }
+            WriteFault F.FnMut (due_in self.now.editor.now.nodes.items self.now.at.0) out.old error out.new) }
         ensures callable { F.IsAlwaysCallable out.new }
     {
         self.editor.write_from(alloc, self.at, out)

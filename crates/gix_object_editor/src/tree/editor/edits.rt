@@ -1,15 +1,16 @@
 //! Edits below an opened tree.
 
-ghost use Rattle.std.specs.Prelude.{◌≡◌, ◌<◌, ◌≤◌, ◌+◌, length, IfErr, OnOk, OnErr, IfOk, []};
+ghost use Rattle.std.specs.Prelude.{◌≡◌, ◌<◌, ◌≤◌, ◌+◌, ◌⊎◌, length, IfErr, OnOk, OnErr, IfOk, []};
 ghost use Rattle.gix_object_editor.specs.Files.{Path, Trees, HasStored, SameFiles, NamesAreFull, HasNoneBelow, removed, put, cleared};
 ghost use Rattle.gix_object_editor.specs.Nodes.{slots_of, Way, onto, LeadsTo};
-ghost use Rattle.gix_object_editor.specs.Editor.{files_of, names_of, leaf_of_kind, LeadsThrough, LeadsInto, EditFault, LeafFault, IsFilled, IsFolder};
+ghost use Rattle.gix_object_editor.specs.Editor.{files_of, names_of, leaf_of_kind, LeadsThrough, LeadsInto, EditFault, LeafFault, IsFilled, IsFolder, IsChanged, IsAsRead, IsAbove, Begins};
 ghost use Rattle.gix_object_editor.specs.declared.tree.editor.error.Error.TheVariants.{EmptyPathComponent};
 
 use crate::tree::editor::filled::refuse_folder;
 use crate::tree::editor::forest::{folder_below, walk};
 use crate::tree::editor::graft::{graft, make_folders};
-use crate::tree::editor::node::{NodeId, Slot, take_at};
+use crate::tree::editor::marks::{cut, mark_changed};
+use crate::tree::editor::node::{NodeId, Slot};
 use crate::tree::editor::{Editor, Error};
 use gix_hash::{Kind, ObjectId};
 use gix_object_entries::tree::{EntryKind, EntryMode};
@@ -35,6 +36,10 @@ impl<S: Find> Editor<S> {
         ensures refused { (way : Path) → Way (slots_of self.old.nodes.items) way from.0 → IfErr result (EditFault (S.is_honest self.old.store) (S.may_fail self.old.store) (S.table self.old.store) (names_of path.now)
             (LeadsThrough (λ trees. files_of trees self.new) (onto way (names_of path.now)))) }
         ensures counted { self.new.lookups ≤ self.old.lookups + length path.now }
+        ensures as_read { S.is_honest self.old.store → (trees : Trees) → HasStored (S.table self.old.store) trees → IsAsRead trees self.old → IsAsRead trees self.new }
+        ensures changed { (way : Path) → Way (slots_of self.old.nodes.items) way from.0 → (tree : Path) → IsChanged self.new tree
+            → IsChanged self.old tree ⊎ IsAbove tree (onto way (names_of path.now)) }
+        ensures still { OnErr result ((tree : Path) → IsChanged self.new tree → IsChanged self.old tree) }
         ensures store { self.new.store ≡ self.old.store }
     {
         check_names(path)?;
@@ -47,7 +52,7 @@ impl<S: Find> Editor<S> {
             path,
         )?;
         if depth + 1 == path.len() {
-            take_at(self.nodes.as_mut_slice(), at, path[depth]);
+            cut(self.nodes.as_mut_slice(), at, path[depth]);
         }
         Ok(())
     }
@@ -72,6 +77,10 @@ impl<S: Find> Editor<S> {
         ensures refused { (way : Path) → Way (slots_of self.old.nodes.items) way from.0 → IfErr result (LeafFault (S.is_honest self.old.store) (S.may_fail self.old.store) (S.table self.old.store) (names_of path.now)
             (LeadsInto (λ trees. files_of trees self.new) (onto way (names_of path.now))) (IsFolder (λ trees. IsFilled trees self.new) (λ trees. files_of trees self.new) (onto way (names_of path.now)))) }
         ensures counted { self.new.lookups ≤ self.old.lookups + length path.now }
+        ensures as_read { S.is_honest self.old.store → (trees : Trees) → HasStored (S.table self.old.store) trees → IsAsRead trees self.old → IsAsRead trees self.new }
+        ensures changed { (way : Path) → Way (slots_of self.old.nodes.items) way from.0 → (tree : Path) → IsChanged self.new tree
+            → IsChanged self.old tree ⊎ IsAbove tree (onto way (names_of path.now)) }
+        ensures still { OnErr result ((tree : Path) → IsChanged self.new tree → IsChanged self.old tree) }
         ensures store { self.new.store ≡ self.old.store }
     {
         check_names(path)?;
@@ -92,7 +101,7 @@ impl<S: Find> Editor<S> {
                 at,
                 path[depth],
             )?;
-            take_at(self.nodes.as_mut_slice(), at, path[depth]);
+            cut(self.nodes.as_mut_slice(), at, path[depth]);
         }
         Ok(())
     }
@@ -117,6 +126,10 @@ impl<S: Find> Editor<S> {
         ensures refused { (way : Path) → Way (slots_of self.old.nodes.items) way from.0 → IfErr result (EditFault (S.is_honest self.old.store) (S.may_fail self.old.store) (S.table self.old.store) (names_of path.now)
             (LeadsThrough (λ trees. files_of trees self.new) (onto way (names_of path.now)))) }
         ensures counted { self.new.lookups ≤ self.old.lookups + length path.now }
+        ensures as_read { S.is_honest self.old.store → (trees : Trees) → HasStored (S.table self.old.store) trees → IsAsRead trees self.old → IsAsRead trees self.new }
+        ensures changed { (way : Path) → Way (slots_of self.old.nodes.items) way from.0 → (tree : Path) → IsChanged self.new tree
+            → IsChanged self.old tree ⊎ IsAbove tree (onto way (names_of path.now)) }
+        ensures still { OnErr result ((tree : Path) → IsChanged self.new tree → IsChanged self.old tree) }
         ensures store { self.new.store ≡ self.old.store }
     {
         check_names(path)?;
@@ -134,6 +147,7 @@ impl<S: Find> Editor<S> {
             child: None,
         };
         graft(&mut self.nodes, alloc, at, &path[depth..], slot)?;
+        mark_changed(self.nodes.as_mut_slice(), at);
         Ok(())
     }
 
@@ -154,6 +168,9 @@ impl<S: Find> Editor<S> {
         ensures refused { IfErr result (EditFault (S.is_honest self.old.store) (S.may_fail self.old.store) (S.table self.old.store) (names_of path.now)
             (LeadsInto (λ trees. files_of trees self.new) (names_of path.now))) }
         ensures counted { self.new.lookups ≤ self.old.lookups + length path.now }
+        ensures as_read { S.is_honest self.old.store → (trees : Trees) → HasStored (S.table self.old.store) trees → IsAsRead trees self.old → IsAsRead trees self.new }
+        ensures changed { (tree : Path) → IsChanged self.new tree → IsChanged self.old tree ⊎ Begins tree (names_of path.now) }
+        ensures still { OnErr result ((tree : Path) → IsChanged self.new tree → IsChanged self.old tree) }
         ensures store { self.new.store ≡ self.old.store }
     {
         check_names(path)?;
@@ -175,7 +192,11 @@ impl<S: Find> Editor<S> {
         )?;
         match found {
             Some(folder) => Ok(folder),
-            None => Ok(make_folders(&mut self.nodes, alloc, at, &path[depth..], hash)?),
+            None => {
+                let made = make_folders(&mut self.nodes, alloc, at, &path[depth..], hash)?;
+                mark_changed(self.nodes.as_mut_slice(), at);
+                Ok(made)
+            }
         }
     }
 }

@@ -1,9 +1,10 @@
 //! Walking down opened trees, and opening more of them.
 
-ghost use Rattle.std.specs.Prelude.{◌≡◌, ◌<◌, ◌≤◌, ◌+◌, ℕ, length, map, drop, slice_index_or, if◌then◌else◌, is_ok, IfOk, IfErr, OnOk, OnErr, IsSome, Some, None, []};
+ghost use Rattle.std.specs.Prelude.{◌≡◌, ◌<◌, ◌≤◌, ◌+◌, ℕ, length, map, drop, slice_index_or, if◌then◌else◌, is_ok, IfOk, IfErr, OnOk, OnErr, IsSome, Some, None, [], false};
 ghost use Rattle.gix_hash.specs.Id.{Id, id_of};
-ghost use Rattle.gix_object_editor.specs.Files.{Bytes, Path};
+ghost use Rattle.gix_object_editor.specs.Files.{Bytes, Path, Trees, HasStored};
 ghost use Rattle.gix_object_editor.specs.Nodes.{slot_in, slots_of, child_of, IsForest, IsOpened, IsFolderAt, IsUnopened, IsStoppedAt, Way, onto, LeadsTo};
+ghost use Rattle.gix_object_editor.specs.Marks.{marks_of, mark_below, AreMarksKept, AreAsRead};
 ghost use Rattle.gix_object_editor.specs.Refusals.{OpeningFault};
 ghost use Rattle.gix_object_editor.specs.declared.tree.editor.node.Slot.{Slot};
 
@@ -29,8 +30,12 @@ pub(crate) fn attach(
     ensures behind { OnOk result ((m : Bytes) → slots_of nodes.new.items (length nodes.old.items) m ≡ slot_in tree m) }
     ensures len { length nodes.new.items ≡ (if is_ok result then length nodes.old.items + 1 else length nodes.old.items) }
     ensures err { OnErr result ((i : ℕ) (m : Bytes) → slots_of nodes.new.items i m ≡ slots_of nodes.old.items i m) }
+    ensures marks { (i : ℕ) → i < length nodes.old.items → marks_of nodes.new.items i ≡ marks_of nodes.old.items i }
+    ensures unchanged { OnOk result (marks_of nodes.new.items (length nodes.old.items) ≡ mark_below at.0 false) }
 {
     let child = NodeId(nodes.len());
+    let mut tree = tree;
+    tree.place(at, false);
     nodes.push(tree)?;
     let linked = Slot {
         mode: slot.mode,
@@ -58,6 +63,9 @@ pub(crate) fn open<S: Find>(
     requires forest { IsForest (slots_of nodes.old.items) (length nodes.old.items) }
     requires within { at.0 < length nodes.old.items }
     ensures opened { IsOpened (S.is_honest store.now) (S.table store.now) (slots_of nodes.old.items) (slots_of nodes.new.items) (length nodes.old.items) (length nodes.new.items) }
+    ensures marks { AreMarksKept false (slots_of nodes.old.items) (slots_of nodes.new.items) (marks_of nodes.old.items) (marks_of nodes.new.items) (length nodes.old.items) (length nodes.new.items) }
+    ensures as_read { S.is_honest store.now → (trees : Trees) → HasStored (S.table store.now) trees
+        → AreAsRead trees (slots_of nodes.old.items) (marks_of nodes.old.items) → AreAsRead trees (slots_of nodes.new.items) (marks_of nodes.new.items) }
     ensures found { IfOk result (IsFolderAt (slots_of nodes.new.items) at.0 name.now) }
     ensures counted { lookups.new ≤ lookups.old + 1 }
     ensures refused { IfErr result (λ error. (s : Slot) × (slots_of nodes.new.items at.0 name.now ≡ Some s) × IsUnopened s
@@ -91,6 +99,9 @@ pub(crate) fn walk<S: Find>(
     requires within { from.0 < length nodes.old.items }
     requires named { 0 < length path.now }
     ensures opened { IsOpened (S.is_honest store.now) (S.table store.now) (slots_of nodes.old.items) (slots_of nodes.new.items) (length nodes.old.items) (length nodes.new.items) }
+    ensures marks { AreMarksKept false (slots_of nodes.old.items) (slots_of nodes.new.items) (marks_of nodes.old.items) (marks_of nodes.new.items) (length nodes.old.items) (length nodes.new.items) }
+    ensures as_read { S.is_honest store.now → (trees : Trees) → HasStored (S.table store.now) trees
+        → AreAsRead trees (slots_of nodes.old.items) (marks_of nodes.old.items) → AreAsRead trees (slots_of nodes.new.items) (marks_of nodes.new.items) }
     ensures within { IfOk result (λ end. (end.0.0 < length nodes.new.items) × (end.1 < length path.now)) }
     ensures below { IfOk result (λ end. from.0 ≤ end.0.0) }
     ensures leads { IfOk result (λ end. (way : Path) → Way (slots_of nodes.old.items) way from.0
@@ -126,6 +137,9 @@ pub(crate) fn folder_below<S: Find>(
     requires named { 0 < length names.now }
     requires stopped { 1 < length names.now → IsFolderAt (slots_of nodes.old.items) at.0 (slice_index_or (map (λ n. n.now) names.now) 0 []) None }
     ensures opened { IsOpened (S.is_honest store.now) (S.table store.now) (slots_of nodes.old.items) (slots_of nodes.new.items) (length nodes.old.items) (length nodes.new.items) }
+    ensures marks { AreMarksKept false (slots_of nodes.old.items) (slots_of nodes.new.items) (marks_of nodes.old.items) (marks_of nodes.new.items) (length nodes.old.items) (length nodes.new.items) }
+    ensures as_read { S.is_honest store.now → (trees : Trees) → HasStored (S.table store.now) trees
+        → AreAsRead trees (slots_of nodes.old.items) (marks_of nodes.old.items) → AreAsRead trees (slots_of nodes.new.items) (marks_of nodes.new.items) }
     ensures found { IfOk result (IsFolderAt (slots_of nodes.new.items) at.0 (slice_index_or (map (λ n. n.now) names.now) 0 [])) }
     ensures last { IfOk result (λ found. IsSome found → length names.now ≡ 1) }
     ensures counted { lookups.new ≤ lookups.old + 1 }

@@ -1,8 +1,9 @@
 //! Putting an entry below an opened tree, in folders that are made for it.
 
-ghost use Rattle.std.specs.Prelude.{◌≡◌, ◌≢◌, ◌<◌, ◌≤◌, ◌+◌, ℕ, length, map, slice_index_or, IfOk, OnOk, OnErr, Some, None, []};
+ghost use Rattle.std.specs.Prelude.{◌≡◌, ◌≢◌, ◌<◌, ◌≤◌, ◌+◌, ◌++◌, ◌∷◌, ℕ, length, map, slice_index_or, IfOk, OnOk, OnErr, Some, None, [], true};
 ghost use Rattle.gix_object_entries.specs.Mode.{is_tree_value};
 ghost use Rattle.gix_object_editor.specs.Files.{Bytes, Path, Trees, SameFiles, put, cleared};
+ghost use Rattle.gix_object_editor.specs.Marks.{mark_of, marks_of, mark_below, rung_parent, AreMarksKept, AreOnPath};
 ghost use Rattle.gix_object_editor.specs.Nodes.{slot_in, slots_of, child_of, leaf_in, files_of_node, Way, onto, IsForest, IsFolderAt, IsRung, IsPutIn, LeadsTo};
 
 use crate::tree::editor::node::{Node, NodeId, Slot, put_at, take_at};
@@ -33,6 +34,10 @@ pub(crate) fn graft(
     ensures within { IfOk result (λ end. end.0 < length nodes.new.items) }
     ensures others { (i : ℕ) (m : Bytes) → i < length nodes.old.items → (i ≡ at.0 → m ≡ slice_index_or (map (λ n. n.now) names.now) 0 [] → ⊥) → slots_of nodes.new.items i m ≡ slots_of nodes.old.items i m }
     ensures err { OnErr result ((i : ℕ) (m : Bytes) → slots_of nodes.new.items i m ≡ slots_of nodes.old.items i m) }
+    ensures marks { AreMarksKept true (slots_of nodes.old.items) (slots_of nodes.new.items) (marks_of nodes.old.items) (marks_of nodes.new.items) (length nodes.old.items) (length nodes.new.items) }
+    ensures last { IfOk result (λ end. 1 < length names.now → (end.0 + 1 ≡ length nodes.new.items) × (length nodes.old.items ≤ end.0)) }
+    ensures made { OnOk result ((way : Path) → Way (slots_of nodes.old.items) way at.0
+        → AreOnPath (slots_of nodes.new.items) (onto way (map (λ n. n.now) names.now)) (length nodes.old.items) (length nodes.new.items)) }
 {
     if names.len() == 1 {
         put_at(nodes.as_mut_slice(), alloc, at, names[0], slot)?;
@@ -62,12 +67,17 @@ pub(crate) fn make_folders(
     requires named { 0 < length names.now }
     requires plain { IsFolderAt (slots_of nodes.old.items) at.0 (slice_index_or (map (λ n. n.now) names.now) 0 []) None }
     ensures forest { IsForest (slots_of nodes.new.items) (length nodes.new.items) }
+    ensures longer { length nodes.old.items ≤ length nodes.new.items }
     ensures cleared { OnOk result ((trees : Trees) (way : Path) → Way (slots_of nodes.old.items) way at.0
         → SameFiles (files_of_node trees (slots_of nodes.new.items) 0) (cleared (onto way (map (λ n. n.now) names.now)) (files_of_node trees (slots_of nodes.old.items) 0))) }
     ensures leads { IfOk result (λ end. (way : Path) → Way (slots_of nodes.old.items) way at.0
         → LeadsTo (slots_of nodes.new.items) (onto way (map (λ n. n.now) names.now)) end.0 []) }
     ensures within { IfOk result (λ end. end.0 < length nodes.new.items) }
     ensures err { OnErr result ((i : ℕ) (m : Bytes) → slots_of nodes.new.items i m ≡ slots_of nodes.old.items i m) }
+    ensures others { (i : ℕ) (m : Bytes) → i < length nodes.old.items → (i ≡ at.0 → m ≡ slice_index_or (map (λ n. n.now) names.now) 0 [] → ⊥) → slots_of nodes.new.items i m ≡ slots_of nodes.old.items i m }
+    ensures marks { AreMarksKept true (slots_of nodes.old.items) (slots_of nodes.new.items) (marks_of nodes.old.items) (marks_of nodes.new.items) (length nodes.old.items) (length nodes.new.items) }
+    ensures made { OnOk result ((way : Path) → Way (slots_of nodes.old.items) way at.0
+        → AreOnPath (slots_of nodes.new.items) (onto way (map (λ n. n.now) names.now) ++ [] ∷ []) (length nodes.old.items) (length nodes.new.items)) }
 {
     // An entry in the last folder, which is taken out again: then nothing is left to fail where the folders stand.
     let no_name: &[u8] = &[];
@@ -105,9 +115,14 @@ fn hang(
     ensures within { IfOk result (λ end. end.0 < length nodes.new.items) }
     ensures others { (i : ℕ) (m : Bytes) → i < length nodes.old.items → (i ≡ at.0 → m ≡ slice_index_or (map (λ n. n.now) names.now) 0 [] → ⊥) → slots_of nodes.new.items i m ≡ slots_of nodes.old.items i m }
     ensures err { OnErr result ((i : ℕ) (m : Bytes) → i < length nodes.old.items → slots_of nodes.new.items i m ≡ slots_of nodes.old.items i m) }
+    ensures marks { OnOk result (AreMarksKept true (slots_of nodes.old.items) (slots_of nodes.new.items) (marks_of nodes.old.items) (marks_of nodes.new.items) (length nodes.old.items) (length nodes.new.items)) }
+    ensures front { (i : ℕ) → i < length nodes.old.items → marks_of nodes.new.items i ≡ marks_of nodes.old.items i }
+    ensures last { IfOk result (λ end. (end.0 + 1 ≡ length nodes.new.items) × (length nodes.old.items ≤ end.0)) }
+    ensures made { OnOk result ((way : Path) → Way (slots_of nodes.old.items) way at.0
+        → AreOnPath (slots_of nodes.new.items) (onto way (map (λ n. n.now) names.now)) (length nodes.old.items) (length nodes.new.items)) }
 {
     let first = NodeId(nodes.len());
-    push_ladder(nodes, alloc, &names[1..], slot)?;
+    push_ladder(nodes, alloc, at, &names[1..], slot)?;
     let end = NodeId(nodes.len() - 1);
     put_at(
         nodes.as_mut_slice(),
@@ -120,10 +135,11 @@ fn hang(
 }
 
 // Puts trees behind the others, each with the slot of one name, which leads to the next tree. The last has the slot that is
-// handed in.
+// handed in. The first is to lie in this tree.
 fn push_ladder(
     nodes: &mut Vec<Node>,
     alloc: Global,
+    at: NodeId,
     names: &[&[u8]],
     slot: Slot,
 ) -> Result<(), AllocError>
@@ -132,24 +148,31 @@ fn push_ladder(
     ensures rungs { OnOk result ((k : ℕ) → k < length names.now → IsRung (slots_of nodes.new.items) (length nodes.old.items) (map (λ n. n.now) names.now) slot k) }
     ensures len { OnOk result (length nodes.new.items ≡ length nodes.old.items + length names.now) }
     ensures longer { length nodes.old.items ≤ length nodes.new.items }
+    ensures marks { (i : ℕ) → i < length nodes.old.items → marks_of nodes.new.items i ≡ marks_of nodes.old.items i }
+    ensures changed { OnOk result ((k : ℕ) → k < length names.now → marks_of nodes.new.items (length nodes.old.items + k) ≡ mark_below (rung_parent at.0 (length nodes.old.items) k) true) }
 {
+    let mut above = at;
     for (i, name) in names.iter().enumerate() {
         let rung = if i + 1 < names.len() {
             folder(slot.oid, NodeId(nodes.len() + 1))
         } else {
             slot
         };
-        nodes.push(lone(alloc, name, rung)?)?;
+        let this = NodeId(nodes.len());
+        nodes.push(lone(alloc, above, name, rung)?)?;
+        above = this;
     }
     Ok(())
 }
 
-// The tree with this entry alone.
-fn lone(alloc: Global, name: &[u8], slot: Slot) -> Result<Node, AllocError>
+// The tree with this entry alone, which is to lie in another.
+fn lone(alloc: Global, above: NodeId, name: &[u8], slot: Slot) -> Result<Node, AllocError>
     ensures here { IfOk result (λ node. slot_in node name.now ≡ Some slot) }
     ensures others { IfOk result (λ node. (m : Bytes) → m ≢ name.now → slot_in node m ≡ None) }
+    ensures mark { IfOk result (λ node. mark_of node ≡ mark_below above.0 true) }
 {
     let mut node = Node::empty(alloc);
+    node.place(above, true);
     node.put(alloc, name, slot)?;
     Ok(node)
 }

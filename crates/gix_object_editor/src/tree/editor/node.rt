@@ -3,6 +3,7 @@
 ghost use Rattle.std.specs.Prelude.{◌≡◌, ◌≢◌, ◌<◌, ℕ, length, IfOk, OnOk, OnErr, Some, None};
 ghost use Rattle.gix_object_editor.specs.Files.{Bytes};
 ghost use Rattle.gix_object_editor.specs.Nodes.{slot_in, slots_of};
+ghost use Rattle.gix_object_editor.specs.Marks.{mark_of, marks_of, mark_below};
 
 use gix_hash::ObjectId;
 use gix_object_entries::tree::EntryMode;
@@ -25,6 +26,10 @@ pub struct Slot {
 #[derive(Debug, Drop)]
 pub struct Node {
     pub(crate) slots: BTreeMap<Vec<u8>, Slot>,
+    /// The tree in which it lies; of the root nothing.
+    pub(crate) parent: NodeId,
+    /// Whether an edit changed it, or a tree that lies in it.
+    pub(crate) changed: bool,
 }
 
 impl Node {
@@ -34,7 +39,18 @@ impl Node {
     {
         Node {
             slots: BTreeMap::new(alloc),
+            parent: NodeId(0),
+            changed: false,
         }
+    }
+
+    /// Says in which tree it lies, and whether an edit changed it.
+    pub(crate) fn place(&mut self, parent: NodeId, changed: bool)
+        ensures slots { (name : Bytes) → slot_in self.new name ≡ slot_in self.old name }
+        ensures mark { mark_of self.new ≡ mark_below parent.0 changed }
+    {
+        self.parent = parent;
+        self.changed = changed;
     }
 
     /// The entry of this name.
@@ -55,6 +71,7 @@ impl Node {
         ensures here { OnOk result (slot_in self.new name.now ≡ Some slot) }
         ensures others { (other : Bytes) → other ≢ name.now → slot_in self.new other ≡ slot_in self.old other }
         ensures err { OnErr result (slot_in self.new name.now ≡ slot_in self.old name.now) }
+        ensures mark { mark_of self.new ≡ mark_of self.old }
     {
         Ok(self.slots.insert(name.to_vec(alloc)?, slot)?)
     }
@@ -63,6 +80,7 @@ impl Node {
     pub(crate) fn take(&mut self, name: &[u8])
         ensures here { slot_in self.new name.now ≡ None }
         ensures others { (other : Bytes) → other ≢ name.now → slot_in self.new other ≡ slot_in self.old other }
+        ensures mark { mark_of self.new ≡ mark_of self.old }
     {
         self.slots.remove(name);
     }
@@ -88,6 +106,7 @@ pub(crate) fn put_at(
     ensures here { OnOk result (slots_of nodes.new at.0 name.now ≡ Some slot) }
     ensures others { (i : ℕ) (m : Bytes) → (i ≡ at.0 → m ≡ name.now → ⊥) → slots_of nodes.new i m ≡ slots_of nodes.old i m }
     ensures err { OnErr result (slots_of nodes.new at.0 name.now ≡ slots_of nodes.old at.0 name.now) }
+    ensures marks { (i : ℕ) → marks_of nodes.new i ≡ marks_of nodes.old i }
 {
     let node = &mut nodes[at.0];
     node.put(alloc, name, slot)?;
@@ -99,6 +118,7 @@ pub(crate) fn take_at(nodes: &mut [Node], at: NodeId, name: &[u8])
     requires { at.0 < length nodes.old }
     ensures here { slots_of nodes.new at.0 name.now ≡ None }
     ensures others { (i : ℕ) (m : Bytes) → (i ≡ at.0 → m ≡ name.now → ⊥) → slots_of nodes.new i m ≡ slots_of nodes.old i m }
+    ensures marks { (i : ℕ) → marks_of nodes.new i ≡ marks_of nodes.old i }
 {
     let node = &mut nodes[at.0];
     node.take(name);

@@ -1,12 +1,13 @@
 //! The root of an editor.
 
-ghost use Rattle.std.specs.Prelude.{◌≡◌, ℕ, [], length, map, IfOk, None};
+ghost use Rattle.std.specs.Prelude.{◌≡◌, ℕ, [], length, map, IfOk, None, false};
 ghost use Rattle.gix_object_entries.specs.Entry.{own_item};
 ghost use Rattle.gix_object_editor.specs.Files.{Bytes, Path, Trees, named, files_of_tree};
-ghost use Rattle.gix_object_editor.specs.Nodes.{slot_in, slots_of, files_of_node, StandsFor, IsForest};
+ghost use Rattle.gix_object_editor.specs.Nodes.{slot_in, slots_of, child_of, files_of_node, StandsFor, IsForest};
+ghost use Rattle.gix_object_editor.specs.Marks.{marks_of, AreMarked};
 ghost use Rattle.gix_object_entries.specs.WellFormed.{IsWellFormed};
 
-use crate::tree::editor::node::{Node, Slot};
+use crate::tree::editor::node::{Node, NodeId, Slot};
 use gix_object_entries::Tree;
 use std::alloc::{AllocError, Global};
 
@@ -14,9 +15,13 @@ use std::alloc::{AllocError, Global};
 pub(crate) fn opened_root(alloc: Global, root: &Tree) -> Result<Vec<Node>, AllocError>
     requires { IsWellFormed (map own_item root.now.entries.items) }
     ensures forest { IfOk result (λ nodes. IsForest (slots_of nodes.items) (length nodes.items)) }
+    ensures marked { IfOk result (λ nodes. AreMarked (slots_of nodes.items) (marks_of nodes.items) (length nodes.items)) }
+    ensures unchanged { IfOk result (λ nodes. (i : ℕ) → (marks_of nodes.items i).changed ≡ false) }
+    ensures closed { IfOk result (λ nodes. (i : ℕ) (m : Bytes) → child_of (slots_of nodes.items i m) ≡ None) }
     ensures files { IfOk result (λ nodes. (trees : Trees) (q : Path) → files_of_node trees (slots_of nodes.items) 0 q ≡ files_of_tree trees (map own_item root.now.entries.items) q) }
 {
-    let node = node_of(alloc, root)?;
+    let mut node = node_of(alloc, root)?;
+    node.place(NodeId(0), false);
     let mut nodes = Vec::new(alloc);
     nodes.push(node)?;
     Ok(nodes)

@@ -2,6 +2,7 @@
 
 ghost use Rattle.std.specs.Prelude.{◌<◌, length};
 ghost use Rattle.gix_object_editor.specs.Nodes.{slots_of, IsForest};
+ghost use Rattle.gix_object_editor.specs.Marks.{marks_of, AreMarked};
 
 use crate::tree::editor::node::{Node, NodeId};
 
@@ -12,6 +13,7 @@ pub struct Editor<S> {
     pub(crate) nodes: Vec<Node>,
     pub(crate) lookups: u64,
     ghost forest: { IsForest (slots_of nodes.items) (length nodes.items) },
+    ghost marked: { AreMarked (slots_of nodes.items) (marks_of nodes.items) (length nodes.items) },
 }
 
 /// A folder of an editor, below which edits are made.

@@ -4,6 +4,7 @@ ghost use Rattle.std.specs.Prelude.{◌<◌, [], length, IfOk, IfErr};
 ghost use Rattle.gix_hash.specs.Id.{id_of};
 ghost use Rattle.gix_object_editor.specs.Files.{Path};
 ghost use Rattle.gix_object_editor.specs.Nodes.{slots_of, Way, onto};
+ghost use Rattle.gix_object_editor.specs.Marks.{due_in};
 ghost use Rattle.gix_object_editor.specs.Written.{WriteFault, Writes};
 
 mod below;
@@ -21,7 +22,8 @@ use gix_object_entries::Tree;
 use std::alloc::Global;
 
 impl<S> Editor<S> {
-    /// Hands out the trees that were opened, and answers the root's id.
+    /// Hands out the trees that edits changed since the root was set, also where they were handed out before, and answers the root's
+    /// id.
     ///
     /// Each is handed out once, behind the trees that lie in it, and named by the id that `out` answered for it. The root comes
     /// last. A folder whose tree has no entries is left out, and so is an entry with the null id.
@@ -33,15 +35,15 @@ impl<S> Editor<S> {
         out: &mut F,
     ) -> Result<ObjectId, Error<E>>
         requires { F.IsAlwaysCallable out.old }
-        ensures written { IfOk result (λ root. Writes F.FnMut self.now [] out.old (id_of root) out.new) }
+        ensures written { IfOk result (λ root. Writes F.FnMut self.now 0 [] out.old (id_of root) out.new) }
         ensures refused { IfErr result (λ error.
-            WriteFault F.FnMut (slots_of self.now.nodes.items) out.old error out.new) }
+            WriteFault F.FnMut (due_in self.now.nodes.items 0) out.old error out.new) }
         ensures callable { F.IsAlwaysCallable out.new }
     {
         self.write_from(alloc, NodeId(0), out)
     }
 
-    /// Hands out the trees that were opened from this one down, and answers its id.
+    /// Hands out the trees that edits changed below this one, and this, and answers its id.
     pub(crate) fn write_from<E, F: FnMut(&Tree) -> Result<ObjectId, E>>(
         &self,
         alloc: Global,
@@ -51,15 +53,15 @@ impl<S> Editor<S> {
         requires callable { F.IsAlwaysCallable out.old }
         requires within { from.0 < length self.now.nodes.items }
         ensures written { (base : Path) → Way (slots_of self.now.nodes.items) base from.0
-            → IfOk result (λ id. Writes F.FnMut self.now (onto base []) out.old (id_of id) out.new) }
+            → IfOk result (λ id. Writes F.FnMut self.now from.0 (onto base []) out.old (id_of id) out.new) }
         ensures refused { (base : Path) → Way (slots_of self.now.nodes.items) base from.0
             → IfErr result (λ error.
-            WriteFault F.FnMut (slots_of self.now.nodes.items) out.old error out.new) }
+            WriteFault F.FnMut (due_in self.now.nodes.items from.0) out.old error out.new) }
         ensures callable { F.IsAlwaysCallable out.new }
     {
         let nodes = self.nodes.as_slice();
         let ids = write_below(nodes, from, alloc, out)?;
-        let tree = tree_of(&nodes[from.0], ids.as_slice(), alloc)?;
+        let tree = tree_of(&nodes[from.0], nodes, ids.as_slice(), alloc)?;
         match out(&tree) {
             Ok(id) => Ok(id),
             Err(error) => Err(Error::Out(error)),

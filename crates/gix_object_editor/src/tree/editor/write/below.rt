@@ -4,6 +4,7 @@ ghost use Rattle.std.specs.Prelude.{◌≡◌, ◌<◌, ◌+◌, List, length, I
 ghost use Rattle.std.specs.List.{FoldsTo};
 ghost use Rattle.gix_object_editor.specs.Files.{Path};
 ghost use Rattle.gix_object_editor.specs.Nodes.{slots_of, IsForest, Way};
+ghost use Rattle.gix_object_editor.specs.Marks.{due_in};
 ghost use Rattle.gix_object_editor.specs.Writing.{ids_of};
 ghost use Rattle.gix_object_editor.specs.Written.{HandedOut, HandsOut, WriteFault};
 ghost use Rattle.gix_object_editor.specs.Below.{IsHandedOutFrom, Answered};
@@ -16,8 +17,8 @@ use gix_hash::ObjectId;
 use gix_object_entries::Tree;
 use std::alloc::Global;
 
-/// Hands out the trees below an opened one that have entries, each behind those that lie in it, and answers their ids by their
-/// numbers.
+/// Hands out the changed trees below an opened one that have entries, each behind those that lie in it, and answers their ids by
+/// their numbers.
 pub(crate) fn write_below<E, F: FnMut(&Tree) -> Result<ObjectId, E>>(
     nodes: &[Node],
     from: NodeId,
@@ -27,12 +28,12 @@ pub(crate) fn write_below<E, F: FnMut(&Tree) -> Result<ObjectId, E>>(
     requires callable { F.IsAlwaysCallable out.old }
     requires forest { IsForest (slots_of nodes.now) (length nodes.now) }
     requires within { from.0 < length nodes.now }
-    ensures written { (base : Path) → Way (slots_of nodes.now) base from.0
+    ensures written { (base : Path) → Way (due_in nodes.now from.0) base from.0
         → IfOk result (λ ids. (handed : List HandedOut) × FoldsTo (HandsOut F.FnMut) out.old handed out.new
-        × IsHandedOutFrom (slots_of nodes.now) base (length nodes.now) (ids_of ids.items) handed (from.0 + 1)) }
+        × IsHandedOutFrom (due_in nodes.now from.0) base (length nodes.now) (ids_of ids.items) handed (from.0 + 1)) }
     ensures len { IfOk result (λ ids. length ids.items ≡ length nodes.now) }
-    ensures refused { (base : Path) → Way (slots_of nodes.now) base from.0
-        → IfErr result (λ error. WriteFault F.FnMut (slots_of nodes.now) out.old error out.new) }
+    ensures refused { (base : Path) → Way (due_in nodes.now from.0) base from.0
+        → IfErr result (λ error. WriteFault F.FnMut (due_in nodes.now from.0) out.old error out.new) }
     ensures callable { F.IsAlwaysCallable out.new }
 {
     let reached = reached(nodes, from, alloc)?;
@@ -41,7 +42,7 @@ pub(crate) fn write_below<E, F: FnMut(&Tree) -> Result<ObjectId, E>>(
     'nodes: while at > from.0 + 1 {
         at -= 1;
         if reached[at] {
-            let tree = tree_of(&nodes[at], ids.as_slice(), alloc)?;
+            let tree = tree_of(&nodes[at], nodes, ids.as_slice(), alloc)?;
             ids[at] = hand_out(&tree, out)?;
         }
     }

@@ -6,8 +6,10 @@ ghost use Rattle.gix_hash.specs.Id.{id_of};
 ghost use Rattle.gix_object_entries.specs.Entry.{own_item};
 ghost use Rattle.gix_object_editor.specs.Files.{Bytes, through};
 ghost use Rattle.gix_object_editor.specs.Nodes.{slot_in, child_of};
+ghost use Rattle.gix_object_editor.specs.Marks.{changed_in, slot_if, slots_if};
 ghost use Rattle.gix_object_editor.specs.Writing.{ids_of, object_item, unless_null, written_item, IsTreeOf};
 
+use crate::tree::editor::marks::changed_child;
 use crate::tree::editor::node::{Node, NodeId, Slot};
 use gix_hash::ObjectId;
 use gix_object_entries::Tree;
@@ -15,18 +17,20 @@ use gix_object_entries::tree::{Entry, EntryKind, EntryMode};
 use gix_object_lines::ByteString;
 use std::alloc::{AllocError, Global};
 
-/// The tree of an opened one's entries, in Git's order. Folders have these ids of their trees.
+/// The tree of an opened one's entries, in Git's order. Folders that edits changed have these ids of their trees.
 pub(crate) fn tree_of(
     node: &Node,
+    nodes: &[Node],
     ids: &[Option<ObjectId>],
     alloc: Global,
 ) -> Result<Tree, AllocError>
-    requires { (m : Bytes) (c : ℕ) → child_of (slot_in node.now m) ≡ Some c → c < length ids.now }
-    ensures { IfOk result (λ tree. IsTreeOf (ids_of ids.now) (slot_in node.now) (map own_item tree.entries.items)) }
+    requires opened { (m : Bytes) (c : ℕ) → child_of (slot_in node.now m) ≡ Some c → c < length nodes.now }
+    requires within { (m : Bytes) (c : ℕ) → child_of (slot_in node.now m) ≡ Some c → c < length ids.now }
+    ensures { IfOk result (λ tree. IsTreeOf (ids_of ids.now) (slots_if (changed_in nodes.now) (slot_in node.now)) (map own_item tree.entries.items)) }
 {
     let mut entries = Vec::new(alloc);
     for (name, slot) in &node.slots {
-        if let Some(entry) = entry_of(name.as_slice(), slot, ids, alloc)? {
+        if let Some(entry) = entry_of(name.as_slice(), slot, nodes, ids, alloc)? {
             entries.push(entry)?;
         }
     }
@@ -38,13 +42,15 @@ pub(crate) fn tree_of(
 fn entry_of(
     name: &[u8],
     slot: &Slot,
+    nodes: &[Node],
     ids: &[Option<ObjectId>],
     alloc: Global,
 ) -> Result<Option<Entry>, AllocError>
-    requires { (c : ℕ) → child_of (Some slot.now) ≡ Some c → c < length ids.now }
-    ensures { IfOk result (λ entry. option_map own_item entry ≡ written_item (ids_of ids.now) name.now slot.now) }
+    requires opened { (c : ℕ) → child_of (Some slot.now) ≡ Some c → c < length nodes.now }
+    requires within { (c : ℕ) → child_of (Some slot.now) ≡ Some c → c < length ids.now }
+    ensures { IfOk result (λ entry. option_map own_item entry ≡ written_item (ids_of ids.now) name.now (slot_if (changed_in nodes.now) slot.now)) }
 {
-    let Some((mode, oid)) = object_of(slot, ids) else {
+    let Some((mode, oid)) = object_of(slot, nodes, ids) else {
         return Ok(None);
     };
     let filename = ByteString::from_slice(alloc, name)?;
@@ -55,12 +61,13 @@ fn entry_of(
     }))
 }
 
-// What a slot's entry names. `None` for a folder without entries.
-fn object_of(slot: &Slot, ids: &[Option<ObjectId>]) -> Option<(EntryMode, ObjectId)>
-    requires { (c : ℕ) → child_of (Some slot.now) ≡ Some c → c < length ids.now }
-    ensures { (name : Bytes) → option_map (object_item name) result ≡ written_item (ids_of ids.now) name slot.now }
+// What a slot's entry names: a folder that edits changed has the id of its tree. `None` where that has no entries.
+fn object_of(slot: &Slot, nodes: &[Node], ids: &[Option<ObjectId>]) -> Option<(EntryMode, ObjectId)>
+    requires opened { (c : ℕ) → child_of (Some slot.now) ≡ Some c → c < length nodes.now }
+    requires within { (c : ℕ) → child_of (Some slot.now) ≡ Some c → c < length ids.now }
+    ensures { (name : Bytes) → option_map (object_item name) result ≡ written_item (ids_of ids.now) name (slot_if (changed_in nodes.now) slot.now) }
 {
-    let Some(child) = slot.child else {
+    let Some(child) = changed_child(nodes, slot) else {
         return named_object(slot.mode, slot.oid);
     };
     let oid = id_at(ids, child)?;

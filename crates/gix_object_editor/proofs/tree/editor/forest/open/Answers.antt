@@ -1,4 +1,4 @@
-use Rattle.std.proofs.Common.{◌≡◌, ◌∙◌, ◌≤◌, ap, sym, subst, arith, true, length, suc, rules, None, Some}
+use Rattle.std.proofs.Common.{refl, ◌≡◌, ◌∙◌, ◌≤◌, ap, sym, subst, arith, true, length, suc, rules, None, Some}
 use Rattle.std.specs.Prelude.{is_ok}
 use Rattle.std.proofs.lemmas.Result.{err_from_is_err_and}
 use Rattle.gix_hash.specs.Id.{id_of}
@@ -7,7 +7,9 @@ use Rattle.gix_object_editor.specs.declared.tree.editor.node.Slot.{Slot}
 use Rattle.gix_object_editor.specs.Files.{Bytes, named}
 use Rattle.gix_object_editor.specs.Nodes.{slots_of, slot_in, leaf_in, child_of, StandsFor, IsUnopened}
 use Rattle.gix_object_editor.proofs.Loaded.{not_null, no_child}
-use Rattle.gix_object_editor.proofs.Opening.{opened_one}
+use Rattle.gix_object_editor.proofs.Opening.{opened_one, as_function}
+use Rattle.gix_object_editor.specs.Marks.{marks_of}
+use Rattle.gix_object_editor.proofs.Marked.{marks_one, read_one, read_same}
 use Rattle.gix_object_editor.proofs.Slots.{none_past}
 use Rattle.gix_object_editor.proofs.tree.editor.forest.open.Goals as goal
 
@@ -54,3 +56,42 @@ returns-clause-opened g c =
     (λ honest. let tree = c.in_ok-tree.ensures.opened honest in (tree.0, λ m. subst (λ o. StandsFor o (named m tree.0)) (sym (at m)) (tree.1 m), tree.2))
     c.in_ok-attach.ensures.here (ap Some c.in_ok-attach.ensures.number) (λ m. ap child_of (at m) ∙ c.in_ok-tree.ensures.fresh m) c.in_ok-attach.ensures.others
     (λ i m lt. let le : length new ≤ i = omega arith in none_past new i m le) (λ i m le. none_past old i m le)
+
+pub returns-clause-marks : goal.returns-clause-marks
+returns-clause-marks g c =
+    let old = c.args.nodes.now.items in
+    let new = c.attach.new.nodes.items in
+    let s : Slot = c.in-Some.slot in
+    let t : Slot = record { mode = s.mode; oid = s.oid; child = Some c.in_ok-attach.field-0 } in
+    let ok : is_ok c.attach.result ≡ true = search rules in
+    let next : length new ≡ suc (length old) = search rules in
+    let stood : slots_of old c.args.at.0 c.args.name.now ≡ Some s = ap (λ ns. slots_of ns c.args.at.0 c.args.name.now) (sym c.as_slice.ensures.value) ∙ sym c.slot_at.ensures ∙ c.in-Some.is in
+    let closed : s.child ≡ None = no_child s.child (sym c.is_some.ensures ∙ c.if-is_some.false) in
+    let at : (m : Bytes) → slots_of new (length old) m ≡ slot_in c.in_ok-tree.tree m = c.in_ok-attach.ensures.behind in
+    let opened = returns-clause-opened g c in
+    marks_one (slots_of old) (slots_of new) (marks_of old) (marks_of new) (length old) (length new) c.requires.forest opened.forest next c.args.at.0 c.args.name.now s t c.requires.within stood closed
+    c.in_ok-attach.ensures.here (ap Some c.in_ok-attach.ensures.number) (λ m. ap child_of (at m) ∙ c.in_ok-tree.ensures.fresh m) c.in_ok-attach.ensures.others
+    (λ i m lt. let le : length new ≤ i = omega arith in none_past new i m le) c.in_ok-attach.ensures.marks c.in_ok-attach.ensures.unchanged
+
+pub returns-clause-as_read : goal.returns-clause-as_read
+returns-clause-as_read g c = λ honest trees has.
+    let old = c.args.nodes.now.items in
+    let new = c.attach.new.nodes.items in
+    let s : Slot = c.in-Some.slot in
+    let t : Slot = record { mode = s.mode; oid = s.oid; child = Some c.in_ok-attach.field-0 } in
+    let ok : is_ok c.attach.result ≡ true = search rules in
+    let next : length new ≡ suc (length old) = search rules in
+    let stood : slots_of old c.args.at.0 c.args.name.now ≡ Some s = ap (λ ns. slots_of ns c.args.at.0 c.args.name.now) (sym c.as_slice.ensures.value) ∙ sym c.slot_at.ensures ∙ c.in-Some.is in
+    let closed : s.child ≡ None = no_child s.child (sym c.is_some.ensures ∙ c.if-is_some.false) in
+    let at : (m : Bytes) → slots_of new (length old) m ≡ slot_in c.in_ok-tree.tree m = c.in_ok-attach.ensures.behind in
+    let opened = returns-clause-opened g c in
+    read_one (slots_of old) (slots_of new) (marks_of old) (marks_of new) (length old) (length new) c.requires.forest opened.forest next c.args.at.0 c.args.name.now s t c.requires.within stood closed
+    c.in_ok-attach.ensures.here (ap Some c.in_ok-attach.ensures.number) (λ m. ap child_of (at m) ∙ c.in_ok-tree.ensures.fresh m) c.in_ok-attach.ensures.others
+    (λ i m lt. let le : length new ≤ i = omega arith in none_past new i m le) c.in_ok-attach.ensures.marks c.in_ok-attach.ensures.unchanged
+    trees (opened.files honest trees has) refl
+
+pub returns-in_err-attach-clause-as_read : goal.returns-in_err-attach-clause-as_read
+returns-in_err-attach-clause-as_read g c = λ honest trees has read.
+    let old = c.args.nodes.now.items in
+    let new = c.attach.new.nodes.items in
+    read_same trees (slots_of old) (slots_of new) (marks_of old) (marks_of new) (length old) c.requires.forest (as_function (slots_of new) (slots_of old) c.in_err-attach.ensures.err) c.attach.ensures.marks read

@@ -1,10 +1,12 @@
-use Rattle.std.proofs.Common.{ℕ, List, [], ◌∷◌, ◌<◌, ◌∙◌, ap, subst, arith, length, drop, refl}
+use Rattle.std.proofs.Common.{ℕ, List, [], ◌∷◌, ◌<◌, ◌∙◌, ap, subst, arith, length, drop, refl, false}
 use Rattle.std.specs.Borrow.{Bor}
 use Rattle.std.proofs.lemmas.List.{get_or-map}
 use Rattle.std.proofs.lemmas.Result.{err_from_is_err_and}
 use Rattle.gix_hash.specs.Id.{id_of}
 use Rattle.gix_object_editor.specs.Nodes.{slots_of, onto, LeadsTo}
+use Rattle.gix_object_editor.specs.Marks.{marks_of}
 use Rattle.gix_object_editor.proofs.Opening.{opened_none, opened_then}
+use Rattle.gix_object_editor.proofs.Marked.{marks_none, marks_then}
 use Rattle.gix_object_editor.proofs.Edits.{two_names}
 use Rattle.gix_object_editor.proofs.Walked.{names, leads_kept, leads_on, folder_found}
 use Rattle.gix_object_editor.proofs.tree.editor.forest.walk.Goals as goal
@@ -24,6 +26,9 @@ names-preserved g c =
       below = let up : c.names.at.0 < c.in-Some.child.0 = c.in_ok-child.ensures.opened.forest.forward c.names.at.0 _ c.in-Some.child.0 found in let from = c.names.invariant.below in omega arith;
       left = omega arith;
       opened = opened_then _ _ (slots_of c.args.nodes.now.items) (slots_of old) (slots_of new) (length c.args.nodes.now.items) (length old) (length new) c.names.invariant.opened c.in_ok-child.ensures.opened;
+      marks = marks_then false (slots_of c.args.nodes.now.items) (slots_of old) (slots_of new) (marks_of c.args.nodes.now.items) (marks_of old) (marks_of new) (length c.args.nodes.now.items) (length old) (length new)
+          c.names.invariant.opened.longer c.in_ok-child.ensures.opened.longer c.names.invariant.marks c.in_ok-child.ensures.marks;
+      as_read = λ h trees has read. c.in_ok-child.ensures.as_read h trees has (c.names.invariant.as_read h trees has read);
       leads = λ way w. leads_on (slots_of old) (slots_of new) (onto way (names c.args.path.now)) c.args.path.now c.names.at.0 c.names.depth _ c.in-Some.child.0 lt c.in_ok-child.ensures.opened.links found (c.names.invariant.leads way w);
       counted = let n = c.in_ok-child.ensures.counted in let m = c.names.invariant.counted in omega arith;
     }
@@ -34,6 +39,8 @@ names-init g c = record {
   below = omega arith;
   left = c.requires.named;
   opened = opened_none _ _ (slots_of c.args.nodes.now.items) (length c.args.nodes.now.items) c.requires.forest;
+  marks = marks_none false (slots_of c.args.nodes.now.items) (marks_of c.args.nodes.now.items) (length c.args.nodes.now.items) c.requires.forest;
+  as_read = λ h trees has read. read;
   leads = λ way w. (way, w, refl);
   counted = omega arith;
 }

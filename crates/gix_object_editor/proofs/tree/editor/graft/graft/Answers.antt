@@ -1,4 +1,4 @@
-use Rattle.std.proofs.Common.{ℕ, List, ◌≡◌, ◌∙◌, ◌<◌, ◌≤◌, ap, sym, subst, arith, length, map, []}
+use Rattle.std.proofs.Common.{true, ℕ, List, ◌≡◌, ◌∙◌, ◌<◌, ◌≤◌, ap, sym, subst, arith, length, map, []}
 use Rattle.std.specs.Borrow.{Bor}
 use Rattle.std.proofs.lemmas.Result.{err_from_is_err_and}
 use Rattle.std.proofs.lemmas.List.{get_or-map, length-take}
@@ -7,7 +7,10 @@ use Rattle.gix_object_editor.specs.Files.{Bytes}
 use Rattle.gix_object_editor.specs.Nodes.{slots_of, files_of_node, child_of, onto, IsForest, IsPutIn}
 use Rattle.gix_object_editor.proofs.Slots.{back, all_slots, cut_back}
 use Rattle.gix_object_editor.proofs.Opening.{fewer}
-use Rattle.gix_object_editor.proofs.Ladder.{put_forest, put_files, put_end}
+use Rattle.gix_object_editor.proofs.Ladder.{put_forest, put_files, put_end, put_marks}
+use Rattle.gix_object_editor.specs.Marks.{marks_of, AreMarksKept, AreOnPath}
+use Rattle.gix_object_editor.proofs.Changes.{none_on_path}
+use Rattle.gix_object_editor.proofs.Marked.{marks_same, marks_taken}
 use Rattle.gix_object_editor.proofs.tree.editor.graft.graft.Goals as goal
 
 pub returns-in_err-put_at-clause-forest : goal.returns-in_err-put_at-clause-forest
@@ -89,3 +92,52 @@ returns-then-names-eq1-clause-end c = λ way reached.
     subst (λ (ns : List Node). IsPutIn (slots_of ns) (onto way (map (λ x. x.now) path)) c.args.at.0) (sym (back c.args.nodes.now.len new _ n))
     (put_end old new c.requires.forest path one c.args.slot c.requires.unopened same_len c.args.at.0 _ (get_or-map (λ (x : Bor (List ℕ)). x.now) path 0 _ [] some) c.in_ok-put_at.ensures.here
     (λ i m off. c.in_ok-put_at.ensures.others i m off ∙ ap (λ ns. slots_of ns i m) c.as_mut_slice.ensures.value) way reached)
+
+pub returns-in_err-put_at-clause-marks : goal.returns-in_err-put_at-clause-marks
+returns-in_err-put_at-clause-marks c =
+    let old = c.args.nodes.now.items in
+    let new = c.put_at.new.nodes in
+    let n : c.args.nodes.now.len ≡ length new = omega (arith, c.put_at.auto.nodes, c.as_mut_slice.ensures.len) in
+    let len : length old ≡ length new = omega (arith, c.args.nodes.now.ok.0) in
+    let same : (i : ℕ) (m : Bytes) → slots_of new i m ≡ slots_of old i m = λ i m.
+    all_slots c.as_mut_slice.result.now new c.args.at.0 _ c.in_err-put_at.ensures.err c.in_err-put_at.ensures.others i m
+    ∙ ap (λ ns. slots_of ns i m) c.as_mut_slice.ensures.value in
+    subst (λ (ns : List Node). AreMarksKept true (slots_of old) (slots_of ns) (marks_of old) (marks_of ns) (length old) (length ns)) (sym (back c.args.nodes.now.len new _ n))
+    (marks_same true (slots_of old) (slots_of new) (marks_of old) (marks_of new) (length old) (length new) c.requires.forest len same
+    (λ i lt. c.in_err-put_at.ensures.marks i ∙ ap (λ ns. marks_of ns i) c.as_mut_slice.ensures.value))
+
+pub returns-then-names-eq1-clause-marks : goal.returns-then-names-eq1-clause-marks
+returns-then-names-eq1-clause-marks c =
+    let old = c.args.nodes.now.items in
+    let new = c.put_at.new.nodes in
+    let path = c.args.names.now in
+    let n : c.args.nodes.now.len ≡ length new = omega (arith, c.put_at.auto.nodes, c.as_mut_slice.ensures.len) in
+    let same_len : length new ≡ length old = omega (arith, c.args.nodes.now.ok.0) in
+    let one : length path ≡ 1 = omega arith in
+    let some : 0 < length path = omega arith in
+    subst (λ (ns : List Node). AreMarksKept true (slots_of old) (slots_of ns) (marks_of old) (marks_of ns) (length old) (length ns)) (sym (back c.args.nodes.now.len new _ n))
+    (put_marks old new c.requires.forest path one c.args.slot c.requires.unopened same_len c.args.at.0 _ (get_or-map (λ (x : Bor (List ℕ)). x.now) path 0 _ [] some) c.in_ok-put_at.ensures.here
+    (λ i m off. c.in_ok-put_at.ensures.others i m off ∙ ap (λ ns. slots_of ns i m) c.as_mut_slice.ensures.value) true (marks_of old) (marks_of new)
+    (λ i. c.in_ok-put_at.ensures.marks i ∙ ap (λ ns. marks_of ns i) c.as_mut_slice.ensures.value))
+
+pub returns-then-names-eq1-clause-made : goal.returns-then-names-eq1-clause-made
+returns-then-names-eq1-clause-made c = λ way reached.
+    let old = c.args.nodes.now.items in
+    let new = c.put_at.new.nodes in
+    let path = onto way (map (λ x. x.now) c.args.names.now) in
+    let n : c.args.nodes.now.len ≡ length new = omega (arith, c.put_at.auto.nodes, c.as_mut_slice.ensures.len) in
+    let len : length old ≡ length new = omega (arith, c.args.nodes.now.ok.0) in
+    subst (λ (ns : List Node). AreOnPath (slots_of ns) path (length old) (length ns)) (sym (back c.args.nodes.now.len new _ n))
+    (subst (AreOnPath (slots_of new) path (length old)) len (none_on_path (slots_of new) path (length old)))
+
+pub returns-in-Err-clause-marks : goal.returns-in-Err-clause-marks
+returns-in-Err-clause-marks c =
+    let old = c.args.nodes.now.items in
+    let new = c.truncate.new.self.items in
+    let front : c.len-before.result ≡ length old = omega arith in
+    let longer : length old ≤ length c.hang.new.nodes.items = c.hang.ensures.longer in
+    let len : length old ≡ length new = omega (arith, ap length c.truncate.ensures.items, length-take c.len-before.result c.hang.new.nodes.items) in
+    marks_same true (slots_of old) (slots_of new) (marks_of old) (marks_of new) (length old) (length new) c.requires.forest len (returns-in-Err-clause-err c)
+    (λ i lt.
+    let less : i < c.len-before.result = omega (arith, front, lt) in
+    ap (λ (ns : List Node). marks_of ns i) c.truncate.ensures.items ∙ marks_taken c.hang.new.nodes.items c.len-before.result i less ∙ c.hang.ensures.front i lt)

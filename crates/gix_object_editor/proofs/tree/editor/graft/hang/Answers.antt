@@ -1,11 +1,12 @@
-use Rattle.std.proofs.Common.{ℕ, List, Some, None, rules, ◌≡◌, ◌∙◌, ◌<◌, ◌≤◌, ◌+◌, ◌-◌, suc, map, ap, sym, subst, arith, length, drop, take, []}
+use Rattle.std.proofs.Common.{ℕ, true, List, Some, None, rules, ◌≡◌, ◌∙◌, ◌<◌, ◌≤◌, ◌+◌, ◌-◌, suc, map, ap, sym, subst, arith, length, drop, take, []}
 use Rattle.std.specs.Borrow.{Bor}
 use Rattle.std.proofs.lemmas.Result.{err_from_is_err_and}
 use Rattle.std.proofs.lemmas.List.{get_or-map, length-drop, take_all}
 use Rattle.gix_object_editor.specs.declared.tree.editor.node.Node.{Node}
 use Rattle.gix_object_editor.specs.Nodes.{slots_of, files_of_node, child_or, onto, IsForest, IsPutIn}
 use Rattle.gix_object_editor.proofs.Slots.{back, all_slots}
-use Rattle.gix_object_editor.proofs.Ladder.{hung_forest, hung_files, hung_end}
+use Rattle.gix_object_editor.proofs.Ladder.{hung_forest, hung_files, hung_end, hung_marks, hung_ways}
+use Rattle.gix_object_editor.specs.Marks.{marks_of, AreMarksKept, AreOnPath}
 use Rattle.gix_object_editor.proofs.tree.editor.graft.hang.Goals as goal
 
 pub returns-clause-forest : goal.returns-clause-forest
@@ -82,3 +83,73 @@ returns-clause-end c = λ way reached.
     c.in_ok-push_ladder.ensures.rungs len same_len c.args.at.0 _ (get_or-map (λ (x : Bor (List ℕ)). x.now) path 0 _ [] some) c.requires.within c.in_ok-put_at.ensures.here
     (ap (λ o. child_or o (λ d. Some d) None) c.folder.ensures ∙ ap (λ k. Some k) (search rules))
     (λ i m off. c.in_ok-put_at.ensures.others i m off ∙ ap (λ ns. slots_of ns i m) c.as_mut_slice.ensures.value) (c.len-2.result - 1) end way reached)
+
+pub returns-clause-marks : goal.returns-clause-marks
+returns-clause-marks c =
+    let old = c.args.nodes.now.items in
+    let mid = c.push_ladder.new.nodes.items in
+    let new = c.put_at.new.nodes in
+    let path = c.args.names.now in
+    let n : c.push_ladder.new.nodes.len ≡ length new = omega (arith, c.put_at.auto.nodes, c.as_mut_slice.ensures.len) in
+    let tail : List (Bor (List ℕ)) = take (length path - 1) (drop 1 path) in
+    let less : length (drop 1 path) ≤ length path - 1 = omega (arith, length-drop 1 path) in
+    let len : length mid ≡ length old + length tail = c.in_ok-push_ladder.ensures.len in
+    let same_len : length new ≡ length mid = omega (arith, c.push_ladder.new.nodes.ok.0) in
+    let some : 0 < length path = omega arith in
+    let same : (i : ℕ) → marks_of new i ≡ marks_of mid i = λ i. c.in_ok-put_at.ensures.marks i ∙ ap (λ ns. marks_of ns i) c.as_mut_slice.ensures.value in
+    subst (λ (ns : List Node). AreMarksKept true (slots_of old) (slots_of ns) (marks_of old) (marks_of ns) (length old) (length ns)) (sym (back c.push_ladder.new.nodes.len new _ n))
+    (hung_marks old mid new c.requires.forest path tail c.requires.named (take_all (length path - 1) (drop 1 path) less) c.args.slot _ c.requires.unopened c.in_ok-push_ladder.ensures.front
+    c.in_ok-push_ladder.ensures.rungs len same_len c.args.at.0 _ (get_or-map (λ (x : Bor (List ℕ)). x.now) path 0 _ [] some) c.requires.within c.in_ok-put_at.ensures.here
+    (ap (λ o. child_or o (λ d. Some d) None) c.folder.ensures ∙ ap (λ k. Some k) (search rules))
+    (λ i m off. c.in_ok-put_at.ensures.others i m off ∙ ap (λ ns. slots_of ns i m) c.as_mut_slice.ensures.value)
+    (marks_of old) (marks_of new) (λ i lt. same i ∙ c.in_ok-push_ladder.ensures.marks i lt) (λ k lt. same (length old + k) ∙ c.in_ok-push_ladder.ensures.changed k lt))
+
+pub returns-clause-made : goal.returns-clause-made
+returns-clause-made c = λ way reached.
+    let old = c.args.nodes.now.items in
+    let mid = c.push_ladder.new.nodes.items in
+    let new = c.put_at.new.nodes in
+    let path = c.args.names.now in
+    let n : c.push_ladder.new.nodes.len ≡ length new = omega (arith, c.put_at.auto.nodes, c.as_mut_slice.ensures.len) in
+    let tail : List (Bor (List ℕ)) = take (length path - 1) (drop 1 path) in
+    let less : length (drop 1 path) ≤ length path - 1 = omega (arith, length-drop 1 path) in
+    let len : length mid ≡ length old + length tail = c.in_ok-push_ladder.ensures.len in
+    let same_len : length new ≡ length mid = omega (arith, c.push_ladder.new.nodes.ok.0) in
+    let some : 0 < length path = omega arith in
+    subst (λ (ns : List Node). AreOnPath (slots_of ns) (onto way (map (λ x. x.now) path)) (length old) (length ns)) (sym (back c.push_ladder.new.nodes.len new _ n))
+    (hung_ways old mid new c.requires.forest path tail c.requires.named (take_all (length path - 1) (drop 1 path) less) c.args.slot _ c.requires.unopened c.in_ok-push_ladder.ensures.front
+    c.in_ok-push_ladder.ensures.rungs len same_len c.args.at.0 _ (get_or-map (λ (x : Bor (List ℕ)). x.now) path 0 _ [] some) c.requires.within c.in_ok-put_at.ensures.here
+    (ap (λ o. child_or o (λ d. Some d) None) c.folder.ensures ∙ ap (λ k. Some k) (search rules))
+    (λ i m off. c.in_ok-put_at.ensures.others i m off ∙ ap (λ ns. slots_of ns i m) c.as_mut_slice.ensures.value) way reached)
+
+pub returns-clause-last : goal.returns-clause-last
+returns-clause-last c =
+    let old = c.args.nodes.now.items in
+    let mid = c.push_ladder.new.nodes.items in
+    let new = c.put_at.new.nodes in
+    let path = c.args.names.now in
+    let n : c.push_ladder.new.nodes.len ≡ length new = omega (arith, c.put_at.auto.nodes, c.as_mut_slice.ensures.len) in
+    let tail : List (Bor (List ℕ)) = take (length path - 1) (drop 1 path) in
+    let less : length (drop 1 path) ≤ length path - 1 = omega (arith, length-drop 1 path) in
+    let len : length mid ≡ length old + length tail = c.in_ok-push_ladder.ensures.len in
+    let same_len : length new ≡ length mid = omega (arith, c.push_ladder.new.nodes.ok.0) in
+    let some : 0 < length path = omega arith in
+    let above : 0 < length mid = omega (arith, c.requires.within, c.push_ladder.ensures.longer) in
+    let tail_len : length tail ≡ length path - 1 = ap length (take_all (length path - 1) (drop 1 path) less) ∙ length-drop 1 path in
+    let end : c.len-2.result - 1 + 1 ≡ length new = omega (arith, above, c.len-2.ensures, c.push_ladder.new.nodes.ok.0, same_len) in
+    let whole = back c.push_ladder.new.nodes.len new _ n in
+    (end ∙ ap length (sym whole), omega (arith, end, same_len, len, tail_len, c.requires.named))
+
+pub returns-clause-front : goal.returns-clause-front
+returns-clause-front c = λ i lt.
+    let new = c.put_at.new.nodes in
+    let n : c.push_ladder.new.nodes.len ≡ length new = omega (arith, c.put_at.auto.nodes, c.as_mut_slice.ensures.len) in
+    ap (λ (ns : List Node). marks_of ns i) (back c.push_ladder.new.nodes.len new _ n)
+    ∙ c.in_ok-put_at.ensures.marks i ∙ ap (λ ns. marks_of ns i) c.as_mut_slice.ensures.value ∙ c.in_ok-push_ladder.ensures.marks i lt
+
+pub returns-in_err-put_at-clause-front : goal.returns-in_err-put_at-clause-front
+returns-in_err-put_at-clause-front c = λ i lt.
+    let new = c.put_at.new.nodes in
+    let n : c.push_ladder.new.nodes.len ≡ length new = omega (arith, c.put_at.auto.nodes, c.as_mut_slice.ensures.len) in
+    ap (λ (ns : List Node). marks_of ns i) (back c.push_ladder.new.nodes.len new _ n)
+    ∙ c.put_at.ensures.marks i ∙ ap (λ ns. marks_of ns i) c.as_mut_slice.ensures.value ∙ c.in_ok-push_ladder.ensures.marks i lt

@@ -1,4 +1,4 @@
-use Rattle.std.proofs.Common.{ℕ, List, ◌≡◌, ◌∙◌, ◌<◌, ◌++◌, ◌∷◌, [], ap, sym, subst, arith, rules, length, true}
+use Rattle.std.proofs.Common.{ℕ, List, ◌≡◌, ◌∙◌, ◌<◌, ◌++◌, ◌∷◌, [], ap, sym, subst, arith, rules, length, true, get_or}
 use Rattle.std.specs.Prelude.{is_ok}
 use Rattle.gix_object_editor.specs.declared.tree.editor.node.Node.{Node}
 use Rattle.gix_hash.specs.Id.{id_of}
@@ -9,7 +9,8 @@ use Rattle.gix_object_editor.proofs.Paths.{onto-append}
 use Rattle.gix_object_editor.proofs.Slots.{back}
 use Rattle.gix_object_editor.proofs.Edits.{less_forest}
 use Rattle.gix_object_editor.proofs.Walked.{names, names_length}
-use Rattle.gix_object_editor.proofs.Folders.{names_pushed, none_below, made_leads, made_files}
+use Rattle.gix_object_editor.proofs.Folders.{names_pushed, none_below, made_leads, made_files, taken_marks, taken_ways, two_long, same_first_name}
+use Rattle.gix_object_editor.specs.Marks.{marks_of, AreMarksKept, AreOnPath}
 use Rattle.gix_object_editor.proofs.tree.editor.graft.make_folders.Goals as goal
 
 pub returns-clause-forest : goal.returns-clause-forest
@@ -65,3 +66,61 @@ returns-clause-cleared c = λ trees way reached q.
     ∙ made_files (slots_of mid) (slots_of new) (length mid) c.graft.ensures.forest (onto way (names path)) [] c.in_ok-end.end.0 put_in c.take_at.ensures.here others trees leaf
     (files_of_node trees (slots_of old) 0) none
     (λ r. c.in_ok-end.ensures.put trees way reached r ∙ ap (λ p. put trees p leaf (files_of_node trees (slots_of old) 0) r) whole) q
+
+pub returns-clause-marks : goal.returns-clause-marks
+returns-clause-marks c =
+    let old = c.args.nodes.now.items in
+    let mid = c.graft.new.nodes.items in
+    let new = c.take_at.new.nodes in
+    let n : c.graft.new.nodes.len ≡ length new = omega (arith, c.take_at.auto.nodes, c.as_mut_slice.ensures.len) in
+    let len : length mid ≡ length new = omega (arith, c.graft.new.nodes.ok.0) in
+    let others : (i : ℕ) (m : Bytes) → ((i ≡ c.in_ok-end.end.0) → (m ≡ []) → ⊥) → slots_of new i m ≡ slots_of mid i m = λ i m off.
+    c.take_at.ensures.others i m off ∙ ap (λ ns. slots_of ns i m) c.as_mut_slice.ensures.value in
+    subst (λ (ns : List Node). AreMarksKept true (slots_of old) (slots_of ns) (marks_of old) (marks_of ns) (length old) (length ns)) (sym (back c.graft.new.nodes.len new _ n))
+    (subst (AreMarksKept true (slots_of old) (slots_of new) (marks_of old) (marks_of new) (length old)) len
+    (taken_marks (slots_of mid) (slots_of new) [] c.in_ok-end.end.0 c.take_at.ensures.here others true (slots_of old) (marks_of old) (marks_of mid) (marks_of new) (length old) (length mid)
+    (λ i. c.take_at.ensures.marks i ∙ ap (λ ns. marks_of ns i) c.as_mut_slice.ensures.value) c.graft.ensures.marks))
+
+pub returns-clause-made : goal.returns-clause-made
+returns-clause-made c = λ way reached.
+    let old = c.args.nodes.now.items in
+    let mid = c.graft.new.nodes.items in
+    let new = c.take_at.new.nodes in
+    let path = c.args.names.now in
+    let n : c.graft.new.nodes.len ≡ length new = omega (arith, c.take_at.auto.nodes, c.as_mut_slice.ensures.len) in
+    let len : length mid ≡ length new = omega (arith, c.graft.new.nodes.ok.0) in
+    let others : (i : ℕ) (m : Bytes) → ((i ≡ c.in_ok-end.end.0) → (m ≡ []) → ⊥) → slots_of new i m ≡ slots_of mid i m = λ i m off.
+    c.take_at.ensures.others i m off ∙ ap (λ ns. slots_of ns i m) c.as_mut_slice.ensures.value in
+    let ok : is_ok c.push.result ≡ true = search rules in
+    let same : c.in_ok-path.path.items ≡ path = search rules in
+    let longer : names c.as_slice.result.now ≡ names path ++ [] ∷ [] =
+    ap names c.as_slice.ensures.value ∙ names_pushed _ c.in_ok-path.path.items c.push.new.self.items _ ok c.push.ensures.items ∙ ap (λ xs. names xs ++ [] ∷ []) same in
+    let two : 1 < length c.as_slice.result.now = two_long (names path) c.as_slice.result.now longer (omega (arith, names_length path)) in
+    let last = c.in_ok-end.ensures.last two in
+    let whole : onto way (names c.as_slice.result.now) ≡ onto way (names path) ++ [] ∷ [] = ap (onto way) longer ∙ onto-append way (names path) ([] ∷ []) in
+    subst (λ (ns : List Node). AreOnPath (slots_of ns) (onto way (names path) ++ [] ∷ []) (length old) (length ns)) (sym (back c.graft.new.nodes.len new _ n))
+    (subst (AreOnPath (slots_of new) (onto way (names path) ++ [] ∷ []) (length old)) len
+    (taken_ways (slots_of mid) (slots_of new) [] c.in_ok-end.end.0 c.take_at.ensures.here others (length mid) c.graft.ensures.forest (onto way (names path) ++ [] ∷ []) (length old)
+    (λ j lt. omega (arith, lt, last.0))
+    (subst (λ p. AreOnPath (slots_of mid) p (length old) (length mid)) whole (c.in_ok-end.ensures.made way reached))))
+
+pub returns-clause-others : goal.returns-clause-others
+returns-clause-others c = λ i m lt off.
+    let old = c.args.nodes.now.items in
+    let mid = c.graft.new.nodes.items in
+    let new = c.take_at.new.nodes in
+    let path = c.args.names.now in
+    let n : c.graft.new.nodes.len ≡ length new = omega (arith, c.take_at.auto.nodes, c.as_mut_slice.ensures.len) in
+    let len : length mid ≡ length new = omega (arith, c.graft.new.nodes.ok.0) in
+    let others : (i : ℕ) (m : Bytes) → ((i ≡ c.in_ok-end.end.0) → (m ≡ []) → ⊥) → slots_of new i m ≡ slots_of mid i m = λ i m off.
+    c.take_at.ensures.others i m off ∙ ap (λ ns. slots_of ns i m) c.as_mut_slice.ensures.value in
+    let ok : is_ok c.push.result ≡ true = search rules in
+    let same : c.in_ok-path.path.items ≡ path = search rules in
+    let longer : names c.as_slice.result.now ≡ names path ++ [] ∷ [] =
+    ap names c.as_slice.ensures.value ∙ names_pushed _ c.in_ok-path.path.items c.push.new.self.items _ ok c.push.ensures.items ∙ ap (λ xs. names xs ++ [] ∷ []) same in
+    let two : 1 < length c.as_slice.result.now = two_long (names path) c.as_slice.result.now longer (omega (arith, names_length path)) in
+    let last = c.in_ok-end.ensures.last two in
+    let some : 0 < length (names path) = omega (arith, names_length path) in
+    ap (λ (ns : List Node). slots_of ns i m) (back c.graft.new.nodes.len new _ n)
+    ∙ others i m (λ e _. absurd (omega (arith, e, lt, last.1)))
+    ∙ c.graft.ensures.others i m lt (λ e first. off e (first ∙ ap (λ p. get_or p 0 []) longer ∙ same_first_name (names path) ([] ∷ []) some))

@@ -1,4 +1,4 @@
-use Rattle.std.proofs.Common.{ℕ, suc, ◌≡◌, ◌∙◌, ◌<◌, ◌+◌, ◌++◌, ◌∷◌, [], List, Some, None, ap, sym, arith, length, rules, true, if◌then◌else◌}
+use Rattle.std.proofs.Common.{add-one, inl, inr, ℕ, suc, ◌≡◌, ◌∙◌, ◌<◌, ◌+◌, ◌++◌, ◌∷◌, [], List, Some, None, ap, sym, arith, length, rules, true, if◌then◌else◌}
 use Rattle.std.specs.Prelude.{is_ok}
 use Rattle.std.specs.Borrow.{Bor}
 use Rattle.std.proofs.lemmas.List.{get_or-map}
@@ -6,6 +6,9 @@ use Rattle.gix_object_editor.specs.declared.tree.editor.node.Node.{Node}
 use Rattle.gix_object_editor.specs.declared.tree.editor.node.Slot.{Slot}
 use Rattle.gix_object_editor.specs.Files.{Bytes}
 use Rattle.gix_object_editor.specs.Nodes.{slots_of, slot_in, child_of, child_or}
+use Rattle.std.proofs.lemmas.Bool.{cases_lt}
+use Rattle.gix_object_editor.specs.Marks.{marks_of, mark_below, rung_parent}
+use Rattle.gix_object_editor.proofs.Marked.{marks_front, mark_end}
 use Rattle.gix_object_editor.proofs.Slots.{at_end, front_kept, length_push}
 use Rattle.gix_object_editor.proofs.Walked.{names, names_length}
 use Rattle.gix_object_editor.proofs.Ladder.{one_rung_more}
@@ -29,6 +32,18 @@ loop-i-preserved c =
     record {
       len = omega (arith, ap length pushed, length_push before node);
       front = λ j m less. let more : j < length before = omega arith in front j m more ∙ c.loop-i.invariant.front j m less;
+      above = omega (arith, c.len-in-loop-i.ensures, n) ∙ ap (rung_parent c.args.at.0 (length old)) (sym (add-one c.loop-i.i));
+      marks = λ j less. let more : j < length before = omega (arith, less, n) in ap (λ ns. marks_of ns j) pushed ∙ marks_front before (node ∷ []) j more ∙ c.loop-i.invariant.marks j less;
+      changed = λ k less. elim (cases_lt k c.loop-i.i) [
+        | inl earlier ↦
+            let more : length old + k < length before = omega (arith, earlier, n) in
+            ap (λ ns. marks_of ns (length old + k)) pushed ∙ marks_front before (node ∷ []) (length old + k) more ∙ c.loop-i.invariant.changed k earlier
+        | inr late ↦
+            let is : k ≡ c.loop-i.i = omega (arith, late, less) in
+            let at_end_of : length old + k ≡ length before = omega (arith, is, n) in
+            ap (marks_of c.push.new.self.items) at_end_of ∙ ap (λ ns. marks_of ns (length before)) pushed ∙ mark_end before node ∙ c.in_ok-lone.ensures.mark
+            ∙ ap (λ p. mark_below p true) (c.loop-i.invariant.above ∙ ap (rung_parent c.args.at.0 (length old)) (sym is))
+      ];
       rungs = one_rung_more (names c.args.names.now) (slots_of before) (slots_of c.push.new.self.items) (length old) (length before) c.loop-i.i c.args.slot c.if-i-names.rung n front
           (new _ ∙ ap (slot_in node) (get_or-map (λ (x : Bor (List ℕ)). x.now) c.args.names.now c.loop-i.i _ [] lt) ∙ c.in_ok-lone.ensures.here)
           (λ m apart. new m ∙ c.in_ok-lone.ensures.others m (λ same. apart (same ∙ sym (get_or-map (λ (x : Bor (List ℕ)). x.now) c.args.names.now c.loop-i.i _ [] lt))))

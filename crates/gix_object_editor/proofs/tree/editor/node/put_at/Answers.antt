@@ -2,6 +2,7 @@ use Rattle.std.proofs.Common.{◌≡◌, ◌∙◌, sym, get_or}
 use Rattle.std.proofs.lemmas.Result.{err_from_is_err_and}
 use Rattle.gix_object_editor.specs.Nodes.{slot_in}
 use Rattle.gix_object_editor.proofs.Slots.{set_here, set_others, node_at}
+use Rattle.gix_object_editor.proofs.Marked.{marks_set}
 use Rattle.gix_object_editor.proofs.tree.editor.node.put_at.Goals as goal
 
 pub returns-in_err-put-clause-others : goal.returns-in_err-put-clause-others
@@ -20,3 +21,9 @@ returns-clause-here c = set_here c.args.nodes.now c.args.at.0 c.put.new.self c.a
 
 pub returns-clause-others : goal.returns-clause-others
 returns-clause-others c = set_others c.args.nodes.now c.args.at.0 c.index-nodes-at.result c.put.new.self c.args.name.now c.requires c.in_ok-put.ensures.others
+
+pub returns-in_err-put-clause-marks : goal.returns-in_err-put-clause-marks
+returns-in_err-put-clause-marks c = marks_set c.args.nodes.now c.args.at.0 c.index-nodes-at.result c.put.new.self c.requires c.put.ensures.mark
+
+pub returns-clause-marks : goal.returns-clause-marks
+returns-clause-marks c = marks_set c.args.nodes.now c.args.at.0 c.index-nodes-at.result c.put.new.self c.requires c.in_ok-put.ensures.mark

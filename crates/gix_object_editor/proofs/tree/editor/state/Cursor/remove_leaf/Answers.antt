@@ -1,4 +1,4 @@
-use Rattle.std.proofs.Common.{subst, OnOk, IfErr}
+use Rattle.std.proofs.Common.{inl, inr, ◌∙◌, subst, OnOk, IfErr}
 use Rattle.gix_object_editor.specs.Editor.{files_of, names_of, LeadsInto, LeafFault, IsFilled, IsFolder}
 use Rattle.gix_object_editor.specs.Files.{Trees, HasStored, SameFiles, HasNoneBelow, removed}
 use Rattle.gix_object_editor.proofs.Folders.{below_base}
@@ -18,3 +18,9 @@ pub returns-clause-refused : goal.returns-clause-refused
 returns-clause-refused g c = λ base stands.
     subst (λ p. IfErr c.remove_leaf_from.result (LeafFault (g.S.Lookup.is_honest c.args.self.now.editor.now.store) (g.S.Lookup.may_fail c.args.self.now.editor.now.store) (g.S.Lookup.table c.args.self.now.editor.now.store) (names_of c.args.path.now) (LeadsInto (λ trees. files_of trees c.remove_leaf_from.new.self) p) (IsFolder (λ trees. IsFilled trees c.remove_leaf_from.new.self) (λ trees. files_of trees c.remove_leaf_from.new.self) p)))
     (below_base stands.0 base (names_of c.args.path.now) stands.2) (c.remove_leaf_from.ensures.refused stands.0 stands.1)
+
+pub returns-clause-changed : goal.returns-clause-changed
+returns-clause-changed g c = λ base stands tree is. elim (c.remove_leaf_from.ensures.changed stands.0 stands.1 tree is) [
+  | inl was ↦ inl was
+  | inr above ↦ inr (above.0, above.1, above.2 ∙ below_base stands.0 base (names_of c.args.path.now) stands.2)
+]

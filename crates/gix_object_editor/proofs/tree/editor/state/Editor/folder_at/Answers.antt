@@ -1,12 +1,19 @@
-use Rattle.std.proofs.Common.{◌≡◌, ◌∙◌, ◌<◌, ◌+◌, ◌-◌, ◌∷◌, [], None, arith, ap, sym, subst, refl, rules, length, drop, take, get_or, if◌then◌else◌}
+use Rattle.std.proofs.Common.{ℕ, List, ◌⊎◌, ◌++◌, inl, inr, true, false, ◌≡◌, ◌∙◌, ◌<◌, ◌+◌, ◌-◌, ◌∷◌, [], None, arith, ap, sym, subst, refl, rules, length, drop, take, get_or, if◌then◌else◌}
 use Rattle.std.specs.Prelude.{is_some}
 use Rattle.std.proofs.lemmas.Result.{err_from_is_err_and}
 use Rattle.std.proofs.lemmas.List.{length-drop}
 use Rattle.gix_hash.specs.Id.{id_of}
-use Rattle.gix_object_editor.specs.Editor.{names_of, LeadsInto}
+use Rattle.gix_object_editor.specs.Editor.{names_of, LeadsInto, IsChanged, Begins}
 use Rattle.gix_object_editor.specs.Files.{behind, cleared}
-use Rattle.gix_object_editor.specs.Nodes.{slots_of, files_of_node, LeadsTo, IsFolderAt}
-use Rattle.gix_object_editor.proofs.Opening.{opened_then}
+use Rattle.gix_object_editor.specs.Nodes.{slots_of, files_of_node, LeadsTo, IsFolderAt, IsForest, Way}
+use Rattle.gix_object_editor.specs.declared.tree.editor.node.Node.{Node}
+use Rattle.gix_object_editor.specs.Marks.{marks_of, AreMarked, AreMarkedBut, AreMarkedUp, AreAsRead, AreOnPath}
+use Rattle.gix_object_editor.proofs.Slots.{back}
+use Rattle.gix_object_editor.proofs.Paths.{onto-append}
+use Rattle.gix_object_editor.proofs.Ways.{way_above}
+use Rattle.gix_object_editor.proofs.Marked.{opened_marked, grafted_marked, failed_marked, read_same, marks_then}
+use Rattle.gix_object_editor.proofs.Changes.{opened_changed, failed_changed, graft_as_read, graft_changed, one_more_left, begins}
+use Rattle.gix_object_editor.proofs.Opening.{opened_then, as_function}
 use Rattle.gix_object_editor.proofs.Edits.{rest_is, first_left, stopped_tree, end_tree, leads_into, edit_fault}
 use Rattle.gix_object_editor.proofs.Walked.{names, names_length, leads_kept, folder_found}
 use Rattle.gix_object_editor.proofs.Folders.{lone_rest, folder_leads, folder_clear}
@@ -78,8 +85,8 @@ returns-in-Some-clause-cleared g c = λ honest trees has q.
     sym (folder_clear trees (slots_of new) (names path) c.in-Some.folder.0 there q)
     ∙ ap (λ x. if is_some (behind q (names path)) then None else x) (opened.files honest trees has q 0 c.args.self.now.forest.rooted)
 
-pub returns-in_ok-make_folders-in-None-clause-leads : goal.returns-in_ok-make_folders-in-None-clause-leads
-returns-in_ok-make_folders-in-None-clause-leads g c =
+pub returns-in_ok-made-in-None-clause-leads : goal.returns-in_ok-made-in-None-clause-leads
+returns-in_ok-made-in-None-clause-leads g c =
     let path = c.args.path.now in
     let i = c.in_ok-at.depth in
     let at = c.in_ok-at.at.0 in
@@ -90,10 +97,18 @@ returns-in_ok-make_folders-in-None-clause-leads g c =
     let leads : LeadsTo (slots_of new) (names path) at left =
     subst (LeadsTo (slots_of new) (names path) at) (sym (ap names (rest_is path i)))
     (leads_kept (slots_of mid) (slots_of new) (names path) at (names (drop i path)) c.in_ok-found.ensures.opened.links (c.in_ok-at.ensures.leads [] refl)) in
-    subst (λ p. LeadsTo (slots_of c.make_folders.new.nodes.items) p c.in_ok-make_folders-in-None.field-0.0 []) leads.2 (c.in_ok-make_folders-in-None.ensures.leads leads.0 leads.1)
+    let mk = c.make_folders.new.nodes.items in
+    let fin = c.mark_changed.new.nodes in
+    let n : c.make_folders.new.nodes.len ≡ length fin = omega (arith, c.mark_changed.auto.nodes, c.as_mut_slice.ensures.len) in
+    let whole = back c.make_folders.new.nodes.len fin _ n in
+    let same_slots : slots_of fin ≡ slots_of mk = as_function (slots_of fin) (slots_of mk) (λ i m. c.mark_changed.ensures.slots i m ∙ ap (λ (ns : List Node). slots_of ns i m) c.as_mut_slice.ensures.value) in
+    let made = c.in_ok-made-in-None.made.0 in
+    subst (λ (ns : List Node). LeadsTo (slots_of ns) (names path) made []) (sym whole)
+    (subst (λ f. LeadsTo f (names path) made []) (sym same_slots)
+    (subst (λ p. LeadsTo (slots_of mk) p made []) leads.2 (c.in_ok-made-in-None.ensures.leads leads.0 leads.1)))
 
-pub returns-in_ok-make_folders-in-None-clause-cleared : goal.returns-in_ok-make_folders-in-None-clause-cleared
-returns-in_ok-make_folders-in-None-clause-cleared g c = λ honest trees has q.
+pub returns-in_ok-made-in-None-clause-cleared : goal.returns-in_ok-made-in-None-clause-cleared
+returns-in_ok-made-in-None-clause-cleared g c = λ honest trees has q.
     let path = c.args.path.now in
     let i = c.in_ok-at.depth in
     let at = c.in_ok-at.at.0 in
@@ -104,10 +119,172 @@ returns-in_ok-make_folders-in-None-clause-cleared g c = λ honest trees has q.
     let leads : LeadsTo (slots_of new) (names path) at left =
     subst (LeadsTo (slots_of new) (names path) at) (sym (ap names (rest_is path i)))
     (leads_kept (slots_of mid) (slots_of new) (names path) at (names (drop i path)) c.in_ok-found.ensures.opened.links (c.in_ok-at.ensures.leads [] refl)) in
+    let mk = c.make_folders.new.nodes.items in
+    let fin = c.mark_changed.new.nodes in
+    let n : c.make_folders.new.nodes.len ≡ length fin = omega (arith, c.mark_changed.auto.nodes, c.as_mut_slice.ensures.len) in
+    let whole = back c.make_folders.new.nodes.len fin _ n in
+    let same_slots : slots_of fin ≡ slots_of mk = as_function (slots_of fin) (slots_of mk) (λ i m. c.mark_changed.ensures.slots i m ∙ ap (λ (ns : List Node). slots_of ns i m) c.as_mut_slice.ensures.value) in
     let opened = opened_then _ _ (slots_of old) (slots_of mid) (slots_of new) (length old) (length mid) (length new) c.in_ok-at.ensures.opened c.in_ok-found.ensures.opened in
-    c.in_ok-make_folders-in-None.ensures.cleared trees leads.0 leads.1 q
+    ap (λ (ns : List Node). files_of_node trees (slots_of ns) 0 q) whole
+    ∙ ap (λ f. files_of_node trees f 0 q) same_slots
+    ∙ c.in_ok-made-in-None.ensures.cleared trees leads.0 leads.1 q
     ∙ ap (λ p. cleared p (files_of_node trees (slots_of new) 0) q) leads.2
     ∙ ap (λ x. if is_some (behind q (names path)) then None else x) (opened.files honest trees has q 0 c.args.self.now.forest.rooted)
+
+pub mark_changed-requires-clause-forest : goal.mark_changed-requires-clause-forest
+mark_changed-requires-clause-forest g c = subst (λ (ns : List Node). IsForest (slots_of ns) (length ns)) (sym c.as_mut_slice.ensures.value) c.make_folders.ensures.forest
+
+pub mark_changed-requires-clause-marked : goal.mark_changed-requires-clause-marked
+mark_changed-requires-clause-marked g c =
+    let old = c.args.self.now.nodes.items in
+    let mid = c.walk.new.nodes.items in
+    let new = c.folder_below.new.nodes.items in
+    let mk = c.make_folders.new.nodes.items in
+    let both = marks_then false (slots_of old) (slots_of mid) (slots_of new) (marks_of old) (marks_of mid) (marks_of new) (length old) (length mid) (length new)
+    c.in_ok-at.ensures.opened.longer c.in_ok-found.ensures.opened.longer c.in_ok-at.ensures.marks c.in_ok-found.ensures.marks in
+    let marked = opened_marked (slots_of old) (slots_of new) (marks_of old) (marks_of new) (length old) (length new) c.args.self.now.forest c.args.self.now.marked false both c.in_ok-found.ensures.opened.forest both.fresh in
+    subst (λ (ns : List Node). AreMarkedBut c.in_ok-at.at.0 (slots_of ns) (marks_of ns) (length ns)) (sym c.as_mut_slice.ensures.value)
+    (grafted_marked (slots_of new) (slots_of mk) (marks_of new) (marks_of mk) (length new) (length mk) c.in_ok-found.ensures.opened.forest marked true c.make_folders.ensures.marks c.in_ok-at.at.0 _ c.make_folders.ensures.forest
+    c.make_folders.ensures.marks.fresh c.make_folders.ensures.others)
+
+pub invariant_of-self-in-None : goal.invariant_of-self-in-None
+invariant_of-self-in-None g c =
+    let mk = c.make_folders.new.nodes.items in
+    let fin = c.mark_changed.new.nodes in
+    let n : c.make_folders.new.nodes.len ≡ length fin = omega (arith, c.mark_changed.auto.nodes, c.as_mut_slice.ensures.len) in
+    let whole = back c.make_folders.new.nodes.len fin _ n in
+    let same_slots : slots_of fin ≡ slots_of mk = as_function (slots_of fin) (slots_of mk) (λ i m. c.mark_changed.ensures.slots i m ∙ ap (λ (ns : List Node). slots_of ns i m) c.as_mut_slice.ensures.value) in
+    let up = subst (λ (ns : List Node). AreMarkedUp (slots_of ns) (marks_of ns) (marks_of fin) c.in_ok-at.at.0 (length ns)) c.as_mut_slice.ensures.value c.mark_changed.ensures.marked in
+    let len : length mk ≡ length fin = omega (arith, c.mark_changed.auto.nodes, ap length c.as_mut_slice.ensures.value) in
+    record {
+      forest = subst (λ (ns : List Node). IsForest (slots_of ns) (length ns)) (sym whole) (subst (λ f. IsForest f (length fin)) (sym same_slots) (subst (IsForest (slots_of mk)) len c.make_folders.ensures.forest));
+      marked = subst (λ (ns : List Node). AreMarked (slots_of ns) (marks_of ns) (length ns)) (sym whole) (subst (λ f. AreMarked f (marks_of fin) (length fin)) (sym same_slots) (subst (AreMarked (slots_of mk) (marks_of fin)) len up.marked));
+    }
+
+pub returns-in_ok-made-in-None-clause-as_read : goal.returns-in_ok-made-in-None-clause-as_read
+returns-in_ok-made-in-None-clause-as_read g c = λ honest trees has read.
+    let old = c.args.self.now.nodes.items in
+    let mid = c.walk.new.nodes.items in
+    let new = c.folder_below.new.nodes.items in
+    let both = marks_then false (slots_of old) (slots_of mid) (slots_of new) (marks_of old) (marks_of mid) (marks_of new) (length old) (length mid) (length new)
+    c.in_ok-at.ensures.opened.longer c.in_ok-found.ensures.opened.longer c.in_ok-at.ensures.marks c.in_ok-found.ensures.marks in
+    let mk = c.make_folders.new.nodes.items in
+    let fin = c.mark_changed.new.nodes in
+    let n : c.make_folders.new.nodes.len ≡ length fin = omega (arith, c.mark_changed.auto.nodes, c.as_mut_slice.ensures.len) in
+    let whole = back c.make_folders.new.nodes.len fin _ n in
+    let same_slots : slots_of fin ≡ slots_of mk = as_function (slots_of fin) (slots_of mk) (λ i m. c.mark_changed.ensures.slots i m ∙ ap (λ (ns : List Node). slots_of ns i m) c.as_mut_slice.ensures.value) in
+    let up = subst (λ (ns : List Node). AreMarkedUp (slots_of ns) (marks_of ns) (marks_of fin) c.in_ok-at.at.0 (length ns)) c.as_mut_slice.ensures.value c.mark_changed.ensures.marked in
+    subst (λ (ns : List Node). AreAsRead trees (slots_of ns) (marks_of ns)) (sym whole)
+    (graft_as_read (slots_of old) (slots_of new) (slots_of mk) (slots_of fin) (marks_of old) (marks_of new) (marks_of mk) (marks_of fin) (length old) (length new) (length mk)
+    c.in_ok-found.ensures.opened.forest c.make_folders.ensures.forest both c.make_folders.ensures.marks c.in_ok-at.at.0 _ c.make_folders.ensures.others same_slots up trees
+    (c.in_ok-found.ensures.as_read honest trees has (c.in_ok-at.ensures.as_read honest trees has read)))
+
+pub returns-in_ok-made-in-None-clause-changed : goal.returns-in_ok-made-in-None-clause-changed
+returns-in_ok-made-in-None-clause-changed g c = λ tree.
+    let path = c.args.path.now in
+    let i = c.in_ok-at.depth in
+    let at = c.in_ok-at.at.0 in
+    let old = c.args.self.now.nodes.items in
+    let mid = c.walk.new.nodes.items in
+    let new = c.folder_below.new.nodes.items in
+    let left = names (take (length path - i) (drop i path)) in
+    let leads : LeadsTo (slots_of new) (names path) at left =
+    subst (LeadsTo (slots_of new) (names path) at) (sym (ap names (rest_is path i)))
+    (leads_kept (slots_of mid) (slots_of new) (names path) at (names (drop i path)) c.in_ok-found.ensures.opened.links (c.in_ok-at.ensures.leads [] refl)) in
+    let both = marks_then false (slots_of old) (slots_of mid) (slots_of new) (marks_of old) (marks_of mid) (marks_of new) (length old) (length mid) (length new)
+    c.in_ok-at.ensures.opened.longer c.in_ok-found.ensures.opened.longer c.in_ok-at.ensures.marks c.in_ok-found.ensures.marks in
+    let mk = c.make_folders.new.nodes.items in
+    let fin = c.mark_changed.new.nodes in
+    let n : c.make_folders.new.nodes.len ≡ length fin = omega (arith, c.mark_changed.auto.nodes, c.as_mut_slice.ensures.len) in
+    let whole = back c.make_folders.new.nodes.len fin _ n in
+    let same_slots : slots_of fin ≡ slots_of mk = as_function (slots_of fin) (slots_of mk) (λ i m. c.mark_changed.ensures.slots i m ∙ ap (λ (ns : List Node). slots_of ns i m) c.as_mut_slice.ensures.value) in
+    let up = subst (λ (ns : List Node). AreMarkedUp (slots_of ns) (marks_of ns) (marks_of fin) c.in_ok-at.at.0 (length ns)) c.as_mut_slice.ensures.value c.mark_changed.ensures.marked in
+    let same : (k : ℕ) (m : List ℕ) → k < at → slots_of mk k m ≡ slots_of new k m = λ k m lt.
+    let less : k < length new = omega (arith, lt, c.in_ok-at.ensures.within.0, c.in_ok-found.ensures.opened.longer) in c.make_folders.ensures.others k m less (λ e _. absurd (omega (arith, lt, e))) in
+    let down : Way (slots_of mk) leads.0 at = way_above (slots_of new) (slots_of mk) (length new) at c.in_ok-found.ensures.opened.forest same leads.0 at (omega arith) leads.1 in
+    let made = subst (λ p. AreOnPath (slots_of mk) (p ++ [] ∷ []) (length new) (length mk)) leads.2 (c.in_ok-made-in-None.ensures.made leads.0 leads.1) in
+    subst (λ (ns : List Node). ((j : ℕ) × LeadsTo (slots_of ns) tree j [] × ((marks_of ns j).changed ≡ true)) → IsChanged c.args.self.now tree ⊎ Begins tree (names_of path)) (sym whole)
+    (λ is. elim (graft_changed (slots_of old) (slots_of new) (slots_of mk) (slots_of fin) (marks_of old) (marks_of new) (marks_of mk) (marks_of fin) (length old) (length new) (length mk)
+    c.in_ok-found.ensures.opened.forest c.make_folders.ensures.forest both c.make_folders.ensures.marks at _ c.make_folders.ensures.others same_slots up
+    (names path ++ [] ∷ []) made leads.0 (left ++ [] ∷ []) down (one_more_left left []) (onto-append leads.0 left ([] ∷ []) ∙ ap (λ p. p ++ [] ∷ []) leads.2) tree is.0 is.1 is.2) [
+      | inl was ↦ inl was
+      | inr above ↦ inr (begins (names path) [] tree above.0 above.1 above.2)
+    ])
+
+pub returns-in_err-at-clause-changed : goal.returns-in_err-at-clause-changed
+returns-in_err-at-clause-changed g c = λ tree is. inl (opened_changed (slots_of c.args.self.now.nodes.items) (slots_of c.walk.new.nodes.items) (marks_of c.args.self.now.nodes.items) (marks_of c.walk.new.nodes.items)
+    (length c.args.self.now.nodes.items) (length c.walk.new.nodes.items) c.in_err-at.ensures.opened.forest c.in_err-at.ensures.marks tree is.0 is.1 is.2)
+
+pub returns-in_err-at-clause-still : goal.returns-in_err-at-clause-still
+returns-in_err-at-clause-still g c =
+    let p = err_from_is_err_and c.from_residual-in_err-at.result c.from_residual-in_err-at.ensures.1 in
+    rw p.1 (λ tree is. opened_changed (slots_of c.args.self.now.nodes.items) (slots_of c.walk.new.nodes.items) (marks_of c.args.self.now.nodes.items) (marks_of c.walk.new.nodes.items)
+    (length c.args.self.now.nodes.items) (length c.walk.new.nodes.items) c.in_err-at.ensures.opened.forest c.in_err-at.ensures.marks tree is.0 is.1 is.2)
+
+pub returns-in_err-found-clause-changed : goal.returns-in_err-found-clause-changed
+returns-in_err-found-clause-changed g c = λ tree is.
+    let old = c.args.self.now.nodes.items in
+    let mid = c.walk.new.nodes.items in
+    let new = c.folder_below.new.nodes.items in
+    let both = marks_then false (slots_of old) (slots_of mid) (slots_of new) (marks_of old) (marks_of mid) (marks_of new) (length old) (length mid) (length new)
+    c.in_ok-at.ensures.opened.longer c.in_err-found.ensures.opened.longer c.in_ok-at.ensures.marks c.in_err-found.ensures.marks in
+    inl (opened_changed (slots_of old) (slots_of new) (marks_of old) (marks_of new) (length old) (length new) c.in_err-found.ensures.opened.forest both tree is.0 is.1 is.2)
+
+pub returns-in_err-found-clause-still : goal.returns-in_err-found-clause-still
+returns-in_err-found-clause-still g c =
+    let p = err_from_is_err_and c.from_residual-in_err-found.result c.from_residual-in_err-found.ensures.1 in
+    let old = c.args.self.now.nodes.items in
+    let mid = c.walk.new.nodes.items in
+    let new = c.folder_below.new.nodes.items in
+    let both = marks_then false (slots_of old) (slots_of mid) (slots_of new) (marks_of old) (marks_of mid) (marks_of new) (length old) (length mid) (length new)
+    c.in_ok-at.ensures.opened.longer c.in_err-found.ensures.opened.longer c.in_ok-at.ensures.marks c.in_err-found.ensures.marks in
+    rw p.1 (λ tree is. opened_changed (slots_of old) (slots_of new) (marks_of old) (marks_of new) (length old) (length new) c.in_err-found.ensures.opened.forest both tree is.0 is.1 is.2)
+
+pub returns-in_err-found-clause-as_read : goal.returns-in_err-found-clause-as_read
+returns-in_err-found-clause-as_read g c = λ honest trees has read. c.in_err-found.ensures.as_read honest trees has (c.in_ok-at.ensures.as_read honest trees has read)
+
+pub returns-in-Some-clause-changed : goal.returns-in-Some-clause-changed
+returns-in-Some-clause-changed g c = λ tree is.
+    let old = c.args.self.now.nodes.items in
+    let mid = c.walk.new.nodes.items in
+    let new = c.folder_below.new.nodes.items in
+    let both = marks_then false (slots_of old) (slots_of mid) (slots_of new) (marks_of old) (marks_of mid) (marks_of new) (length old) (length mid) (length new)
+    c.in_ok-at.ensures.opened.longer c.in_ok-found.ensures.opened.longer c.in_ok-at.ensures.marks c.in_ok-found.ensures.marks in
+    inl (opened_changed (slots_of old) (slots_of new) (marks_of old) (marks_of new) (length old) (length new) c.in_ok-found.ensures.opened.forest both tree is.0 is.1 is.2)
+
+pub returns-in-Some-clause-as_read : goal.returns-in-Some-clause-as_read
+returns-in-Some-clause-as_read g c = λ honest trees has read. c.in_ok-found.ensures.as_read honest trees has (c.in_ok-at.ensures.as_read honest trees has read)
+
+pub returns-in_err-made-in-None-clause-changed : goal.returns-in_err-made-in-None-clause-changed
+returns-in_err-made-in-None-clause-changed g c = λ tree is.
+    let old = c.args.self.now.nodes.items in
+    let mid = c.walk.new.nodes.items in
+    let new = c.folder_below.new.nodes.items in
+    let both = marks_then false (slots_of old) (slots_of mid) (slots_of new) (marks_of old) (marks_of mid) (marks_of new) (length old) (length mid) (length new)
+    c.in_ok-at.ensures.opened.longer c.in_ok-found.ensures.opened.longer c.in_ok-at.ensures.marks c.in_ok-found.ensures.marks in
+    let mk = c.make_folders.new.nodes.items in
+    inl (failed_changed (slots_of old) (slots_of new) (slots_of mk) (marks_of old) (marks_of new) (marks_of mk) (length old) (length new) (length mk) c.in_ok-found.ensures.opened.forest both c.make_folders.ensures.marks
+    (as_function (slots_of mk) (slots_of new) c.in_err-made-in-None.ensures.err) tree is.0 is.1 is.2)
+
+pub returns-in_err-made-in-None-clause-still : goal.returns-in_err-made-in-None-clause-still
+returns-in_err-made-in-None-clause-still g c =
+    let p = err_from_is_err_and c.from_residual-in_err-made-in-None.result c.from_residual-in_err-made-in-None.ensures.1 in
+    let old = c.args.self.now.nodes.items in
+    let mid = c.walk.new.nodes.items in
+    let new = c.folder_below.new.nodes.items in
+    let both = marks_then false (slots_of old) (slots_of mid) (slots_of new) (marks_of old) (marks_of mid) (marks_of new) (length old) (length mid) (length new)
+    c.in_ok-at.ensures.opened.longer c.in_ok-found.ensures.opened.longer c.in_ok-at.ensures.marks c.in_ok-found.ensures.marks in
+    let mk = c.make_folders.new.nodes.items in
+    rw p.1 (λ tree is.
+    failed_changed (slots_of old) (slots_of new) (slots_of mk) (marks_of old) (marks_of new) (marks_of mk) (length old) (length new) (length mk) c.in_ok-found.ensures.opened.forest both c.make_folders.ensures.marks
+    (as_function (slots_of mk) (slots_of new) c.in_err-made-in-None.ensures.err) tree is.0 is.1 is.2)
+
+pub returns-in_err-made-in-None-clause-as_read : goal.returns-in_err-made-in-None-clause-as_read
+returns-in_err-made-in-None-clause-as_read g c = λ honest trees has read.
+    let new = c.folder_below.new.nodes.items in
+    let mk = c.make_folders.new.nodes.items in
+    read_same trees (slots_of new) (slots_of mk) (marks_of new) (marks_of mk) (length new) c.in_ok-found.ensures.opened.forest (as_function (slots_of mk) (slots_of new) c.in_err-made-in-None.ensures.err) c.make_folders.ensures.marks.same
+    (c.in_ok-found.ensures.as_read honest trees has (c.in_ok-at.ensures.as_read honest trees has read))
 
 pub folder_below-requires-clause-stopped : goal.folder_below-requires-clause-stopped
 folder_below-requires-clause-stopped g c = λ more.

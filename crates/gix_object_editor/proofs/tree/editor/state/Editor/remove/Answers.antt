@@ -9,3 +9,6 @@ returns-clause-removed g c = c.remove_from.ensures.removed [] refl
 
 pub returns-clause-refused : goal.returns-clause-refused
 returns-clause-refused g c = c.remove_from.ensures.refused [] refl
+
+pub returns-clause-changed : goal.returns-clause-changed
+returns-clause-changed g c = c.remove_from.ensures.changed [] refl

@@ -1,11 +1,16 @@
-use Rattle.std.proofs.Common.{◌≡◌, ◌∙◌, ◌<◌, ◌+◌, ap, sym, subst, arith, length}
+use Rattle.std.proofs.Common.{ℕ, ◌⊎◌, inl, inr, true, false, drop, [], ◌≡◌, ◌∙◌, ◌<◌, ◌+◌, ap, sym, subst, arith, length}
 use Rattle.std.proofs.lemmas.Result.{err_from_is_err_and}
 use Rattle.gix_object_editor.specs.declared.tree.editor.state.Editor.{Editor}
 use Rattle.gix_object_editor.specs.Editor.{files_of, names_of, LeadsThrough}
-use Rattle.gix_object_editor.specs.Nodes.{slots_of, files_of_node, child_of, onto, Way, IsForest}
+use Rattle.gix_object_editor.specs.Nodes.{slots_of, files_of_node, child_of, onto, Way, LeadsTo, IsForest}
+use Rattle.gix_object_editor.specs.Editor.{IsChanged, IsAsRead, IsAbove}
+use Rattle.gix_object_editor.specs.Files.{Bytes}
+use Rattle.gix_object_editor.specs.Marks.{marks_of, AreMarked, AreAsRead, IsMarkedFor}
+use Rattle.gix_object_editor.proofs.Marked.{opened_marked}
+use Rattle.gix_object_editor.proofs.Changes.{opened_changed, cut_as_read, cut_changed}
 use Rattle.gix_object_editor.proofs.Slots.{back}
 use Rattle.gix_object_editor.proofs.Edits.{two_names, removes_at, removes_none, less_forest, stopped_tree, edit_fault}
-use Rattle.gix_object_editor.proofs.Walked.{last_name}
+use Rattle.gix_object_editor.proofs.Walked.{names, last_name}
 use Rattle.gix_object_editor.proofs.Ways.{way_kept}
 use Rattle.gix_object_editor.proofs.Folders.{still_way}
 use Rattle.gix_object_editor.proofs.tree.editor.state.Editor.remove_from.Goals.{then-depth-path, else-depth-path}
@@ -19,28 +24,54 @@ returns-in_err-at-clause-refused g c =
     (LeadsThrough (λ trees. files_of_node trees (slots_of c.walk.new.nodes.items) 0) (onto way (names_of c.args.path.now))) c.in_err-at.field-0.0 told.0
     (stopped_tree (slots_of c.walk.new.nodes.items) (onto way (names_of c.args.path.now)) told.0 (told.1 way w)) told.2)
 
+pub cut-requires-clause-forest : goal.cut-requires-clause-forest
+cut-requires-clause-forest g c = subst (λ ns. IsForest (slots_of ns) (length ns)) (sym c.as_mut_slice.ensures.value) c.in_ok-at.ensures.opened.forest
+
+pub cut-requires-clause-marked : goal.cut-requires-clause-marked
+cut-requires-clause-marked g c =
+    let old = c.args.self.now.nodes.items in
+    let mid = c.walk.new.nodes.items in
+    subst (λ ns. AreMarked (slots_of ns) (marks_of ns) (length ns)) (sym c.as_mut_slice.ensures.value)
+    (opened_marked (slots_of old) (slots_of mid) (marks_of old) (marks_of mid) (length old) (length mid) c.args.self.now.forest c.args.self.now.marked false (c.in_ok-at.ensures.marks) (c.in_ok-at.ensures.opened.forest) (c.in_ok-at.ensures.marks).fresh)
+
 pub invariant_of-self-then-depth-path : goal.invariant_of-self-then-depth-path
 invariant_of-self-then-depth-path g c =
+    let old = c.args.self.now.nodes.items in
     let mid = c.walk.new.nodes.items in
-    let new = c.take_at.new.nodes in
-    let n : c.walk.new.nodes.len ≡ length new = omega (arith, c.take_at.auto.nodes, c.as_mut_slice.ensures.len) in
+    let new = c.cut.new.nodes in
+    let before = c.as_mut_slice.ensures.value in
+    let n : c.walk.new.nodes.len ≡ length new = omega (arith, c.cut.auto.nodes, c.as_mut_slice.ensures.len) in
     let len : length mid ≡ length new = omega (arith, c.walk.new.nodes.ok.0) in
-    let forest = less_forest (slots_of mid) (slots_of new) (length mid) (length new) c.in_ok-at.at.0 _ c.in_ok-at.ensures.opened.forest len (ap child_of c.take_at.ensures.here)
-    (λ i m off. c.take_at.ensures.others i m off ∙ ap (λ ns. slots_of ns i m) c.as_mut_slice.ensures.value) in
-    record { forest = subst (λ ns. IsForest (slots_of ns) (length ns)) (sym (back c.walk.new.nodes.len new _ n)) forest }
+    let whole = back c.walk.new.nodes.len new _ n in
+    let others : (i : ℕ) (m : Bytes) → ((i ≡ c.in_ok-at.at.0) → (m ≡ _) → ⊥) → slots_of new i m ≡ slots_of mid i m = λ i m off. c.cut.ensures.others i m off ∙ ap (λ ns. slots_of ns i m) before in
+    let forest = less_forest (slots_of mid) (slots_of new) (length mid) (length new) c.in_ok-at.at.0 _ (c.in_ok-at.ensures.opened.forest) len (ap child_of c.cut.ensures.here) others in
+    let marked : AreMarked (slots_of new) (marks_of new) (length new) = subst (AreMarked (slots_of new) (marks_of new)) (ap length before ∙ len) c.cut.ensures.marks.marked in
+    record {
+      forest = subst (λ ns. IsForest (slots_of ns) (length ns)) (sym whole) forest;
+      marked = subst (λ ns. AreMarked (slots_of ns) (marks_of ns) (length ns)) (sym whole) marked;
+    }
+
+pub invariant_of-self-else-depth-path : goal.invariant_of-self-else-depth-path
+invariant_of-self-else-depth-path g c =
+    let old = c.args.self.now.nodes.items in
+    let mid = c.walk.new.nodes.items in
+    record {
+      forest = c.in_ok-at.ensures.opened.forest;
+      marked = opened_marked (slots_of old) (slots_of mid) (marks_of old) (marks_of mid) (length old) (length mid) c.args.self.now.forest c.args.self.now.marked false c.in_ok-at.ensures.marks c.in_ok-at.ensures.opened.forest c.in_ok-at.ensures.marks.fresh;
+    }
 
 pub returns-clause-removed : goal.returns-clause-removed
 returns-clause-removed g c = λ way w_way honest trees has q. elim c.if-depth-path.branch [
   | then-depth-path w ↦
       let old = c.args.self.now.nodes.items in
       let mid = c.walk.new.nodes.items in
-      let new = w.take_at.new.nodes in
-      let n : c.walk.new.nodes.len ≡ length new = omega (arith, w.take_at.auto.nodes, w.as_mut_slice.ensures.len) in
+      let new = w.cut.new.nodes in
+      let n : c.walk.new.nodes.len ≡ length new = omega (arith, w.cut.auto.nodes, w.as_mut_slice.ensures.len) in
       ap (λ (e : Editor _). files_of trees e q) w.self-is
       ∙ ap (λ ns. files_of_node trees (slots_of ns) 0 q) (back c.walk.new.nodes.len new _ n)
       ∙ removes_at _ _ (slots_of old) (slots_of mid) (length old) (length mid) c.args.self.now.forest c.in_ok-at.ensures.opened (onto way (names_of c.args.path.now)) c.in_ok-at.at.0
-      (slots_of new) _ _ (c.in_ok-at.ensures.leads way w_way) (last_name c.args.path.now c.in_ok-at.depth _ w.if-depth-path.true) w.take_at.ensures.here
-      (λ i m off. w.take_at.ensures.others i m off ∙ ap (λ ns. slots_of ns i m) w.as_mut_slice.ensures.value) honest trees has q
+      (slots_of new) _ _ (c.in_ok-at.ensures.leads way w_way) (last_name c.args.path.now c.in_ok-at.depth _ w.if-depth-path.true) w.cut.ensures.here
+      (λ i m off. w.cut.ensures.others i m off ∙ ap (λ ns. slots_of ns i m) w.as_mut_slice.ensures.value) honest trees has q
   | else-depth-path w ↦
       let old = c.args.self.now.nodes.items in
       let mid = c.walk.new.nodes.items in
@@ -60,12 +91,60 @@ returns-clause-kept g c = λ way w.
     let mid = c.walk.new.nodes.items in
     elim c.if-depth-path.branch [
       | then-depth-path t ↦
-          let new = t.take_at.new.nodes in
-          let n : c.walk.new.nodes.len ≡ length new = omega (arith, t.take_at.auto.nodes, t.as_mut_slice.ensures.len) in
+          let new = t.cut.new.nodes in
+          let n : c.walk.new.nodes.len ≡ length new = omega (arith, t.cut.auto.nodes, t.as_mut_slice.ensures.len) in
           subst (λ (e : Editor _). Way (slots_of e.nodes.items) way c.args.from.0) (sym t.self-is)
           (subst (λ ns. Way (slots_of ns) way c.args.from.0) (sym (back c.walk.new.nodes.len new _ n))
           (still_way (slots_of old) (slots_of mid) (slots_of new) (length mid) c.args.from.0 c.in_ok-at.at.0 c.in_ok-at.ensures.opened.forest c.in_ok-at.ensures.opened.links c.in_ok-at.ensures.below
-          (λ i m lt. t.take_at.ensures.others i m (λ e _. absurd (omega (arith, lt, e))) ∙ ap (λ ns. slots_of ns i m) t.as_mut_slice.ensures.value) way w))
+          (λ i m lt. t.cut.ensures.others i m (λ e _. absurd (omega (arith, lt, e))) ∙ ap (λ ns. slots_of ns i m) t.as_mut_slice.ensures.value) way w))
       | else-depth-path t ↦
           subst (λ (e : Editor _). Way (slots_of e.nodes.items) way c.args.from.0) (sym t.self-is) (way_kept (slots_of old) (slots_of mid) c.in_ok-at.ensures.opened.links way c.args.from.0 w)
+    ]
+
+pub returns-in_err-at-clause-changed : goal.returns-in_err-at-clause-changed
+returns-in_err-at-clause-changed g c = λ way w tree is. inl (opened_changed (slots_of c.args.self.now.nodes.items) (slots_of c.walk.new.nodes.items) (marks_of c.args.self.now.nodes.items) (marks_of c.walk.new.nodes.items)
+    (length c.args.self.now.nodes.items) (length c.walk.new.nodes.items) c.in_err-at.ensures.opened.forest c.in_err-at.ensures.marks tree is.0 is.1 is.2)
+
+pub returns-in_err-at-clause-still : goal.returns-in_err-at-clause-still
+returns-in_err-at-clause-still g c =
+    let p = err_from_is_err_and c.from_residual-in_err-at.result c.from_residual-in_err-at.ensures.1 in
+    rw p.1 (λ tree is. opened_changed (slots_of c.args.self.now.nodes.items) (slots_of c.walk.new.nodes.items) (marks_of c.args.self.now.nodes.items) (marks_of c.walk.new.nodes.items)
+    (length c.args.self.now.nodes.items) (length c.walk.new.nodes.items) c.in_err-at.ensures.opened.forest c.in_err-at.ensures.marks tree is.0 is.1 is.2)
+
+pub returns-clause-as_read : goal.returns-clause-as_read
+returns-clause-as_read g c = λ honest trees has read.
+    let old = c.args.self.now.nodes.items in
+    let mid = c.walk.new.nodes.items in
+    let start = c.in_ok-at.ensures.as_read honest trees has read in
+    elim c.if-depth-path.branch [
+      | then-depth-path t ↦
+          let new = t.cut.new.nodes in
+          let before = t.as_mut_slice.ensures.value in
+          let n : c.walk.new.nodes.len ≡ length new = omega (arith, t.cut.auto.nodes, t.as_mut_slice.ensures.len) in
+          let marks = subst (λ ns. IsMarkedFor (slots_of ns) (slots_of new) (marks_of ns) (marks_of new) c.in_ok-at.at.0 (length ns) (length ns)) before t.cut.ensures.marks in
+          subst (λ (e : Editor _). IsAsRead trees e) (sym t.self-is)
+          (subst (λ ns. AreAsRead trees (slots_of ns) (marks_of ns)) (sym (back c.walk.new.nodes.len new _ n))
+          (cut_as_read trees (slots_of mid) (slots_of new) (marks_of mid) (marks_of new) (length mid) c.in_ok-at.at.0 _ c.in_ok-at.ensures.opened.forest t.cut.ensures.here
+          (λ i m off. t.cut.ensures.others i m off ∙ ap (λ ns. slots_of ns i m) before) marks start))
+      | else-depth-path t ↦ subst (λ (e : Editor _). IsAsRead trees e) (sym t.self-is) start
+    ]
+
+pub returns-clause-changed : goal.returns-clause-changed
+returns-clause-changed g c = λ way w tree.
+    let old = c.args.self.now.nodes.items in
+    let mid = c.walk.new.nodes.items in
+    let forest = c.in_ok-at.ensures.opened.forest in
+    elim c.if-depth-path.branch [
+      | then-depth-path t ↦
+          let new = t.cut.new.nodes in
+          let before = t.as_mut_slice.ensures.value in
+          let n : c.walk.new.nodes.len ≡ length new = omega (arith, t.cut.auto.nodes, t.as_mut_slice.ensures.len) in
+          let marks = subst (λ ns. IsMarkedFor (slots_of ns) (slots_of new) (marks_of ns) (marks_of new) c.in_ok-at.at.0 (length ns) (length ns)) before t.cut.ensures.marks in
+          subst (λ (e : Editor _). IsChanged e tree → IsChanged c.args.self.now tree ⊎ IsAbove tree (onto way (names_of c.args.path.now))) (sym t.self-is)
+          (subst (λ ns. ((j : ℕ) × LeadsTo (slots_of ns) tree j [] × ((marks_of ns j).changed ≡ true)) → IsChanged c.args.self.now tree ⊎ IsAbove tree (onto way (names_of c.args.path.now))) (sym (back c.walk.new.nodes.len new _ n))
+          (λ is. cut_changed (slots_of old) (slots_of mid) (marks_of old) (marks_of mid) (length old) (length mid) forest c.in_ok-at.ensures.marks (slots_of new) (marks_of new) c.in_ok-at.at.0 _
+          t.cut.ensures.here (λ i m off. t.cut.ensures.others i m off ∙ ap (λ ns. slots_of ns i m) before) marks (onto way (names_of c.args.path.now)) (names (drop c.in_ok-at.depth c.args.path.now)) (c.in_ok-at.ensures.leads way w) (last_name c.args.path.now c.in_ok-at.depth _ t.if-depth-path.true) tree is.0 is.1 is.2))
+      | else-depth-path t ↦
+          subst (λ (e : Editor _). IsChanged e tree → IsChanged c.args.self.now tree ⊎ IsAbove tree (onto way (names_of c.args.path.now))) (sym t.self-is)
+          (λ is. inl (opened_changed (slots_of old) (slots_of mid) (marks_of old) (marks_of mid) (length old) (length mid) forest c.in_ok-at.ensures.marks tree is.0 is.1 is.2))
     ]

@@ -12,3 +12,6 @@ returns-clause-leaf g c = c.remove_leaf_from.ensures.leaf [] refl
 
 pub returns-clause-refused : goal.returns-clause-refused
 returns-clause-refused g c = c.remove_leaf_from.ensures.refused [] refl
+
+pub returns-clause-changed : goal.returns-clause-changed
+returns-clause-changed g c = c.remove_leaf_from.ensures.changed [] refl

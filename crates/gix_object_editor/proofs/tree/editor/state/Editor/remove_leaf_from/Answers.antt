@@ -1,9 +1,14 @@
-use Rattle.std.proofs.Common.{ℕ, List, ◌≡◌, ◌∙◌, ◌<◌, ◌+◌, [], ◌∷◌, ap, sym, subst, arith, length, drop, get_or}
+use Rattle.std.proofs.Common.{◌⊎◌, inl, inr, true, false, ℕ, List, ◌≡◌, ◌∙◌, ◌<◌, ◌+◌, [], ◌∷◌, ap, sym, subst, arith, length, drop, get_or}
 use Rattle.std.specs.Borrow.{Bor}
 use Rattle.std.proofs.lemmas.Result.{err_from_is_err_and}
 use Rattle.gix_object_editor.specs.declared.tree.editor.state.Editor.{Editor}
 use Rattle.gix_object_editor.specs.Editor.{files_of, names_of, LeadsInto, IsFolder}
 use Rattle.gix_object_editor.specs.Nodes.{slots_of, files_of_node, child_of, onto, Way, LeadsTo, AreFilled, IsForest}
+use Rattle.gix_object_editor.specs.Editor.{IsChanged, IsAsRead, IsAbove}
+use Rattle.gix_object_editor.specs.Files.{Bytes}
+use Rattle.gix_object_editor.specs.Marks.{marks_of, AreMarked, AreAsRead, IsMarkedFor}
+use Rattle.gix_object_editor.proofs.Marked.{opened_marked, marks_then}
+use Rattle.gix_object_editor.proofs.Changes.{opened_changed, cut_as_read, cut_changed}
 use Rattle.gix_object_editor.proofs.Slots.{back}
 use Rattle.gix_object_editor.proofs.Opening.{opened_then}
 use Rattle.gix_object_editor.proofs.Edits.{two_names, removes_at, removes_none, none_below_path, less_forest, stopped_tree, leads_into, leaf_fault, folder_fault, last_split}
@@ -37,15 +42,43 @@ returns-in_err-refuse_folder-clause-refused g c =
     folder_fault (g.S.Lookup.is_honest c.args.self.now.store) (g.S.Lookup.may_fail c.args.self.now.store) (g.S.Lookup.table c.args.self.now.store) slots (names_of path) (onto way (names_of path)) c.in_ok-at.at.0 name
     (λ trees. AreFilled trees slots) (λ trees fit. fit) (last_split path c.in_ok-at.depth none c.if-depth-path.true) leads c.in_err-refuse_folder.field-0.0 c.in_err-refuse_folder.ensures.refused)
 
+pub cut-requires-clause-forest : goal.cut-requires-clause-forest
+cut-requires-clause-forest g c = subst (λ ns. IsForest (slots_of ns) (length ns)) (sym c.as_mut_slice.ensures.value) c.in_ok-refuse_folder.ensures.opened.forest
+
+pub cut-requires-clause-marked : goal.cut-requires-clause-marked
+cut-requires-clause-marked g c =
+    let old = c.args.self.now.nodes.items in
+    let mid = c.refuse_folder.new.nodes.items in
+    let both = (marks_then false (slots_of c.args.self.now.nodes.items) (slots_of c.walk.new.nodes.items) (slots_of c.refuse_folder.new.nodes.items) (marks_of c.args.self.now.nodes.items) (marks_of c.walk.new.nodes.items) (marks_of c.refuse_folder.new.nodes.items)
+    (length c.args.self.now.nodes.items) (length c.walk.new.nodes.items) (length c.refuse_folder.new.nodes.items) c.in_ok-at.ensures.opened.longer c.in_ok-refuse_folder.ensures.opened.longer c.in_ok-at.ensures.marks c.in_ok-refuse_folder.ensures.marks) in
+    subst (λ ns. AreMarked (slots_of ns) (marks_of ns) (length ns)) (sym c.as_mut_slice.ensures.value)
+    (opened_marked (slots_of old) (slots_of mid) (marks_of old) (marks_of mid) (length old) (length mid) c.args.self.now.forest c.args.self.now.marked false (both) (c.in_ok-refuse_folder.ensures.opened.forest) (both).fresh)
+
 pub invariant_of-self-then-depth-path : goal.invariant_of-self-then-depth-path
 invariant_of-self-then-depth-path g c =
+    let old = c.args.self.now.nodes.items in
     let mid = c.refuse_folder.new.nodes.items in
-    let new = c.take_at.new.nodes in
-    let n : c.refuse_folder.new.nodes.len ≡ length new = omega (arith, c.take_at.auto.nodes, c.as_mut_slice.ensures.len) in
+    let new = c.cut.new.nodes in
+    let before = c.as_mut_slice.ensures.value in
+    let n : c.refuse_folder.new.nodes.len ≡ length new = omega (arith, c.cut.auto.nodes, c.as_mut_slice.ensures.len) in
     let len : length mid ≡ length new = omega (arith, c.refuse_folder.new.nodes.ok.0) in
-    let forest = less_forest (slots_of mid) (slots_of new) (length mid) (length new) c.in_ok-at.at.0 _ c.in_ok-refuse_folder.ensures.opened.forest len (ap child_of c.take_at.ensures.here)
-    (λ i m off. c.take_at.ensures.others i m off ∙ ap (λ ns. slots_of ns i m) c.as_mut_slice.ensures.value) in
-    record { forest = subst (λ ns. IsForest (slots_of ns) (length ns)) (sym (back c.refuse_folder.new.nodes.len new _ n)) forest }
+    let whole = back c.refuse_folder.new.nodes.len new _ n in
+    let others : (i : ℕ) (m : Bytes) → ((i ≡ c.in_ok-at.at.0) → (m ≡ _) → ⊥) → slots_of new i m ≡ slots_of mid i m = λ i m off. c.cut.ensures.others i m off ∙ ap (λ ns. slots_of ns i m) before in
+    let forest = less_forest (slots_of mid) (slots_of new) (length mid) (length new) c.in_ok-at.at.0 _ (c.in_ok-refuse_folder.ensures.opened.forest) len (ap child_of c.cut.ensures.here) others in
+    let marked : AreMarked (slots_of new) (marks_of new) (length new) = subst (AreMarked (slots_of new) (marks_of new)) (ap length before ∙ len) c.cut.ensures.marks.marked in
+    record {
+      forest = subst (λ ns. IsForest (slots_of ns) (length ns)) (sym whole) forest;
+      marked = subst (λ ns. AreMarked (slots_of ns) (marks_of ns) (length ns)) (sym whole) marked;
+    }
+
+pub invariant_of-self-else-depth-path : goal.invariant_of-self-else-depth-path
+invariant_of-self-else-depth-path g c =
+    let old = c.args.self.now.nodes.items in
+    let mid = c.walk.new.nodes.items in
+    record {
+      forest = c.in_ok-at.ensures.opened.forest;
+      marked = opened_marked (slots_of old) (slots_of mid) (marks_of old) (marks_of mid) (length old) (length mid) c.args.self.now.forest c.args.self.now.marked false c.in_ok-at.ensures.marks c.in_ok-at.ensures.opened.forest c.in_ok-at.ensures.marks.fresh;
+    }
 
 pub returns-clause-removed : goal.returns-clause-removed
 returns-clause-removed g c = λ way w_way honest trees has q.
@@ -55,16 +88,16 @@ returns-clause-removed g c = λ way w_way honest trees has q.
     elim c.if-depth-path.branch [
       | then-depth-path+in_ok-refuse_folder w ↦
           let more = w.refuse_folder.new.nodes.items in
-          let new = w.take_at.new.nodes in
-          let n : w.refuse_folder.new.nodes.len ≡ length new = omega (arith, w.take_at.auto.nodes, w.as_mut_slice.ensures.len) in
+          let new = w.cut.new.nodes in
+          let n : w.refuse_folder.new.nodes.len ≡ length new = omega (arith, w.cut.auto.nodes, w.as_mut_slice.ensures.len) in
           let opened = opened_then _ _ (slots_of old) (slots_of mid) (slots_of more) (length old) (length mid) (length more) c.in_ok-at.ensures.opened w.in_ok-refuse_folder.ensures.opened in
           ap (λ (e : Editor _). files_of trees e q) w.self-is
           ∙ ap (λ ns. files_of_node trees (slots_of ns) 0 q) (back w.refuse_folder.new.nodes.len new _ n)
           ∙ removes_at _ _ (slots_of old) (slots_of more) (length old) (length more) c.args.self.now.forest opened (onto way (names_of path)) c.in_ok-at.at.0
           (slots_of new) _ _
           (leads_kept (slots_of mid) (slots_of more) (onto way (names path)) c.in_ok-at.at.0 (names (drop c.in_ok-at.depth path)) w.in_ok-refuse_folder.ensures.opened.links (c.in_ok-at.ensures.leads way w_way))
-          (last_name path c.in_ok-at.depth _ w.if-depth-path.true) w.take_at.ensures.here
-          (λ i m off. w.take_at.ensures.others i m off ∙ ap (λ ns. slots_of ns i m) w.as_mut_slice.ensures.value) honest trees has q
+          (last_name path c.in_ok-at.depth _ w.if-depth-path.true) w.cut.ensures.here
+          (λ i m off. w.cut.ensures.others i m off ∙ ap (λ ns. slots_of ns i m) w.as_mut_slice.ensures.value) honest trees has q
       | else-depth-path w ↦
           let lt : c.in_ok-at.depth + 1 < length path = omega (arith, c.in_ok-at.ensures.within.1, w.if-depth-path.false) in
           let left = two_names path c.in_ok-at.depth lt in
@@ -107,13 +140,83 @@ returns-clause-kept g c = λ way w.
     elim c.if-depth-path.branch [
       | then-depth-path+in_ok-refuse_folder t ↦
           let more = t.refuse_folder.new.nodes.items in
-          let new = t.take_at.new.nodes in
-          let n : t.refuse_folder.new.nodes.len ≡ length new = omega (arith, t.take_at.auto.nodes, t.as_mut_slice.ensures.len) in
+          let new = t.cut.new.nodes in
+          let n : t.refuse_folder.new.nodes.len ≡ length new = omega (arith, t.cut.auto.nodes, t.as_mut_slice.ensures.len) in
           subst (λ (e : Editor _). Way (slots_of e.nodes.items) way c.args.from.0) (sym t.self-is)
           (subst (λ ns. Way (slots_of ns) way c.args.from.0) (sym (back t.refuse_folder.new.nodes.len new _ n))
           (still_way (slots_of old) (slots_of more) (slots_of new) (length more) c.args.from.0 c.in_ok-at.at.0 t.in_ok-refuse_folder.ensures.opened.forest
           (λ i m k e. t.in_ok-refuse_folder.ensures.opened.links i m k (c.in_ok-at.ensures.opened.links i m k e)) c.in_ok-at.ensures.below
-          (λ i m lt. t.take_at.ensures.others i m (λ e _. absurd (omega (arith, lt, e))) ∙ ap (λ ns. slots_of ns i m) t.as_mut_slice.ensures.value) way w))
+          (λ i m lt. t.cut.ensures.others i m (λ e _. absurd (omega (arith, lt, e))) ∙ ap (λ ns. slots_of ns i m) t.as_mut_slice.ensures.value) way w))
       | else-depth-path t ↦
           subst (λ (e : Editor _). Way (slots_of e.nodes.items) way c.args.from.0) (sym t.self-is) (way_kept (slots_of old) (slots_of mid) c.in_ok-at.ensures.opened.links way c.args.from.0 w)
+    ]
+
+pub returns-in_err-at-clause-changed : goal.returns-in_err-at-clause-changed
+returns-in_err-at-clause-changed g c = λ way w tree is. inl (opened_changed (slots_of c.args.self.now.nodes.items) (slots_of c.walk.new.nodes.items) (marks_of c.args.self.now.nodes.items) (marks_of c.walk.new.nodes.items)
+    (length c.args.self.now.nodes.items) (length c.walk.new.nodes.items) c.in_err-at.ensures.opened.forest c.in_err-at.ensures.marks tree is.0 is.1 is.2)
+
+pub returns-in_err-at-clause-still : goal.returns-in_err-at-clause-still
+returns-in_err-at-clause-still g c =
+    let p = err_from_is_err_and c.from_residual-in_err-at.result c.from_residual-in_err-at.ensures.1 in
+    rw p.1 (λ tree is. opened_changed (slots_of c.args.self.now.nodes.items) (slots_of c.walk.new.nodes.items) (marks_of c.args.self.now.nodes.items) (marks_of c.walk.new.nodes.items)
+    (length c.args.self.now.nodes.items) (length c.walk.new.nodes.items) c.in_err-at.ensures.opened.forest c.in_err-at.ensures.marks tree is.0 is.1 is.2)
+
+pub returns-in_err-refuse_folder-clause-changed : goal.returns-in_err-refuse_folder-clause-changed
+returns-in_err-refuse_folder-clause-changed g c = λ way w tree is.
+    let both = (marks_then false (slots_of c.args.self.now.nodes.items) (slots_of c.walk.new.nodes.items) (slots_of c.refuse_folder.new.nodes.items) (marks_of c.args.self.now.nodes.items) (marks_of c.walk.new.nodes.items) (marks_of c.refuse_folder.new.nodes.items)
+    (length c.args.self.now.nodes.items) (length c.walk.new.nodes.items) (length c.refuse_folder.new.nodes.items) c.in_ok-at.ensures.opened.longer c.in_err-refuse_folder.ensures.opened.longer c.in_ok-at.ensures.marks c.in_err-refuse_folder.ensures.marks) in
+    inl (opened_changed (slots_of c.args.self.now.nodes.items) (slots_of c.refuse_folder.new.nodes.items) (marks_of c.args.self.now.nodes.items) (marks_of c.refuse_folder.new.nodes.items)
+    (length c.args.self.now.nodes.items) (length c.refuse_folder.new.nodes.items) c.in_err-refuse_folder.ensures.opened.forest both tree is.0 is.1 is.2)
+
+pub returns-in_err-refuse_folder-clause-still : goal.returns-in_err-refuse_folder-clause-still
+returns-in_err-refuse_folder-clause-still g c =
+    let both = (marks_then false (slots_of c.args.self.now.nodes.items) (slots_of c.walk.new.nodes.items) (slots_of c.refuse_folder.new.nodes.items) (marks_of c.args.self.now.nodes.items) (marks_of c.walk.new.nodes.items) (marks_of c.refuse_folder.new.nodes.items)
+    (length c.args.self.now.nodes.items) (length c.walk.new.nodes.items) (length c.refuse_folder.new.nodes.items) c.in_ok-at.ensures.opened.longer c.in_err-refuse_folder.ensures.opened.longer c.in_ok-at.ensures.marks c.in_err-refuse_folder.ensures.marks) in
+    let p = err_from_is_err_and c.from_residual-in_err-refuse_folder.result c.from_residual-in_err-refuse_folder.ensures.1 in
+    rw p.1 (λ tree is. opened_changed (slots_of c.args.self.now.nodes.items) (slots_of c.refuse_folder.new.nodes.items) (marks_of c.args.self.now.nodes.items) (marks_of c.refuse_folder.new.nodes.items)
+    (length c.args.self.now.nodes.items) (length c.refuse_folder.new.nodes.items) c.in_err-refuse_folder.ensures.opened.forest both tree is.0 is.1 is.2)
+
+pub returns-in_err-refuse_folder-clause-as_read : goal.returns-in_err-refuse_folder-clause-as_read
+returns-in_err-refuse_folder-clause-as_read g c = λ honest trees has read. c.in_err-refuse_folder.ensures.as_read honest trees has (c.in_ok-at.ensures.as_read honest trees has read)
+
+pub returns-clause-as_read : goal.returns-clause-as_read
+returns-clause-as_read g c = λ honest trees has read.
+    let old = c.args.self.now.nodes.items in
+    let start = c.in_ok-at.ensures.as_read honest trees has read in
+    elim c.if-depth-path.branch [
+      | then-depth-path+in_ok-refuse_folder t ↦
+          let mid = t.refuse_folder.new.nodes.items in
+          let new = t.cut.new.nodes in
+          let before = t.as_mut_slice.ensures.value in
+          let n : t.refuse_folder.new.nodes.len ≡ length new = omega (arith, t.cut.auto.nodes, t.as_mut_slice.ensures.len) in
+          let marks = subst (λ ns. IsMarkedFor (slots_of ns) (slots_of new) (marks_of ns) (marks_of new) c.in_ok-at.at.0 (length ns) (length ns)) before t.cut.ensures.marks in
+          subst (λ (e : Editor _). IsAsRead trees e) (sym t.self-is)
+          (subst (λ ns. AreAsRead trees (slots_of ns) (marks_of ns)) (sym (back t.refuse_folder.new.nodes.len new _ n))
+          (cut_as_read trees (slots_of mid) (slots_of new) (marks_of mid) (marks_of new) (length mid) c.in_ok-at.at.0 _ t.in_ok-refuse_folder.ensures.opened.forest t.cut.ensures.here
+          (λ i m off. t.cut.ensures.others i m off ∙ ap (λ ns. slots_of ns i m) before) marks (t.in_ok-refuse_folder.ensures.as_read honest trees has start)))
+      | else-depth-path t ↦ subst (λ (e : Editor _). IsAsRead trees e) (sym t.self-is) start
+    ]
+
+pub returns-clause-changed : goal.returns-clause-changed
+returns-clause-changed g c = λ way w tree.
+    let old = c.args.self.now.nodes.items in
+    let walked = c.walk.new.nodes.items in
+    elim c.if-depth-path.branch [
+      | then-depth-path+in_ok-refuse_folder t ↦
+          let mid = t.refuse_folder.new.nodes.items in
+          let new = t.cut.new.nodes in
+          let before = t.as_mut_slice.ensures.value in
+          let n : t.refuse_folder.new.nodes.len ≡ length new = omega (arith, t.cut.auto.nodes, t.as_mut_slice.ensures.len) in
+          let marks = subst (λ ns. IsMarkedFor (slots_of ns) (slots_of new) (marks_of ns) (marks_of new) c.in_ok-at.at.0 (length ns) (length ns)) before t.cut.ensures.marks in
+          let both = marks_then false (slots_of old) (slots_of walked) (slots_of mid) (marks_of old) (marks_of walked) (marks_of mid) (length old) (length walked) (length mid)
+          c.in_ok-at.ensures.opened.longer t.in_ok-refuse_folder.ensures.opened.longer c.in_ok-at.ensures.marks t.in_ok-refuse_folder.ensures.marks in
+          subst (λ (e : Editor _). IsChanged e tree → IsChanged c.args.self.now tree ⊎ IsAbove tree (onto way (names_of c.args.path.now))) (sym t.self-is)
+          (subst (λ ns. ((j : ℕ) × LeadsTo (slots_of ns) tree j [] × ((marks_of ns j).changed ≡ true)) → IsChanged c.args.self.now tree ⊎ IsAbove tree (onto way (names_of c.args.path.now))) (sym (back t.refuse_folder.new.nodes.len new _ n))
+          (λ is. cut_changed (slots_of old) (slots_of mid) (marks_of old) (marks_of mid) (length old) (length mid) t.in_ok-refuse_folder.ensures.opened.forest both (slots_of new) (marks_of new) c.in_ok-at.at.0 _
+          t.cut.ensures.here (λ i m off. t.cut.ensures.others i m off ∙ ap (λ ns. slots_of ns i m) before) marks (onto way (names_of c.args.path.now)) (names (drop c.in_ok-at.depth c.args.path.now))
+          (leads_kept (slots_of walked) (slots_of mid) (onto way (names c.args.path.now)) c.in_ok-at.at.0 (names (drop c.in_ok-at.depth c.args.path.now)) t.in_ok-refuse_folder.ensures.opened.links (c.in_ok-at.ensures.leads way w))
+          (last_name c.args.path.now c.in_ok-at.depth _ t.if-depth-path.true) tree is.0 is.1 is.2))
+      | else-depth-path t ↦
+          subst (λ (e : Editor _). IsChanged e tree → IsChanged c.args.self.now tree ⊎ IsAbove tree (onto way (names_of c.args.path.now))) (sym t.self-is)
+          (λ is. inl (opened_changed (slots_of old) (slots_of walked) (marks_of old) (marks_of walked) (length old) (length walked) c.in_ok-at.ensures.opened.forest c.in_ok-at.ensures.marks tree is.0 is.1 is.2))
     ]

@@ -9,3 +9,6 @@ returns-clause-put g c = c.upsert_from.ensures.put [] refl
 
 pub returns-clause-refused : goal.returns-clause-refused
 returns-clause-refused g c = c.upsert_from.ensures.refused [] refl
+
+pub returns-clause-changed : goal.returns-clause-changed
+returns-clause-changed g c = c.upsert_from.ensures.changed [] refl

@@ -1,15 +1,22 @@
-use Rattle.std.proofs.Common.{ℕ, Bool, ◌≡◌, ◌∙◌, ◌<◌, ◌+◌, ◌-◌, ap, sym, subst, arith, length, drop, take, None, get_or, []}
+use Rattle.std.proofs.Common.{List, ◌⊎◌, inl, inr, true, false, ℕ, Bool, ◌≡◌, ◌∙◌, ◌<◌, ◌+◌, ◌-◌, ap, sym, subst, arith, length, drop, take, None, get_or, []}
 use Rattle.std.proofs.lemmas.List.{length-drop}
 use Rattle.gix_hash.specs.Id.{id_of}
 use Rattle.gix_object_entries.specs.Mode.{kind_value}
 use Rattle.gix_object_entries.specs.ModeText.{mode_of}
+use Rattle.gix_object_editor.specs.declared.tree.editor.node.Node.{Node}
+use Rattle.gix_object_editor.specs.Editor.{IsChanged, IsAbove}
+use Rattle.gix_object_editor.specs.Marks.{marks_of, AreMarked, AreMarkedBut, AreMarkedUp, AreAsRead, AreOnPath}
+use Rattle.gix_object_editor.proofs.Opening.{as_function}
+use Rattle.gix_object_editor.proofs.Slots.{back}
+use Rattle.gix_object_editor.proofs.Marked.{opened_marked, grafted_marked, failed_marked, read_same}
+use Rattle.gix_object_editor.proofs.Changes.{opened_changed, failed_changed, graft_as_read, graft_changed, some_left}
 use Rattle.gix_object_editor.specs.Files.{Leaf, put}
 use Rattle.std.proofs.lemmas.Result.{err_from_is_err_and}
 use Rattle.gix_object_editor.specs.Editor.{names_of, leaf_of_kind, LeadsThrough}
-use Rattle.gix_object_editor.specs.Nodes.{slots_of, files_of_node, child_of, onto, LeadsTo, IsFolderAt}
+use Rattle.gix_object_editor.specs.Nodes.{slots_of, files_of_node, child_of, onto, LeadsTo, IsFolderAt, IsForest, Way}
 use Rattle.gix_object_editor.proofs.Edits.{rest_is, first_left, upserts_at, stopped_tree, edit_fault}
 use Rattle.gix_object_editor.proofs.Walked.{names}
-use Rattle.gix_object_editor.proofs.Ways.{way_kept}
+use Rattle.gix_object_editor.proofs.Ways.{way_kept, way_above}
 use Rattle.gix_object_editor.proofs.Folders.{still_way}
 use Rattle.gix_object_editor.proofs.tree.editor.state.Editor.upsert_from.Goals as goal
 
@@ -32,6 +39,11 @@ graft-requires-clause-plain g c = λ more.
 
 pub returns-clause-put : goal.returns-clause-put
 returns-clause-put g c = λ way w honest trees has q.
+    let gr = c.graft.new.nodes.items in
+    let fin = c.mark_changed.new.nodes in
+    let n : c.graft.new.nodes.len ≡ length fin = omega (arith, c.mark_changed.auto.nodes, c.as_mut_slice.ensures.len) in
+    let whole = back c.graft.new.nodes.len fin _ n in
+    let same_slots : slots_of fin ≡ slots_of gr = as_function (slots_of fin) (slots_of gr) (λ i m. c.mark_changed.ensures.slots i m ∙ ap (λ (ns : List Node). slots_of ns i m) c.as_mut_slice.ensures.value) in
     let path = c.args.path.now in
     let i = c.in_ok-at.depth in
     let mid = c.walk.new.nodes.items in
@@ -41,7 +53,9 @@ returns-clause-put g c = λ way w honest trees has q.
     let same : leaf ≡ leaf_of_kind c.args.kind c.args.id =
     ap (λ (v : ℕ). let l : Leaf = record { mode = record { value = v; padded = c.from.result.padded }; id = id_of c.args.id } in l) c.from.ensures.0
     ∙ ap (λ (b : Bool). let l : Leaf = record { mode = record { value = kind_value c.args.kind; padded = b }; id = id_of c.args.id } in l) c.from.ensures.1 in
-    upserts_at _ _ (slots_of c.args.self.now.nodes.items) (slots_of mid) (length c.args.self.now.nodes.items) (length mid) c.args.self.now.forest c.in_ok-at.ensures.opened (onto way (names path)) c.in_ok-at.at.0
+    ap (λ (ns : List Node). files_of_node trees (slots_of ns) 0 q) whole
+    ∙ ap (λ f. files_of_node trees f 0 q) same_slots
+    ∙ upserts_at _ _ (slots_of c.args.self.now.nodes.items) (slots_of mid) (length c.args.self.now.nodes.items) (length mid) c.args.self.now.forest c.in_ok-at.ensures.opened (onto way (names path)) c.in_ok-at.at.0
     (slots_of c.graft.new.nodes.items) leaf (names (take (length path - i) (drop i path))) leads c.in_ok-graft.ensures.put honest trees has q
     ∙ ap (λ l. put trees (onto way (names path)) l (files_of_node trees (slots_of c.args.self.now.nodes.items) 0) q) same
 
@@ -57,5 +71,123 @@ pub returns-clause-kept : goal.returns-clause-kept
 returns-clause-kept g c = λ way w.
     let old = c.args.self.now.nodes.items in
     let mid = c.walk.new.nodes.items in
-    still_way (slots_of old) (slots_of mid) (slots_of c.graft.new.nodes.items) (length mid) c.args.from.0 c.in_ok-at.at.0 c.in_ok-at.ensures.opened.forest c.in_ok-at.ensures.opened.links c.in_ok-at.ensures.below
-    (λ i m lt. let less : i < length mid = omega (arith, lt, c.in_ok-at.ensures.within.0) in c.in_ok-graft.ensures.others i m less (λ e _. absurd (omega (arith, lt, e)))) way w
+    let gr = c.graft.new.nodes.items in
+    let fin = c.mark_changed.new.nodes in
+    let n : c.graft.new.nodes.len ≡ length fin = omega (arith, c.mark_changed.auto.nodes, c.as_mut_slice.ensures.len) in
+    let whole = back c.graft.new.nodes.len fin _ n in
+    let same_slots : slots_of fin ≡ slots_of gr = as_function (slots_of fin) (slots_of gr) (λ i m. c.mark_changed.ensures.slots i m ∙ ap (λ (ns : List Node). slots_of ns i m) c.as_mut_slice.ensures.value) in
+    subst (λ (ns : List Node). Way (slots_of ns) way c.args.from.0) (sym whole)
+    (subst (λ f. Way f way c.args.from.0) (sym same_slots)
+    (still_way (slots_of old) (slots_of mid) (slots_of gr) (length mid) c.args.from.0 c.in_ok-at.at.0 c.in_ok-at.ensures.opened.forest c.in_ok-at.ensures.opened.links c.in_ok-at.ensures.below
+    (λ i m lt. let less : i < length mid = omega (arith, lt, c.in_ok-at.ensures.within.0) in c.in_ok-graft.ensures.others i m less (λ e _. absurd (omega (arith, lt, e)))) way w))
+
+pub mark_changed-requires-clause-forest : goal.mark_changed-requires-clause-forest
+mark_changed-requires-clause-forest g c = subst (λ (ns : List Node). IsForest (slots_of ns) (length ns)) (sym c.as_mut_slice.ensures.value) c.graft.ensures.forest
+
+pub mark_changed-requires-clause-marked : goal.mark_changed-requires-clause-marked
+mark_changed-requires-clause-marked g c =
+    let old = c.args.self.now.nodes.items in
+    let mid = c.walk.new.nodes.items in
+    let gr = c.graft.new.nodes.items in
+    let marked = opened_marked (slots_of old) (slots_of mid) (marks_of old) (marks_of mid) (length old) (length mid) c.args.self.now.forest c.args.self.now.marked false c.in_ok-at.ensures.marks c.in_ok-at.ensures.opened.forest c.in_ok-at.ensures.marks.fresh in
+    subst (λ (ns : List Node). AreMarkedBut c.in_ok-at.at.0 (slots_of ns) (marks_of ns) (length ns)) (sym c.as_mut_slice.ensures.value)
+    (grafted_marked (slots_of mid) (slots_of gr) (marks_of mid) (marks_of gr) (length mid) (length gr) c.in_ok-at.ensures.opened.forest marked true c.graft.ensures.marks c.in_ok-at.at.0 _ c.graft.ensures.forest
+    c.graft.ensures.marks.fresh c.in_ok-graft.ensures.others)
+
+pub invariant_of-self : goal.invariant_of-self
+invariant_of-self g c =
+    let old = c.args.self.now.nodes.items in
+    let mid = c.walk.new.nodes.items in
+    record {
+      forest = c.in_err-at.ensures.opened.forest;
+      marked = opened_marked (slots_of old) (slots_of mid) (marks_of old) (marks_of mid) (length old) (length mid) c.args.self.now.forest c.args.self.now.marked false c.in_err-at.ensures.marks c.in_err-at.ensures.opened.forest c.in_err-at.ensures.marks.fresh;
+    }
+
+pub invariant_of-self-2 : goal.invariant_of-self-2
+invariant_of-self-2 g c =
+    let gr = c.graft.new.nodes.items in
+    let fin = c.mark_changed.new.nodes in
+    let n : c.graft.new.nodes.len ≡ length fin = omega (arith, c.mark_changed.auto.nodes, c.as_mut_slice.ensures.len) in
+    let whole = back c.graft.new.nodes.len fin _ n in
+    let same_slots : slots_of fin ≡ slots_of gr = as_function (slots_of fin) (slots_of gr) (λ i m. c.mark_changed.ensures.slots i m ∙ ap (λ (ns : List Node). slots_of ns i m) c.as_mut_slice.ensures.value) in
+    let len : length gr ≡ length fin = omega (arith, c.mark_changed.auto.nodes, ap length c.as_mut_slice.ensures.value) in
+    let up = subst (λ (ns : List Node). AreMarkedUp (slots_of ns) (marks_of ns) (marks_of fin) c.in_ok-at.at.0 (length ns)) c.as_mut_slice.ensures.value c.mark_changed.ensures.marked in
+    record {
+      forest = subst (λ (ns : List Node). IsForest (slots_of ns) (length ns)) (sym whole) (subst (λ f. IsForest f (length fin)) (sym same_slots) (subst (IsForest (slots_of gr)) len c.graft.ensures.forest));
+      marked = subst (λ (ns : List Node). AreMarked (slots_of ns) (marks_of ns) (length ns)) (sym whole) (subst (λ f. AreMarked f (marks_of fin) (length fin)) (sym same_slots) (subst (AreMarked (slots_of gr) (marks_of fin)) len up.marked));
+    }
+
+pub returns-in_err-at-clause-changed : goal.returns-in_err-at-clause-changed
+returns-in_err-at-clause-changed g c = λ way w tree is. inl (opened_changed (slots_of c.args.self.now.nodes.items) (slots_of c.walk.new.nodes.items) (marks_of c.args.self.now.nodes.items) (marks_of c.walk.new.nodes.items)
+    (length c.args.self.now.nodes.items) (length c.walk.new.nodes.items) c.in_err-at.ensures.opened.forest c.in_err-at.ensures.marks tree is.0 is.1 is.2)
+
+pub returns-in_err-at-clause-still : goal.returns-in_err-at-clause-still
+returns-in_err-at-clause-still g c =
+    let p = err_from_is_err_and c.from_residual-in_err-at.result c.from_residual-in_err-at.ensures.1 in
+    rw p.1 (λ tree is. opened_changed (slots_of c.args.self.now.nodes.items) (slots_of c.walk.new.nodes.items) (marks_of c.args.self.now.nodes.items) (marks_of c.walk.new.nodes.items)
+    (length c.args.self.now.nodes.items) (length c.walk.new.nodes.items) c.in_err-at.ensures.opened.forest c.in_err-at.ensures.marks tree is.0 is.1 is.2)
+
+pub returns-in_err-graft-clause-changed : goal.returns-in_err-graft-clause-changed
+returns-in_err-graft-clause-changed g c = λ way w tree is.
+    let old = c.args.self.now.nodes.items in
+    let mid = c.walk.new.nodes.items in
+    let gr = c.graft.new.nodes.items in
+    inl (failed_changed (slots_of old) (slots_of mid) (slots_of gr) (marks_of old) (marks_of mid) (marks_of gr) (length old) (length mid) (length gr) c.in_ok-at.ensures.opened.forest c.in_ok-at.ensures.marks c.graft.ensures.marks
+    (as_function (slots_of gr) (slots_of mid) c.in_err-graft.ensures.err) tree is.0 is.1 is.2)
+
+pub returns-in_err-graft-clause-still : goal.returns-in_err-graft-clause-still
+returns-in_err-graft-clause-still g c =
+    let p = err_from_is_err_and c.from_residual-in_err-graft.result c.from_residual-in_err-graft.ensures.1 in
+    let old = c.args.self.now.nodes.items in
+    let mid = c.walk.new.nodes.items in
+    let gr = c.graft.new.nodes.items in
+    rw p.1 (λ tree is.
+    failed_changed (slots_of old) (slots_of mid) (slots_of gr) (marks_of old) (marks_of mid) (marks_of gr) (length old) (length mid) (length gr) c.in_ok-at.ensures.opened.forest c.in_ok-at.ensures.marks c.graft.ensures.marks
+    (as_function (slots_of gr) (slots_of mid) c.in_err-graft.ensures.err) tree is.0 is.1 is.2)
+
+pub returns-in_err-graft-clause-as_read : goal.returns-in_err-graft-clause-as_read
+returns-in_err-graft-clause-as_read g c = λ honest trees has read.
+    let mid = c.walk.new.nodes.items in
+    let gr = c.graft.new.nodes.items in
+    read_same trees (slots_of mid) (slots_of gr) (marks_of mid) (marks_of gr) (length mid) c.in_ok-at.ensures.opened.forest (as_function (slots_of gr) (slots_of mid) c.in_err-graft.ensures.err) c.graft.ensures.marks.same
+    (c.in_ok-at.ensures.as_read honest trees has read)
+
+pub returns-clause-as_read : goal.returns-clause-as_read
+returns-clause-as_read g c = λ honest trees has read.
+    let old = c.args.self.now.nodes.items in
+    let mid = c.walk.new.nodes.items in
+    let gr = c.graft.new.nodes.items in
+    let fin = c.mark_changed.new.nodes in
+    let n : c.graft.new.nodes.len ≡ length fin = omega (arith, c.mark_changed.auto.nodes, c.as_mut_slice.ensures.len) in
+    let whole = back c.graft.new.nodes.len fin _ n in
+    let same_slots : slots_of fin ≡ slots_of gr = as_function (slots_of fin) (slots_of gr) (λ i m. c.mark_changed.ensures.slots i m ∙ ap (λ (ns : List Node). slots_of ns i m) c.as_mut_slice.ensures.value) in
+    let up = subst (λ (ns : List Node). AreMarkedUp (slots_of ns) (marks_of ns) (marks_of fin) c.in_ok-at.at.0 (length ns)) c.as_mut_slice.ensures.value c.mark_changed.ensures.marked in
+    subst (λ (ns : List Node). AreAsRead trees (slots_of ns) (marks_of ns)) (sym whole)
+    (graft_as_read (slots_of old) (slots_of mid) (slots_of gr) (slots_of fin) (marks_of old) (marks_of mid) (marks_of gr) (marks_of fin) (length old) (length mid) (length gr)
+    c.in_ok-at.ensures.opened.forest c.graft.ensures.forest c.in_ok-at.ensures.marks c.graft.ensures.marks c.in_ok-at.at.0 _ c.in_ok-graft.ensures.others same_slots up trees (c.in_ok-at.ensures.as_read honest trees has read))
+
+pub returns-clause-changed : goal.returns-clause-changed
+returns-clause-changed g c = λ way w tree.
+    let old = c.args.self.now.nodes.items in
+    let mid = c.walk.new.nodes.items in
+    let path = c.args.path.now in
+    let i = c.in_ok-at.depth in
+    let at = c.in_ok-at.at.0 in
+    let left = take (length path - i) (drop i path) in
+    let cut : left ≡ drop i path = rest_is path i in
+    let some : 0 < length left = omega (arith, ap length cut, length-drop i path, c.in_ok-at.ensures.within.1) in
+    let leads = subst (LeadsTo (slots_of mid) (onto way (names path)) at) (sym (ap names cut)) (c.in_ok-at.ensures.leads way w) in
+    let gr = c.graft.new.nodes.items in
+    let fin = c.mark_changed.new.nodes in
+    let n : c.graft.new.nodes.len ≡ length fin = omega (arith, c.mark_changed.auto.nodes, c.as_mut_slice.ensures.len) in
+    let whole = back c.graft.new.nodes.len fin _ n in
+    let same_slots : slots_of fin ≡ slots_of gr = as_function (slots_of fin) (slots_of gr) (λ i m. c.mark_changed.ensures.slots i m ∙ ap (λ (ns : List Node). slots_of ns i m) c.as_mut_slice.ensures.value) in
+    let up = subst (λ (ns : List Node). AreMarkedUp (slots_of ns) (marks_of ns) (marks_of fin) c.in_ok-at.at.0 (length ns)) c.as_mut_slice.ensures.value c.mark_changed.ensures.marked in
+    let same : (k : ℕ) (m : List ℕ) → k < at → slots_of gr k m ≡ slots_of mid k m = λ k m lt.
+    let less : k < length mid = omega (arith, lt, c.in_ok-at.ensures.within.0) in c.in_ok-graft.ensures.others k m less (λ e _. absurd (omega (arith, lt, e))) in
+    let down : Way (slots_of gr) leads.0 at = way_above (slots_of mid) (slots_of gr) (length mid) at c.in_ok-at.ensures.opened.forest same leads.0 at (omega arith) leads.1 in
+    let made = subst (λ p. AreOnPath (slots_of gr) p (length mid) (length gr)) leads.2 (c.in_ok-graft.ensures.made leads.0 leads.1) in
+    subst (λ (ns : List Node). ((j : ℕ) × LeadsTo (slots_of ns) tree j [] × ((marks_of ns j).changed ≡ true)) → IsChanged c.args.self.now tree ⊎ IsAbove tree (onto way (names_of path))) (sym whole)
+    (λ is. graft_changed (slots_of old) (slots_of mid) (slots_of gr) (slots_of fin) (marks_of old) (marks_of mid) (marks_of gr) (marks_of fin) (length old) (length mid) (length gr)
+    c.in_ok-at.ensures.opened.forest c.graft.ensures.forest c.in_ok-at.ensures.marks c.graft.ensures.marks at _ c.in_ok-graft.ensures.others same_slots up
+    (onto way (names path)) made leads.0 (names left) down (some_left left some) leads.2 tree is.0 is.1 is.2)

@@ -1,7 +1,8 @@
 use Rattle.std.proofs.Common.{◌≡◌, ◌<◌, ◌≤◌, List, length}
 use Rattle.std.specs.List.{FoldsTo}
 use Rattle.gix_object_editor.specs.Files.{Path}
-use Rattle.gix_object_editor.specs.Nodes.{slots_of, Way}
+use Rattle.gix_object_editor.specs.Nodes.{Way}
+use Rattle.gix_object_editor.specs.Marks.{due_in}
 use Rattle.gix_object_editor.specs.Writing.{ids_of}
 use Rattle.gix_object_editor.specs.Written.{HandedOut, HandsOut}
 use Rattle.gix_object_editor.specs.Below.{IsHandedOutFrom}
@@ -14,7 +15,7 @@ invariant-nodes g l = record {
   len : length l.ids.items ≡ length l.nodes;
   some : l.from.0 < l.at;
   within : l.at ≤ length l.nodes;
-  written : (base : Path) → Way (slots_of l.nodes) base l.from.0 → (handed : List HandedOut) × FoldsTo (HandsOut g.F.FnMut) l.initial.out handed l.out × IsHandedOutFrom (slots_of l.nodes) base (length l.nodes) (ids_of l.ids.items) handed l.at;
+  written : (base : Path) → Way (due_in l.nodes l.from.0) base l.from.0 → (handed : List HandedOut) × FoldsTo (HandsOut g.F.FnMut) l.initial.out handed l.out × IsHandedOutFrom (due_in l.nodes l.from.0) base (length l.nodes) (ids_of l.ids.items) handed l.at;
 }
 
 abbrev pub decreases-nodes : goal.decreases-nodes

@@ -2,6 +2,8 @@ use Rattle.std.proofs.Common.{◌≡◌, ◌++◌, length, map}
 use Rattle.std.specs.Map.{values_of}
 use Rattle.gix_object_entries.specs.Entry.{own_item}
 use Rattle.gix_object_editor.specs.Writing.{ids_of}
+use Rattle.gix_object_editor.specs.Marks.{changed_in}
+use Rattle.gix_object_editor.proofs.Due.{entry_if}
 use Rattle.gix_object_editor.proofs.ReachedTrees.{AreWithin}
 use Rattle.gix_object_editor.proofs.WrittenEntries.{entries_of}
 use Rattle.gix_object_editor.proofs.tree.editor.write.entries.tree_of.Given as goal
@@ -11,6 +13,8 @@ abbrev pub invariant-loop-name : goal.invariant-loop-name
 invariant-loop-name l = record {
   next : (goal.iterator-loop-name).can_next l.name-iterator;
   finite : (goal.iterator-loop-name).is_finite l.name-iterator;
+  opened : AreWithin (length l.nodes) (values_of l.name-iterator);
   within : AreWithin (length l.ids) (values_of l.name-iterator);
-  entries : map own_item l.entries.items ++ entries_of (ids_of l.ids) l.name-iterator ≡ entries_of (ids_of l.ids) l.node.slots.entries;
+  entries : map own_item l.entries.items ++ entries_of (ids_of l.ids) (map (entry_if (changed_in l.nodes)) l.name-iterator)
+      ≡ entries_of (ids_of l.ids) (map (entry_if (changed_in l.nodes)) l.node.slots.entries);
 }

@@ -1,7 +1,10 @@
-use Rattle.std.proofs.Common.{ℕ, ◌≡◌, ◌∙◌, ◌<◌, ◌+◌, Bool, List, Vec, true, false, ap, sym, subst, arith, length, get_or, rules, inl, inr}
+use Rattle.std.proofs.Common.{ℕ, ◌≡◌, ◌∙◌, ◌<◌, ◌+◌, Bool, List, Vec, Some, true, false, ap, sym, subst, arith, length, get_or, rules, inl, inr}
 use Rattle.std.specs.declared.alloc.Global.{Global}
 use Rattle.std.proofs.lemmas.List.{length-set}
 use Rattle.gix_object_editor.specs.Nodes.{slots_of, slot_in, child_of}
+use Rattle.gix_object_editor.specs.Files.{through}
+use Rattle.gix_object_editor.specs.Marks.{marks_of, changed_in, slot_if, slots_if, due_in}
+use Rattle.gix_object_editor.proofs.Due.{due_forest, due_row}
 use Rattle.gix_object_editor.proofs.Slots.{node_at}
 use Rattle.gix_object_editor.proofs.ReachedTrees.{AreMarked, root_marked, marked_more, unmarked_more, all_marked, is_set, marks_back}
 use Rattle.gix_object_editor.proofs.tree.editor.write.reached.reached.Goals.{then-index, else-index}
@@ -14,11 +17,14 @@ loop-i-init c =
     let some : c.args.from.0 < length marks = omega (arith, c.requires.within) in
     record {
       len = length-set marks c.args.from.0 true ∙ n;
-      marked = root_marked (slots_of c.args.nodes.now) (length c.args.nodes.now) c.args.from.0 marks (c.in_ok-marks.ensures.items_if_clones_equal (search rules)) some;
+      marked = root_marked (due_in c.args.nodes.now c.args.from.0) (length c.args.nodes.now) c.args.from.0 marks (c.in_ok-marks.ensures.items_if_clones_equal (search rules)) some;
     }
 
 pub mark-requires : goal.mark-requires
 mark-requires c = record {
+  opened = λ m k is.
+      let e = ap child_of (node_at c.args.nodes.now c.loop-i.i c.index-nodes-i.result m c.loop-i-test.true ∙ ap (λ n. slot_in n m) (sym c.index-nodes-i.is)) ∙ is in
+      c.requires.forest.within c.loop-i.i m k e;
   within = λ m k is.
       let e = ap child_of (node_at c.args.nodes.now c.loop-i.i c.index-nodes-i.result m c.loop-i-test.true ∙ ap (λ n. slot_in n m) (sym c.index-nodes-i.is)) ∙ is in
       let lt : k < length c.args.nodes.now = c.requires.forest.within c.loop-i.i m k e in
@@ -31,8 +37,12 @@ loop-i-preserved c =
     let i = c.loop-i.i in
     let within : i < length c.loop-i.marks.items = omega (arith, c.loop-i.invariant.len, c.loop-i-test.true) in
     let read : get_or c.loop-i.marks.items i false ≡ c.index.result.now = is_set c.loop-i.marks.items i c.index.result.now within c.index.ensures in
-    let row : (m : List ℕ) → slot_in c.index-nodes-i.result m ≡ slots_of nodes i m = λ m.
-    sym (node_at nodes i c.index-nodes-i.result m c.loop-i-test.true ∙ ap (λ n. slot_in n m) (sym c.index-nodes-i.is)) in
+    let from = c.args.from.0 in
+    let slots = due_in nodes from in
+    let forest = due_forest (slots_of nodes) (marks_of nodes) from (length nodes) c.requires.forest in
+    let row : get_or c.loop-i.marks.items i false ≡ true → (m : List ℕ) → slots_if (changed_in nodes) (slot_in c.index-nodes-i.result) m ≡ slots i m = λ is m.
+    ap (λ o. through o (λ s. Some (slot_if (changed_in nodes) s))) (sym (node_at nodes i c.index-nodes-i.result m c.loop-i-test.true ∙ ap (λ n. slot_in n m) (sym c.index-nodes-i.is)))
+    ∙ sym (due_row (slots_of nodes) (marks_of nodes) from (length nodes) c.requires.forest i (c.loop-i.invariant.marked.below i is) m) in
     elim c.if-index.branch [
       | then-index w ↦
           let new = w.mark.new.marks in
@@ -41,19 +51,19 @@ loop-i-preserved c =
           let same = w.as_mut_slice.ensures.value in
           record {
             len = ap length items ∙ w.mark.auto.marks ∙ ap length same ∙ c.loop-i.invariant.len;
-            marked = subst (λ ms. AreMarked (slots_of nodes) c.args.from.0 ms (i + 1)) (sym items)
-                (marked_more (slots_of nodes) c.args.from.0 (length nodes) c.requires.forest c.loop-i.marks.items new i c.loop-i.invariant.marked (read ∙ w.if-index.true)
+            marked = subst (λ ms. AreMarked slots from ms (i + 1)) (sym items)
+                (marked_more slots from (length nodes) forest c.loop-i.marks.items new i c.loop-i.invariant.marked (read ∙ w.if-index.true)
                 (λ j is. w.mark.ensures.kept j (ap (λ ms. get_or ms j false) same ∙ is))
-                (λ m k is. w.mark.ensures.children m k (ap child_of (row m) ∙ is))
+                (λ m k is. w.mark.ensures.children m k (ap child_of (row (read ∙ w.if-index.true) m) ∙ is))
                 (λ j is. elim (w.mark.ensures.others j is) [
                   | inl was ↦ inl (ap (λ ms. get_or ms j false) (sym same) ∙ was)
-                  | inr late ↦ inr (late.0, ap child_of (sym (row late.0)) ∙ late.1)
+                  | inr late ↦ inr (late.0, ap child_of (sym (row (read ∙ w.if-index.true) late.0)) ∙ late.1)
                 ]));
           }
       | else-index w ↦ record {
         len = ap (λ (v : Vec Bool Global). length v.items) w.marks-is ∙ c.loop-i.invariant.len;
-        marked = subst (λ ms. AreMarked (slots_of nodes) c.args.from.0 ms (i + 1)) (sym (ap (λ (v : Vec Bool Global). v.items) w.marks-is))
-            (unmarked_more (slots_of nodes) c.args.from.0 (length nodes) c.requires.forest c.loop-i.marks.items i c.loop-i.invariant.marked (read ∙ w.if-index.false));
+        marked = subst (λ ms. AreMarked slots from ms (i + 1)) (sym (ap (λ (v : Vec Bool Global). v.items) w.marks-is))
+            (unmarked_more slots from (length nodes) forest c.loop-i.marks.items i c.loop-i.invariant.marked (read ∙ w.if-index.false));
       }
     ]
 
@@ -61,8 +71,11 @@ pub returns : goal.returns
 returns c =
     let nodes = c.args.nodes.now in
     let e : c.loop-i.i ≡ length nodes = omega (arith, c.loop-i-test.false, c.loop-i.auto.i-end) in
-    let so = subst (λ n. AreMarked (slots_of nodes) c.args.from.0 c.loop-i.marks.items n) e c.loop-i.invariant.marked in
+    let from = c.args.from.0 in
+    let slots = due_in nodes from in
+    let forest = due_forest (slots_of nodes) (marks_of nodes) from (length nodes) c.requires.forest in
+    let so = subst (λ n. AreMarked slots from c.loop-i.marks.items n) e c.loop-i.invariant.marked in
     record {
       len = c.loop-i.invariant.len;
-      leads = λ base w j. (so.sound base w j, all_marked (slots_of nodes) c.args.from.0 (length nodes) c.requires.forest base w c.loop-i.marks.items so j);
+      leads = λ base w j. (so.sound base w j, all_marked slots from (length nodes) forest base w c.loop-i.marks.items so j);
     }

@@ -1,5 +1,5 @@
 use Rattle.std.proofs.Common.{◌≡◌, length}
-use Rattle.gix_object_editor.specs.Nodes.{slots_of}
+use Rattle.gix_object_editor.specs.Marks.{due_in}
 use Rattle.gix_object_editor.proofs.ReachedTrees.{AreMarked}
 use Rattle.gix_object_editor.proofs.tree.editor.write.reached.reached.Given as goal
 
@@ -7,5 +7,5 @@ use Rattle.gix_object_editor.proofs.tree.editor.write.reached.reached.Given as g
 abbrev pub invariant-loop-i : goal.invariant-loop-i
 invariant-loop-i l = record {
   len : length l.marks.items ≡ length l.nodes;
-  marked : AreMarked (slots_of l.nodes) l.fn.from.0 l.marks.items l.i;
+  marked : AreMarked (due_in l.nodes l.fn.from.0) l.fn.from.0 l.marks.items l.i;
 }

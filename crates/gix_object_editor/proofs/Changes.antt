@@ -1,0 +1,126 @@
+-- Which trees an edit changes.
+use Rattle.std.proofs.Common.{ℕ, ◌≡◌, ◌≢◌, ◌<◌, ◌≤◌, ◌⊎◌, true, false, List, [], ◌∷◌, ◌++◌, None, refl, sym, ap, subst, ◌∙◌, inl, inr, arith, length}
+use Rattle.std.specs.Borrow.{Bor}
+use Rattle.std.proofs.lemmas.Bool.{cases_lt, cases_eq}
+use Rattle.gix_object_editor.proofs.Walked.{names}
+use Rattle.gix_object_editor.specs.Files.{Bytes, Path, Trees}
+use Rattle.gix_object_editor.specs.Nodes.{Slots, child_of, IsForest, Way, onto, LeadsTo}
+use Rattle.gix_object_editor.specs.Marks.{Mark, Marks, AreMarked, AreMarksKept, AreMarkedUp, IsMarkedFor, IsOnWay, AreOnPath, AreAsRead}
+use Rattle.gix_object_editor.proofs.Marked.{not_yet, way_before, on_way_above, marks_none, edited_as_read}
+use Rattle.gix_object_editor.proofs.Edits.{less_forest}
+use Rattle.gix_object_editor.proofs.Folders.{taken_marks}
+use Rattle.gix_object_editor.proofs.Ways.{unique, way_above}
+
+way_within : (slots : Slots) (bound : ℕ) → IsForest slots bound → (way : Path) (j : ℕ) → Way slots way j → j < bound
+way_within slots bound ok [] j w = subst (λ k. k < bound) w ok.rooted
+way_within slots bound ok (n ∷ way) j w = ok.within w.0 n j w.2
+
+module _ (old mid : Slots) (was now : Marks) (a b : ℕ) (mid_ok : IsForest mid b) (opened : AreMarksKept false old mid was now a b) where
+  -- a tree that was changed before others were opened
+  pub opened_changed : (tree : Path) (j : ℕ) → LeadsTo mid tree j [] → (now j).changed ≡ true → (k : ℕ) × LeadsTo old tree k [] × ((was k).changed ≡ true)
+  opened_changed tree j leads t = elim (cases_lt j a) [
+    | inr ge ↦ absurd (not_yet (now j) (opened.fresh j ge (way_within mid b mid_ok leads.0 j leads.1)) t)
+    | inl lt ↦ (j, (leads.0, way_before old mid a b mid_ok opened.links leads.0 j lt leads.1, leads.2), ap (λ (m : Mark). m.changed) (sym (opened.same j lt)) ∙ t)
+  ]
+
+  module _ (new : Slots) (put fin : Marks) (c : ℕ) (new_ok : IsForest new c) (made : AreMarksKept true mid new now put b c) (at : ℕ) (path : Path) (on_path : AreOnPath new path b c)
+      (only : (way : Path) → Way new way at → (j : ℕ) → (fin j).changed ≡ true → ((put j).changed ≡ true) ⊎ IsOnWay new way j)
+      (way rest : Path) (down : Way new way at) (some : rest ≢ []) (ends : onto way rest ≡ path) where
+    old_or_made : (tree : Path) (j : ℕ) → LeadsTo new tree j [] → (put j).changed ≡ true → ((k : ℕ) × LeadsTo old tree k [] × ((was k).changed ≡ true)) ⊎ ((more : Path) × (more ≢ []) × (tree ++ more ≡ path))
+    old_or_made tree j leads t = elim (cases_lt j b) [
+      | inl lt ↦ inl (opened_changed tree j (leads.0, way_before mid new b c new_ok made.links leads.0 j lt leads.1, leads.2) (ap (λ (m : Mark). m.changed) (sym (made.same j lt)) ∙ t))
+      | inr ge ↦
+          let so = on_path j ge (way_within new c new_ok leads.0 j leads.1) in
+          let same : so.4.0 ≡ leads.0 = unique new c new_ok so.4.0 leads.0 j so.4.1 leads.1 in
+          let front : so.0 ≡ tree = sym so.4.2 ∙ ap (λ w. onto w []) same ∙ leads.2 in
+          inr (so.1, so.2, ap (λ p. p ++ so.1) (sym front) ∙ so.3)
+    ]
+
+    pub edit_changed : (tree : Path) (j : ℕ) → LeadsTo new tree j [] → (fin j).changed ≡ true → ((k : ℕ) × LeadsTo old tree k [] × ((was k).changed ≡ true)) ⊎ ((more : Path) × (more ≢ []) × (tree ++ more ≡ path))
+    edit_changed tree j leads t = elim (only way down j t) [
+      | inr on ↦ inr (on_way_above new c new_ok way j tree rest path on leads some ends)
+      | inl yet ↦ old_or_made tree j leads yet
+    ]
+
+-- a slot that is taken out leads to no new tree
+pub cut_kept : (mid new : Slots) (now : Marks) (b at : ℕ) (name : Bytes) → IsForest mid b → new at name ≡ None → ((i : ℕ) (m : Bytes) → ((i ≡ at) → (m ≡ name) → ⊥) → new i m ≡ mid i m) → AreMarksKept true mid new now now b b
+cut_kept mid new now b at name ok here others = taken_marks mid new name at here others true mid now now now b b (λ i. refl) (marks_none true mid now b ok)
+
+pub none_on_path : (slots : Slots) (path : Path) (b : ℕ) → AreOnPath slots path b b
+none_on_path slots path b j le lt = absurd (omega (arith, le, lt))
+
+-- what lies above a path with one name more begins the path
+pub begins : (path : Path) (x : Bytes) (tree more : Path) → more ≢ [] → tree ++ more ≡ path ++ x ∷ [] → (rest : Path) × (tree ++ rest ≡ path)
+begins path x [] more some e = (path, refl)
+begins [] x (t ∷ tree) more some e = absurd (some (last_none tree more (tail_of t x (tree ++ more) [] e)))
+  where
+    tail_of : (t x : Bytes) (p q : Path) → t ∷ p ≡ x ∷ q → p ≡ q
+    tail_of t x p q e = cc e
+
+    last_none : (tree more : Path) → tree ++ more ≡ [] → more ≡ []
+    last_none [] more e = e
+    last_none (t ∷ tree) more e = absurd (cc e)
+begins (n ∷ path) x (t ∷ tree) more some e =
+    let first : t ≡ n = head_of t n (tree ++ more) (path ++ x ∷ []) e in
+    let later = begins path x tree more some (tail_of t n (tree ++ more) (path ++ x ∷ []) e) in
+    (later.0, ap (λ k. k ∷ tree ++ later.0) first ∙ ap (λ p. n ∷ p) later.1)
+  where
+    head_of : (t x : Bytes) (p q : Path) → t ∷ p ≡ x ∷ q → t ≡ x
+    head_of t x p q e = cc e
+
+    tail_of : (t x : Bytes) (p q : Path) → t ∷ p ≡ x ∷ q → p ≡ q
+    tail_of t x p q e = cc e
+
+-- ---- a slot that is taken out, and the trees that it lies in
+
+pub cut_as_read : (trees : Trees) (mid new : Slots) (now fin : Marks) (b at : ℕ) (name : Bytes) → IsForest mid b → new at name ≡ None → ((i : ℕ) (m : Bytes) → ((i ≡ at) → (m ≡ name) → ⊥) → new i m ≡ mid i m)
+    → IsMarkedFor mid new now fin at b b → AreAsRead trees mid now → AreAsRead trees new fin
+cut_as_read trees mid new now fin b at name ok here others marks read =
+    let kept = cut_kept mid new now b at name ok here others in
+    let forest : IsForest new b = less_forest mid new b b at name ok refl (ap child_of here) others in
+    edited_as_read trees mid new fin b b ok marks.marked marks.still now (λ c lt t. marks.kept c t) (λ c le lt. absurd (omega (arith, le, lt))) forest kept.links read
+
+pub cut_changed : (old mid : Slots) (was now : Marks) (a b : ℕ) → IsForest mid b → AreMarksKept false old mid was now a b → (new : Slots) (fin : Marks) (at : ℕ) (name : Bytes) → new at name ≡ None
+    → ((i : ℕ) (m : Bytes) → ((i ≡ at) → (m ≡ name) → ⊥) → new i m ≡ mid i m) → IsMarkedFor mid new now fin at b b → (path left : Path) → LeadsTo mid path at left → left ≡ name ∷ []
+    → (tree : Path) (j : ℕ) → LeadsTo new tree j [] → (fin j).changed ≡ true → ((k : ℕ) × LeadsTo old tree k [] × ((was k).changed ≡ true)) ⊎ ((more : Path) × (more ≢ []) × (tree ++ more ≡ path))
+cut_changed old mid was now a b ok opened new fin at name here others marks path left leads is tree j to t =
+    let forest : IsForest new b = less_forest mid new b b at name ok refl (ap child_of here) others in
+    let same : (i : ℕ) (m : Bytes) → i < at → new i m ≡ mid i m = λ i m less. others i m (λ e _. absurd (omega (arith, e, less))) in
+    edit_changed old mid was now a b ok opened new now fin b forest (cut_kept mid new now b at name ok here others) at path (none_on_path new path b) marks.only leads.0 (name ∷ [])
+    (way_above mid new b at ok same leads.0 at (omega arith) leads.1) (λ e. cc e) (ap (onto leads.0) (sym is) ∙ leads.2) tree j to t
+
+-- ---- folders that are made, and the trees that they lie in
+
+module _ (old mid new end : Slots) (was now put fin : Marks) (a b c : ℕ) (mid_ok : IsForest mid b) (new_ok : IsForest new c) (opened : AreMarksKept false old mid was now a b) (made : AreMarksKept true mid new now put b c)
+    (at : ℕ) (name : Bytes) (others : (i : ℕ) (m : Bytes) → i < b → ((i ≡ at) → (m ≡ name) → ⊥) → new i m ≡ mid i m) (same : end ≡ new) (up : AreMarkedUp new put fin at c) where
+  pub graft_as_read : (trees : Trees) → AreAsRead trees mid now → AreAsRead trees end fin
+  graft_as_read trees read = subst (λ f. AreAsRead trees f fin) (sym same) (edited_as_read trees mid new fin b c mid_ok up.marked still now
+      (λ k lt t. up.kept k (ap (λ (m : Mark). m.changed) (made.same k lt) ∙ t)) (λ k le lt. up.kept k (made.fresh k le lt)) new_ok made.links read)
+    where
+      still : (i : ℕ) (m : Bytes) → i < b → (fin i).changed ≡ false → new i m ≡ mid i m
+      still i m lt f = elim (cases_eq i at) [
+        | inl e ↦ absurd (not_yet (fin i) f (ap (λ k. (fin k).changed) e ∙ up.here))
+        | inr ne ↦ others i m lt (λ e _. ne e)
+      ]
+
+  -- those that are changed now
+  pub graft_changed : (path : Path) → AreOnPath new path b c → (way rest : Path) → Way new way at → rest ≢ [] → onto way rest ≡ path → (tree : Path) (j : ℕ) → LeadsTo end tree j [] → (fin j).changed ≡ true
+      → ((k : ℕ) × LeadsTo old tree k [] × ((was k).changed ≡ true)) ⊎ ((more : Path) × (more ≢ []) × (tree ++ more ≡ path))
+  graft_changed path on_path way rest down some ends tree j to t =
+      edit_changed old mid was now a b mid_ok opened new put fin c new_ok made at path on_path up.only way rest down some ends tree j (subst (λ f. LeadsTo f tree j []) same to) t
+
+-- an edit that failed behind opened trees
+pub failed_changed : (old mid new : Slots) (was now put : Marks) (a b c : ℕ) → IsForest mid b → AreMarksKept false old mid was now a b → AreMarksKept true mid new now put b c → new ≡ mid
+    → (tree : Path) (j : ℕ) → LeadsTo new tree j [] → (put j).changed ≡ true → (k : ℕ) × LeadsTo old tree k [] × ((was k).changed ≡ true)
+failed_changed old mid new was now put a b c ok opened made same tree j to t =
+    let back : LeadsTo mid tree j [] = subst (λ f. LeadsTo f tree j []) same to in
+    let lt : j < b = way_within mid b ok back.0 j back.1 in
+    opened_changed old mid was now a b ok opened tree j back (ap (λ (m : Mark). m.changed) (sym (made.same j lt)) ∙ t)
+
+pub some_left : (path : List (Bor (List ℕ))) → 0 < length path → names path ≢ []
+some_left [] some = absurd (omega (arith, some))
+some_left (p ∷ path) some = λ e. cc e
+
+pub one_more_left : (p : Path) (x : Bytes) → p ++ x ∷ [] ≢ []
+one_more_left [] x = λ e. cc e
+one_more_left (n ∷ p) x = λ e. cc e

@@ -1,0 +1,82 @@
+//! Which opened trees edits changed.
+
+ghost use Rattle.std.specs.Prelude.{◌≡◌, ◌≢◌, ◌<◌, ℕ, length, true, false, Some, None};
+ghost use Rattle.gix_object_editor.specs.Files.{Bytes};
+ghost use Rattle.gix_object_editor.specs.Nodes.{slots_of, child_of, IsForest};
+ghost use Rattle.gix_object_editor.specs.Marks.{marks_of, mark_below, AreMarked, AreMarkedBut, AreMarkedUp, IsMarkedFor, child_if, changed_in};
+
+use crate::tree::editor::node::{Node, NodeId, Slot, slot_at, take_at};
+
+/// Takes the entry of a name out of an opened tree, which is marked as changed, if one stands there.
+pub(crate) fn cut(nodes: &mut [Node], at: NodeId, name: &[u8])
+    requires within { at.0 < length nodes.old }
+    requires forest { IsForest (slots_of nodes.old) (length nodes.old) }
+    requires marked { AreMarked (slots_of nodes.old) (marks_of nodes.old) (length nodes.old) }
+    ensures here { slots_of nodes.new at.0 name.now ≡ None }
+    ensures others { (i : ℕ) (m : Bytes) → (i ≡ at.0 → m ≡ name.now → ⊥) → slots_of nodes.new i m ≡ slots_of nodes.old i m }
+    ensures marks { IsMarkedFor (slots_of nodes.old) (slots_of nodes.new) (marks_of nodes.old) (marks_of nodes.new) at.0 (length nodes.old) (length nodes.old) }
+{
+    if slot_at(nodes, at, name).is_none() {
+        return;
+    }
+    take_at(nodes, at, name);
+    mark_changed(nodes, at);
+}
+
+/// Marks an opened tree as changed, and those that it lies in.
+pub(crate) fn mark_changed(nodes: &mut [Node], at: NodeId)
+    requires within { at.0 < length nodes.old }
+    requires forest { IsForest (slots_of nodes.old) (length nodes.old) }
+    requires marked { AreMarkedBut at.0 (slots_of nodes.old) (marks_of nodes.old) (length nodes.old) }
+    ensures slots { (i : ℕ) (m : Bytes) → slots_of nodes.new i m ≡ slots_of nodes.old i m }
+    ensures marked { AreMarkedUp (slots_of nodes.old) (marks_of nodes.old) (marks_of nodes.new) at.0 (length nodes.old) }
+{
+    let mut above = at;
+    'trees: while above.0 > 0 {
+        mark_at(nodes, above);
+        above = parent_at(nodes, above);
+    }
+    mark_at(nodes, above);
+}
+
+// Marks one opened tree as changed.
+fn mark_at(nodes: &mut [Node], at: NodeId)
+    requires { at.0 < length nodes.old }
+    ensures slots { (i : ℕ) (m : Bytes) → slots_of nodes.new i m ≡ slots_of nodes.old i m }
+    ensures here { marks_of nodes.new at.0 ≡ mark_below (marks_of nodes.old at.0).parent true }
+    ensures others { (i : ℕ) → i ≢ at.0 → marks_of nodes.new i ≡ marks_of nodes.old i }
+{
+    let node = &mut nodes[at.0];
+    node.place(node.parent, true);
+}
+
+// The tree in which an opened one lies.
+fn parent_at(nodes: &[Node], at: NodeId) -> NodeId
+    requires { at.0 < length nodes.now }
+    ensures { result.0 ≡ (marks_of nodes.now at.0).parent }
+{
+    nodes[at.0].parent
+}
+
+/// The opened tree of a slot, where an edit changed it.
+pub(crate) fn changed_child(nodes: &[Node], slot: &Slot) -> Option<NodeId>
+    requires { (c : ℕ) → child_of (Some slot.now) ≡ Some c → c < length nodes.now }
+    ensures { result ≡ child_if (changed_in nodes.now) slot.now.child }
+{
+    let Some(child) = slot.child else {
+        return None;
+    };
+    if is_changed(nodes, child) {
+        Some(child)
+    } else {
+        None
+    }
+}
+
+// Whether an edit changed an opened tree.
+fn is_changed(nodes: &[Node], at: NodeId) -> bool
+    requires { at.0 < length nodes.now }
+    ensures { result ≡ changed_in nodes.now at.0 }
+{
+    nodes[at.0].changed
+}
