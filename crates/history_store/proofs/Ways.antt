@@ -1,15 +1,18 @@
 -- The way of a name's file and of its log.
-use Rattle.std.proofs.Common.{◌≡◌, refl, sym, ◌∙◌, ap, ℕ, ◌+◌, ◌≤◌, ◌==◌, Bool, true, false, cond, not, ◌&&◌, ◌||◌, List, [], ◌∷◌, ◌++◌, length, length-append, get_or, arith, codes, bytes_eq}
-use Rattle.std.specs.Prelude.{IsTrue, nat_lt, nat_le}
+use Rattle.std.proofs.Common.{◌≡◌, ◌⊎◌, inl, inr, refl, sym, ◌∙◌, ap, ℕ, ◌+◌, ◌≤◌, ◌==◌, Bool, true, false, cond, not, ◌&&◌, ◌||◌, List, [], ◌∷◌, ◌++◌, length, length-append, append_assoc, get_or, arith, codes, bytes_eq}
+use Rattle.std.specs.Prelude.{IsTrue, Option, Some, None, nat_lt, nat_le}
 use Rattle.std.specs.List.{list_any, list_all, slice_split, onto_first}
 use Rattle.std.proofs.lemmas.Bool.Decides.{Decides-eqb, nat_tests}
 use Rattle.std.proofs.lemmas.Slice.Eq.{bytes_eq-Decides}
 use Rattle.gix_ref_file.specs.Tree.{Tree, is_slash, is_component, is_path}
 use Rattle.history_model.specs.Bytes.{Bytes, begins}
+use Rattle.history_model.specs.FileMap.{components, is_below}
 use Rattle.history_model.specs.Forms.{is_name, max_name}
 use Rattle.gix_object_lines.specs.NameTest.{is_barred}
 use Rattle.history_model.proofs.NameTests.{is_name_component, components_of, unbarred_of}
-use Rattle.history_model.specs.Places.{log_place}
+use Rattle.history_model.specs.Places.{file_at, head_place, packed_place, log_place, is_log_place, log_name}
+use Rattle.history_model.specs.Repository.{Repository, stands}
+use Rattle.history_model.specs.TreeHalves.{HoldsNames}
 use Rattle.history_store.specs.Stores.{IsAbove}
 use Rattle.history_store.specs.References.{HasWay, Logs}
 use Rattle.history_store.specs.declared.log_entry.LogEntry.{LogEntry}
