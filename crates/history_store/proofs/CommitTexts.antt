@@ -38,13 +38,13 @@ hex_is_hex (d ∷ digits) are =
 id_formed : (kind : Kind) (id : Id) → IsTrue (is_id kind id) → IsHex (hex_len kind) (hex id)
 id_formed kind id formed = (length-hex id ∙ (has_kind kind id formed).whole, hex_is_hex id.digits (id_digits kind id formed))
 
-ids_formed : (kind : Kind) (ids : List Id) → IsTrue (list_all (is_id kind) ids) → All (IsHex (hex_len kind)) (map hex ids)
+pub ids_formed : (kind : Kind) (ids : List Id) → IsTrue (list_all (is_id kind) ids) → All (IsHex (hex_len kind)) (map hex ids)
 ids_formed kind [] are = All-nil (IsHex (hex_len kind))
 ids_formed kind (id ∷ ids) are =
     let parts = and_of (is_id kind id) (list_all (is_id kind) ids) are in
     All-cons (IsHex (hex_len kind)) (hex id) (map hex ids) (id_formed kind id parts.0) (ids_formed kind ids parts.1)
 
-ids_tell : (kind : Kind) (a b : List Id) → IsTrue (list_all (is_id kind) a) → IsTrue (list_all (is_id kind) b) → map hex a ≡ map hex b → a ≡ b
+pub ids_tell : (kind : Kind) (a b : List Id) → IsTrue (list_all (is_id kind) a) → IsTrue (list_all (is_id kind) b) → map hex a ≡ map hex b → a ≡ b
 ids_tell kind [] [] a_are b_are same = refl
 ids_tell kind [] (id ∷ ids) a_are b_are same = cc
 ids_tell kind (id ∷ ids) [] a_are b_are same = cc

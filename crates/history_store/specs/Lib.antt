@@ -10,6 +10,8 @@ pub mod Lookups
 pub mod ObjectTexts
 pub mod Opening
 pub mod Parts
+pub mod Puts
 pub mod References
 pub mod Stores
 pub mod Trees
+pub mod Written

@@ -10,6 +10,7 @@ use Rattle.history_model.specs.Objects.{Value, object_text, object_kind, content
 use Rattle.history_model.specs.Objects.{id_of as value_id}
 use Rattle.gix_hash.specs.Id.{Id, id_of}
 use Rattle.gix_hash.specs.declared.kind.Kind.{Kind}
+use Rattle.gix_object_lines.specs.declared.kind.Kind.{Kind as ObjectKind}
 use Rattle.history_store.specs.declared.object.NewObject.{NewObject}
 use Rattle.history_store.specs.declared.objects.PutError.{PutError}
 use Rattle.history_store.specs.declared.objects.PutError.TheVariants as errors
@@ -63,6 +64,13 @@ pub record HoldsFile (place text : Bytes) (old new : Tree) : Type 0 where
 abbrev pub MayStand : Bytes → Bytes → Tree → Tree → Type 0
 MayStand place text old tree = KeepsFiles old tree ⊎ HoldsFile place text old tree
 
+-- What stands while the text is put in its place: all as before or the text whole, each folder that stood, and no other but those
+-- that its file stands in.
+pub record MayHold (place text : Bytes) (old tree : Tree) : Type 0 where
+  pub files : MayStand place text old tree
+  pub above : FoldersAbove place old tree
+  pub stay : KeepsFolders old tree
+
 -- ---- objects
 
 -- the place of an object's file
@@ -96,12 +104,9 @@ place_of object = object_place (id_of object.id)
 abbrev pub Holds : NewObject → Tree → Type 0
 Holds object tree = file_at tree (place_of object) ≡ Some (text_of object)
 
--- What stands while the object is put: all as before or its file whole, each folder that stood, and no other but those that its file
--- stands in.
-pub record MayPut (object : NewObject) (old tree : Tree) : Type 0 where
-  pub files : MayStand (place_of object) (text_of object) old tree
-  pub above : FoldersAbove (place_of object) old tree
-  pub stay : KeepsFolders old tree
+-- what stands while the object is put
+abbrev pub MayPut : NewObject → Tree → Tree → Type 0
+MayPut object old tree = MayHold (place_of object) (text_of object) old tree
 
 -- the object is this value's
 pub record IsObjectOf (digests : Kind) (value : Value) (object : NewObject) : Type 0 where
@@ -113,11 +118,14 @@ pub record IsObjectOf (digests : Kind) (value : Value) (object : NewObject) : Ty
 abbrev pub AreObjectsOf : Kind → List Value → List NewObject → Type 0
 AreObjectsOf digests values objects = AllZip (IsObjectOf digests) values objects
 
--- why the object can't have its id: it is reserved, or a file of other bytes stands at its place
+-- why an object of this content can't have the id: it is reserved, or a file of other bytes stands at its place
+abbrev pub IsIdTaken : Id → ObjectKind → Bytes → Tree → Type 0
+IsIdTaken id kind content tree =
+    (is_reserved id kind content ≡ true)
+    ⊎ ((other : Bytes) × (file_at tree (object_place id) ≡ Some other) × (other ≢ object_text kind content))
+
 abbrev pub IsTaken : NewObject → Tree → Type 0
-IsTaken object tree =
-    (is_reserved (id_of object.id) object.kind object.content.items ≡ true)
-    ⊎ ((other : Bytes) × (file_at tree (place_of object) ≡ Some other) × (other ≢ text_of object))
+IsTaken object tree = IsIdTaken (id_of object.id) object.kind object.content.items tree
 
 abbrev pub put_fault : FileError → PutError
 put_fault files.Failed = errors.File

@@ -152,7 +152,11 @@ fn lent(alloc: Global, texts: &[HexText]) -> Result<SmallVec<BStr<'_>, 1>, Alloc
 }
 
 // The commit of these parts; `None` where they aren't all as this crate writes them.
-fn commit_of(alloc: Global, kind: Kind, parts: &CommitRef<'_>) -> Result<Option<Commit>, AllocError>
+pub(crate) fn commit_of(
+    alloc: Global,
+    kind: Kind,
+    parts: &CommitRef<'_>,
+) -> Result<Option<Commit>, AllocError>
     ensures { IfOk result (λ found. MatchOption found (¬ IsPlain kind (views.parts_of parts.now))
         (λ commit. (views.parts_of parts.now ≡ parts_of commit)
         × IsTrue (has_ids_of kind commit))) }

@@ -13,8 +13,10 @@ mod object;
 mod objects;
 mod opening;
 mod parts;
+pub mod put;
 mod tree;
 mod way;
+mod written;
 
 pub use actor::{Actor, is_actor_part, parse_time};
 pub use commit::Commit;

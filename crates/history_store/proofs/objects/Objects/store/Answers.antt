@@ -1,0 +1,83 @@
+use Rattle.std.proofs.Common.{◌≡◌, ◌∙◌, ap, arith, length, subst, sym, ◌<◌, ◌^◌}
+use Rattle.gix_hash.specs.Id.{id_of}
+use Rattle.gix_hash.specs.declared.kind.Kind.{Kind}
+use Rattle.gix_ref_file.specs.History.{Adds}
+use Rattle.gix_object_lines.specs.declared.kind.Kind.{Kind as ObjectKind}
+use Rattle.gix_object_write.specs.Keeping.{IsAsBefore, Puts}
+use Rattle.history_model.specs.Bytes.{Bytes}
+use Rattle.history_store.specs.Face.{files_of_objects, ids_of_objects, kind_of_objects}
+use Rattle.history_store.specs.Ids.{with_id}
+use Rattle.history_store.specs.ObjectTexts.{object_id}
+use Rattle.history_store.specs.Stores.{MayHold}
+use Rattle.history_store.specs.declared.object.NewObject.{NewObject}
+use Rattle.history_store.proofs.Contents.{IsObject, gains, gains_known, keeps, keeps_known, told}
+use Rattle.history_store.proofs.Maps.{Knows, table_in}
+use Rattle.history_store.proofs.Stored.{on_err_any}
+use Rattle.history_store.proofs.objects.Objects.store.Goals as goal
+
+own : (digests asked : Kind) (kind : ObjectKind) (content : Bytes) (object : NewObject) → id_of object.id ≡ object_id asked kind content → asked ≡ digests → object.kind ≡ kind → object.content.items ≡ content → IsObject digests kind content object
+own digests asked kind content object id same of_kind bytes = record { id = id ∙ ap (λ k. object_id k kind content) same; of_kind = of_kind; bytes = bytes }
+
+pub returns-in_err-put-clause-moments : goal.returns-in_err-put-clause-moments
+returns-in_err-put-clause-moments g c = λ honest.
+    let digests = kind_of_objects c.args.self.now in
+    let is = own digests c.kind.result c.args.kind c.args.content.items c.new-object.result c.new-object.ensures.id c.kind.ensures c.new-object.ensures.kind (ap (λ v. v.items) c.new-object.ensures.content) in
+    let old = g.F.Files.history (files_of_objects c.args.self.now) in
+    told digests c.args.kind c.args.content.items c.new-object.result is (λ place text. Adds (MayHold place text old.tree) old (g.F.Files.history (files_of_objects c.put.new.self))) (c.put.ensures.moments honest)
+
+pub returns-in_err-put-clause-holds : goal.returns-in_err-put-clause-holds
+returns-in_err-put-clause-holds g c = λ holds.
+    let digests = kind_of_objects c.args.self.now in
+    let is = own digests c.kind.result c.args.kind c.args.content.items c.new-object.result c.new-object.ensures.id c.kind.ensures c.new-object.ensures.kind (ap (λ v. v.items) c.new-object.ensures.content) in
+    let old = g.F.Files.history (files_of_objects c.args.self.now) in
+    let new = g.F.Files.history (files_of_objects c.put.new.self) in
+    record {
+      honest = c.put.ensures.honest holds.honest;
+      known = subst (λ ids. Knows ids new.tree) (sym c.in_err-put.ensures.unknown)
+          (keeps_known digests c.args.kind c.args.content.items c.new-object.result is old new (ids_of_objects c.args.self.now) holds.known (c.put.ensures.moments holds.honest)
+          (λ at. ap (λ files. (g.F.Files.history files).tree) (c.put.ensures.once holds.honest at)) (λ taken. ap (λ files. (g.F.Files.history files).tree) (c.put.ensures.untouched holds.honest taken)));
+    }
+
+pub returns-in_err-put-clause-kept : goal.returns-in_err-put-clause-kept
+returns-in_err-put-clause-kept g c = λ holds.
+    let digests = kind_of_objects c.args.self.now in
+    let is = own digests c.kind.result c.args.kind c.args.content.items c.new-object.result c.new-object.ensures.id c.kind.ensures c.new-object.ensures.kind (ap (λ v. v.items) c.new-object.ensures.content) in
+    let old = g.F.Files.history (files_of_objects c.args.self.now) in
+    let new = g.F.Files.history (files_of_objects c.put.new.self) in
+    on_err_any c.from_residual-in_err-put.result
+    (subst (λ ids. IsAsBefore (table_in (ids_of_objects c.args.self.now) old.tree) (table_in ids new.tree)) (sym c.in_err-put.ensures.unknown)
+    (keeps digests c.args.kind c.args.content.items c.new-object.result is old new (ids_of_objects c.args.self.now) holds.known (c.put.ensures.moments holds.honest)
+    (λ at. ap (λ files. (g.F.Files.history files).tree) (c.put.ensures.once holds.honest at)) (λ taken. ap (λ files. (g.F.Files.history files).tree) (c.put.ensures.untouched holds.honest taken))))
+
+pub returns-clause-moments : goal.returns-clause-moments
+returns-clause-moments g c = λ honest.
+    let digests = kind_of_objects c.args.self.now in
+    let is = own digests c.kind.result c.args.kind c.args.content.items c.new-object.result c.new-object.ensures.id c.kind.ensures c.new-object.ensures.kind (ap (λ v. v.items) c.new-object.ensures.content) in
+    let old = g.F.Files.history (files_of_objects c.args.self.now) in
+    told digests c.args.kind c.args.content.items c.new-object.result is (λ place text. Adds (MayHold place text old.tree) old (g.F.Files.history (files_of_objects c.put.new.self))) (c.put.ensures.moments honest)
+
+pub returns-clause-holds : goal.returns-clause-holds
+returns-clause-holds g c = λ holds.
+    let digests = kind_of_objects c.args.self.now in
+    let is = own digests c.kind.result c.args.kind c.args.content.items c.new-object.result c.new-object.ensures.id c.kind.ensures c.new-object.ensures.kind (ap (λ v. v.items) c.new-object.ensures.content) in
+    let old = g.F.Files.history (files_of_objects c.args.self.now) in
+    let new = g.F.Files.history (files_of_objects c.put.new.self) in
+    let within = (c.in_ok-check.ensures.fits holds).within in
+    let fits : length c.args.content.items < 2 ^ 64 = subst (λ text. length text < 2 ^ 64) c.deref.ensures.value (omega (arith, within)) in
+    record {
+      honest = c.put.ensures.honest holds.honest;
+      known = subst (λ ids. Knows ids new.tree) (sym (c.in_ok-put.ensures.known ∙ ap (with_id (ids_of_objects c.args.self.now)) is.id))
+          (gains_known digests c.args.kind c.args.content.items c.new-object.result is old.tree new.tree (ids_of_objects c.args.self.now) holds.known (c.in_ok-put.ensures.stored holds.honest) (c.in_ok-put.ensures.free holds.honest) fits);
+    }
+
+pub returns-clause-added : goal.returns-clause-added
+returns-clause-added g c = λ holds.
+    let digests = kind_of_objects c.args.self.now in
+    let id = object_id digests c.args.kind c.args.content.items in
+    let is = own digests c.kind.result c.args.kind c.args.content.items c.new-object.result c.new-object.ensures.id c.kind.ensures c.new-object.ensures.kind (ap (λ v. v.items) c.new-object.ensures.content) in
+    let old = g.F.Files.history (files_of_objects c.args.self.now) in
+    let new = g.F.Files.history (files_of_objects c.put.new.self) in
+    let within = (c.in_ok-check.ensures.fits holds).within in
+    let fits : length c.args.content.items < 2 ^ 64 = subst (λ text. length text < 2 ^ 64) c.deref.ensures.value (omega (arith, within)) in
+    subst (λ ids. Puts (table_in (ids_of_objects c.args.self.now) old.tree) (table_in ids new.tree) id (record { kind = c.args.kind; content = c.args.content.items })) (sym (c.in_ok-put.ensures.known ∙ ap (with_id (ids_of_objects c.args.self.now)) is.id))
+    (gains digests c.args.kind c.args.content.items c.new-object.result is old.tree new.tree (ids_of_objects c.args.self.now) holds.known (c.in_ok-put.ensures.stored holds.honest) (c.in_ok-put.ensures.free holds.honest) fits)
