@@ -1,5 +1,5 @@
 -- What a stream of commands is answered with over a new repository in memory.
-use Rattle.std.specs.Prelude.{◌≡◌, ◌⊎◌, ⊥, ⊤, Bool, false, List, [], ◌++◌, Option, Some, None, IsTrue}
+use Rattle.std.specs.Prelude.{◌≡◌, ◌⊎◌, ⊤, Bool, false, List, [], ◌++◌, Option, Some, None, IsTrue}
 use Rattle.std.specs.List.{list_all}
 use Rattle.history_model.specs.Bytes.{Bytes}
 use Rattle.history_model.specs.Repository.{Repository, fresh}

@@ -44,7 +44,7 @@ impl From<RunError> for AnswerError {
 ///
 /// What is written is the replies to the commands at the front of the input, and the answer to a rest that is no command. The
 /// repository goes with the call. `New` comes where no repository is made, `Run` where the run is cut off: nothing is answered then.
-pub fn answer(alloc: Global, kind: Kind, input: &[u8]) -> Result<Answer, AnswerError>
+pub fn answer_stream(alloc: Global, kind: Kind, input: &[u8]) -> Result<Answer, AnswerError>
     ensures answers { IfOk result (λ answer.
         Answers kind input.now (⟦<Collected as Sink>⟧.contents answer.written) answer.end) }
     // What the plain repository answers the whole input with is what is written; or a fault is told.

@@ -6,5 +6,5 @@ mod answer;
 mod opened;
 pub mod rows;
 
-pub use answer::{Answer, AnswerError, answer};
+pub use answer::{Answer, AnswerError, answer_stream};
 pub use opened::{NewError, new_repository};

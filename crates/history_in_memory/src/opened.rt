@@ -29,8 +29,8 @@ impl From<CreateError> for NewError {
     }
 }
 
-impl<F: Files> From<OpenRefusal<F>> for NewError {
-    fn from(refusal: OpenRefusal<F>) -> NewError {
+impl From<OpenRefusal<MemoryFiles>> for NewError {
+    fn from(refusal: OpenRefusal<MemoryFiles>) -> NewError {
         NewError::Open(refusal.error)
     }
 }

@@ -4,7 +4,7 @@ ghost use Rattle.std.specs.Prelude.{IfOk};
 ghost use Rattle.history_model.specs.Rows.{first_output, hello_output};
 ghost use Rattle.history_in_memory.specs.Answered.{AreOrTellFault};
 
-use crate::answer::{Answer, AnswerError, answer};
+use crate::answer::{Answer, AnswerError, answer_stream};
 use gix_hash::Kind;
 use history::{Collected, Sink};
 use std::alloc::Global;
@@ -46,7 +46,8 @@ pub fn first_commit(alloc: Global) -> Result<Answer, AnswerError>
     ensures { IfOk result (λ answer.
         AreOrTellFault (⟦<Collected as Sink>⟧.contents answer.written) first_output) }
 {
-    answer(alloc, Kind::Sha1, FIRST)
+    history_model::rows::first_commit();
+    answer_stream(alloc, Kind::Sha1, FIRST)
 }
 
 /// Answers the worked stream of a commit of the file `hello`, whose files and content are shown.
@@ -54,5 +55,6 @@ pub fn hello_file(alloc: Global) -> Result<Answer, AnswerError>
     ensures { IfOk result (λ answer.
         AreOrTellFault (⟦<Collected as Sink>⟧.contents answer.written) hello_output) }
 {
-    answer(alloc, Kind::Sha1, HELLO)
+    history_model::rows::hello_file();
+    answer_stream(alloc, Kind::Sha1, HELLO)
 }
