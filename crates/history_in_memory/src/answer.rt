@@ -1,0 +1,59 @@
+//! A stream of commands and what it is answered with.
+
+ghost use Rattle.std.specs.Prelude.{IfOk};
+ghost use Rattle.history_model.specs.Bytes.{Bytes as Text};
+ghost use Rattle.history_in_memory.specs.Answered.{Answers, AreOrTellFault, IsMeant};
+
+use crate::opened::{NewError, new_repository};
+use gix_hash::Kind;
+use history::{Bytes, Collected, End, RunError, Sink, run};
+use std::alloc::Global;
+use thiserror::Error;
+
+/// How a run over a stream ended, and what it wrote.
+#[derive(Debug, Drop)]
+pub struct Answer {
+    pub end: End,
+    pub written: Collected,
+}
+
+/// Why a stream isn't answered.
+#[derive(Drop, PartialEq, Eq, Debug, Error)]
+pub enum AnswerError {
+    /// No repository stands.
+    #[error("no repository")]
+    New(NewError),
+    /// The run over the stream was cut off.
+    #[error("the run was cut off")]
+    Run(RunError),
+}
+
+impl From<NewError> for AnswerError {
+    fn from(error: NewError) -> AnswerError {
+        AnswerError::New(error)
+    }
+}
+
+impl From<RunError> for AnswerError {
+    fn from(error: RunError) -> AnswerError {
+        AnswerError::Run(error)
+    }
+}
+
+/// Answers a stream of commands over a new repository in memory, with ids of this kind.
+///
+/// What is written is the replies to the commands at the front of the input, and the answer to a rest that is no command. The
+/// repository goes with the call. `New` comes where no repository is made, `Run` where the run is cut off: nothing is answered then.
+pub fn answer_stream(alloc: Global, kind: Kind, input: &[u8]) -> Result<Answer, AnswerError>
+    ensures answers { IfOk result (λ answer.
+        Answers kind input.now (⟦<Collected as Sink>⟧.contents answer.written) answer.end) }
+    // What the plain repository answers the whole input with is what is written; or a fault is told.
+    ensures meant { (output : Text) → IsMeant kind input.now output
+        → IfOk result (λ answer. AreOrTellFault (⟦<Collected as Sink>⟧.contents answer.written) output) }
+{
+    let mut repository = new_repository(alloc, kind)?;
+    let mut reader = Bytes::new(input);
+    let mut written = Collected::new(alloc);
+    let end = run(alloc, &mut reader, &mut written, &mut repository)?;
+    Ok(Answer { end, written })
+}

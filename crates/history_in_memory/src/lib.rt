@@ -1,0 +1,10 @@
+//! A stream of commands, answered over a new repository in memory: `create`, `open` and `run` of `history` as one call, whose
+//! contract speaks of the input and of what is written alone.
+#![tactic(auto)]
+
+mod answer;
+mod opened;
+pub mod rows;
+
+pub use answer::{Answer, AnswerError, answer_stream};
+pub use opened::{NewError, new_repository};

@@ -1,0 +1,49 @@
+//! A new repository in memory.
+
+ghost use Rattle.std.specs.Prelude.{◌≡◌, false, IfOk};
+ghost use Rattle.history_model.specs.Offered.{IsOfStage};
+ghost use Rattle.history_model.specs.Repository.{fresh};
+ghost use Rattle.history.specs.Face.{has_failed};
+ghost use Rattle.history.specs.Stands.{Stands, pair_of};
+
+use gix_hash::Kind;
+use history::files::{Files, MemoryFiles};
+use history::{CreateError, OpenError, OpenRefusal, Repository, create};
+use std::alloc::Global;
+use thiserror::Error;
+
+/// Why no new repository stands in memory.
+#[derive(Drop, PartialEq, Eq, Debug, Error)]
+pub enum NewError {
+    /// Its files weren't made.
+    #[error("no repository is made")]
+    Create(CreateError),
+    /// Its files weren't opened.
+    #[error("the repository isn't opened")]
+    Open(OpenError),
+}
+
+impl From<CreateError> for NewError {
+    fn from(error: CreateError) -> NewError {
+        NewError::Create(error)
+    }
+}
+
+impl From<OpenRefusal<MemoryFiles>> for NewError {
+    fn from(refusal: OpenRefusal<MemoryFiles>) -> NewError {
+        NewError::Open(refusal.error)
+    }
+}
+
+/// Makes a repository without names and objects in memory, and opens it. Nothing is left of it after an error, which is that of
+/// [`create`] or of [`Repository::open`].
+pub fn new_repository(alloc: Global, kind: Kind) -> Result<Repository<MemoryFiles>, NewError>
+    ensures unfailed { IfOk result (λ made. has_failed made ≡ false) }
+    ensures stands { IfOk result (λ made. Stands ⟦<MemoryFiles as Files>⟧.is_honest ⟦<MemoryFiles as Files>⟧.history made (fresh kind)) }
+    ensures stage { IfOk result (λ made. IsOfStage (fresh kind) (pair_of ⟦<MemoryFiles as Files>⟧.history made)) }
+{
+    let mut objects = MemoryFiles::new(alloc);
+    let mut names = MemoryFiles::new(alloc);
+    create(alloc, &mut objects, &mut names, kind)?;
+    Ok(Repository::open(alloc, objects, names, kind)?)
+}

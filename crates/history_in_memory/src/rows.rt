@@ -1,0 +1,60 @@
+//! Worked streams, answered.
+
+ghost use Rattle.std.specs.Prelude.{IfOk};
+ghost use Rattle.history_model.specs.Rows.{first_output, hello_output};
+ghost use Rattle.history_in_memory.specs.Answered.{AreOrTellFault};
+
+use crate::answer::{Answer, AnswerError, answer_stream};
+use gix_hash::Kind;
+use history::{Collected, Sink};
+use std::alloc::Global;
+
+const FIRST: &[u8] = b"commit refs/heads/main new
+author 1 3 1 +0000
+A
+a@b
+committer 1 3 1 +0000
+A
+a@b
+message 3
+one
+end
+files main
+show main
+";
+
+const HELLO: &[u8] = b"commit refs/heads/main new
+put file 1 5
+a
+hello
+author 1 3 1 +0000
+A
+a@b
+committer 1 3 1 +0000
+A
+a@b
+message 3
+one
+end
+files main
+show main path 1
+a
+";
+
+/// Answers the worked stream of a commit without files, whose files and itself are shown.
+pub fn first_commit(alloc: Global) -> Result<Answer, AnswerError>
+    ensures { IfOk result (λ answer.
+        AreOrTellFault (⟦<Collected as Sink>⟧.contents answer.written) first_output) }
+{
+    history_model::rows::first_commit();
+    answer_stream(alloc, Kind::Sha1, FIRST)
+}
+
+/// Answers the worked stream of a commit of the file `hello`, whose files and content are shown.
+pub fn hello_file(alloc: Global) -> Result<Answer, AnswerError>
+    ensures { IfOk result (λ answer.
+        AreOrTellFault (⟦<Collected as Sink>⟧.contents answer.written) hello_output) }
+{
+    history_model::rows::hello_file();
+    answer_stream(alloc, Kind::Sha1, HELLO)
+}
