@@ -5,11 +5,11 @@ use Rattle.std.specs.FinMap.{get, empty}
 use Rattle.history_model.specs.Objects.{Value, CommitValue, StoredCommit, StoredTag, StoredBytes, StoredFolder}
 use Rattle.gix_hash.specs.Id.{Id, id_of}
 use Rattle.history_model.specs.Repository as plain
+use Rattle.history_model.specs.Meaning.{files_at}
 use Rattle.history_model.specs.Repository.{HoldsCommit, IsWholeStore, as_commit}
 use Rattle.history_store.specs.Commits.{IsCommitOf}
 use Rattle.history_store.specs.declared.commit.Commit.{Commit}
 use Rattle.history.specs.Acts.{IsReadingFault, Gives}
-use Rattle.history.specs.Files.{files_of}
 use Rattle.history.specs.declared.stopped.Stopped.{Stopped}
 
 -- what gives nothing is told as it is
@@ -31,7 +31,7 @@ module _ (r : plain.Repository) (store : IsWholeStore r) (id : Id) (holds : Hold
       of_value (Some (StoredBytes bytes)) e h = absurd cc
       of_value (Some (StoredFolder files)) e h = absurd cc
 
-  pub held_files : files_of r (Some id) ≡ (held_commit.0).files
+  pub held_files : files_at r id ≡ (held_commit.0).files
   held_files = ap (λ (found : Option Value). unwrap_or (option_map (λ (commit : CommitValue). commit.files) (option_and_then as_commit found)) empty) held_commit.1
 
   pub held_folder : (commit : Commit) → IsCommitOf r.kind commit held_commit.0 → get r.objects (id_of commit.tree) ≡ Some (StoredFolder (held_commit.0).files)

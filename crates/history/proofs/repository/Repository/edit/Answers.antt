@@ -4,8 +4,6 @@ use Rattle.std.proofs.lemmas.Iterator.Consumers.{YieldsList-end}
 use Rattle.history_model.specs.Commands.{EditLine}
 use Rattle.history_word.specs.Commands.{AreEdits, IsEdit}
 use Rattle.history_word.specs.declared.command.Edit.{Edit}
-use Rattle.history_word.specs.declared.command.Edit.TheVariants as sent
-use Rattle.history_word.specs.declared.command.Put.{Put}
 use Rattle.history_store.specs.declared.object.NewObject.{NewObject}
 use Rattle.history.specs.Files.{AreWithin, HasEdited}
 use Rattle.history.proofs.Edits.{files_after, edited_none, edited_then, within_parts, none_zipped, last_zipped}
@@ -17,19 +15,17 @@ loop-edit-init g c = λ r files lines are within flat tree.
     subst (λ (ls : List EditLine). HasEdited r kind files ls c.in_ok-blobs.blobs.items c.args.tree.now) (sym (none_zipped IsEdit lines are))
     (edited_none r kind files c.in_ok-blobs.blobs.items c.args.tree.now c.in_ok-blobs.ensures.items flat tree)
 
-edit_as : (edit : Edit) (put : Put) (line : EditLine) → edit ≡ sent.Put put → IsEdit edit line → IsEdit (sent.Put put) line
-edit_as edit put line same is = subst (λ (e : Edit). IsEdit e line) same is
-
 pub loop-edit-preserved : goal.loop-edit-preserved
 loop-edit-preserved g c = λ r files lines are within flat tree.
     let kind = c.args.self.now.objects.kind in
     let parts = last_zipped IsEdit c.loop-edit.yielded c.in-Some.edit lines are in
     let each = within_parts parts.0 (parts.1 ∷ []) (subst AreWithin parts.2 within) in
     let before = c.loop-edit.invariant r files parts.0 parts.3 each.0 flat tree in
-    let one = c.in_ok-put_file.ensures r (files_after r files parts.0) parts.1 (edit_as c.in-Some.edit _ parts.1 (cc) parts.4) each.1 before.flat before.tree in
-    subst (λ (ls : List EditLine). HasEdited r kind files ls c.push.new.self.items c.put_file.new.tree) (sym parts.2)
-    (subst (λ (blobs : List NewObject). HasEdited r kind files (parts.0 ++ parts.1 ∷ []) blobs c.put_file.new.tree) (sym c.in_ok-push.ensures.items)
-    (edited_then r kind files parts.0 (parts.1 ∷ []) c.loop-edit.blobs.items (c.in_ok-put_file.field-0 ∷ []) c.loop-edit.tree c.put_file.new.tree before one))
+    let one = c.in_ok-make_edit.ensures r (files_after r files parts.0) parts.1 parts.4 each.1 before.flat before.tree in
+    elim c.match-branch-2.branch [
+      | in-Some-2+in_ok-push w ↦ ?
+      | in_default w ↦ ?
+    ]
 
 all_of : {A : Type 0} (xs : List A) → map (λ x. x) xs ≡ xs
 all_of [] = refl
