@@ -193,12 +193,12 @@ one_further xs i x less is =
     ap (λ n. take n xs) next ∙ take_one xs i x less ∙ ap (λ y. take i xs ++ y ∷ []) (sym is)
 
 filter_map_more : {X Y : Type 0} (f : X → Option Y) (xs : List X) (x : X) → filter_map f (xs ++ x ∷ []) ≡ filter_map f xs ++ option_to_list (f x)
-filter_map_more f [] x = go (f x)
+filter_map_more {X} {Y} f [] x = go (f x)
   where
     go : (o : Option Y) → cons_option o [] ≡ option_to_list o
     go None = refl
     go (Some y) = refl
-filter_map_more f (z ∷ xs) x = go (f z) (filter_map_more f xs x)
+filter_map_more {X} {Y} f (z ∷ xs) x = go (f z) (filter_map_more f xs x)
   where
     go : (o : Option Y) → filter_map f (xs ++ x ∷ []) ≡ filter_map f xs ++ option_to_list (f x) → cons_option o (filter_map f (xs ++ x ∷ [])) ≡ cons_option o (filter_map f xs) ++ option_to_list (f x)
     go None e = e
@@ -241,6 +241,6 @@ pub file_told : {A B : Type 0} (MayFail : Type 0) (causes : List Cause) (r : Rep
 file_told {A} {B} MayFail causes r order Q result ends error was is_end failed =
     subst (λ (x : Result B Stopped). Tests MayFail causes r order Q x) (sym is_end) (by_error error (subst (λ (x : Result A FileError). IsErrOf x Failed → MayFail) was failed))
   where
-    by_error : (error : FileError) → (IsErrOf (Err {A = A} error) Failed → MayFail) → IsReadingFault MayFail (Fault (file_fault error))
+    by_error : (error : FileError) → (IsErrOf {A} (Err error) Failed → MayFail) → IsReadingFault MayFail (Fault (file_fault error))
     by_error Failed may = may refl
     by_error Memory may = tt
