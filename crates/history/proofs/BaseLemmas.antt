@@ -3,7 +3,7 @@ use Rattle.std.specs.declared.alloc.Global.{Global}
 use Rattle.std.specs.Prelude.{Vec, Result, IsErrOf}
 use Rattle.std.proofs.Common.{◌≡◌, ℕ, zero, suc, ◌+◌, ◌<◌, length, take, drop, get_or, arith, append_assoc, Bool, true, false, cond, not, ◌||◌, List, [], ◌∷◌, ◌++◌, map, filter, refl, sym, ◌∙◌, ap, subst, Option, Some, None, option_map, option_to_list, Err}
 use Rattle.std.specs.List.{list_any, filter_map, cons_option}
-use Rattle.std.proofs.lemmas.List.{map-append}
+use Rattle.std.proofs.lemmas.List.{map-append, take_more}
 use Rattle.history_model.specs.Bytes.{Bytes, has_twice}
 use Rattle.gix_hash.specs.Id.{Id, id_of}
 use Rattle.gix_hash.specs.Order.{id_eq}
@@ -32,6 +32,7 @@ use Rattle.history.specs.declared.base.Expected.{Expected}
 use Rattle.history.specs.declared.base.Expected.TheVariants as expected
 use Rattle.history.specs.declared.stopped.Stopped.{Stopped}
 use Rattle.history.specs.declared.stopped.Stopped.TheVariants.{Refused, Fault}
+use Rattle.history.proofs.ReplyTexts.{map-map}
 use Rattle.history.proofs.WordReads.{stands_so}
 use Rattle.gix_ref_file.specs.History.{History}
 use Rattle.gix_ref_file.specs.declared.files.FileError.{FileError}
@@ -75,10 +76,6 @@ pub any_map : {X Y : Type 0} (p : Y → Bool) (f : X → Y) (xs : List X) → li
 any_map p f [] = refl
 any_map p f (x ∷ xs) = ap (λ b. p (f x) || b) (any_map p f xs)
 
-map_map : {X Y Z : Type 0} (f : Y → Z) (g : X → Y) (xs : List X) → map f (map g xs) ≡ map (λ x. f (g x)) xs
-map_map f g [] = refl
-map_map f g (x ∷ xs) = ap (λ zs. f (g x) ∷ zs) (map_map f g xs)
-
 module _ (r : Repository) (order : CommitCommand) where
   words_told : first_among word_causes r (Commit order) ≡ words_cause (map (word_reading r) (at_word order.expect ++ order.parents))
   words_told = λ i.
@@ -99,7 +96,7 @@ module _ (r : Repository) (order : CommitCommand) where
   -- what the parents' words read as
   pub parent_readings : (words : List (Vec ℕ Global)) (readings : List own.WordReading) → map (λ (word : Vec ℕ Global). word.items) words ≡ order.parents
       → map reading_of readings ≡ map (λ (word : Vec ℕ Global). word_reading r word.items) words → map reading_of readings ≡ map (word_reading r) order.parents
-  parent_readings words readings are is = is ∙ sym (map_map (word_reading r) (λ (word : Vec ℕ Global). word.items) words) ∙ ap (map (word_reading r)) are
+  parent_readings words readings are is = is ∙ sym (map-map (word_reading r) (λ (word : Vec ℕ Global). word.items) words) ∙ ap (map (word_reading r)) are
 
   pub words_so : (what : Expected) (readings : List own.WordReading) → IsExpected r order.expect what → map reading_of readings ≡ map (word_reading r) order.parents
       → first_among word_causes r (Commit order) ≡ words_cause (expected_readings what ++ map reading_of readings)
@@ -182,42 +179,13 @@ module _ (r : Repository) (order : CommitCommand) (o : IsOffered r) (w : HasWhol
 
 -- ---- one word after another
 
-take_one : {X : Type 0} (xs : List X) (i : ℕ) (d : X) → i < length xs → take (suc i) xs ≡ take i xs ++ get_or xs i d ∷ []
-take_one [] i d less = absurd (omega (arith, less))
-take_one (x ∷ xs) zero d less = refl
-take_one (x ∷ xs) (suc i) d less = ap (λ ys. x ∷ ys) (take_one xs i d (omega (arith, less)))
-
-one_further : {X : Type 0} (xs : List X) (i : ℕ) (x : X) → i < length xs → x ≡ get_or xs i x → take (i + 1) xs ≡ take i xs ++ x ∷ []
-one_further xs i x less is =
-    let next : i + 1 ≡ suc i = omega arith in
-    ap (λ n. take n xs) next ∙ take_one xs i x less ∙ ap (λ y. take i xs ++ y ∷ []) (sym is)
-
-filter_map_more : {X Y : Type 0} (f : X → Option Y) (xs : List X) (x : X) → filter_map f (xs ++ x ∷ []) ≡ filter_map f xs ++ option_to_list (f x)
-filter_map_more {X} {Y} f [] x = go (f x)
-  where
-    go : (o : Option Y) → cons_option o [] ≡ option_to_list o
-    go None = refl
-    go (Some y) = refl
-filter_map_more {X} {Y} f (z ∷ xs) x = go (f z) (filter_map_more f xs x)
-  where
-    go : (o : Option Y) → filter_map f (xs ++ x ∷ []) ≡ filter_map f xs ++ option_to_list (f x) → cons_option o (filter_map f (xs ++ x ∷ [])) ≡ cons_option o (filter_map f xs) ++ option_to_list (f x)
-    go None e = e
-    go (Some y) e = ap (λ ys. y ∷ ys) e
-
--- one word more of the parents
-pub parent_added : (held : Option ObjectId) (words : List own.WordReading) (i : ℕ) (word : own.WordReading) (found : Option ObjectId) (parents more : List ObjectId) → i < length words → word ≡ get_or words i word
-    → found ≡ commit_in word → parents ≡ option_to_list held ++ filter_map commit_in (take i words) → more ≡ parents ++ option_to_list found → more ≡ option_to_list held ++ filter_map commit_in (take (i + 1) words)
-parent_added held words i word found parents more less is read so_far added =
-    added ∙ (λ j. so_far j ++ option_to_list (read j)) ∙ append_assoc (option_to_list held) (filter_map commit_in (take i words)) (option_to_list (commit_in word))
-    ∙ ap (λ ids. option_to_list held ++ ids) (sym (ap (filter_map commit_in) (one_further words i word less is) ∙ filter_map_more commit_in (take i words) word))
-
 -- one reading more of the words
 pub reading_added : (r : Repository) (words : List (Vec ℕ Global)) (i : ℕ) (word : Vec ℕ Global) (reading : own.WordReading) (readings more : List own.WordReading) → i < length words → word ≡ get_or words i word
     → reading_of reading ≡ word_reading r word.items → map reading_of readings ≡ map (λ (word : Vec ℕ Global). word_reading r word.items) (take i words) → more ≡ readings ++ reading ∷ []
     → map reading_of more ≡ map (λ (word : Vec ℕ Global). word_reading r word.items) (take (i + 1) words)
 reading_added r words i word reading readings more less is read so_far added =
     ap (map reading_of) added ∙ map-append reading_of readings (reading ∷ []) ∙ (λ j. so_far j ++ read j ∷ [])
-    ∙ sym (ap (map (λ (word : Vec ℕ Global). word_reading r word.items)) (one_further words i word less is) ∙ map-append (λ (word : Vec ℕ Global). word_reading r word.items) (take i words) (word ∷ []))
+    ∙ sym (ap (map (λ (word : Vec ℕ Global). word_reading r word.items)) (take_more words i word less ∙ ap (λ (x : Vec ℕ Global). take i words ++ x ∷ []) (sym is)) ∙ map-append (λ (word : Vec ℕ Global). word_reading r word.items) (take i words) (word ∷ []))
 
 -- ---- ids that stand twice
 

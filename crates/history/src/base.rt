@@ -126,14 +126,8 @@ fn parents_of(
     ensures { IfOk result (λ parents. parents.items ≡ option_to_list held ++ filter_map commit_in words.now) }
 {
     let mut parents = Vec::new(alloc);
-    if let Some(id) = held {
-        parents.push(id)?;
-    }
-    for word in words {
-        if let Some(id) = word.id() {
-            parents.push(id)?;
-        }
-    }
+    parents.extend(held)?;
+    parents.extend(words.iter().filter_map(|word| word.id()))?;
     Ok(parents)
 }
 

@@ -137,9 +137,7 @@ impl<F: Files> Repository<F> {
     {
         let mut blobs = Vec::with_capacity(alloc, edits.len())?;
         for edit in edits {
-            if let Some(blob) = self.make_edit(alloc, tree, edit)? {
-                blobs.push(blob)?;
-            }
+            blobs.extend(self.make_edit(alloc, tree, edit)?)?;
         }
         Ok(blobs)
     }

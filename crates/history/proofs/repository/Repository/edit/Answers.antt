@@ -22,10 +22,11 @@ loop-edit-preserved g c = λ r files lines are within flat tree.
     let each = within_parts parts.0 (parts.1 ∷ []) (subst AreWithin parts.2 within) in
     let before = c.loop-edit.invariant r files parts.0 parts.3 each.0 flat tree in
     let one = c.in_ok-make_edit.ensures r (files_after r files parts.0) parts.1 parts.4 each.1 before.flat before.tree in
-    elim c.match-branch-2.branch [
-      | in-Some-2+in_ok-push w ↦ ?
-      | in_default w ↦ ?
-    ]
+    let blob = c.in_ok-make_edit.field-0 in
+    let added = extended c.loop-edit.blobs.items c.extend.new.self.items blob c.extend.result c.extend.ensures.ran in
+    subst (λ (ls : List EditLine). HasEdited r kind files ls c.extend.new.self.items c.make_edit.new.tree) (sym parts.2)
+    (subst (λ (blobs : List NewObject). HasEdited r kind files (parts.0 ++ parts.1 ∷ []) blobs c.make_edit.new.tree) (sym added)
+    (edited_then r kind files parts.0 (parts.1 ∷ []) c.loop-edit.blobs.items (option_to_list blob) c.loop-edit.tree c.make_edit.new.tree before one))
 
 all_of : {A : Type 0} (xs : List A) → map (λ x. x) xs ≡ xs
 all_of [] = refl
