@@ -1,7 +1,7 @@
 -- What a commit stands on, and the causes that its words, its name and its parents tell.
 use Rattle.std.specs.declared.alloc.Global.{Global}
 use Rattle.std.specs.Prelude.{Vec, Result, IsErrOf}
-use Rattle.std.proofs.Common.{◌≡◌, ℕ, zero, suc, ◌+◌, ◌<◌, length, take, drop, get_or, arith, append_assoc, Bool, true, false, cond, not, ◌||◌, List, [], ◌∷◌, ◌++◌, map, filter, refl, sym, ◌∙◌, ap, subst, Option, Some, None, option_map, option_to_list, Err}
+use Rattle.std.proofs.Common.{◌≡◌, ℕ, zero, suc, ◌+◌, ◌<◌, length, take, drop, get_or, arith, append_assoc, Bool, true, false, cond, not, ◌||◌, ◌==◌, List, [], ◌∷◌, ◌++◌, map, filter, refl, sym, ◌∙◌, ap, subst, Option, Some, None, option_map, option_to_list, Err}
 use Rattle.std.specs.List.{list_any, filter_map, cons_option}
 use Rattle.std.proofs.lemmas.List.{map-append, take_more}
 use Rattle.history_model.specs.Bytes.{Bytes, has_twice}
@@ -189,9 +189,9 @@ reading_added r words i word reading readings more less is read so_far added =
 
 -- ---- ids that stand twice
 
-pub twice_told : (ids : List ObjectId) (d : ObjectId) → 0 < length ids
+pub twice_told : (ids : List ObjectId) (d : ObjectId) → (length ids == 0) ≡ false
     → has_twice id_eq (map id_of ids) ≡ (list_any (λ id. id_eq (id_of (get_or ids 0 d)) (id_of id)) (drop 1 ids) || has_twice id_eq (map id_of (drop 1 ids)))
-twice_told [] d some = absurd (omega (arith, some))
+twice_told [] d some = cc
 twice_told (x ∷ xs) d some = ap (λ b. b || has_twice id_eq (map id_of xs)) (any_map (id_eq (id_of x)) id_of xs)
 
 -- ---- a repository with its files
@@ -209,6 +209,6 @@ pub file_told : {A B : Type 0} (MayFail : Type 0) (causes : List Cause) (r : Rep
 file_told {A} {B} MayFail causes r order Q result ends error was is_end failed =
     subst (λ (x : Result B Stopped). Tests MayFail causes r order Q x) (sym is_end) (by_error error (subst (λ (x : Result A FileError). IsErrOf x Failed → MayFail) was failed))
   where
-    by_error : (error : FileError) → (IsErrOf {A} (Err error) Failed → MayFail) → IsReadingFault MayFail (Fault (file_fault error))
+    by_error : (error : FileError) → (IsErrOf {T = A} (Err error) Failed → MayFail) → IsReadingFault MayFail (Fault (file_fault error))
     by_error Failed may = may refl
     by_error Memory may = tt

@@ -2,7 +2,9 @@
 use Rattle.std.proofs.Common.{◌≡◌, ℕ, Bool, true, false, cond, not, ◌&&◌, ◌||◌, List, [], ◌∷◌, ◌++◌, refl, sym, ◌∙◌, ap, Option, Some, None, bytes_eq, codes, drop, nat_eq}
 use Rattle.std.specs.List.{list_any}
 use Rattle.std.specs.Set.{is_member}
-use Rattle.std.specs.Str.{is_utf8}
+use Rattle.std.specs.Prelude.{Result, Ok, Err, MatchResult, is_ok}
+use Rattle.std.specs.Str.{is_utf8, IsUtf8}
+use Rattle.std.proofs.lemmas.Str.{is_utf8-from_IsUtf8, IsUtf8-from_is_utf8}
 use Rattle.history_model.specs.Bytes.{Bytes, begins}
 use Rattle.history_model.specs.Repository.{Repository}
 use Rattle.history_model.specs.Forms.{is_name, is_private, is_branch, IsWritten, max_name}
@@ -34,6 +36,15 @@ name_tested name utf8 short = go (is_partial_name name) (begins (codes "refs/") 
         none : (c : Bool) → (c && false && utf8 && short) ≡ (false && utf8 && short)
         none true = refl
         none false = refl
+
+-- what a reading as text tells
+pub text_read : {S E : Type 0} (bytes : Bytes) (P : S → Type 0) (Q : E → Type 0) (result : Result S E) → MatchResult result (λ s. P s × IsUtf8 bytes) (λ e. (IsUtf8 bytes → ⊥) × Q e) → is_ok result ≡ is_utf8 bytes
+text_read bytes P Q (Ok s) h = sym (is_utf8-from_IsUtf8 bytes h.1)
+text_read bytes P Q (Err e) h = go (is_utf8 bytes) refl
+  where
+    go : (b : Bool) → is_utf8 bytes ≡ b → false ≡ is_utf8 bytes
+    go false is = sym is
+    go true is = absurd (h.0 (IsUtf8-from_is_utf8 bytes is))
 
 -- ---- causes
 

@@ -11,8 +11,8 @@ returns-in_ok-put_file-in-Put g c = λ r files line is within flat tree. c.in_ok
 
 pub returns-in-Remove : goal.returns-in-Remove
 returns-in-Remove g c = λ r files line is within flat tree.
-    path_removed r c.args.self.now.objects.kind files c.args.tree.now c.remove-in-Remove.new.self c.in-Remove.path flat tree
-    (c.remove-in-Remove.ensures ∙ ap (remove c.args.tree.now) c.kept-in-Remove.ensures) line (subst (λ (e : Edit). IsEdit e line) c.in-Remove.is is) within
+    path_removed r c.args.self.now.objects.kind files c.args.tree.now c.remove.new.self c.in-Remove.path flat tree
+    (c.remove.ensures ∙ ap (remove c.args.tree.now) c.kept.ensures) line (subst (λ (e : Edit). IsEdit e line) c.in-Remove.is is) within
 
 pub returns-in-RemoveFile : goal.returns-in-RemoveFile
 returns-in-RemoveFile g c = λ r files line is within flat tree.
