@@ -29,12 +29,12 @@ use Rattle.history.proofs.repository.Repository.plan.Goals as goal
 no_actor : {A E : Type 0} (P : A → Type 0) (found : Option A) (given error : E) → Err given ≡ ok_or found error → MatchOption found ⊥ P → ⊥
 no_actor P found given error is there = rw (absent found given error is).1 at there
 
-pub returns-in_err-base : goal.returns-in_err-base
-returns-in_err-base g c = λ r order asked.
+pub returns-in_err-name : goal.returns-in_err-name
+returns-in_err-name g c = λ r order asked.
     let h = asked.serves in
     let w = ((h.stands.whole).whole).names in
     let stopped = err_from_is_err_and c.from_residual.result c.from_residual.ensures.1 in
-    base_planned r order h.stage.offered w asked.offered g.F.Files.reading_may_fail c.base.result c.from_residual.result c.in_err-base.field-0.0 c.in_err-base.was (stopped.1 ∙ ap Err stopped.2)
+    base_planned r order h.stage.offered w asked.offered g.F.Files.reading_may_fail c.base.result c.from_residual.result c.in_err-name.field-0.0 c.in_err-name.was (stopped.1 ∙ ap Err stopped.2)
     (c.base.ensures r order asked)
 
 pub returns-in_err-times : goal.returns-in_err-times
@@ -43,7 +43,7 @@ returns-in_err-times g c = λ r order asked.
     let is = asked.reads in
     let ours = asked.offered in
     let w = ((h.stands.whole).whole).names in
-    let base = c.in_ok-base.ensures r order asked in
+    let base = c.in_ok-name.ensures r order asked in
     let stopped = err_from_is_err_and c.from_residual-in_err-times.result c.from_residual-in_err-times.ensures.1 in
     refusal_planned g.F.Files.reading_may_fail r order c.in_err-times.field-0.0 c.from_residual-in_err-times.result (stopped.1 ∙ ap Err stopped.2)
     (refused_by_form r order h.stage.offered w ours c.in_err-times.field-0.0 base.0 (c.in_err-times.ensures r order is))
@@ -54,7 +54,7 @@ returns-in_err-tree g c = λ r order asked.
     let is = asked.reads in
     let ours = asked.offered in
     let w = ((h.stands.whole).whole).names in
-    let base = c.in_ok-base.ensures r order asked in
+    let base = c.in_ok-name.ensures r order asked in
     let stopped = err_from_is_err_and c.from_residual-in_err-tree.result c.from_residual-in_err-tree.ensures.1 in
     let same = ap (map id_of) c.deref.ensures.value ∙ base.1.parents in
     fault_planned g.F.Files.reading_may_fail (λ tree. IsTreeOf r.kind tree (first_files r (map id_of c.deref.result.now))) r order c.files_before.result c.from_residual-in_err-tree.result c.in_err-tree.field-0.0 c.in_err-tree.was (stopped.1 ∙ ap Err stopped.2)
@@ -66,7 +66,7 @@ returns-in_err-tree-2 g c = λ r order asked.
     let is = asked.reads in
     let ours = asked.offered in
     let w = ((h.stands.whole).whole).names in
-    let base = c.in_ok-base.ensures r order asked in
+    let base = c.in_ok-name.ensures r order asked in
     let times = c.in_ok-times.ensures r order is in
     let kind = c.args.self.now.objects.kind in
     let same = ap (map id_of) c.deref.ensures.value ∙ base.1.parents in
@@ -86,7 +86,7 @@ returns-in_err-commit g c = λ r order asked.
     let is = asked.reads in
     let ours = asked.offered in
     let w = ((h.stands.whole).whole).names in
-    let base = c.in_ok-base.ensures r order asked in
+    let base = c.in_ok-name.ensures r order asked in
     let times = c.in_ok-times.ensures r order is in
     let kind = c.args.self.now.objects.kind in
     let same = ap (map id_of) c.deref.ensures.value ∙ base.1.parents in
@@ -102,7 +102,7 @@ returns-in_err-commit g c = λ r order asked.
     let message = c.into_kept-message.ensures ∙ kept_whole max_content c.args.command.message order.message is.message times.message in
     let commit : Commit = record {
       tree = c.in_ok-tree-2.tree.id;
-      parents = c.in_ok-base.parents;
+      parents = c.in_ok-name.field-0.parents;
       author = c.in_ok-author.author;
       committer = c.in_ok-committer.committer;
       message = c.into_kept-message.result;
@@ -122,7 +122,7 @@ returns g c = λ r order asked.
     let is = asked.reads in
     let ours = asked.offered in
     let w = ((h.stands.whole).whole).names in
-    let base = c.in_ok-base.ensures r order asked in
+    let base = c.in_ok-name.ensures r order asked in
     let times = c.in_ok-times.ensures r order is in
     let kind = c.args.self.now.objects.kind in
     let same = ap (map id_of) c.deref.ensures.value ∙ base.1.parents in
@@ -138,7 +138,7 @@ returns g c = λ r order asked.
     let message = c.into_kept-message.ensures ∙ kept_whole max_content c.args.command.message order.message is.message times.message in
     let commit : Commit = record {
       tree = c.in_ok-tree-2.tree.id;
-      parents = c.in_ok-base.parents;
+      parents = c.in_ok-name.field-0.parents;
       author = c.in_ok-author.author;
       committer = c.in_ok-committer.committer;
       message = c.into_kept-message.result;
@@ -164,7 +164,7 @@ returns g c = λ r order asked.
         moves = record {
           name = base.1.name;
           entry = entry_is r order h.stage.offered w ours entry kind c.in_ok-commit.commit h.stands.objects_kind
-              (ap id_of c.unwrap_or.ensures ∙ before_is r order h.stage.offered w ours c.in_ok-base.held c.null.result base.1.held (c.null.ensures ∙ ap null_id (c.kind.ensures ∙ h.stands.objects_kind)))
+              (ap id_of c.unwrap_or.ensures ∙ before_is r order h.stage.offered w ours c.in_ok-name.field-0.held c.null.result base.1.held (c.null.ensures ∙ ap null_id (c.kind.ensures ∙ h.stands.objects_kind)))
               commit_made refl (c.in_ok-log_actor.ensures ∙ committer)
               (c.in_ok-title.ensures.items ∙ c.title.ensures ∙ ap title (c.deref-2.ensures.value ∙ message));
         };
@@ -196,14 +196,6 @@ returns-in_err-log_actor g c = λ r order asked.
     let is = asked.reads in
     let ours = asked.offered in
     let stopped = err_from_is_err_and c.from_residual-in_err-log_actor.result c.from_residual-in_err-log_actor.ensures.1 in
-    subst (Plans g.F.Files.reading_may_fail r order) (sym (stopped.1 ∙ ap Err stopped.2)) tt
-
-pub returns-in_err-parents : goal.returns-in_err-parents
-returns-in_err-parents g c = λ r order asked.
-    let h = asked.serves in
-    let is = asked.reads in
-    let ours = asked.offered in
-    let stopped = err_from_is_err_and c.from_residual-in_err-parents.result c.from_residual-in_err-parents.ensures.1 in
     subst (Plans g.F.Files.reading_may_fail r order) (sym (stopped.1 ∙ ap Err stopped.2)) tt
 
 pub returns-in_err-to_bytes-2 : goal.returns-in_err-to_bytes-2
