@@ -1,27 +1,25 @@
 -- What `files` and `show` answer, by what their word reads as.
-use Rattle.std.proofs.Common.{◌≡◌, ℕ, Bool, true, false, cond, ◌&&◌, ◌||◌, map, refl, sym, ◌∙◌, ap, subst, Option, Some, None, option_map, option_and_then, option_to_list, unwrap_or, is_none, bytes_eq, Vec, Result, Ok, Err}
+use Rattle.std.proofs.Common.{◌≡◌, ℕ, Bool, true, false, cond, ◌&&◌, ◌||◌, map, refl, sym, ◌∙◌, ap, subst, Option, Some, None, option_map, option_and_then, option_to_list, unwrap_or, is_none, Vec, Result, Ok, Err}
 use Rattle.std.specs.FinMap.{get, entries, empty}
 use Rattle.std.specs.Result.{IsErrAnd}
 use Rattle.std.specs.declared.alloc.Global.{Global}
-use Rattle.history_model.specs.Bytes.{Bytes, is_among}
+use Rattle.history_model.specs.Bytes.{Bytes}
 use Rattle.history_model.specs.FileMap.{FileMap, Content}
 use Rattle.history_model.specs.Objects.{CommitValue, StoredCommit, StoredBytes, StoredFolder, blob_id}
 use Rattle.gix_hash.specs.Id.{Id, id_of}
-use Rattle.history_model.specs.Repository.{Repository, HasWholeNames, IsWholeStore, id_at, stands, as_commit, peeled_value}
+use Rattle.history_model.specs.Repository.{Repository, HasWholeNames, IsWholeStore, as_commit, peeled_value}
 use Rattle.history_model.specs.Meaning.{first_files}
-use Rattle.history_model.specs.Words.{WordReading, ReadsAs, Unknown, word_reading, name_reading, head_word, commit_read}
+use Rattle.history_model.specs.Words.{WordReading, ReadsAs, Unborn, Unknown, Ambiguous, word_reading, commit_read}
 use Rattle.history_model.specs.Commands.{Command, Files, Show}
 use Rattle.history_model.specs.Replies.{FileLine, FilesAre, ShowsCommit, ShowsContent, reply_text}
 use Rattle.history_model.specs.Answers.{StandsForCommit, files_shown, commit_shown, content_shown}
 use Rattle.history_model.specs.Causes.{is_unknown, is_unborn, is_bad_path, word_files, first_cause}
 use Rattle.history_model.specs.Offered.{IsOffered}
-use Rattle.history_model.specs.Stage.{main_name}
-use Rattle.history_model.specs.OfferedWords.{main_words}
 use Rattle.history_model.specs.declared.FileKind.{FileKind}
 use Rattle.gix_hash.specs.declared.kind.Kind.{Kind}
 use Rattle.history_model.specs.declared.Cause.{Cause}
 use Rattle.history_model.specs.declared.Cause.TheVariants.{UnknownWord, UnbornHead, BadPath, NoSuchPath}
-use Rattle.history_model.proofs.OfferedReads.{main_is_meant, main_holds_a_commit}
+use Rattle.history_model.proofs.OfferedReads.{words_read_names, none_is_ambiguous, names_hold_commits}
 use Rattle.history_model.proofs.OfferedCauses.{first_offered_cause}
 use Rattle.history_model.proofs.OfferedFiles.{files_are_stored}
 use Rattle.history_store.proofs.FlatTrees.{under, stored_under, flat_get}
@@ -52,9 +50,6 @@ pub handed_on : (MayFail : Type 0) (r : Repository) (order : Command) (result : 
 handed_on MayFail r order (Ok text) stopped same h = absurd same
 handed_on MayFail r order (Err other) stopped same h = subst (λ (x : Stopped). AnswersReading MayFail r order (Err x)) (sym same) h
 
-same_id : {a b : Id} → ReadsAs a ≡ ReadsAs b → a ≡ b
-same_id e = cc
-
 -- by a word that reads so, or for another cause
 abbrev by_word : WordReading → Option Cause → Option Cause
 by_word x rest = cond (is_unknown x || false) (Some UnknownWord) (cond (is_unborn x || false) (Some UnbornHead) rest)
@@ -70,14 +65,13 @@ module _ (r : Repository) (o : IsOffered r) (w : HasWholeNames r) where
   -- ---- refused words
 
   word_refused : (word : Bytes) (cause : Cause) (rest : Option Cause) → word_cause (word_reading r word) ≡ Some cause → by_word (word_reading r word) rest ≡ Some cause
-  word_refused word cause rest e =
-      let P : WordReading → Type 0 = λ x. by_word x rest ≡ Some cause in
-      subst P (sym (main_is_meant r word o)) (go (bytes_eq word head_word || (is_among main_words word && stands r main_name)) (id_at r main_name) (ap word_cause (sym (main_is_meant r word o)) ∙ e))
+  word_refused word cause rest e = go (word_reading r word) refl e
     where
-      go : (b : Bool) (held : Option Id) → word_cause (cond b (name_reading held) Unknown) ≡ Some cause → by_word (cond b (name_reading held) Unknown) rest ≡ Some cause
-      go true None h = h
-      go true (Some id) h = cc
-      go false held h = h
+      go : (x : WordReading) → word_reading r word ≡ x → word_cause x ≡ Some cause → by_word x rest ≡ Some cause
+      go (ReadsAs id) is h = cc
+      go Unborn is h = h
+      go Unknown is h = h
+      go Ambiguous is h = absurd (none_is_ambiguous r word is)
 
   files_causes : (word : Bytes) → first_cause r (Files word) ≡ by_word (word_reading r word) None
   files_causes word = first_offered_cause r (Files word) o w refl
@@ -98,16 +92,8 @@ module _ (r : Repository) (o : IsOffered r) (w : HasWholeNames r) where
 
   -- ---- the commit that a word reads as
 
-  held_main : (word : Bytes) (id : Id) → word_reading r word ≡ ReadsAs id → id_at r main_name ≡ Some id
-  held_main word id reads = go (bytes_eq word head_word || (is_among main_words word && stands r main_name)) (id_at r main_name) refl (sym (main_is_meant r word o) ∙ reads)
-    where
-      go : (b : Bool) (held : Option Id) → id_at r main_name ≡ held → cond b (name_reading held) Unknown ≡ ReadsAs id → id_at r main_name ≡ Some id
-      go true None at e = cc
-      go true (Some other) at e = at ∙ ap Some (same_id e)
-      go false held at e = cc
-
   pub reads_commit : (word : Bytes) (id : Id) → word_reading r word ≡ ReadsAs id → (commit : CommitValue) × (get r.objects id ≡ Some (StoredCommit commit))
-  reads_commit word id reads = main_holds_a_commit r id o w (held_main word id reads)
+  reads_commit word id reads = let held = words_read_names r word id reads in names_hold_commits r held.0 id o w held.1
 
   stands_for : (word : Bytes) (id : Id) (commit : CommitValue) → word_reading r word ≡ ReadsAs id → get r.objects id ≡ Some (StoredCommit commit) → StandsForCommit r word id commit
   stands_for word id commit reads at = record { read = ap (commit_read r) reads ∙ ap (option_and_then (peeled_value id)) at; holds = ap (option_and_then as_commit) at }

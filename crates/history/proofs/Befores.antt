@@ -1,15 +1,15 @@
 -- The files of a commit that is stored.
-use Rattle.std.proofs.Common.{◌≡◌, refl, sym, ◌∙◌, ap, subst}
-use Rattle.std.specs.Prelude.{Option, Some, None, option_map, option_and_then, unwrap_or, IsSome, Result, Err}
+use Rattle.std.proofs.Common.{◌≡◌, refl, sym, ◌∙◌, ap, subst, List, [], ◌∷◌, Bor}
+use Rattle.std.specs.Prelude.{Option, Some, None, option_map, option_and_then, option_copied, slice_get, unwrap_or, IsSome, Result, Err}
 use Rattle.std.specs.FinMap.{get, empty}
 use Rattle.history_model.specs.Objects.{Value, CommitValue, StoredCommit, StoredTag, StoredBytes, StoredFolder}
 use Rattle.gix_hash.specs.Id.{Id, id_of}
 use Rattle.history_model.specs.Repository as plain
+use Rattle.history_model.specs.Meaning.{files_at}
 use Rattle.history_model.specs.Repository.{HoldsCommit, IsWholeStore, as_commit}
 use Rattle.history_store.specs.Commits.{IsCommitOf}
 use Rattle.history_store.specs.declared.commit.Commit.{Commit}
 use Rattle.history.specs.Acts.{IsReadingFault, Gives}
-use Rattle.history.specs.Files.{files_of}
 use Rattle.history.specs.declared.stopped.Stopped.{Stopped}
 
 -- what gives nothing is told as it is
@@ -18,6 +18,21 @@ pub gives_stopped : {A B : Type 0} (MayFail : Type 0) (P : A → Type 0) (Q : B 
 gives_stopped {A} {B} MayFail P Q result ends stopped was is_end gives =
     let fault : IsReadingFault MayFail stopped = subst (λ (r : Result A Stopped). Gives MayFail P r) was gives in
     subst (λ (r : Result B Stopped). Gives MayFail Q r) (sym is_end) fault
+
+-- what the call for a list's first element answers
+pub first_of : {X : Type 0} (xs : List X) (found : Option (Bor X)) (x : Bor X) → found ≡ Some x → option_copied found ≡ slice_get xs 0 → (rest : List X) × (xs ≡ x.now ∷ rest)
+first_of {X} xs found x is first = go xs (sym (ap option_copied is) ∙ first)
+  where
+    go : (xs : List X) → Some x.now ≡ slice_get xs 0 → (rest : List X) × (xs ≡ x.now ∷ rest)
+    go [] e = cc
+    go (y ∷ ys) e = (ys, cc)
+
+pub none_of : {X : Type 0} (xs : List X) (found : Option (Bor X)) → found ≡ None → option_copied found ≡ slice_get xs 0 → xs ≡ []
+none_of {X} xs found is first = go xs (sym (ap option_copied is) ∙ first)
+  where
+    go : (xs : List X) → None ≡ slice_get xs 0 → xs ≡ []
+    go [] e = refl
+    go (y ∷ ys) e = cc
 
 -- a stored commit has its files, whose folder is stored
 module _ (r : plain.Repository) (store : IsWholeStore r) (id : Id) (holds : HoldsCommit r id) where
@@ -31,7 +46,7 @@ module _ (r : plain.Repository) (store : IsWholeStore r) (id : Id) (holds : Hold
       of_value (Some (StoredBytes bytes)) e h = absurd cc
       of_value (Some (StoredFolder files)) e h = absurd cc
 
-  pub held_files : files_of r (Some id) ≡ (held_commit.0).files
+  pub held_files : files_at r id ≡ (held_commit.0).files
   held_files = ap (λ (found : Option Value). unwrap_or (option_map (λ (commit : CommitValue). commit.files) (option_and_then as_commit found)) empty) held_commit.1
 
   pub held_folder : (commit : Commit) → IsCommitOf r.kind commit held_commit.0 → get r.objects (id_of commit.tree) ≡ Some (StoredFolder (held_commit.0).files)

@@ -1,8 +1,6 @@
 -- A commit on the two parts: its values are put, and then its name moves.
 use Rattle.std.proofs.Common.{◌≡◌, refl, sym, ◌∙◌, ap, subst, true, [], ◌∷◌, ◌++◌, None, codes}
 use Rattle.std.specs.Prelude.{IsTrue, IsFalse, Option, Some, is_some, Bool, not, ◌&&◌}
-use Rattle.std.specs.Char.{encode_utf8}
-use Rattle.std.specs.Str.{is_utf8, chars}
 use Rattle.std.proofs.lemmas.List.{append-nil}
 use Rattle.gix_ref_file.specs.History.{History}
 use Rattle.history_model.specs.Bytes.{Bytes}
@@ -12,7 +10,7 @@ use Rattle.history_model.specs.Objects.{id_of as value_id}
 use Rattle.gix_hash.specs.Id.{Id, id_of}
 use Rattle.history_model.specs.Repository as plain
 use Rattle.history_model.specs.Forms.{IsWritten, is_name, is_private, is_reference}
-use Rattle.history_model.specs.Repository.{Reference, stands}
+use Rattle.history_model.specs.Repository.{Reference, HasWholeNames, stands}
 use Rattle.history_model.specs.TreeSteps.{MovesName}
 use Rattle.history_store.specs.Formats.{entry_of}
 use Rattle.gix_ref_file.specs.Tree.{Tree}
@@ -21,9 +19,9 @@ use Rattle.history_model.specs.Commands.{CommitCommand, Commit}
 use Rattle.history_model.specs.Replies.{Committed, reply_text}
 use Rattle.history_model.specs.Spelling.{Line, part_text}
 use Rattle.history_model.specs.Meaning.{branch_or_name, new_commit, stored_by, store_all, takes_id, after}
-use Rattle.history_model.specs.Offered.{IsOffered}
-use Rattle.history_model.specs.Stage.{main_name, is_offered}
-use Rattle.history_model.specs.Causes.{first_cause, do_collide}
+use Rattle.history_model.specs.Stage.{is_spoken}
+use Rattle.history_model.specs.Causes.{holds, first_cause}
+use Rattle.history_model.specs.declared.Cause.TheVariants.{BadName, PrivateName}
 use Rattle.history_model.specs.Steps.{Accepts}
 use Rattle.history_model.specs.Places.{file_at, packed_place}
 use Rattle.history_model.specs.StandsFor.{StandsFor}
@@ -31,8 +29,7 @@ use Rattle.history_model.specs.TreeHalves.{HoldsValues, HoldsNames, HaveOwnIds}
 use Rattle.history_model.specs.CommitSteps.{MovesToCommit}
 use Rattle.history_model.specs.Wholeness.{IsSound}
 use Rattle.history_model.proofs.CommitStands.{commits_stand}
-use Rattle.history_model.proofs.OfferedReads.{commits_name_main}
-use Rattle.history_model.proofs.OfferedSteps.{offered_stays}
+use Rattle.history_model.proofs.OfferedSteps.{offered_stays, no_collision}
 use Rattle.history_model.proofs.TreeMoves.{packed_apart, packed_no_log}
 use Rattle.history_model.proofs.TreePuts.{halves_stand}
 use Rattle.history_model.proofs.WholeSteps.{steps_keep_sound}
@@ -43,14 +40,16 @@ use Rattle.history.specs.Plans.{IsMove}
 use Rattle.history.specs.Stands.{pair_of, Serves, Stands}
 use Rattle.history.specs.declared.planning.Moves.{Moves}
 use Rattle.history.specs.declared.repository.Repository.{Repository}
+use Rattle.history.proofs.Collisions.{fits_so}
+use Rattle.history.proofs.FirstCauses.{none_of, passed}
+use Rattle.history.proofs.NamesTold.{named_so}
 
-pub main_is_name : is_name main_name ≡ true
-unfolding is_utf8 chars encode_utf8
-main_is_name = refl
-
--- the name that moves is one
-pub moved_is_name : (r : plain.Repository) (order : CommitCommand) → branch_or_name r order.name ≡ main_name → is_name (branch_or_name r order.name) ≡ true
-moved_is_name r order is = ap is_name is ∙ main_is_name
+-- the name that an accepted commit moves is one
+pub moved_is_name : (r : plain.Repository) (order : CommitCommand) → IsWritten r → first_cause r (Commit order) ≡ None → is_name (branch_or_name r order.name) ≡ true
+moved_is_name r order written none =
+    let bad = none_of (holds BadName r (Commit order)) BadName _ none in
+    let private = none_of (holds PrivateName r (Commit order)) PrivateName _ bad.1 in
+    named_so r order written (passed _ BadName _ None bad.0 (passed _ PrivateName None None private.0 refl))
 
 -- a name that stands is one
 name_formed : (r : plain.Repository) → IsWritten r → (name : Bytes) → stands r name ≡ true → is_name name ≡ true
@@ -60,14 +59,10 @@ name_formed r written name stood = of_ref (get r.names name) refl stood
     of_ref None e there = cc
     of_ref (Some ref) e there = (both_true (is_name name) (not (is_private name)) (both_true (is_name name && not (is_private name)) (is_reference r.kind ref) (written.names name ref e)).0).0
 
--- The name of a commit may stand: no other stands.
-pub commit_fits : (r : plain.Repository) (order : CommitCommand) (moves : Moves) → IsOffered r → IsTrue (is_offered (Commit order)) → IsMove r order moves → FitsAmong r moves.name.items
-commit_fits r order moves o offered is =
-    let main = is.name ∙ commits_name_main r order o offered in
-    record {
-      named = ap is_name main ∙ main_is_name;
-      apart = λ other stood. (λ i. do_collide (main i) (o.names other stood i));
-    }
+-- The name of an accepted commit may stand: it doesn't collide.
+pub commit_fits : (r : plain.Repository) (order : CommitCommand) (moves : Moves) → IsWritten r → HasWholeNames r → first_cause r (Commit order) ≡ None → IsMove r order moves → FitsAmong r moves.name.items
+commit_fits r order moves written whole none is =
+    subst (FitsAmong r) (sym is.name) (fits_so r order whole (moved_is_name r order written none) (no_collision r (Commit order) none))
 
 -- the name that moves is the commit's
 to_commit : (r : plain.Repository) (order : CommitCommand) (moves : Moves) → IsMove r order moves → (old new : Tree) → MovesName moves.name.items (entry_of moves.entry) old new → MovesToCommit r order old new
@@ -99,15 +94,15 @@ module _ {F : Type 0} (IsHonest : F → Type 0) (history : F → History) where
       }
 
   -- The values are put, the names stay; then the name moves, and the objects stay.
-  module _ (old mid new : Repository F) (r : plain.Repository) (order : CommitCommand) (h : Serves IsHonest history old r) (offered : IsTrue (is_offered (Commit order)))
+  module _ (old mid new : Repository F) (r : plain.Repository) (order : CommitCommand) (h : Serves IsHonest history old r) (offered : IsTrue (is_spoken (Commit order)))
       (none : first_cause r (Commit order) ≡ None) (free : IsFalse (takes_id r (Commit order)))
       (kept : KeepsAllButObjects old mid) (honest : IsHonest (objects_part mid)) (kind : mid.objects.kind ≡ old.objects.kind)
       (held : HoldsValues r.kind (objects_tree history mid) (after r (Commit order)).objects)
       (known : KnowsIds mid (store_all r.kind r.objects (stored_by r (Commit order))))
       (kept_then : KeepsAllButNames mid new) (honest_then : IsHonest (names_part new)) (kind_then : new.names.kind ≡ mid.names.kind)
       (moves : Moves) (is : IsMove r order moves) (moved : MovesName moves.name.items (entry_of moves.entry) (names_tree history mid) (names_tree history new)) where
-    is_main : branch_or_name r order.name ≡ main_name
-    is_main = commits_name_main r order h.stage.offered offered
+    is_one : is_name (branch_or_name r order.name) ≡ true
+    is_one = moved_is_name r order (h.stands.whole).written none
 
     from_old : MovesToCommit r order (names_tree history old) (names_tree history new)
     from_old = subst (λ names. MovesToCommit r order (history names.files).tree (names_tree history new)) kept.names
@@ -117,7 +112,7 @@ module _ {F : Type 0} (IsHonest : F → Type 0) (history : F → History) where
     to_new = subst (λ objects. HoldsValues r.kind (history objects.files).tree (after r (Commit order)).objects) (sym kept_then.objects) held
 
     stands_after : StandsFor r.kind (pair_of history new) (after r (Commit order))
-    stands_after = commits_stand r.kind (pair_of history old) (pair_of history new) r order (h.stands.whole).stands (moved_is_name r order is_main) h.stage.unpacked to_new from_old
+    stands_after = commits_stand r.kind (pair_of history old) (pair_of history new) r order (h.stands.whole).stands is_one h.stage.unpacked to_new from_old
 
     sound_after : IsSound (after r (Commit order))
     sound_after = steps_keep_sound r (after r (Commit order)) (Commit order) (Committed (value_id r.kind (StoredCommit (new_commit r order)))) (accepted r order none free)
@@ -136,7 +131,7 @@ module _ {F : Type 0} (IsHonest : F → Type 0) (history : F → History) where
       };
       stage = record {
         offered = offered_stays r (Commit order) h.stage.offered offered none;
-        unpacked = from_old.others packed_place (packed_apart (branch_or_name r order.name) (moved_is_name r order is_main)) (packed_no_log (branch_or_name r order.name)) ∙ h.stage.unpacked;
+        unpacked = from_old.others packed_place (packed_apart (branch_or_name r order.name) is_one) (packed_no_log (branch_or_name r order.name)) ∙ h.stage.unpacked;
       };
     }
 

@@ -1,13 +1,13 @@
 -- The edits of a commit, one after another, on its files and on their tree.
 use Rattle.std.proofs.Common.{◌≡◌, refl, sym, ◌∙◌, ap, subst, Bool, true, false, not, ◌&&◌, List, [], ◌∷◌, ◌++◌, map, length, nat_lt}
 use Rattle.std.specs.Prelude.{IsTrue}
-use Rattle.std.specs.FinMap.{insert}
+use Rattle.std.specs.FinMap.{insert, remove}
 use Rattle.std.specs.List.{list_any, flat_map, AllZip}
 use Rattle.std.proofs.lemmas.Grind.{flat_map-append}
 use Rattle.std.proofs.lemmas.List.{map-append}
 use Rattle.std.proofs.lemmas.List.Folds.{list_any-append}
 use Rattle.history_model.specs.Bytes.{Bytes}
-use Rattle.history_model.specs.FileMap.{FileMap, Content, Edit, Put, edited, edited_by, is_path}
+use Rattle.history_model.specs.FileMap.{FileMap, Content, Edit, Put, Remove, RemoveFile, edited, edited_by, removed, is_path}
 use Rattle.history_model.specs.Stage.{is_offered_path}
 use Rattle.history_model.specs.Objects.{Value, StoredBytes, blob_id}
 use Rattle.gix_object_lines.specs.declared.kind.Kind.TheVariants as kinds
@@ -19,8 +19,10 @@ use Rattle.history_model.specs.Meaning.{read_edit}
 use Rattle.history_model.specs.Causes.{is_bad_path}
 use Rattle.history_model.specs.Offered.{is_flat}
 use Rattle.gix_hash.specs.declared.kind.Kind.{Kind}
-use Rattle.history_model.proofs.OfferedFiles.{edits_flat, flat_puts}
-use Rattle.history_word.specs.Commands.{IsEdit}
+use Rattle.history_model.proofs.OfferedFiles.{edits_flat, flat_puts, flat_removals}
+use Rattle.history_word.specs.Commands.{IsEdit, max_path as kept_path}
+use Rattle.history_word.specs.Fields.{Keeps}
+use Rattle.history_word.specs.declared.command.Field.{Field}
 use Rattle.history_word.specs.declared.command.Edit.TheVariants as sent
 use Rattle.history_word.specs.declared.command.Put as sent_put
 use Rattle.history_store.specs.Stores.{AreObjectsOf}
@@ -28,6 +30,7 @@ use Rattle.history_store.specs.Trees.{Folder, IsTreeOf}
 use Rattle.history_store.specs.declared.object.NewObject.{NewObject}
 use Rattle.history_store.specs.declared.tree.TreeEntry.{TreeEntry}
 use Rattle.history_store.proofs.FlatTrees.{flat_insert}
+use Rattle.history_store.proofs.Removals.{flat_remove}
 use Rattle.history.specs.CommitCauses.{is_long}
 use Rattle.history.specs.Fields.{kept_bytes}
 use Rattle.history.specs.Files.{AreWithin, HasEdited}
@@ -59,6 +62,28 @@ module _ (r : plain.Repository) (kind : Kind) (files : FileMap) (old new : Folde
             (subst (λ this. IsTreeOf kind this (insert files path content)) (sym (is_new ∙ ap (λ p. insert old p entry) path_is)) there);
         flat = edits_flat files (Put its_kind path bytes ∷ []) (ap (λ b. b && true) (path_offered path good)) flat;
       }
+
+-- ---- one removal
+
+module _ (r : plain.Repository) (kind : Kind) (files : FileMap) (old new : Folder) (path : Field) (flat : IsTrue (is_flat files)) (tree : IsTreeOf kind old files) (is_new : new ≡ remove old (kept_bytes path)) where
+  left : (bytes : Bytes) → Keeps kept_path path bytes → is_bad_path bytes ≡ false → IsTreeOf kind new (removed bytes files)
+  left bytes is good =
+      subst (λ those. IsTreeOf kind new those) (sym (flat_removals files bytes flat))
+      (subst (λ this. IsTreeOf kind this (remove files bytes)) (sym (is_new ∙ ap (remove old) (whole_path path bytes is good))) (flat_remove kind old files bytes tree))
+
+  pub path_removed : (line : EditLine) → IsEdit (sent.Remove path) line → AreWithin (line ∷ []) → HasEdited r kind files (line ∷ []) [] new
+  path_removed (PutLine its_kind bytes content) is within = absurd is
+  path_removed (RemoveFileLine bytes) is within = absurd is
+  path_removed (RemoveLine bytes) is within =
+      let good = (either_false (is_bad_path bytes) false within.paths).0 in
+      record { blobs_are = tt; tree = left bytes is good; flat = edits_flat files (Remove bytes ∷ []) (ap (λ b. b && true) (path_offered bytes good)) flat }
+
+  pub file_removed : (line : EditLine) → IsEdit (sent.RemoveFile path) line → AreWithin (line ∷ []) → HasEdited r kind files (line ∷ []) [] new
+  file_removed (PutLine its_kind bytes content) is within = absurd is
+  file_removed (RemoveLine bytes) is within = absurd is
+  file_removed (RemoveFileLine bytes) is within =
+      let good = (either_false (is_bad_path bytes) false within.paths).0 in
+      record { blobs_are = tt; tree = left bytes is good; flat = edits_flat files (RemoveFile bytes ∷ []) (ap (λ b. b && true) (path_offered bytes good)) flat }
 
 -- ---- one after another
 

@@ -4,7 +4,7 @@ use Rattle.std.specs.List.{list_any, flat_map}
 use Rattle.std.proofs.lemmas.List.Folds.{list_any-append}
 use Rattle.std.proofs.lemmas.List.{map-append}
 use Rattle.history_model.specs.FileMap.{folders_of}
-use Rattle.history_model.specs.Stage.{is_offered}
+use Rattle.history_model.specs.Stage.{is_spoken}
 use Rattle.history_model.specs.Repository.{Repository, HasWholeNames}
 use Rattle.history_model.specs.Objects.{StoredCommit, StoredFolder, CommitValue, commit_content, content_of, hex, folder_id, actor_text}
 use Rattle.history_model.specs.Bytes.{line}
@@ -54,7 +54,7 @@ here false x rest e = cc
 
 -- ---- the first cause of a commit
 
-module _ (r : Repository) (order : CommitCommand) (o : IsOffered r) (w : HasWholeNames r) (offered : is_offered (Commit order) ≡ true) where
+module _ (r : Repository) (order : CommitCommand) (o : IsOffered r) (w : HasWholeNames r) (offered : is_spoken (Commit order) ≡ true) where
   pub refused_by_name : (cause : Cause) → first_among name_causes r (Commit order) ≡ Some cause → first_cause r (Commit order) ≡ Some cause
   refused_by_name cause e =
       first_offered_cause r (Commit order) o w offered

@@ -124,6 +124,18 @@ module _ (pair : Pair) (r : Repository) (stand : StandsFor r.kind pair r) (unpac
       one_left false false false true m a b c e = cc
       one_left false false false false m a b c e = cc
 
+  -- a name that stands has a file
+  pub file_stands : stands r name ≡ true → (text : Bytes) × (file_at pair.names name ≡ Some text)
+  file_stands there = by_file (file_at pair.names name) refl
+    where
+      by_ref : (o : Option Reference) → get r.names name ≡ o → is_some o ≡ true → file_at pair.names name ≡ None → ⊥
+      by_ref None e h none = absurd cc
+      by_ref (Some ref) e h none = no_file (is_name name) ref.id (ap loose (sym none) ∙ reads ref.id (ap (option_map (λ (ref : Reference). ref.id)) e))
+
+      by_file : (o : Option Bytes) → file_at pair.names name ≡ o → (text : Bytes) × (file_at pair.names name ≡ Some text)
+      by_file None e = absurd (by_ref (get r.names name) refl there e)
+      by_file (Some text) e = (text, e)
+
   id_held : (id : Id) → stands r name ≡ true → ((found : Id) → id_at r name ≡ Some found → id ≡ found) → Some id ≡ id_at r name
   id_held id there same = by_ref (get r.names name) refl there
     where
@@ -141,7 +153,7 @@ module _ (pair : Pair) (r : Repository) (stand : StandsFor r.kind pair r) (unpac
           id_held (id_of id) (name_stands text front e) (λ found at. of_name (is_name name) text found (ap loose (sym e) ∙ reads found at) (spelled r.kind text spells.0 (id_of id) found spells.1 spells.2))
 
 -- a name begins with `refs/`
-refs_front : (name : Bytes) → is_name name ≡ true → begins (codes "refs/") name ≡ true
+pub refs_front : (name : Bytes) → is_name name ≡ true → begins (codes "refs/") name ≡ true
 refs_front name h =
     (both_true (is_partial_name name) (begins (codes "refs/") name)
     (both_true (is_partial_name name && begins (codes "refs/") name) (is_utf8 name)

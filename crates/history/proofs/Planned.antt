@@ -16,14 +16,14 @@ use Rattle.history_model.specs.Commands.{CommitCommand, Commit}
 use Rattle.history_model.specs.CommandParts.{paths_in, contents_in}
 use Rattle.history_model.specs.Meaning.{branch_or_name, first_files, parents_of, edits_of, new_commit, read_actor, stored_by}
 use Rattle.history_model.specs.Causes.{first_cause, is_bad_path, is_too_large}
-use Rattle.history_model.specs.Stage.{main_name, is_offered}
+use Rattle.history_model.specs.Stage.{is_spoken}
 use Rattle.history_model.specs.Offered.{IsOffered, is_flat}
 use Rattle.history_model.specs.TreeSteps.{move_entry}
 use Rattle.history_model.specs.declared.Cause.{Cause}
 use Rattle.history_model.specs.declared.Cause.TheVariants.{TooLarge}
 use Rattle.gix_hash.specs.declared.kind.Kind.{Kind}
 use Rattle.gix_object_lines.specs.declared.kind.Kind.TheVariants as kinds
-use Rattle.history_model.proofs.OfferedReads.{main_holds_a_commit, commits_follow_main, commits_name_main, commits_store_flat}
+use Rattle.history_model.proofs.OfferedReads.{commits_store_flat}
 use Rattle.history_model.proofs.OfferedSteps.{first_flat}
 use Rattle.history_store.specs.Formats.{actor_of, entry_of}
 use Rattle.history_store.specs.Commits.{IsCommitOf}
@@ -35,14 +35,16 @@ use Rattle.gix_hash.specs.declared.object_id.ObjectId.{ObjectId}
 use Rattle.history_store.specs.declared.log_entry.LogEntry.{LogEntry}
 use Rattle.history_store.proofs.FlatTrees.{flat_content}
 use Rattle.history.specs.Acts.{IsReadingFault, Gives}
-use Rattle.history.specs.CommitCauses.{first_among, name_causes, is_long, IsParent, HasTimes}
-use Rattle.history.specs.Files.{files_of, HasEdited}
+use Rattle.history.specs.CommitCauses.{first_among, name_causes, is_long, IsToldBy, Tests, HasTimes}
+use Rattle.history.specs.Bases.{IsBase}
+use Rattle.history.specs.Files.{HasEdited}
+use Rattle.history.specs.declared.base.Base.{Base}
 use Rattle.history.specs.Plans.{IsMade, Plans}
 use Rattle.history.specs.declared.causes.Times.{Times}
 use Rattle.history.specs.declared.planning.Plan.{Plan}
 use Rattle.history.specs.declared.stopped.Stopped.{Stopped}
 use Rattle.history.specs.declared.stopped.Stopped.TheVariants.{Refused, Fault}
-use Rattle.history.proofs.Edits.{files_after, objects_joined}
+use Rattle.history.proofs.Edits.{objects_joined}
 use Rattle.history.proofs.FieldLemmas.{within, beyond}
 use Rattle.history.proofs.FirstCauses.{passed, here, refused_by_name, refused_by_size, good_paths}
 use Rattle.history.proofs.Storing.{bytes_put}
@@ -82,44 +84,29 @@ fault_planned {A} MayFail P r order result ends stopped was is_end gives =
 pub refusal_planned : (MayFail : Type 0) (r : plain.Repository) (order : CommitCommand) (cause : Cause) (ends : Result Plan Stopped) → ends ≡ Err (Refused cause) → first_cause r (Commit order) ≡ Some cause → Plans MayFail r order ends
 refusal_planned MayFail r order cause ends is_end is = subst (Plans MayFail r order) (sym is_end) is
 
-module _ (r : plain.Repository) (order : CommitCommand) (o : IsOffered r) (w : HasWholeNames r) (offered : is_offered (Commit order) ≡ true) where
-  pub parent_planned : (MayFail : Type 0) (result : Result (Option ObjectId) Stopped) (ends : Result Plan Stopped) (stopped : Stopped) → result ≡ Err stopped → ends ≡ Err stopped
-      → IsParent MayFail r order result → Plans MayFail r order ends
-  parent_planned MayFail result ends stopped was is_end parent =
-      subst (Plans MayFail r order) (sym is_end) (by_case stopped (subst (IsParent MayFail r order) was parent))
+module _ (r : plain.Repository) (order : CommitCommand) (o : IsOffered r) (w : HasWholeNames r) (offered : is_spoken (Commit order) ≡ true) where
+  pub base_planned : (MayFail : Type 0) (result : Result Base Stopped) (ends : Result Plan Stopped) (stopped : Stopped) → result ≡ Err stopped → ends ≡ Err stopped
+      → Tests MayFail name_causes r order (IsBase r order) result → Plans MayFail r order ends
+  base_planned MayFail result ends stopped was is_end tests =
+      subst (Plans MayFail r order) (sym is_end) (by_case stopped (subst (λ (x : Result Base Stopped). Tests MayFail name_causes r order (IsBase r order) x) was tests))
     where
-      by_case : (stopped : Stopped) → IsParent MayFail r order (Err stopped) → Plans MayFail r order (Err stopped)
+      by_case : (stopped : Stopped) → IsToldBy MayFail name_causes r order stopped → Plans MayFail r order (Err stopped)
       by_case (Refused cause) h = refused_by_name r order o w offered cause h
       by_case (Fault fault) h = h
 
-  -- the files of what the name holds
+  -- the files of the first parent
   abbrev pub before : FileMap
-  before = files_of r (id_at r (branch_or_name r order.name))
-
-  of_main : id_at r main_name ≡ id_at r (branch_or_name r order.name)
-  of_main = ap (id_at r) (sym (commits_name_main r order o offered))
-
-  -- that is a stored commit
-  pub parent_holds : (parent : Option ObjectId) → option_map id_of parent ≡ id_at r (branch_or_name r order.name) → IfSome parent (λ id. HoldsCommit r (id_of id))
-  parent_holds None at = tt
-  parent_holds (Some id) at =
-      let held = main_holds_a_commit r (id_of id) o w (of_main ∙ sym at) in
-      subst (λ (found : Option Value). IsSome (option_and_then as_commit found)) (sym held.1) refl
-
-  -- the new files are those of the parent after the edits
-  new_files : (new_commit r order).files ≡ files_after r before order.edits
-  new_files = ap (λ ids. edited_by (first_files r ids) (edits_of r order)) (commits_follow_main r order o w offered ∙ ap option_to_list of_main)
+  before = first_files r (parents_of r order)
 
   pub before_flat : is_flat before ≡ true
-  before_flat = first_flat r o (option_to_list (id_at r (branch_or_name r order.name)))
+  before_flat = first_flat r o (parents_of r order)
 
   -- so the tree's bytes are those of their folder
   pub tree_content : (kind : Kind) (blobs : List NewObject) (tree : Folder) → kind ≡ r.kind → HasEdited r kind before order.edits blobs tree
       → folder_content tree ≡ root r.kind (new_commit r order).files
   tree_content kind blobs tree same h =
-      let there : IsTreeOf r.kind tree (new_commit r order).files =
-      subst (λ k. IsTreeOf k tree (new_commit r order).files) same (subst (λ (files : FileMap). IsTreeOf kind tree files) (sym new_files) h.tree) in
-      flat_content r.kind tree (new_commit r order).files there (ap is_flat new_files ∙ h.flat)
+      let there : IsTreeOf r.kind tree (new_commit r order).files = subst (λ k. IsTreeOf k tree (new_commit r order).files) same h.tree in
+      flat_content r.kind tree (new_commit r order).files there h.flat
 
   module _ (times : Times) (h : HasTimes r order times) (none : first_among name_causes r (Commit order) ≡ None) where
     sizes : is_too_large r (Commit order) ≡ (is_long (root r.kind (new_commit r order).files) || (is_long (commit_content r.kind (new_commit r order)) || false))
@@ -147,13 +134,6 @@ module _ (r : plain.Repository) (order : CommitCommand) (o : IsOffered r) (w : H
         ∙ passed (is_too_large r (Commit order)) TooLarge None None (sizes ∙ (λ i. within max_content (length (root r.kind (new_commit r order).files)) tree_fits i || (within max_content (length (commit_content r.kind (new_commit r order))) commit_fits i || false))) refl
 
   -- ---- the commit and its move
-
-  parents_told : (parent : Option ObjectId) → map id_of (option_to_list parent) ≡ option_to_list (option_map id_of parent)
-  parents_told None = refl
-  parents_told (Some id) = refl
-
-  pub parents_are : (parent : Option ObjectId) (parents : List ObjectId) → option_map id_of parent ≡ id_at r (branch_or_name r order.name) → parents ≡ option_to_list parent → map id_of parents ≡ parents_of r order
-  parents_are parent parents at are = ap (map id_of) are ∙ parents_told parent ∙ ap option_to_list (at ∙ sym of_main) ∙ sym (commits_follow_main r order o w offered)
 
   before_told : (parent : Option ObjectId) (null : ObjectId) → id_of (unwrap_or parent null) ≡ unwrap_or (option_map id_of parent) (id_of null)
   before_told None null = refl

@@ -11,7 +11,7 @@ use Rattle.history_model.specs.Repository.{Repository}
 use Rattle.history_model.specs.Commands.{Command}
 use Rattle.history_model.specs.Spelling.{spelling, has_spelling}
 use Rattle.history_model.specs.Grammar.{is_command, Spells, HasRestCause}
-use Rattle.history_model.specs.Stage.{is_offered}
+use Rattle.history_model.specs.Stage.{is_spoken}
 use Rattle.history_model.specs.Replies.{Reply, RefusedFor, Faulted, reply_text}
 use Rattle.history_model.specs.Steps.{Step, Steps, some_failed, goes_on}
 use Rattle.history_model.specs.Runs.{Ran, Ends, CutsShort, IsNoCommand}

@@ -11,7 +11,7 @@ use Rattle.history_model.specs.Repository.{Repository}
 use Rattle.history_model.specs.Commands.{Command}
 use Rattle.history_model.specs.Spelling.{spelling, has_spelling}
 use Rattle.history_model.specs.Grammar.{is_command, Spells, HasRestCause}
-use Rattle.history_model.specs.Stage.{is_offered}
+use Rattle.history_model.specs.Stage.{is_spoken}
 use Rattle.history_model.specs.Replies.{Reply, RefusedFor, Faulted, reply_text}
 use Rattle.history_model.specs.Steps.{Step, Steps, some_failed, goes_on}
 use Rattle.history_model.specs.Runs.{Ran, Ends, CutsShort, IsNoCommand}
@@ -42,8 +42,8 @@ and_second : (a b : Bool) → IsTrue (a && b) → IsTrue b
 and_second true b h = h
 and_second false b h = absurd cc
 
-pub known_offered : (order : Command) → IsTrue (is_command order) → IsTrue (is_offered order)
-known_offered order h = and_second (has_spelling order) (is_offered order) h
+pub known_offered : (order : Command) → IsTrue (is_command order) → IsTrue (is_spoken order)
+known_offered order h = and_second (has_spelling order) (is_spoken order) h
 
 goes : (failed : Bool) (on : Bool) → failed ≡ not on → failed ≡ false → IsTrue on
 goes failed on e f = not_false on (sym e ∙ f)

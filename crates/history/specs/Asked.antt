@@ -3,7 +3,7 @@ use Rattle.std.specs.Prelude.{IsTrue}
 use Rattle.gix_ref_file.specs.History.{History}
 use Rattle.history_model.specs.Commands as orders
 use Rattle.history_model.specs.Repository as plain
-use Rattle.history_model.specs.Stage.{is_offered}
+use Rattle.history_model.specs.Stage.{is_spoken}
 use Rattle.history_word.specs.Commands.{IsCommit, IsReading}
 use Rattle.history_word.specs.declared.command.CommitCommand.{CommitCommand}
 use Rattle.history_word.specs.declared.reader.Reading.{Reading}
@@ -15,11 +15,11 @@ pub record Asked {F : Type 0} (IsHonest : F → Type 0) (history : F → History
     (r : plain.Repository) (order : orders.Command) : Type 0 where
   pub serves : Serves IsHonest history repository r
   pub reads : IsReading reading order
-  pub offered : IsTrue (is_offered order)
+  pub offered : IsTrue (is_spoken order)
 
 -- A repository is asked for this commit.
 pub record AskedCommit {F : Type 0} (IsHonest : F → Type 0) (history : F → History) (repository : Repository F) (command : CommitCommand)
     (r : plain.Repository) (order : orders.CommitCommand) : Type 0 where
   pub serves : Serves IsHonest history repository r
   pub reads : IsCommit command order
-  pub offered : IsTrue (is_offered (orders.Commit order))
+  pub offered : IsTrue (is_spoken (orders.Commit order))

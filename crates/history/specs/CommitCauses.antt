@@ -1,42 +1,68 @@
 -- What a commit is refused for by itself and by the name that it moves, and what is read of it where it isn't.
-use Rattle.std.specs.Prelude.{pos, ◌≡◌, ◌≤◌, Bool, List, [], ◌∷◌, ◌++◌, find, length, Option, Some, None, option_map, Result, Ok, Err, IsTrue, IsFalse, not, ◌||◌, nat_lt}
+use Rattle.std.specs.Prelude.{pos, ◌≡◌, ◌≤◌, ℕ, Vec, Bool, List, [], ◌∷◌, ◌++◌, find, length, Option, Some, None, Result, Ok, Err, IsTrue, IsFalse, not, ◌||◌, nat_lt, if◌then◌else◌}
+use Rattle.std.specs.declared.alloc.Global.{Global}
 use Rattle.std.specs.List.{list_any}
 use Rattle.history_model.specs.Repository as plain
-use Rattle.history_model.specs.Repository.{id_at}
-use Rattle.history_model.specs.Forms.{is_seconds, is_offset, max_content}
+use Rattle.history_model.specs.Forms.{is_name, is_private, is_seconds, is_offset, max_content}
 use Rattle.history_model.specs.Bytes.{Bytes, digits_value}
 use Rattle.history_model.specs.Commands.{Command, Commit, CommitCommand, ActorLine}
 use Rattle.history_model.specs.CommandParts.{contents_in}
 use Rattle.history_model.specs.Meaning.{branch_or_name}
 use Rattle.history_model.specs.Causes.{holds}
 use Rattle.history_model.specs.declared.Cause.{Cause}
-use Rattle.history_model.specs.declared.Cause.TheVariants.{UnknownWord, UnbornHead, Taken, BadPath, NoSuchPath, BadActor, BadTime, BadMessage, TooLarge}
-use Rattle.gix_hash.specs.declared.object_id.ObjectId.{ObjectId}
+use Rattle.history_model.specs.declared.Cause.TheVariants.{BadName, PrivateName, UnknownWord, UnbornHead, NoSuchName, Taken, NotExpected, Collides, TooManyParents, DuplicateParent, BadPath, NoSuchPath, BadActor, BadTime, BadMessage, TooLarge}
 use Rattle.history.specs.Acts.{IsReadingFault}
 use Rattle.gix_object_lines.specs.Time.{IsSpellableOffset, offset_text}
 use Rattle.gix_object_lines.specs.declared.lines.time.Time.{Time}
 use Rattle.history.specs.declared.causes.Times.{Times}
 use Rattle.history.specs.declared.stopped.Stopped.{Stopped}
 use Rattle.history.specs.declared.stopped.Stopped.TheVariants.{Refused, Fault}
-use Rattle.gix_hash.specs.Id.{id_of}
 
 -- the first of these causes that holds
 abbrev pub first_among : List Cause → plain.Repository → Command → Option Cause
 first_among causes r command = find (λ cause. holds cause r command) causes
 
--- The causes that the name tells, and the word at which it is expected; and those that the command tells by itself. What is too
--- large may show only when all that is to be stored is made.
+-- The causes that the commit's name tells by itself, that its words tell, that what the name holds tells, and the other names, and the
+-- parents; and those that the command tells by itself. What is too large may show only when all that is to be stored is made.
+abbrev pub name_form_causes : List Cause
+name_form_causes = BadName ∷ PrivateName ∷ []
+
+abbrev pub word_causes : List Cause
+word_causes = UnknownWord ∷ UnbornHead ∷ []
+
+abbrev pub held_causes : List Cause
+held_causes = NoSuchName ∷ Taken ∷ NotExpected ∷ []
+
+abbrev pub place_causes : List Cause
+place_causes = Collides ∷ []
+
+abbrev pub parent_causes : List Cause
+parent_causes = TooManyParents ∷ DuplicateParent ∷ []
+
 abbrev pub name_causes : List Cause
-name_causes = UnknownWord ∷ UnbornHead ∷ Taken ∷ []
+name_causes = name_form_causes ++ (word_causes ++ (held_causes ++ (place_causes ++ parent_causes)))
 
 abbrev pub form_causes : List Cause
 form_causes = BadPath ∷ NoSuchPath ∷ BadActor ∷ BadTime ∷ BadMessage ∷ []
 
--- The parent is what the commit's name holds, where that is as expected; else the first cause is told, or a fault was met.
-abbrev pub IsParent : Type 0 → plain.Repository → CommitCommand → Result (Option ObjectId) Stopped → Type 0
-IsParent MayFail r order (Ok parent) = (option_map id_of parent ≡ id_at r (branch_or_name r order.name)) × (first_among name_causes r (Commit order) ≡ None)
-IsParent MayFail r order (Err (Refused cause)) = first_among name_causes r (Commit order) ≡ Some cause
-IsParent MayFail r order (Err (Fault fault)) = IsReadingFault MayFail (Fault fault)
+-- the first of these causes that holds is told, or a fault was met
+abbrev pub IsToldBy : Type 0 → List Cause → plain.Repository → CommitCommand → Stopped → Type 0
+IsToldBy MayFail causes r order (Refused cause) = first_among causes r (Commit order) ≡ Some cause
+IsToldBy MayFail causes r order (Fault fault) = IsReadingFault MayFail (Fault fault)
+
+-- None of these causes holds, and this is what is meant; or the first is told, or a fault was met.
+abbrev pub Tests : {T : Type 0} → Type 0 → List Cause → plain.Repository → CommitCommand → (T → Type 0) → Result T Stopped → Type 0
+Tests MayFail causes r order IsMeant (Ok value) = (first_among causes r (Commit order) ≡ None) × IsMeant value
+Tests MayFail causes r order IsMeant (Err stopped) = IsToldBy MayFail causes r order stopped
+
+-- why a repository can't hold a name
+abbrev pub form_cause : Bytes → Option Cause
+form_cause name = if not (is_name name) then Some BadName else if is_private name then Some PrivateName else None
+
+-- the name that the commit moves, which is one
+pub record IsNamed (r : plain.Repository) (order : CommitCommand) (name : Vec ℕ Global) : Type 0 where
+  pub named : name.items ≡ branch_or_name r order.name
+  pub formed : IsTrue (is_name name.items)
 
 -- the words of the line are a time's, this one
 pub record IsTime (line : ActorLine) (time : Time) : Type 0 where

@@ -1,12 +1,11 @@
 -- The files of a commit, as its parent's and its edits make them.
-use Rattle.std.specs.Prelude.{List, map, IsTrue, IsFalse, Option, option_to_list}
+use Rattle.std.specs.Prelude.{List, map, IsTrue, IsFalse}
 use Rattle.std.specs.List.{list_any, flat_map}
 use Rattle.history_model.specs.FileMap.{FileMap, edited_by}
 use Rattle.history_model.specs.Repository as plain
-use Rattle.gix_hash.specs.Id.{Id}
 use Rattle.history_model.specs.Commands.{EditLine}
 use Rattle.history_model.specs.CommandParts.{edit_paths, put_contents}
-use Rattle.history_model.specs.Meaning.{first_files, read_edit}
+use Rattle.history_model.specs.Meaning.{read_edit}
 use Rattle.history_model.specs.Causes.{is_bad_path}
 use Rattle.history_model.specs.Offered.{is_flat}
 use Rattle.gix_hash.specs.declared.kind.Kind.{Kind}
@@ -15,10 +14,6 @@ use Rattle.history_store.specs.Stores.{AreObjectsOf}
 use Rattle.history_store.specs.Trees.{Folder, IsTreeOf}
 use Rattle.history_store.specs.declared.object.NewObject.{NewObject}
 use Rattle.history.specs.CommitCauses.{is_long}
-
--- the files of a commit that a name may hold, none where it holds none
-abbrev pub files_of : plain.Repository → Option Id → FileMap
-files_of r commit = first_files r (option_to_list commit)
 
 -- no path of the edits is bad, and each content is within its limit
 pub record AreWithin (edits : List EditLine) : Type 0 where

@@ -1,29 +1,20 @@
-//! What a `commit` is refused for, by itself and by the name that it moves.
+//! What a `commit` is refused for by itself.
 
-ghost use Rattle.std.specs.Prelude.{◌≡◌, List, IfOk, IsTrue};
+ghost use Rattle.std.specs.Prelude.{◌≡◌, List};
 ghost use Rattle.std.specs.List.{list_any, flat_map};
 ghost use Rattle.history_model.specs.Forms.{title};
 ghost use Rattle.history_model.specs.Causes.{is_bad_title, is_bad_path};
 ghost use Rattle.history_model.specs.CommandParts.{edit_paths, put_contents};
-ghost use Rattle.history_model.specs.Meaning.{branch_or_name};
 ghost use Rattle.history_model.specs.Repository as plain;
-ghost use Rattle.history_model.specs.Stage.{is_offered};
-ghost use Rattle.history_model.specs.Commands.{CommitCommand as CommitOrder, EditLine, Commit as CommitOf};
-ghost use Rattle.history_word.specs.Commands.{AreEdits, IsCommit, IsEdit, IsExpect};
-ghost use Rattle.history.specs.CommitCauses.{AreTimes, IsParent, is_long};
-ghost use Rattle.history.specs.Stands.{Serves, Stands};
+ghost use Rattle.history_model.specs.Commands.{CommitCommand as CommitOrder, EditLine};
+ghost use Rattle.history_word.specs.Commands.{AreEdits, IsCommit, IsEdit};
+ghost use Rattle.history.specs.CommitCauses.{AreTimes, is_long};
 
 use crate::actors::{has_good_names, time_of};
 use crate::fields::{is_bad_path, is_too_long, kept};
-use crate::repository::Repository;
-use crate::stopped::Stopped;
-use crate::words::HEAD;
-use gix_hash::ObjectId;
 use gix_object::lines::Time;
-use gix_ref_file::Files;
 use history_model::Cause;
-use history_word::{CommitCommand, Edit, Expect};
-use std::alloc::{AllocError, Global};
+use history_word::{CommitCommand, Edit};
 
 /// The most bytes of a title.
 const MAX_TITLE: usize = 1_024;
@@ -60,16 +51,22 @@ fn has_bad_path(edit: &Edit) -> bool
     ensures { (line : EditLine) → IsEdit edit.now line
         → result ≡ list_any is_bad_path (edit_paths line) }
 {
-    let Edit::Put(put) = edit;
-    is_bad_path(&put.path)
+    match edit {
+        Edit::Put(put) => is_bad_path(&put.path),
+        Edit::Remove(path) => is_bad_path(path),
+        Edit::RemoveFile(path) => is_bad_path(path),
+    }
 }
 
 fn has_long_content(edit: &Edit) -> bool
     ensures { (line : EditLine) → IsEdit edit.now line
         → result ≡ list_any is_long (put_contents line) }
 {
-    let Edit::Put(put) = edit;
-    is_too_long(&put.content)
+    match edit {
+        Edit::Put(put) => is_too_long(&put.content),
+        Edit::Remove(_) => false,
+        Edit::RemoveFile(_) => false,
+    }
 }
 
 fn have_bad_path(edits: &[Edit]) -> bool
@@ -106,44 +103,4 @@ pub(crate) fn read_times(command: &CommitCommand) -> Result<Times, Cause>
         return Err(Cause::TooLarge);
     }
     Ok(Times { author, committer })
-}
-
-impl<F: Files> Repository<F> {
-    /// The name that a `commit` moves: HEAD stands for its branch.
-    pub(crate) fn name_of(&self, alloc: Global, name: &[u8]) -> Result<Vec<u8>, AllocError>
-        ensures { (r : plain.Repository) → Stands F.is_honest F.history self.now r
-            → IfOk result (λ moved. moved.items ≡ branch_or_name r name.now) }
-    {
-        Vec::from_slice(alloc, if name == HEAD { &self.branch } else { name })
-    }
-
-    /// The commit that the name holds, where that is as expected.
-    pub(crate) fn parent_of(
-        &self,
-        alloc: Global,
-        name: &[u8],
-        expect: &Expect,
-    ) -> Result<Option<ObjectId>, Stopped>
-        ensures { (r : plain.Repository) (order : CommitOrder)
-            → Serves F.is_honest F.history self.now r → IsTrue (is_offered (CommitOf order))
-            → name.now ≡ branch_or_name r order.name → IsExpect expect.now order.expect
-            → IsParent F.reading_may_fail r order result }
-    {
-        match expect {
-            Expect::Any => Ok(self.names.read(alloc, name)?),
-            Expect::New => match self.names.read(alloc, name)? {
-                None => Ok(None),
-                Some(_) => Err(Stopped::Refused(Cause::Taken)),
-            },
-            Expect::At(word) => {
-                let wanted = self.commit_of(alloc, word)?;
-                let found = self.names.read(alloc, name)?.ok_or(Cause::NoSuchName)?;
-                if found == wanted {
-                    Ok(Some(found))
-                } else {
-                    Err(Stopped::Refused(Cause::NotExpected))
-                }
-            }
-        }
-    }
 }

@@ -6,10 +6,12 @@
 
 mod act;
 mod actors;
+mod base;
 mod causes;
 mod commit;
 mod fields;
 mod listing;
+mod naming;
 mod open;
 mod planning;
 mod reply;

@@ -1,8 +1,10 @@
 //! What a `commit` is to store, and how its name is to move.
 
-ghost use Rattle.std.specs.Prelude.{◌≡◌, ◌≤◌, ◌<◌, List, ◌∷◌, [], IfOk, IfSome, IsTrue, MatchResult, option_map, option_to_list, length};
+ghost use Rattle.std.specs.Prelude.{◌≡◌, ◌≤◌, ◌<◌, List, ◌∷◌, [], IfOk, IsTrue, MatchResult, map, option_to_list, length};
+ghost use Rattle.std.specs.List.{AllByRecursion};
 ghost use Rattle.history_model.specs.FileMap.{FileMap};
 ghost use Rattle.history_model.specs.Forms.{max_content};
+ghost use Rattle.history_model.specs.Meaning.{first_files};
 ghost use Rattle.history_model.specs.Repository as plain;
 ghost use Rattle.history_model.specs.Repository.{HoldsCommit};
 ghost use Rattle.history_model.specs.Commands as orders;
@@ -14,14 +16,15 @@ ghost use Rattle.history_store.specs.Trees.{IsTreeOf};
 ghost use Rattle.history_store.specs.Face.{kind_of_objects};
 ghost use Rattle.history.specs.Asked.{AskedCommit};
 ghost use Rattle.history.specs.Acts.{Gives};
-ghost use Rattle.history.specs.Files.{files_of, AreWithin, HasEdited};
+ghost use Rattle.history.specs.Files.{AreWithin, HasEdited};
 ghost use Rattle.history.specs.Plans.{IsMade, Plans};
 ghost use Rattle.history.specs.Stands.{Serves};
 ghost use Rattle.gix_hash.specs.Id.{id_of};
 
 use crate::actors::actor_at;
+use crate::base::Base;
 use crate::causes::{read_times, title};
-use crate::fields::into_kept;
+use crate::fields::{into_kept, kept};
 use crate::repository::Repository;
 use crate::stopped::Stopped;
 use gix_hash::ObjectId;
@@ -49,17 +52,6 @@ pub(crate) struct Moves {
     pub(crate) entry: LogEntry,
 }
 
-/// The parents of a commit: what its name holds.
-fn parents(alloc: Global, parent: Option<ObjectId>) -> Result<Vec<ObjectId>, AllocError>
-    ensures { IfOk result (λ parents. parents.items ≡ option_to_list parent) }
-{
-    let mut parents = Vec::new(alloc);
-    if let Some(id) = parent {
-        parents.push(id)?;
-    }
-    Ok(parents)
-}
-
 impl<F: Files> Repository<F> {
     /// An object of this content, where that is within the limit.
     fn new_object(&self, kind: ObjectKind, content: Vec<u8>) -> Result<NewObject, Cause>
@@ -74,15 +66,15 @@ impl<F: Files> Repository<F> {
         Ok(NewObject::new(self.objects.kind(), kind, content))
     }
 
-    /// The files of a commit's parent, none without one.
-    fn files_before(&self, alloc: Global, parent: Option<ObjectId>) -> Result<Tree, Stopped>
+    /// The files of a commit's first parent, none without one.
+    fn files_before(&self, alloc: Global, parents: &[ObjectId]) -> Result<Tree, Stopped>
         ensures { (r : plain.Repository) → Serves F.is_honest F.history self.now r
-            → IfSome parent (λ id. HoldsCommit r (id_of id))
-            → Gives F.reading_may_fail (λ tree. IsTreeOf r.kind tree (files_of r (option_map id_of parent))) result }
+            → AllByRecursion (HoldsCommit r) (map id_of parents.now)
+            → Gives F.reading_may_fail (λ tree. IsTreeOf r.kind tree (first_files r (map id_of parents.now))) result }
     {
-        match parent {
+        match parents.first() {
             Some(id) => {
-                let commit = self.read_commit(alloc, &id)?;
+                let commit = self.read_commit(alloc, id)?;
                 self.read_tree(alloc, &commit.tree)
             }
             None => Ok(Tree::new(alloc)),
@@ -106,6 +98,31 @@ impl<F: Files> Repository<F> {
         Ok(blob)
     }
 
+    /// Makes one edit, and gives the object of its content, if it has one. Where files are flat a removal meets no folder.
+    fn make_edit(
+        &self,
+        alloc: Global,
+        tree: &mut Tree,
+        edit: Edit,
+    ) -> Result<Option<NewObject>, AllocError>
+        ensures { (r : plain.Repository) (files : FileMap) (line : orders.EditLine)
+            → IsEdit edit line → AreWithin (line ∷ []) → IsTrue (is_flat files)
+            → IsTreeOf (kind_of_objects self.now.objects) tree.old files
+            → IfOk result (λ blob. HasEdited r (kind_of_objects self.now.objects) files (line ∷ []) (option_to_list blob) tree.new) }
+    {
+        match edit {
+            Edit::Put(put) => Ok(Some(self.put_file(alloc, tree, put)?)),
+            Edit::Remove(path) => {
+                tree.remove(kept(&path));
+                Ok(None)
+            }
+            Edit::RemoveFile(path) => {
+                tree.remove(kept(&path));
+                Ok(None)
+            }
+        }
+    }
+
     /// Changes the files by the edits in order, and gives the objects of their contents.
     fn edit(
         &self,
@@ -120,8 +137,7 @@ impl<F: Files> Repository<F> {
     {
         let mut blobs = Vec::with_capacity(alloc, edits.len())?;
         for edit in edits {
-            let Edit::Put(put) = edit;
-            blobs.push(self.put_file(alloc, tree, put)?)?;
+            blobs.extend(self.make_edit(alloc, tree, edit)?)?;
         }
         Ok(blobs)
     }
@@ -132,10 +148,9 @@ impl<F: Files> Repository<F> {
             → AskedCommit F.is_honest F.history self.now command r order
             → Plans F.reading_may_fail r order result }
     {
-        let name = self.name_of(alloc, &command.name)?;
-        let parent = self.parent_of(alloc, &name, &command.expect)?;
+        let Base { name, held, parents } = self.base(alloc, &command)?;
         let times = read_times(&command)?;
-        let mut tree = self.files_before(alloc, parent)?;
+        let mut tree = self.files_before(alloc, &parents)?;
         let mut objects = self.edit(alloc, &mut tree, command.edits)?;
         let tree = self.new_object(ObjectKind::Tree, tree.to_bytes(alloc)?)?;
 
@@ -146,14 +161,14 @@ impl<F: Files> Repository<F> {
         let log_actor = committer.try_clone()?;
         let commit = Commit {
             tree: tree.id,
-            parents: parents(alloc, parent)?,
+            parents,
             author,
             committer,
             message,
         };
         let commit = self.new_object(ObjectKind::Commit, commit.to_bytes(alloc)?)?;
         let entry = LogEntry {
-            before: parent.unwrap_or(ObjectId::null(self.objects.kind())),
+            before: held.unwrap_or(ObjectId::null(self.objects.kind())),
             after: commit.id,
             actor: log_actor,
             message: title,

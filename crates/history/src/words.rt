@@ -1,22 +1,22 @@
 //! What a word of a command stands for.
 
-ghost use Rattle.std.specs.Prelude.{◌≡◌, ◌++◌, ◌&&◌, not, Some, IfOk, MatchResult, codes};
+ghost use Rattle.std.specs.Prelude.{◌≡◌, ◌++◌, ◌&&◌, not, Some, None, IfOk, MatchResult, codes};
 ghost use Rattle.history_model.specs.Bytes.{begins};
+ghost use Rattle.history_model.specs.Causes.{is_unborn, is_unknown};
 ghost use Rattle.history_model.specs.Forms.{is_private};
 ghost use Rattle.history_model.specs.Words.{word_reading, ReadsAs};
 ghost use Rattle.history.specs.Acts.{word_cause};
-ghost use Rattle.history.specs.Readings.{reading_of};
+ghost use Rattle.history.specs.Bases.{reads_as};
+ghost use Rattle.history.specs.Readings.{commit_in, reading_of};
 ghost use Rattle.gix_hash.specs.Id.{id_of};
 
+use crate::naming::{HEAD, is_private};
 use crate::repository::Repository;
 use crate::stopped::Stopped;
 use gix_hash::ObjectId;
 use gix_ref_file::Files;
 use history_model::Cause;
 use std::alloc::{AllocError, Global};
-
-/// The word, and the name in commands, that stands for HEAD's branch.
-pub(crate) const HEAD: &[u8] = b"HEAD";
 
 /// What a word reads as.
 #[derive(Clone, Copy, Debug, PartialEq, Eq)]
@@ -49,15 +49,6 @@ fn joined(alloc: Global, front: &[u8], word: &[u8], back: &[u8]) -> Result<Vec<u
     Ok(name)
 }
 
-/// Whether the name belongs to one working tree.
-fn is_private(name: &[u8]) -> bool
-    ensures { result ≡ is_private name.now }
-{
-    name.starts_with(b"refs/bisect/")
-        || name.starts_with(b"refs/worktree/")
-        || name.starts_with(b"refs/rewritten/")
-}
-
 /// Whether a word may mean this name.
 fn is_candidate(name: &[u8]) -> bool
     ensures { result ≡ (begins (codes "refs/") name.now && not (is_private name.now)) }
@@ -66,6 +57,57 @@ fn is_candidate(name: &[u8]) -> bool
 }
 
 impl WordReading {
+    /// Tests that the word reads as what its name holds.
+    pub(crate) fn test(self, held: ObjectId) -> Result<(), Cause>
+        ensures { MatchResult result (λ _. reads_as (id_of held) (reading_of self) ≡ None)
+            (λ cause. reads_as (id_of held) (reading_of self) ≡ Some cause) }
+    {
+        match self {
+            WordReading::Commit(id) => {
+                if held == id {
+                    Ok(())
+                } else {
+                    Err(Cause::NotExpected)
+                }
+            }
+            WordReading::Unborn => Err(Cause::NotExpected),
+            WordReading::Unknown => Err(Cause::NotExpected),
+        }
+    }
+
+    /// The id that the word reads as.
+    pub(crate) fn id(self) -> Option<ObjectId>
+        ensures { result ≡ commit_in self }
+    {
+        match self {
+            WordReading::Commit(id) => Some(id),
+            WordReading::Unborn => None,
+            WordReading::Unknown => None,
+        }
+    }
+
+    /// Whether the word reads as nothing.
+    pub(crate) fn is_unknown(self) -> bool
+        ensures { result ≡ is_unknown (reading_of self) }
+    {
+        match self {
+            WordReading::Commit(_) => false,
+            WordReading::Unborn => false,
+            WordReading::Unknown => true,
+        }
+    }
+
+    /// Whether the word is HEAD, whose branch doesn't stand.
+    pub(crate) fn is_unborn(self) -> bool
+        ensures { result ≡ is_unborn (reading_of self) }
+    {
+        match self {
+            WordReading::Commit(_) => false,
+            WordReading::Unborn => true,
+            WordReading::Unknown => false,
+        }
+    }
+
     /// The commit, where there is one; else why there is none.
     pub(crate) fn commit(self) -> Result<ObjectId, Cause>
         ensures { MatchResult result (λ id. reading_of self ≡ ReadsAs (id_of id)) (λ cause. word_cause (reading_of self) ≡ Some cause) }

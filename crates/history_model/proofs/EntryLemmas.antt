@@ -1,5 +1,5 @@
 -- The entries of trees tell the files at and below their paths.
-use Rattle.std.proofs.Common.{◌≡◌, ◌⊎◌, inl, inr, ℕ, zero, suc, ◌+◌, Bool, true, false, cond, ◌||◌, ◌==◌, List, [], ◌∷◌, ◌++◌, map, length, take, drop, refl, sym, ◌∙◌, ap, subst, Option, Some, None, is_some, option_map, unwrap_or, bytes_eq, codes, length-append}
+use Rattle.std.proofs.Common.{◌≡◌, inl, inr, ℕ, zero, suc, ◌+◌, Bool, true, false, cond, ◌||◌, ◌==◌, List, [], ◌∷◌, ◌++◌, map, length, take, drop, refl, sym, ◌∙◌, ap, subst, Option, Some, None, is_some, option_map, unwrap_or, bytes_eq, codes, length-append}
 use Rattle.std.specs.List.{AllByRecursion, list_any, flat_map, filter_map, cons_option}
 use Rattle.std.specs.Ordering.{eq_by_cmp}
 use Rattle.std.specs.FinMap.{get, get-empty, empty, entries, keys, values, contains_key, contains_key-keys, get-retain_keys, get-from_entries, get-entries, same_map, slice_cmp-IsAntisymmetric, nat_cmp-IsAntisymmetric}

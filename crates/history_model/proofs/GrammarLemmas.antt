@@ -6,7 +6,7 @@ use Rattle.history_model.specs.Bytes.{Bytes}
 use Rattle.history_model.specs.Commands.{Command, Commit, Tag, Move, Rename, Delete, Switch, Pack, Index, Names, Files, Past, Log, Show, Expect, Any, New, At, ActorLine, EditLine, PutLine, RemoveLine, RemoveFileLine, To, Order, Breadth, Newest, Oldest, NewestSince, OldestSince, Date, Topological, LogItem, Tip, Hidden}
 use Rattle.history_model.specs.Spelling.{Part, Line, Field, has_spelling, parents_word, expect_words, at_words, option_list, path_words, order_words, item_word, kind_word, edit_parts, to_part, parent_part, actor_parts, message_parts, end_part, parts_of, has_enough, is_part}
 use Rattle.history_model.specs.Grammar.{is_command, IsPrefixFree}
-use Rattle.history_model.specs.Stage.{is_offered}
+use Rattle.history_model.specs.Stage.{is_spoken}
 use Rattle.history_model.specs.declared.FileKind.{FileKind}
 use Rattle.history_model.specs.declared.FileKind.TheVariants.{File, Exec, Link}
 use Rattle.history_model.proofs.PartLemmas.{Agree, agree_reads, both_true, head_same, tail_same}
@@ -241,7 +241,7 @@ pub spelled_parts : (command : Command) → has_spelling command ≡ true → li
 spelled_parts command h = (both_true (list_all is_part (parts_of command)) (has_enough command) h).0
 
 pub is_spelled : (command : Command) → is_command command ≡ true → has_spelling command ≡ true
-is_spelled command h = (both_true (has_spelling command) (is_offered command) h).0
+is_spelled command h = (both_true (has_spelling command) (is_spoken command) h).0
 
 pub command_parts : (command : Command) → is_command command ≡ true → list_all is_part (parts_of command) ≡ true
 command_parts command h = spelled_parts command (is_spelled command h)

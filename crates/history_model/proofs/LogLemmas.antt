@@ -1,11 +1,11 @@
 -- Which walks of a log are one, and where two first differ.
-use Rattle.std.proofs.Common.{◌≡◌, ℕ, zero, suc, ◌+◌, ◌<◌, ◌≤◌, ◌⊎◌, inl, inr, Bool, true, false, cond, List, [], ◌∷◌, length, take, refl, sym, ◌∙◌, ap, subst, arith, Some, None, slice_get, Option, Contains, IfSome, MatchBool}
+use Rattle.std.proofs.Common.{◌≡◌, ℕ, zero, suc, ◌<◌, ◌≤◌, ◌⊎◌, inl, inr, Bool, true, false, cond, List, [], ◌∷◌, take, refl, sym, ◌∙◌, ap, subst, arith, Some, None, slice_get, Option, Contains, IfSome, MatchBool}
 use Rattle.std.proofs.lemmas.Option.{slice_get_within, get_or_from_slice_get, slice_get-get_or}
 use Rattle.std.specs.Prelude.{⊤}
 use Rattle.gix_hash.specs.Id.{Id}
 use Rattle.history_model.specs.Commands.{Order, Breadth, Newest, Oldest, NewestSince, OldestSince, Date, Topological}
 use Rattle.history_model.specs.Answers.{IsWalk}
-use Rattle.history_model.specs.Walks.{Graph, WalkRequest, Reached, tip, parent, Listed, asked, IsAtIndex, IsListOf, Before, Named, IsKey, IsBreadthFirst, IsChosen, IsLastName, HasNoChild, IsFirstAt, Outranks, later_child, has_child, newer, given_later}
+use Rattle.history_model.specs.Walks.{Graph, WalkRequest, Reached, tip, parent, Listed, asked, IsAtIndex, IsListOf, Before, Named, IsKey, IsBreadthFirst, IsChosen, IsLastName, HasNoChild, Outranks, later_child, has_child, newer, given_later}
 use Rattle.history_model.specs.Laws.{DifferAtOneTime, leaves_choice}
 
 -- ---- places in a list

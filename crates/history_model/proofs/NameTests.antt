@@ -6,7 +6,7 @@ use Rattle.std.proofs.lemmas.Slice.Eq.{bytes_eq-Decides}
 use Rattle.gix_object_lines.specs.NameTest as rules
 use Rattle.history_model.specs.Bytes.{Bytes, begins, ends, is_empty}
 use Rattle.history_model.specs.FileMap.{components}
-use Rattle.history_model.proofs.PartLemmas.{both_true, either_false}
+use Rattle.history_model.proofs.PartLemmas.{both_true}
 
 -- a component: not empty, no dot first, no `.lock` last
 abbrev pub is_name_component : Bytes → Bool

@@ -2,15 +2,15 @@
 use Rattle.std.proofs.Common.{◌≡◌, ℕ, Bool, true, false, cond, not, ◌&&◌, ◌||◌, List, [], ◌∷◌, ◌++◌, map, refl, sym, ◌∙◌, ap, subst, arith, tests, Option, Some, None, is_some, bytes_eq, nat_eq, ◌==◌}
 use Rattle.std.specs.List.{list_all, list_any, flat_map, before_first, after_first, AllByRecursion}
 use Rattle.std.specs.Ordering.{eq_by_cmp}
-use Rattle.std.specs.FinMap.{FinMap, entries, keys, get, empty, contains_key, insert, retain_keys, contains_key-keys, get-empty, get-retain_keys, get-entries, same_map, slice_cmp-IsAntisymmetric, nat_cmp-IsAntisymmetric}
+use Rattle.std.specs.FinMap.{FinMap, entries, keys, get, empty, contains_key, insert, retain_keys, contains_key-keys, get-empty, get-retain_keys, get-remove, get-entries, same_map, slice_cmp-IsAntisymmetric, nat_cmp-IsAntisymmetric}
 use Rattle.std.specs.FinMap.Entries.{find}
 use Rattle.std.proofs.lemmas.Cmp.{nat_list_cmp_total}
 use Rattle.history_model.specs.Bytes.{Bytes, by_bytes, begins, has_byte}
-use Rattle.history_model.specs.FileMap.{FileMap, Content, Edit, Put, Remove, RemoveFile, edited, edited_by, edit_path, inside, beginnings, beginnings_from, is_below, is_within, has_below, folders_of}
+use Rattle.history_model.specs.FileMap.{FileMap, Content, Edit, Put, Remove, RemoveFile, edited, edited_by, edit_path, removed, inside, beginnings, beginnings_from, is_below, is_within, has_below, folders_of}
 use Rattle.history_model.specs.Stage.{is_offered_path}
 use Rattle.history_model.specs.Objects.{Value, StoredBytes, StoredFolder, FileEntry, tree_entries, tree_entry_text, into_folder, root, root_within}
 use Rattle.history_model.specs.Repository.{IsStored}
-use Rattle.history_model.specs.Offered.{is_flat, file_entry_text, FlatRoots, FlatFolders, FlatPuts, FilesAreStored}
+use Rattle.history_model.specs.Offered.{is_flat, file_entry_text, FlatRoots, FlatFolders, FlatPuts, FlatRemovals, FilesAreStored}
 use Rattle.gix_hash.specs.declared.kind.Kind.{Kind}
 use Rattle.history_model.proofs.PartLemmas.{both_true, either_false}
 use Rattle.history_model.proofs.TreePlaces.{one_text, text_itself, texts_apart, same_key, get_with}
@@ -137,7 +137,7 @@ insert_flat files path content is h = all_keys is_offered_path (insert files pat
     go q true e k = ap is_offered_path (one_text q path e) ∙ is
     go q false e k = each_key is_offered_path files h q k
 
-edit_flat : (files : FileMap) (edit : Edit) → is_offered_path (edit_path edit) ≡ true → is_flat files ≡ true → is_flat (edited files edit) ≡ true
+pub edit_flat : (files : FileMap) (edit : Edit) → is_offered_path (edit_path edit) ≡ true → is_flat files ≡ true → is_flat (edited files edit) ≡ true
 edit_flat files (Put kind path bytes) is h = insert_flat (retain_keys files (λ q. not (is_within path q || is_within q path))) path (record { kind = kind; bytes = bytes }) is (retain_flat files _ h)
 edit_flat files (Remove path) is h = retain_flat files _ h
 edit_flat files (RemoveFile path) is h = retain_flat files _ h
@@ -181,6 +181,44 @@ flat_puts files path content flat is = same_map nat_list_cmp_total (slice_cmp-Is
         none true = refl
         none false = refl
     go q false e (Some x) f = kept q ∙ ap (λ b. cond b (get files q) None) (apart q e (turned (has_byte 47 q) (each_key is_offered_path files flat q (ap is_some f))))
+
+-- ---- one removal
+
+pub flat_removals : FlatRemovals
+flat_removals files path flat = same_map nat_list_cmp_total (slice_cmp-IsAntisymmetric nat_cmp-IsAntisymmetric) _ _ (λ q.
+    kept q ∙ go q (get files q) refl ∙ sym (get-remove nat_list_cmp_total files path q))
+  where
+    kept : (q : Bytes) → get (removed path files) q ≡ cond (not (is_within path q)) (get files q) None
+    kept q = get-retain_keys files (λ q. not (is_within path q)) q (λ x e. ap (λ q. not (is_within path q)) (sym (slice_cmp-IsAntisymmetric nat_cmp-IsAntisymmetric q x e)))
+
+    none : (b : Bool) → ◌≡◌ {A = Option Content} (cond b None None) None
+    none true = refl
+    none false = refl
+
+    other_way : (a b : Bytes) → bytes_eq a b ≡ bytes_eq b a
+    other_way a b = by_case (bytes_eq a b) refl (bytes_eq b a) refl
+      where
+        by_case : (x : Bool) → bytes_eq a b ≡ x → (y : Bool) → bytes_eq b a ≡ y → x ≡ y
+        by_case true e true f = refl
+        by_case false e false f = refl
+        by_case true e false f = absurd (cc (sym f ∙ ap (bytes_eq b) (one_text a b e) ∙ text_itself b))
+        by_case false e true f = absurd (cc (sym e ∙ ap (bytes_eq a) (one_text b a f) ∙ text_itself a))
+
+    turned_round : (b : Bool) (x : Option Content) → cond (not b) x None ≡ cond b None x
+    turned_round true x = refl
+    turned_round false x = refl
+
+    or_false : (b : Bool) → (b || false) ≡ b
+    or_false true = refl
+    or_false false = refl
+
+    go : (q : Bytes) (found : Option Content) → get files q ≡ found → cond (not (is_within path q)) (get files q) None ≡ cond (eq_by_cmp by_bytes q path) None (get files q)
+    go q None f = ap (λ o. cond (not (is_within path q)) o None) f ∙ none (not (is_within path q)) ∙ sym (ap (λ o. cond (eq_by_cmp by_bytes q path) None o) f ∙ none (eq_by_cmp by_bytes q path))
+    go q (Some x) f =
+        let free = turned (has_byte 47 q) (each_key is_offered_path files flat q (ap is_some f)) in
+        let within_is : is_within path q ≡ eq_by_cmp by_bytes q path =
+        ap (λ b. bytes_eq path q || b) (slash_free path q free) ∙ or_false (bytes_eq path q) ∙ other_way path q ∙ sym (same_key q path) in
+        ap (λ b. cond (not b) (get files q) None) within_is ∙ turned_round (eq_by_cmp by_bytes q path) (get files q)
 
 -- ---- the bytes of a stored folder's files
 

@@ -1,26 +1,25 @@
 -- A new repository is one of this stage, and accepted commands of the stage leave one.
-use Rattle.std.proofs.Common.{◌≡◌, Bool, true, false, cond, not, ◌&&◌, ◌||◌, List, [], ◌∷◌, ◌++◌, map, refl, sym, ◌∙◌, ap, subst, Option, Some, None, option_map, option_and_then, is_some, unwrap_or, bytes_eq, codes, find, nat_lt, length}
+use Rattle.std.proofs.Common.{◌≡◌, Bool, true, false, cond, not, ◌&&◌, List, [], ◌∷◌, ◌++◌, map, refl, sym, ◌∙◌, subst, Option, Some, None, option_map, option_and_then, unwrap_or, find, nat_lt, length}
 use Rattle.std.specs.List.{list_all, list_any, flat_map, AllByRecursion}
 use Rattle.std.specs.FinMap.{FinMap, get, empty, insert, contains_key, get-empty}
-use Rattle.history_model.specs.Bytes.{Bytes, by_bytes}
+use Rattle.history_model.specs.Bytes.{Bytes}
 use Rattle.history_model.specs.FileMap.{Edit, Put, Remove, RemoveFile, edit_path, folders_of, is_path}
-use Rattle.history_model.specs.Stage.{main_name, is_offered_path}
+use Rattle.history_model.specs.Stage.{is_offered_path}
 use Rattle.history_model.specs.Objects.{by_id, Value, CommitValue, StoredCommit, StoredTag, StoredBytes, StoredFolder, id_of}
 use Rattle.gix_hash.specs.Id.{Id}
 use Rattle.gix_hash.specs.Order.{id_eq}
-use Rattle.history_model.specs.Repository.{Repository, Reference, as_commit, stands}
-use Rattle.history_model.specs.Forms.{max_path, title}
+use Rattle.history_model.specs.Repository.{Repository, as_commit}
+use Rattle.history_model.specs.Forms.{max_path}
 use Rattle.history_model.specs.Commands.{Command, Commit, Tag, Move, Rename, Delete, Switch, Pack, Index, Names, Files, Past, Log, Show, CommitCommand, EditLine, PutLine, RemoveLine, RemoveFileLine}
 use Rattle.history_model.specs.CommandParts.{edit_paths, paths_in}
-use Rattle.history_model.specs.Meaning.{after, branch_or_name, parents_of, files_at, first_files, edits_of, read_edit, new_commit, put_bytes, store_one, store_all, stored_by, moved_reference, read_actor}
-use Rattle.history_model.specs.Causes.{holds, first_cause, is_bad_path}
+use Rattle.history_model.specs.Meaning.{after, parents_of, files_at, first_files, edits_of, read_edit, new_commit, put_bytes, store_one, store_all, stored_by}
+use Rattle.history_model.specs.Causes.{holds, first_cause, some_collide, is_bad_path}
 use Rattle.history_model.specs.Offered.{is_flat, IsOfferedValue, IsOffered, FreshIsOffered, OfferedStays}
 use Rattle.gix_hash.specs.declared.kind.Kind.{Kind}
 use Rattle.history_model.specs.declared.Cause.{Cause}
 use Rattle.history_model.specs.declared.Cause.TheVariants.{BadName, PrivateName, NameTwice, UnknownWord, AmbiguousWord, UnbornHead, NotACommit, NoSuchName, Taken, NotExpected, Collides, HoldsTag, TooManyParents, DuplicateParent, BadPath, IsFolder, NoSuchPath, BadActor, BadTime, BadMessage, TooLarge, NothingMoves, OrderWithParents}
 use Rattle.history_model.proofs.IdLemmas.{get_with_id}
 use Rattle.history_model.proofs.PartLemmas.{both_true, either_false}
-use Rattle.history_model.proofs.TreePlaces.{one_text, get_with}
 use Rattle.history_model.proofs.OfferedFiles.{both, empty_flat, edits_flat, flat_folders}
 
 -- ---- a new repository
@@ -31,23 +30,8 @@ some_none x e = cc
 pub fresh_is_offered : FreshIsOffered
 fresh_is_offered kind = record {
   values = λ id value at. some_none value (sym at ∙ get-empty by_id id);
-  names = λ name e. absurd (cc (sym (ap is_some (get-empty {X = Reference} by_bytes name)) ∙ e));
   branch = refl;
 }
-
--- ---- the name
-
--- a commit of this stage names the branch
-pub name_is_main : (r : Repository) → r.branch ≡ main_name → (name : Bytes) → (bytes_eq name main_name || bytes_eq name (codes "HEAD")) ≡ true → branch_or_name r name ≡ main_name
-name_is_main r branch name h = go (bytes_eq name (codes "HEAD")) refl
-  where
-    first : (a b : Bool) → (a || b) ≡ true → b ≡ false → a ≡ true
-    first true b e f = refl
-    first false b e f = cc
-
-    go : (b : Bool) → bytes_eq name (codes "HEAD") ≡ b → cond b r.branch name ≡ main_name
-    go true e = branch
-    go false e = one_text name main_name (first (bytes_eq name main_name) (bytes_eq name (codes "HEAD")) h e)
 
 -- ---- the files
 
@@ -75,7 +59,7 @@ good_path path h = (both_true (is_path path) (is_offered_path path) (turned_back
     turned_back true e = refl
     turned_back false e = cc
 
-edits_offered : (r : Repository) (edits : List EditLine) → list_any is_bad_path (flat_map edit_paths edits) ≡ false → list_all (λ edit. is_offered_path (edit_path edit)) (map (read_edit r) edits) ≡ true
+pub edits_offered : (r : Repository) (edits : List EditLine) → list_any is_bad_path (flat_map edit_paths edits) ≡ false → list_all (λ edit. is_offered_path (edit_path edit)) (map (read_edit r) edits) ≡ true
 edits_offered r [] h = refl
 edits_offered r (PutLine kind path bytes ∷ edits) h =
     let parts = either_false (is_bad_path path) (list_any is_bad_path (flat_map edit_paths edits)) h in
@@ -104,6 +88,11 @@ pub no_bad_path : (r : Repository) (command : Command) → first_cause r command
 no_bad_path r command h = none_there (λ cause. holds cause r command)
     (BadName ∷ PrivateName ∷ NameTwice ∷ UnknownWord ∷ AmbiguousWord ∷ UnbornHead ∷ NotACommit ∷ NoSuchName ∷ Taken ∷ NotExpected ∷ Collides ∷ HoldsTag ∷ TooManyParents ∷ DuplicateParent ∷ [])
     BadPath (IsFolder ∷ NoSuchPath ∷ BadActor ∷ BadTime ∷ BadMessage ∷ TooLarge ∷ NothingMoves ∷ OrderWithParents ∷ []) h
+
+pub no_collision : (r : Repository) (command : Command) → first_cause r command ≡ None → some_collide r command ≡ false
+no_collision r command h = none_there (λ cause. holds cause r command)
+    (BadName ∷ PrivateName ∷ NameTwice ∷ UnknownWord ∷ AmbiguousWord ∷ UnbornHead ∷ NotACommit ∷ NoSuchName ∷ Taken ∷ NotExpected ∷ [])
+    Collides (HoldsTag ∷ TooManyParents ∷ DuplicateParent ∷ BadPath ∷ IsFolder ∷ NoSuchPath ∷ BadActor ∷ BadTime ∷ BadMessage ∷ TooLarge ∷ NothingMoves ∷ OrderWithParents ∷ []) h
 
 -- ---- the values
 
@@ -152,27 +141,15 @@ module _ (r : Repository) (c : CommitCommand) (o : IsOffered r) (good : list_any
       (subst (λ folders. AllByRecursion IsOfferedValue (map StoredFolder folders)) (sym (flat_folders new.files new_flat)) (new_flat, tt)))
       (new_flat, tt)
 
-  abbrev ref : Reference
-  ref = moved_reference r (branch_or_name r c.name) (id_of r.kind (StoredCommit new)) (read_actor c.committer) (title c.message)
-
-  names_stay : branch_or_name r c.name ≡ main_name → (name : Bytes) → stands (after r (Commit c)) name ≡ true → name ≡ main_name
-  names_stay is name h = go (bytes_eq name (branch_or_name r c.name)) refl (sym (ap is_some (get_with r.names (branch_or_name r c.name) ref name)) ∙ h)
-    where
-      go : (b : Bool) → bytes_eq name (branch_or_name r c.name) ≡ b → is_some (cond b (Some ref) (get r.names name)) ≡ true → name ≡ main_name
-      go true e k = one_text name (branch_or_name r c.name) e ∙ is
-      go false e k = o.names name k
-
-  commit_stays : branch_or_name r c.name ≡ main_name → IsOffered (after r (Commit c))
+  commit_stays : IsOffered (after r (Commit c))
   unfolding AreOffered
-  commit_stays is = record {
+  commit_stays = record {
     values = all_stored r.kind r.objects (stored_by r (Commit c)) o.values commit_values;
-    names = names_stay is;
     branch = o.branch;
   }
 
 pub offered_stays : OfferedStays
-offered_stays r (Commit c) o offered none =
-    commit_stays r c o (no_bad_path r (Commit c) none) (name_is_main r o.branch c.name (both_true _ _ (both_true _ _ offered).0).0)
+offered_stays r (Commit c) o offered none = commit_stays r c o (no_bad_path r (Commit c) none)
 offered_stays r (Tag c) o offered none = cc
 offered_stays r (Move c) o offered none = cc
 offered_stays r (Rename from to) o offered none = cc

@@ -1,9 +1,7 @@
 -- What a stop leaves is closed before it is recovered.
-use Rattle.std.proofs.Common.{◌≡◌, ◌≢◌, sym, ◌∙◌, ap, Some, IsSome}
-use Rattle.std.specs.FinMap.{get}
+use Rattle.std.proofs.Common.{◌≡◌, sym, ◌∙◌, ap, Some, IsSome}
 use Rattle.gix_hash.specs.Id.{Id}
 use Rattle.history_model.specs.Bytes.{Bytes}
-use Rattle.history_model.specs.Places.{file_at, unfinished_place}
 use Rattle.history_model.specs.Readings.{Holds, reading}
 use Rattle.history_model.specs.Recovery.{recovered_names}
 use Rattle.history_model.specs.Repository.{peeled}

@@ -1,5 +1,5 @@
 -- Rounds of runs, stopped or at their end, and of recoveries.
-use Rattle.std.proofs.Common.{◌≡◌, ◌⊎◌, ◌==◌, ℕ, Bool, true, false, cond, not, ◌&&◌, ◌||◌, List, [], ◌∷◌, ◌++◌, refl, sym, ◌∙◌, ap, subst, inl, inr, Option, None, Some, is_some, MatchBool, unwrap_or, arith}
+use Rattle.std.proofs.Common.{◌≡◌, ◌⊎◌, ◌==◌, ℕ, Bool, true, false, not, ◌&&◌, ◌||◌, List, [], ◌∷◌, ◌++◌, refl, sym, ◌∙◌, ap, subst, inl, inr, Option, None, Some, is_some, MatchBool, unwrap_or, arith}
 use Rattle.std.specs.List.{list_all, flat_map}
 use Rattle.gix_ref_file.specs.History.{History}
 use Rattle.std.proofs.lemmas.Bool.Decides.{nat_tests}
@@ -15,8 +15,8 @@ use Rattle.history_model.specs.Causes.{first_cause}
 use Rattle.history_model.specs.Replies.{Reply, RefusedFor, Faulted, reply_text}
 use Rattle.history_model.specs.Stops.{LeftByStop, Between, is_changing}
 use Rattle.history_model.specs.Steps.{Step, Steps, goes_on, some_failed}
-use Rattle.history_model.specs.Runs.{BeginsWith, Runs, EndsReading, EndsWriting, Ends, CutsShort, IsNoCommand}
-use Rattle.history_model.specs.Moments.{Moment, IsPairAt, IsCommandPair, IsRunPair, IsStepPair, StandsAt, ActedOn, ActsOn, Traces, last_moment}
+use Rattle.history_model.specs.Runs.{BeginsWith, Runs, EndsReading, EndsWriting, Ends, CutsShort}
+use Rattle.history_model.specs.Moments.{Moment, IsPairAt, IsCommandPair, StandsAt, ActedOn, ActsOn, last_moment}
 use Rattle.history_model.specs.Rounds.{HasWritten, IsCutOff, Round, IsStoppedIn, IsLast, IsRunOf, Recovers, IsLeft, IsRound, Leaves, IsOutcome}
 use Rattle.history_model.specs.Laws.{RoundsJoin, WritesReplies, RunsHaveWritten, TracesStop}
 use Rattle.history_model.specs.declared.End.{End}

@@ -1,15 +1,15 @@
 -- Two runs over one input agree.
-use Rattle.std.proofs.Common.{◌≡◌, ◌⊎◌, inl, inr, Bool, true, false, not, ◌&&◌, List, [], ◌∷◌, ◌++◌, refl, sym, ◌∙◌, ap, subst, MatchBool, append_assoc, append-nil, length-append, ◌≢◌, ◌≤◌, ◌<◌, ◌+◌, ◌||◌, ℕ, zero, suc, length, take, arith}
+use Rattle.std.proofs.Common.{◌≡◌, ◌⊎◌, inl, inr, Bool, true, false, not, ◌&&◌, List, [], ◌∷◌, ◌++◌, refl, sym, ◌∙◌, ap, subst, MatchBool, append_assoc, append-nil, length-append, ◌≢◌, ◌≤◌, ◌+◌, ◌||◌, ℕ, zero, suc, length, take, arith}
 use Rattle.std.specs.List.{list_all, flat_map, join_with_byte}
 use Rattle.history_model.specs.Bytes.{Bytes, line, has_byte}
 use Rattle.history_model.specs.Repository.{Repository}
-use Rattle.history_model.specs.Commands.{Command, Commit, Tag, Move, Rename, Delete, Switch, Pack, Index, Names, Files, Past, Log, Show, LogCommand, Order, Breadth, Newest, Oldest, NewestSince, OldestSince, Date, Topological}
+use Rattle.history_model.specs.Commands.{Command, Commit, Tag, Move, Rename, Delete, Switch, Pack, Index, Names, Files, Past, Log, Show, LogCommand}
 use Rattle.history_model.specs.Spelling.{Part, Line, parts_of, parts_text, spelling, max_line}
 use Rattle.history_model.specs.Grammar.{is_command, StopsBy, HasRestCause}
 use Rattle.history_model.specs.Replies.{Reply, Faulted, LogIs, reply_text}
 use Rattle.history_model.specs.Answers.{kept, time_at}
 use Rattle.history_model.specs.Stops.{is_changing}
-use Rattle.history_model.specs.Steps.{Steps, goes_on, is_faulted, some_failed, next}
+use Rattle.history_model.specs.Steps.{Steps, is_faulted, some_failed, next}
 use Rattle.history_model.specs.Runs.{Runs}
 use Rattle.history_model.specs.Laws.{DifferAtOneTime, leaves_choice, ListsAlike, AreAlike, AreAllAlike, have_no_fault, is_sure, HasFault, RunsAgree, RunsGive}
 use Rattle.history_model.specs.declared.Cause.{Cause}

@@ -10,7 +10,7 @@ use Rattle.history_model.specs.Commands.{Expect, Any, New, At}
 use Rattle.history_model.specs.Spelling.{expect_words, kind_word}
 use Rattle.history_model.specs.declared.FileKind.{FileKind}
 use Rattle.history_model.specs.declared.FileKind.TheVariants.{File, Exec, Link}
-use Rattle.history_model.specs.LineTable.{Role, Author, Committer, Heading, CommitHeading, PutHeading, ActorHeading, MessageHeading, EndHeading, FilesHeading, ShowHeading, ShowPathHeading, role_word, words_of, sizes, are_sizes, number_of, kind_of, expect_of, commit_of_words, put_of_words, actor_of_words, message_of_words, end_of_words, files_of_words, show_of_words, heading_of, WordsAreHeadings}
+use Rattle.history_model.specs.LineTable.{Role, Author, Committer, Heading, CommitHeading, ParentHeading, PutHeading, RemoveHeading, RemoveFileHeading, ActorHeading, MessageHeading, EndHeading, FilesHeading, ShowHeading, ShowPathHeading, role_word, words_of, sizes, are_sizes, number_of, kind_of, expect_of, commit_of_words, parent_of_words, put_of_words, removal_of_words, actor_of_words, message_of_words, end_of_words, files_of_words, show_of_words, heading_of, WordsAreHeadings}
 use Rattle.history_model.proofs.PartLemmas.{both_true, below}
 
 -- ---- options
@@ -120,6 +120,10 @@ commit_told (name ∷ words) h e =
     told_as (codes "commit" ∷ name ∷ words) (CommitHeading name expect.0) h expect.2 (ap (λ ws. codes "commit" ∷ name ∷ ws) (expect_told words expect.0 expect.1)) refl
 commit_told [] h e = cc
 
+parent_told : (words : List Bytes) (h : Heading) → parent_of_words words ≡ Some h → Tells (codes "parent" ∷ words) h
+parent_told (word ∷ []) h e = told_as (codes "parent" ∷ word ∷ []) (ParentHeading word) h (some_same e) refl refl
+parent_told words h e = cc
+
 put_told : (words : List Bytes) (h : Heading) → put_of_words words ≡ Some h → Tells (codes "put" ∷ words) h
 put_told (kind ∷ path ∷ content ∷ []) h e =
     let k = then_some _ (kind_of kind) h e in
@@ -132,6 +136,20 @@ put_told (kind ∷ path ∷ content ∷ []) h e =
     (λ i. codes "put" ∷ kind_is i ∷ path_is.0 i ∷ content_is.0 i ∷ [])
     (and_true (nat_lt m.0 (2 ^ 64)) (nat_lt n.0 (2 ^ 64) && true) path_is.1 (and_true (nat_lt n.0 (2 ^ 64)) true content_is.1 refl))
 put_told words h e = cc
+
+remove_told : (words : List Bytes) (h : Heading) → removal_of_words RemoveHeading words ≡ Some h → Tells (codes "remove" ∷ words) h
+remove_told (path ∷ []) h e =
+    let n = map_some RemoveHeading (number_of path) h e in
+    let path_is = decimal_number path n.0 n.1 in
+    told_as (codes "remove" ∷ path ∷ []) (RemoveHeading n.0) h n.2 (λ i. codes "remove" ∷ path_is.0 i ∷ []) (and_true (nat_lt n.0 (2 ^ 64)) true path_is.1 refl)
+remove_told words h e = cc
+
+remove_file_told : (words : List Bytes) (h : Heading) → removal_of_words RemoveFileHeading words ≡ Some h → Tells (codes "remove-file" ∷ words) h
+remove_file_told (path ∷ []) h e =
+    let n = map_some RemoveFileHeading (number_of path) h e in
+    let path_is = decimal_number path n.0 n.1 in
+    told_as (codes "remove-file" ∷ path ∷ []) (RemoveFileHeading n.0) h n.2 (λ i. codes "remove-file" ∷ path_is.0 i ∷ []) (and_true (nat_lt n.0 (2 ^ 64)) true path_is.1 refl)
+remove_file_told words h e = cc
 
 actor_told : (role : Role) (words : List Bytes) (h : Heading) → actor_of_words role words ≡ Some h → Tells (role_word role ∷ words) h
 actor_told role (name ∷ email ∷ seconds ∷ offset ∷ []) h e =
@@ -177,13 +195,16 @@ pub heading_told : (words : List Bytes) (h : Heading) → heading_of words ≡ S
 heading_told [] h e = cc
 heading_told (first ∷ words) h e =
     either_way (bytes_eq first (codes "commit")) (commit_of_words words) _ h e (λ b f. named first (codes "commit") words h b (commit_told words h f)) (λ e.
+    either_way (bytes_eq first (codes "parent")) (parent_of_words words) _ h e (λ b f. named first (codes "parent") words h b (parent_told words h f)) (λ e.
     either_way (bytes_eq first (codes "put")) (put_of_words words) _ h e (λ b f. named first (codes "put") words h b (put_told words h f)) (λ e.
+    either_way (bytes_eq first (codes "remove")) (removal_of_words RemoveHeading words) _ h e (λ b f. named first (codes "remove") words h b (remove_told words h f)) (λ e.
+    either_way (bytes_eq first (codes "remove-file")) (removal_of_words RemoveFileHeading words) _ h e (λ b f. named first (codes "remove-file") words h b (remove_file_told words h f)) (λ e.
     either_way (bytes_eq first (codes "author")) (actor_of_words Author words) _ h e (λ b f. named first (codes "author") words h b (actor_told Author words h f)) (λ e.
     either_way (bytes_eq first (codes "committer")) (actor_of_words Committer words) _ h e (λ b f. named first (codes "committer") words h b (actor_told Committer words h f)) (λ e.
     either_way (bytes_eq first (codes "message")) (message_of_words words) _ h e (λ b f. named first (codes "message") words h b (message_told words h f)) (λ e.
     either_way (bytes_eq first (codes "end")) (end_of_words words) _ h e (λ b f. named first (codes "end") words h b (end_told words h f)) (λ e.
     either_way (bytes_eq first (codes "files")) (files_of_words words) _ h e (λ b f. named first (codes "files") words h b (files_told words h f)) (λ e.
-    either_way (bytes_eq first (codes "show")) (show_of_words words) None h e (λ b f. named first (codes "show") words h b (show_told words h f)) (λ e. cc))))))))
+    either_way (bytes_eq first (codes "show")) (show_of_words words) None h e (λ b f. named first (codes "show") words h b (show_told words h f)) (λ e. cc)))))))))))
 
 kind_reads : (kind : FileKind) → kind_of (kind_word kind) ≡ Some kind
 kind_reads File = refl
@@ -204,11 +225,14 @@ actor_reads role name email seconds offset s =
 
 pub heading_reads : (h : Heading) → are_sizes (sizes h) ≡ true → heading_of (words_of h) ≡ Some h
 heading_reads (CommitHeading name expect) s = ap (option_map (CommitHeading name)) (expect_reads expect)
+heading_reads (ParentHeading word) s = refl
 heading_reads (PutHeading kind path content) s =
     let both = both_true (nat_lt path (2 ^ 64)) (nat_lt content (2 ^ 64) && true) s in
     ap (option_and_then (λ k. option_and_then (λ m. option_map (PutHeading k m) (number_of (decimal content))) (number_of (decimal path)))) (kind_reads kind)
     ∙ ap (option_and_then (λ m. option_map (PutHeading kind m) (number_of (decimal content)))) (number_decimal path both.0)
     ∙ ap (option_map (PutHeading kind path)) (number_decimal content (both_true (nat_lt content (2 ^ 64)) true both.1).0)
+heading_reads (RemoveHeading path) s = ap (option_map RemoveHeading) (number_decimal path (both_true (nat_lt path (2 ^ 64)) true s).0)
+heading_reads (RemoveFileHeading path) s = ap (option_map RemoveFileHeading) (number_decimal path (both_true (nat_lt path (2 ^ 64)) true s).0)
 heading_reads (ActorHeading Author name email seconds offset) s = actor_reads Author name email seconds offset s
 heading_reads (ActorHeading Committer name email seconds offset) s = actor_reads Committer name email seconds offset s
 heading_reads (MessageHeading message) s = ap (option_map MessageHeading) (number_decimal message (both_true (nat_lt message (2 ^ 64)) true s).0)

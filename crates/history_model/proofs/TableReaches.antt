@@ -2,17 +2,16 @@
 use Rattle.std.proofs.Common.{◌≡◌, ◌≢◌, ℕ, Bool, true, false, ◌&&◌, List, [], ◌∷◌, ◌++◌, length, map, replicate, refl, sym, ap, ◌∙◌, subst, Some, None, option_and_then, codes, flat_map}
 use Rattle.std.specs.List.{list_all, join_with_byte}
 use Rattle.std.specs.Fmt.{digits}
-use Rattle.history_model.specs.Bytes.{Bytes, line, is_empty}
+use Rattle.history_model.specs.Bytes.{Bytes, line}
 use Rattle.history_model.specs.Commands.{Command, Commit, Files, Show, CommitCommand, Expect, EditLine, PutLine, RemoveLine, RemoveFileLine}
 use Rattle.history_model.specs.Spelling.{Part, Line, Field, parts_of, edit_parts, actor_parts, message_parts, end_part, signed_parts, parent_part, is_part, has_spelling}
-use Rattle.history_model.specs.Stage.{is_put, is_offered, is_commit_name}
 use Rattle.history_model.specs.Commands as commands
 use Rattle.history_model.specs.Grammar.{is_command, GoesOn, LineFits}
-use Rattle.history_model.specs.LineTable.{Role, Author, Committer, Heading, CommitHeading, PutHeading, ActorHeading, MessageHeading, EndHeading, FilesHeading, ShowHeading, ShowPathHeading, role_word, words_of, sizes, are_sizes, Place, Start, Edits, ToCommitter, ToMessage, ToEnd, Done, next}
+use Rattle.history_model.specs.LineTable.{Role, Author, Committer, Heading, CommitHeading, ParentHeading, PutHeading, RemoveHeading, RemoveFileHeading, ActorHeading, MessageHeading, EndHeading, FilesHeading, ShowHeading, ShowPathHeading, role_word, words_of, sizes, are_sizes, Place, Start, Parents, Edits, ToCommitter, ToMessage, ToEnd, Done, next_edit, next}
 use Rattle.history_model.specs.TableRuns.{Progress, begin, done, part_step, run_from, reached, IsLineAt, TableTellsCommands, TableTellsWhatGoesOn, TableTellsFields, TableTellsLines, TableTellsWhatFits, TableTakesLines, TableTakesFields}
 use Rattle.std.proofs.lemmas.List.{length-replicate}
 use Rattle.history_model.proofs.PartLemmas.{both_true, head_same, tail_same}
-use Rattle.history_model.proofs.TableLines.{and_true, if_taken, then_some}
+use Rattle.history_model.proofs.TableLines.{and_true, then_some}
 use Rattle.history_model.proofs.TableRunLemmas.{at, line_step, line_goes, field_goes, run_append, commands_run}
 
 -- ---- a command's parts
@@ -61,29 +60,60 @@ no_field place following h rest told stands parts =
       first.1,
     )
 
-puts_reach : (edits : List EditLine) (rest : List Part) → list_all is_put edits ≡ true → list_all is_part (flat_map edit_parts edits ++ rest) ≡ true
-    → (run_from (at [] Edits) (flat_map edit_parts edits ++ rest) ≡ run_from (at [] Edits) rest) × (list_all is_part rest ≡ true)
-puts_reach [] rest puts parts = (refl, parts)
-puts_reach (PutLine kind path content ∷ edits) rest puts parts =
-    let first = two_fields Edits Edits (PutHeading kind (length path) (length content)) path content (flat_map edit_parts edits ++ rest) refl refl parts in
-    let more = puts_reach edits rest puts first.1 in
-    (first.0 ∙ more.0, more.1)
-puts_reach (RemoveLine path ∷ edits) rest puts parts = cc
-puts_reach (RemoveFileLine path ∷ edits) rest puts parts = cc
-
 actor_reach : (role : Role) (place following : Place) (a : commands.ActorLine) (rest : List Part) → next place (ActorHeading role (length a.name) (length a.email) a.seconds a.offset) ≡ Some following
     → list_all is_part (actor_parts (role_word role) a ++ rest) ≡ true
     → (run_from (at [] place) (actor_parts (role_word role) a ++ rest) ≡ run_from (at [] following) rest) × (list_all is_part rest ≡ true)
 actor_reach role place following a rest stands parts = two_fields place following (ActorHeading role (length a.name) (length a.email) a.seconds a.offset) a.name a.email rest refl stands parts
 
+-- behind the parents and behind an edit the same lines may stand
+edit_place : Place → Type 0
+edit_place place = (h : Heading) (following : Place) → next_edit h ≡ Some following → next place h ≡ Some following
+
+at_parents : edit_place Parents
+unfolding edit_place
+at_parents (ParentHeading word) following s = cc
+at_parents h following s = s
+
+at_edits : edit_place Edits
+unfolding edit_place
+at_edits h following s = s
+
+edits_reach : (place : Place) (edits : List EditLine) (a : commands.ActorLine) (rest : List Part) → edit_place place
+    → list_all is_part (flat_map edit_parts edits ++ (actor_parts (codes "author") a ++ rest)) ≡ true
+    → (run_from (at [] place) (flat_map edit_parts edits ++ (actor_parts (codes "author") a ++ rest)) ≡ run_from (at [] ToCommitter) rest) × (list_all is_part rest ≡ true)
+unfolding edit_place
+edits_reach place [] a rest here parts = actor_reach Author place ToCommitter a rest (here (ActorHeading Author (length a.name) (length a.email) a.seconds a.offset) ToCommitter refl) parts
+edits_reach place (PutLine kind path content ∷ edits) a rest here parts =
+    let behind = flat_map edit_parts edits ++ (actor_parts (codes "author") a ++ rest) in
+    let h : Heading = PutHeading kind (length path) (length content) in
+    let first = two_fields place Edits h path content behind refl (here h Edits refl) parts in
+    let more = edits_reach Edits edits a rest at_edits first.1 in
+    (first.0 ∙ more.0, more.1)
+edits_reach place (RemoveLine path ∷ edits) a rest here parts =
+    let behind = flat_map edit_parts edits ++ (actor_parts (codes "author") a ++ rest) in
+    let h : Heading = RemoveHeading (length path) in
+    let first = one_field place Edits h path behind refl (here h Edits refl) parts in
+    let more = edits_reach Edits edits a rest at_edits first.1 in
+    (first.0 ∙ more.0, more.1)
+edits_reach place (RemoveFileLine path ∷ edits) a rest here parts =
+    let behind = flat_map edit_parts edits ++ (actor_parts (codes "author") a ++ rest) in
+    let h : Heading = RemoveFileHeading (length path) in
+    let first = one_field place Edits h path behind refl (here h Edits refl) parts in
+    let more = edits_reach Edits edits a rest at_edits first.1 in
+    (first.0 ∙ more.0, more.1)
+
+parents_reach : (parents : List Bytes) (rest : List Part) → list_all is_part (map parent_part parents ++ rest) ≡ true
+    → (run_from (at [] Parents) (map parent_part parents ++ rest) ≡ run_from (at [] Parents) rest) × (list_all is_part rest ≡ true)
+parents_reach [] rest parts = (refl, parts)
+parents_reach (word ∷ parents) rest parts =
+    let first = no_field Parents Parents (ParentHeading word) (map parent_part parents ++ rest) refl refl parts in
+    let more = parents_reach parents rest first.1 in
+    (first.0 ∙ more.0, more.1)
+
 message_reach : (message : Bytes) → list_all is_part (message_parts message ++ end_part) ≡ true → run_from (at [] ToMessage) (message_parts message ++ end_part) ≡ Some done
 message_reach message parts =
     let first = one_field ToMessage ToEnd (MessageHeading (length message)) message end_part refl refl parts in
     first.0 ∙ (no_field ToEnd Done EndHeading [] refl refl first.1).0
-
-without_parents : (ps : List Bytes) (rest : List Part) → is_empty ps ≡ true → map parent_part ps ++ rest ≡ rest
-without_parents [] rest h = refl
-without_parents (p ∷ ps) rest h = cc
 
 spelled : (b : Bool) → (b && true && true) ≡ true → b ≡ true
 spelled true h = refl
@@ -91,19 +121,12 @@ spelled false h = cc
 
 command_reaches : (command : Command) → is_command command ≡ true → reached (parts_of command) ≡ Some done
 command_reaches (Commit c) h =
-    let both = both_true (has_spelling (Commit c)) (is_offered (Commit c)) h in
-    let spelled = both_true (list_all is_part (parts_of (Commit c))) true both.0 in
-    let offered = both_true (is_commit_name c.name && is_empty c.parents) (list_all is_put c.edits) both.1 in
-    let front = both_true (is_commit_name c.name) (is_empty c.parents) offered.0 in
-    let cut = without_parents c.parents (flat_map edit_parts c.edits ++ signed_parts c) front.1 in
-    let heading : Heading = CommitHeading c.name c.expect in
     let behind = flat_map edit_parts c.edits ++ signed_parts c in
-    let parts = subst (λ ps. list_all is_part (Line (words_of heading) ∷ ps) ≡ true) cut spelled.0 in
-    let first = no_field Start Edits heading behind refl (if_taken (is_commit_name c.name) (Some Edits) front.0) parts in
-    let puts = puts_reach c.edits (signed_parts c) offered.1 first.1 in
-    let author = actor_reach Author Edits ToCommitter c.author (actor_parts (codes "committer") c.committer ++ (message_parts c.message ++ end_part)) refl puts.1 in
+    let first = no_field Start Parents (CommitHeading c.name c.expect) (map parent_part c.parents ++ behind) refl refl (spelled (list_all is_part (parts_of (Commit c))) h) in
+    let parents = parents_reach c.parents behind first.1 in
+    let author = edits_reach Parents c.edits c.author (actor_parts (codes "committer") c.committer ++ (message_parts c.message ++ end_part)) at_parents parents.1 in
     let committer = actor_reach Committer ToCommitter ToMessage c.committer (message_parts c.message ++ end_part) refl author.1 in
-    ap (λ ps. run_from begin (Line (words_of heading) ∷ ps)) cut ∙ first.0 ∙ puts.0 ∙ author.0 ∙ committer.0 ∙ message_reach c.message committer.1
+    first.0 ∙ parents.0 ∙ author.0 ∙ committer.0 ∙ message_reach c.message committer.1
 command_reaches (Files word) h = (no_field Start Done (FilesHeading word) [] refl refl (spelled (list_all is_part (parts_of (Files word))) h)).0
 command_reaches (Show word None) h = (no_field Start Done (ShowHeading word) [] refl refl (spelled (list_all is_part (parts_of (Show word None))) h)).0
 command_reaches (Show word (Some path)) h =
@@ -154,11 +177,16 @@ edits_ends : EndsByLine Edits
 unfolding digits
 edits_ends = after Edits ToCommitter (ActorHeading Author 0 0 (codes "0") (codes "0")) (Field [] ∷ Field [] ∷ Line committer_ends.0 ∷ committer_ends.1) refl refl refl committer_ends.2
 
+parents_ends : EndsByLine Parents
+unfolding digits
+parents_ends = after Parents ToCommitter (ActorHeading Author 0 0 (codes "0") (codes "0")) (Field [] ∷ Field [] ∷ Line committer_ends.0 ∷ committer_ends.1) refl refl refl committer_ends.2
+
 start_ends : EndsByLine Start
 start_ends = after Start Done (FilesHeading (codes "HEAD")) [] refl refl refl refl
 
 line_ends : (place : Place) → place ≢ Done → EndsByLine place
 line_ends Start live = start_ends
+line_ends Parents live = parents_ends
 line_ends Edits live = edits_ends
 line_ends ToCommitter live = committer_ends
 line_ends ToMessage live = message_ends
@@ -169,6 +197,7 @@ place_ends : (place : Place) → Ends [] place
 unfolding Ends
 place_ends Done = ([], refl)
 place_ends Start = (Line start_ends.0 ∷ start_ends.1, start_ends.2)
+place_ends Parents = (Line parents_ends.0 ∷ parents_ends.1, parents_ends.2)
 place_ends Edits = (Line edits_ends.0 ∷ edits_ends.1, edits_ends.2)
 place_ends ToCommitter = (Line committer_ends.0 ∷ committer_ends.1, committer_ends.2)
 place_ends ToMessage = (Line message_ends.0 ∷ message_ends.1, message_ends.2)

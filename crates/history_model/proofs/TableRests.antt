@@ -8,7 +8,7 @@ use Rattle.history_model.specs.Spelling.{Part, Line, Field, parts_text, part_tex
 use Rattle.history_model.specs.Grammar.{is_command, LineFits, FieldStands, StopsBy, HasRestCause}
 use Rattle.history_model.specs.declared.Cause.{Cause}
 use Rattle.history_model.specs.declared.Cause.TheVariants.{Syntax, Truncated, LineTooLong}
-use Rattle.history_model.specs.LineTable.{Heading, CommitHeading, PutHeading, ActorHeading, MessageHeading, EndHeading, FilesHeading, ShowHeading, ShowPathHeading, words_of, Place, Start, Done}
+use Rattle.history_model.specs.LineTable.{Heading, CommitHeading, ParentHeading, PutHeading, RemoveHeading, RemoveFileHeading, ActorHeading, MessageHeading, EndHeading, FilesHeading, ShowHeading, ShowPathHeading, words_of, Place, Start, Done}
 use Rattle.history_model.specs.TableRuns.{Progress, part_step, reached, RestBeginsOrHasCause}
 use Rattle.history_model.proofs.PartLemmas.{both_true, either_false}
 use Rattle.history_model.proofs.TableRunLemmas.{at, line_goes, commands_run}
@@ -51,7 +51,10 @@ heading_words (u ∷ us) some h = line_words_of u us (both_true (list_all is_wor
 
 pub some_words : (h : Heading) → words_of h ≢ []
 some_words (CommitHeading name expect) e = cc
+some_words (ParentHeading word) e = cc
 some_words (PutHeading kind path content) e = cc
+some_words (RemoveHeading path) e = cc
+some_words (RemoveFileHeading path) e = cc
 some_words (ActorHeading role name email seconds offset) e = cc
 some_words (MessageHeading message) e = cc
 some_words EndHeading e = cc

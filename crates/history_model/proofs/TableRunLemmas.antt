@@ -1,13 +1,13 @@
 -- The parts that lead from the table's start to its end are those of a command.
-use Rattle.std.proofs.Common.{◌≡◌, ◌≢◌, ℕ, zero, suc, ◌^◌, ◌<◌, ◌≤◌, Bool, true, false, ◌&&◌, ◌==◌, List, [], ◌∷◌, ◌++◌, length, refl, sym, ap, ◌∙◌, subst, Option, Some, None, option_map, option_and_then, codes, decimal, nat_lt, if◌then◌else◌, IsTrue, flat_map, arith, tests}
+use Rattle.std.proofs.Common.{◌≡◌, ◌≢◌, ℕ, zero, suc, ◌^◌, ◌<◌, ◌≤◌, Bool, true, false, ◌==◌, List, [], ◌∷◌, ◌++◌, length, map, refl, sym, ap, ◌∙◌, subst, Option, Some, None, option_map, option_and_then, codes, decimal, nat_lt, if◌then◌else◌, IsTrue, flat_map, arith, tests}
 use Rattle.std.specs.List.{list_all}
 use Rattle.history_model.specs.Bytes.{Bytes}
 use Rattle.history_model.specs.Commands.{Command, Commit, Files, Show, CommitCommand, Expect, EditLine, PutLine, RemoveLine, RemoveFileLine}
-use Rattle.history_model.specs.Spelling.{Part, Line, Field, parts_of, expect_words, kind_word, edit_parts, actor_parts, message_parts, end_part, is_part, has_spelling, has_enough}
+use Rattle.history_model.specs.Spelling.{Part, Line, Field, parts_of, expect_words, kind_word, parent_part, edit_parts, actor_parts, message_parts, end_part, is_part, has_spelling, has_enough}
 use Rattle.history_model.specs.Grammar.{is_command}
-use Rattle.history_model.specs.Stage.{is_put, is_offered, is_commit_name}
+use Rattle.history_model.specs.Stage.{is_spoken}
 use Rattle.history_model.specs.Commands as commands
-use Rattle.history_model.specs.LineTable.{Role, Author, Committer, Heading, CommitHeading, PutHeading, ActorHeading, MessageHeading, EndHeading, FilesHeading, ShowHeading, ShowPathHeading, role_word, words_of, sizes, are_sizes, heading_of, Place, Start, Edits, ToCommitter, ToMessage, ToEnd, Done, next}
+use Rattle.history_model.specs.LineTable.{Role, Author, Committer, Heading, CommitHeading, ParentHeading, PutHeading, RemoveHeading, RemoveFileHeading, ActorHeading, MessageHeading, EndHeading, FilesHeading, ShowHeading, ShowPathHeading, role_word, words_of, sizes, are_sizes, heading_of, Place, Start, Parents, Edits, ToCommitter, ToMessage, ToEnd, Done, next_edit, next}
 use Rattle.history_model.specs.TableRuns.{Progress, done, after_line, part_step, run_from, reached}
 use Rattle.history_model.proofs.PartLemmas.{both_true}
 use Rattle.history_model.proofs.TableLines.{and_true, if_some, map_some, then_some, heading_told, heading_reads}
@@ -226,11 +226,10 @@ record EditsRun (parts : List Part) : Type 0 where
   author : commands.ActorLine
   committer : commands.ActorLine
   message : Bytes
-  puts : list_all is_put edits ≡ true
   is : parts ≡ flat_map edit_parts edits ++ (actor_parts (codes "author") author ++ (actor_parts (codes "committer") committer ++ (message_parts message ++ end_part)))
 
 edits_line : (h : Heading) (following : Place) (rest : List Part) → ((parts : List Part) → length parts ≤ length rest → run_from (at [] Edits) parts ≡ Some done → EditsRun parts)
-    → next Edits h ≡ Some following → run_from (at (sizes h) following) rest ≡ Some done → EditsRun (Line (words_of h) ∷ rest)
+    → next_edit h ≡ Some following → run_from (at (sizes h) following) rest ≡ Some done → EditsRun (Line (words_of h) ∷ rest)
 edits_line (PutHeading kind m n) following rest more s e =
     let f = field_run m (n ∷ []) following rest e in
     let g = field_run n [] following f.rest f.goes in
@@ -243,13 +242,36 @@ edits_line (PutHeading kind m n) following rest more s e =
       author = run.author;
       committer = run.committer;
       message = run.message;
-      puts = run.puts;
       is = λ i. Line (codes "put" ∷ kind_word kind ∷ decimal (sym f.long i) ∷ decimal (sym g.long i) ∷ []) ∷ all i;
+    }
+edits_line (RemoveHeading m) following rest more s e =
+    let f = field_run m [] following rest e in
+    let len : length rest ≡ suc (length f.rest) = ap length f.is in
+    let run = more f.rest (omega arith) (placed Edits following [] f.rest s f.goes) in
+    let all = f.is ∙ ap (λ ps. Field f.bytes ∷ ps) run.is in
+    record {
+      edits = RemoveLine f.bytes ∷ run.edits;
+      author = run.author;
+      committer = run.committer;
+      message = run.message;
+      is = λ i. Line (codes "remove" ∷ decimal (sym f.long i) ∷ []) ∷ all i;
+    }
+edits_line (RemoveFileHeading m) following rest more s e =
+    let f = field_run m [] following rest e in
+    let len : length rest ≡ suc (length f.rest) = ap length f.is in
+    let run = more f.rest (omega arith) (placed Edits following [] f.rest s f.goes) in
+    let all = f.is ∙ ap (λ ps. Field f.bytes ∷ ps) run.is in
+    record {
+      edits = RemoveFileLine f.bytes ∷ run.edits;
+      author = run.author;
+      committer = run.committer;
+      message = run.message;
+      is = λ i. Line (codes "remove-file" ∷ decimal (sym f.long i) ∷ []) ∷ all i;
     }
 edits_line (ActorHeading Author m n seconds offset) following rest more s e =
     let a = actor_run Author following m n seconds offset rest e in
     let run = committer_run a.more (placed ToCommitter following [] a.more s a.goes) in
-    record { edits = []; author = a.actor; committer = run.committer; message = run.message; puts = refl; is = a.is ∙ ap (λ ps. actor_parts (codes "author") a.actor ++ ps) run.is }
+    record { edits = []; author = a.actor; committer = run.committer; message = run.message; is = a.is ∙ ap (λ ps. actor_parts (codes "author") a.actor ++ ps) run.is }
 edits_line h following rest more s e = cc
 
 edits_run : (n : ℕ) (parts : List Part) → length parts < n → run_from (at [] Edits) parts ≡ Some done → EditsRun parts
@@ -258,33 +280,62 @@ edits_run (suc n) parts short e =
     let line = line_run Edits parts (λ e. cc) e in
     let len : length parts ≡ suc (length line.rest) = ap length line.is in
     let run = edits_line line.heading line.following line.rest (λ ps le f. edits_run n ps (omega arith) f) line.stands line.goes in
-    record { edits = run.edits; author = run.author; committer = run.committer; message = run.message; puts = run.puts; is = line.is ∙ run.is }
+    record { edits = run.edits; author = run.author; committer = run.committer; message = run.message; is = line.is ∙ run.is }
+
+record ParentsRun (parts : List Part) : Type 0 where
+  parents : List Bytes
+  behind : List Part
+  edits : EditsRun behind
+  is : parts ≡ map parent_part parents ++ behind
+
+parents_line : (h : Heading) (following : Place) (rest : List Part) → ((e : run_from (at [] Parents) rest ≡ Some done) → ParentsRun rest)
+    → next Parents h ≡ Some following → run_from (at (sizes h) following) rest ≡ Some done → ParentsRun (Line (words_of h) ∷ rest)
+parents_line (ParentHeading word) following rest more s e =
+    let run = more (placed Parents following [] rest s e) in
+    record { parents = word ∷ run.parents; behind = run.behind; edits = run.edits; is = ap (λ ps. parent_part word ∷ ps) run.is }
+parents_line h following rest more s e =
+    record { parents = []; behind = Line (words_of h) ∷ rest; edits = edits_line h following rest (λ ps le f. edits_run (suc (length rest)) ps (omega arith) f) s e; is = refl }
+
+parts_tail : {p q : Part} {ps qs : List Part} → p ∷ ps ≡ q ∷ qs → ps ≡ qs
+parts_tail e = cc
+
+no_line : {A : Type 0} {p : Part} {ps : List Part} → [] ≡ p ∷ ps → A
+no_line e = cc
+
+parents_run : (parts : List Part) → run_from (at [] Parents) parts ≡ Some done → ParentsRun parts
+parents_run [] e = no_line (line_run Parents [] (λ e. cc) e).is
+parents_run (Field bytes ∷ parts) e = cc
+parents_run (Line words ∷ parts) e =
+    let line = line_run Parents (Line words ∷ parts) (λ e. cc) e in
+    let rest : parts ≡ line.rest = parts_tail line.is in
+    let run = parents_line line.heading line.following parts (λ f. parents_run parts f) line.stands (subst (λ ps. run_from (at (sizes line.heading) line.following) ps ≡ Some done) (sym rest) line.goes) in
+    record { parents = run.parents; behind = run.behind; edits = run.edits; is = line.is ∙ ap (λ ps. Line (words_of line.heading) ∷ ps) (sym rest) ∙ run.is }
 
 -- the command but for its parts' limits
 record StartRun (parts : List Part) : Type 0 where
   command : Command
   enough : has_enough command ≡ true
-  offered : is_offered command ≡ true
+  spoken : is_spoken command ≡ true
   is : parts_of command ≡ parts
 
 start_line : (h : Heading) (following : Place) (rest : List Part) → next Start h ≡ Some following → run_from (at (sizes h) following) rest ≡ Some done → StartRun (Line (words_of h) ∷ rest)
 start_line (CommitHeading name expect) following rest s e =
-    let found = if_some (is_commit_name name) (Some Edits) following s in
-    let run = edits_run (suc (length rest)) rest (omega arith) (placed Edits following [] rest found.1 e) in
+    let run = parents_run rest (placed Parents following [] rest s e) in
+    let edits = run.edits in
     record {
-      command = Commit (record { name = name; expect = expect; parents = []; edits = run.edits; author = run.author; committer = run.committer; message = run.message });
+      command = Commit (record { name = name; expect = expect; parents = run.parents; edits = edits.edits; author = edits.author; committer = edits.committer; message = edits.message });
       enough = refl;
-      offered = and_true (is_commit_name name && true) (list_all is_put run.edits) (and_true (is_commit_name name) true found.0 refl) run.puts;
-      is = ap (λ ps. Line (codes "commit" ∷ name ∷ expect_words expect) ∷ ps) (sym run.is);
+      spoken = refl;
+      is = ap (λ ps. Line (codes "commit" ∷ name ∷ expect_words expect) ∷ ps) (sym (run.is ∙ ap (λ ps. map parent_part run.parents ++ ps) edits.is));
     }
 start_line (FilesHeading word) following rest s e =
-    record { command = Files word; enough = refl; offered = refl; is = ap (λ ps. Line (codes "files" ∷ word ∷ []) ∷ ps) (sym (done_run rest (placed Done following [] rest s e))) }
+    record { command = Files word; enough = refl; spoken = refl; is = ap (λ ps. Line (codes "files" ∷ word ∷ []) ∷ ps) (sym (done_run rest (placed Done following [] rest s e))) }
 start_line (ShowHeading word) following rest s e =
-    record { command = Show word None; enough = refl; offered = refl; is = ap (λ ps. Line (codes "show" ∷ word ∷ []) ∷ ps) (sym (done_run rest (placed Done following [] rest s e))) }
+    record { command = Show word None; enough = refl; spoken = refl; is = ap (λ ps. Line (codes "show" ∷ word ∷ []) ∷ ps) (sym (done_run rest (placed Done following [] rest s e))) }
 start_line (ShowPathHeading word n) following rest s e =
     let f = field_run n [] following rest e in
     let tail = f.is ∙ ap (λ ps. Field f.bytes ∷ ps) (done_run f.rest (placed Done following [] f.rest s f.goes)) in
-    record { command = Show word (Some f.bytes); enough = refl; offered = refl; is = λ i. Line (codes "show" ∷ word ∷ codes "path" ∷ decimal (f.long i) ∷ []) ∷ sym tail i }
+    record { command = Show word (Some f.bytes); enough = refl; spoken = refl; is = λ i. Line (codes "show" ∷ word ∷ codes "path" ∷ decimal (f.long i) ∷ []) ∷ sym tail i }
 start_line h following rest s e = cc
 
 pub commands_run : (parts : List Part) → reached parts ≡ Some done → (command : Command) × IsTrue (is_command command) × (parts_of command ≡ parts)
@@ -294,6 +345,6 @@ commands_run parts e =
     let is = run.is ∙ sym line.is in
     let parts_are = subst (λ ps. list_all is_part ps ≡ true) (sym is) (parts_fit parts [] Start done refl e).0 in (
       run.command,
-      and_true (has_spelling run.command) (is_offered run.command) (and_true (list_all is_part (parts_of run.command)) (has_enough run.command) parts_are run.enough) run.offered,
+      and_true (has_spelling run.command) (is_spoken run.command) (and_true (list_all is_part (parts_of run.command)) (has_enough run.command) parts_are run.enough) run.spoken,
       is,
     )

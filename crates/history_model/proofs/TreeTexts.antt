@@ -1,5 +1,5 @@
 -- What an object's file tells of the value that is stored.
-use Rattle.std.proofs.Common.{◌≡◌, true, false, refl, sym, ◌∙◌, ap, ℕ, ◌∷◌, ◌++◌, length, decimal, Option, Some, None, option_map, codes, bytes_eq}
+use Rattle.std.proofs.Common.{◌≡◌, true, false, refl, sym, ◌∙◌, ap, ◌∷◌, ◌++◌, length, decimal, Option, Some, None, option_map, codes, bytes_eq}
 use Rattle.std.specs.FinMap.{get}
 use Rattle.history_model.specs.Bytes.{Bytes}
 use Rattle.history_model.specs.FileMap.{FileMap}

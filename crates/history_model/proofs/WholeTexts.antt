@@ -5,7 +5,7 @@ use Rattle.gix_object_lines.specs.Kind.{kind_word}
 use Rattle.gix_object_lines.specs.declared.kind.Kind.{Kind as ObjectKind}
 use Rattle.gix_object_lines.proofs.Headers.{word_lacks_space, kind_word-injective}
 use Rattle.history_model.specs.Bytes.{Bytes, has_byte}
-use Rattle.history_model.specs.Objects.{digest, object_text, Value, StoredCommit, StoredTag, StoredBytes, StoredFolder, object_kind, content_of, value_text}
+use Rattle.history_model.specs.Objects.{digest, object_text, Value, object_kind, content_of, value_text}
 use Rattle.gix_hash.specs.Id.{Id}
 use Rattle.gix_hash.specs.Kind.{hex_len}
 use Rattle.history_model.specs.Forms.{is_id}

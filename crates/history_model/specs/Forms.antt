@@ -4,7 +4,7 @@ use Rattle.std.specs.List.{list_any, list_all, before_first}
 use Rattle.std.specs.Char.{is_ascii_digit}
 use Rattle.std.specs.Str.{is_utf8}
 use Rattle.std.specs.FinMap.{get, contains_key}
-use Rattle.history_model.specs.Bytes.{Bytes, begins, ends, has_byte, has_pair, has_twice, is_empty, is_decimal, digits_value}
+use Rattle.history_model.specs.Bytes.{Bytes, begins, ends, has_byte, has_twice, is_empty, is_decimal, digits_value}
 use Rattle.gix_object_lines.specs.NameTest.{is_partial_name}
 use Rattle.history_model.specs.FileMap.{FileMap, IsFileMap}
 use Rattle.history_model.specs.Objects.{Actor, CommitValue, TagValue, Value, StoredCommit, StoredTag, StoredBytes, StoredFolder, content_of}

@@ -3,13 +3,13 @@ use Rattle.std.specs.Prelude.{◌≡◌, ◌≢◌, ℕ, ◌+◌, ◌<◌, ◌�
 use Rattle.history_model.specs.Bytes.{Bytes, has_byte, line}
 use Rattle.history_model.specs.Commands.{Command}
 use Rattle.history_model.specs.Spelling.{Part, Line, Field, parts_of, parts_text, part_text, spelling, has_spelling, max_line}
-use Rattle.history_model.specs.Stage.{is_offered}
+use Rattle.history_model.specs.Stage.{is_spoken}
 use Rattle.history_model.specs.declared.Cause.{Cause}
 use Rattle.history_model.specs.declared.Cause.TheVariants.{Syntax, Truncated, LineTooLong}
 
 -- the command has a spelling and is offered
 abbrev pub is_command : Command → Bool
-is_command command = has_spelling command && is_offered command
+is_command command = has_spelling command && is_spoken command
 
 -- the bytes are the command's text
 abbrev pub Spells : Bytes → Command → Type 0

@@ -1,5 +1,5 @@
 -- What the laws say.
-use Rattle.std.specs.Prelude.{ℕ, ⊤, take, true, not, MatchBool, ◌≡◌, ◌⊎◌, Bool, false, List, [], ◌∷◌, ◌++◌, map, Some, None, option_map, IsTrue, IsFalse, ◌↔◌, Contains, bytes_eq, codes, if◌then◌else◌}
+use Rattle.std.specs.Prelude.{ℕ, ⊤, take, true, not, MatchBool, ◌≡◌, ◌⊎◌, Bool, false, List, [], ◌∷◌, ◌++◌, map, Some, None, option_map, IsTrue, IsFalse, ◌↔◌, Contains, bytes_eq, if◌then◌else◌}
 use Rattle.std.specs.List.{list_all, flat_map}
 use Rattle.std.specs.List.Sorted.{IsStrictlySortedBy}
 use Rattle.std.specs.FinMap.{get, empty, insert}

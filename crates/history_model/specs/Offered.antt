@@ -1,20 +1,20 @@
 -- The repositories of this stage: what its commands leave, from a new one on.
 use Rattle.std.specs.Prelude.{◌≡◌, ⊤, Bool, List, [], ◌∷◌, Some, None, find, IsTrue}
 use Rattle.std.specs.List.{list_all, flat_map}
-use Rattle.std.specs.FinMap.{entries, keys, get, insert}
+use Rattle.std.specs.FinMap.{entries, keys, get, insert, remove}
 use Rattle.history_model.specs.Bytes.{Bytes}
-use Rattle.history_model.specs.FileMap.{FileMap, Content, folders_of, put_at}
-use Rattle.history_model.specs.Stage.{main_name, is_offered, is_offered_path}
+use Rattle.history_model.specs.FileMap.{FileMap, Content, folders_of, put_at, removed}
+use Rattle.history_model.specs.Stage.{is_spoken, is_offered_path}
 use Rattle.history_model.specs.Objects.{Value, StoredCommit, StoredTag, StoredBytes, StoredFolder, entry_text, mode_of, blob_id, root}
 use Rattle.gix_hash.specs.Id.{Id}
-use Rattle.history_model.specs.Repository.{Repository, IsStored, IsWholeStore, HasWholeNames, stands, fresh}
+use Rattle.history_model.specs.Repository.{Repository, IsStored, IsWholeStore, HasWholeNames, first_branch, fresh}
 use Rattle.history_model.specs.Commands.{Command}
 use Rattle.history_model.specs.Meaning.{after}
 use Rattle.history_model.specs.Causes.{holds, first_cause}
 use Rattle.history_model.specs.Places.{Pair, file_at, packed_place}
 use Rattle.gix_hash.specs.declared.kind.Kind.{Kind}
 use Rattle.history_model.specs.declared.Cause.{Cause}
-use Rattle.history_model.specs.declared.Cause.TheVariants.{UnknownWord, UnbornHead, Taken, BadPath, NoSuchPath, BadActor, BadTime, BadMessage, TooLarge}
+use Rattle.history_model.specs.declared.Cause.TheVariants.{BadName, PrivateName, UnknownWord, UnbornHead, NoSuchName, Taken, NotExpected, Collides, TooManyParents, DuplicateParent, BadPath, NoSuchPath, BadActor, BadTime, BadMessage, TooLarge}
 
 -- no folders: each path has one component
 abbrev pub is_flat : FileMap → Bool
@@ -27,10 +27,10 @@ IsOfferedValue (StoredTag tag) = ⊥
 IsOfferedValue (StoredBytes bytes) = ⊤
 IsOfferedValue (StoredFolder files) = IsTrue (is_flat files)
 
+-- No tag is stored, and each folder is flat; HEAD is on the first branch.
 pub record IsOffered (r : Repository) : Type 0 where
   pub values : (id : Id) (value : Value) → get r.objects id ≡ Some value → IsOfferedValue value
-  pub names : (name : Bytes) → IsTrue (stands r name) → name ≡ main_name
-  pub branch : r.branch ≡ main_name
+  pub branch : r.branch ≡ first_branch
 
 -- What is true at this stage, beside that the pair stands for the repository: its commands have left it, and pack no names.
 pub record IsOfStage (r : Repository) (pair : Pair) : Type 0 where
@@ -54,6 +54,10 @@ FlatFolders = (files : FileMap) → IsTrue (is_flat files) → folders_of files 
 abbrev pub FlatPuts : Type 0
 FlatPuts = (files : FileMap) (path : Bytes) (content : Content) → IsTrue (is_flat files) → IsTrue (is_offered_path path) → put_at path content files ≡ insert files path content
 
+-- A removal takes out the file of its path, and no other.
+abbrev pub FlatRemovals : Type 0
+FlatRemovals = (files : FileMap) (path : Bytes) → IsTrue (is_flat files) → removed path files ≡ remove files path
+
 -- The bytes of each file of a stored folder are stored.
 abbrev pub FilesAreStored : Type 0
 FilesAreStored = (r : Repository) (id : Id) (files : FileMap) (path : Bytes) (content : Content) → IsWholeStore r → get r.objects id ≡ Some (StoredFolder files)
@@ -65,14 +69,15 @@ abbrev pub FreshIsOffered : Type 0
 FreshIsOffered = (kind : Kind) → IsOffered (fresh kind)
 
 abbrev pub OfferedStays : Type 0
-OfferedStays = (r : Repository) (command : Command) → IsOffered r → IsTrue (is_offered command) → first_cause r command ≡ None → IsOffered (after r command)
+OfferedStays = (r : Repository) (command : Command) → IsOffered r → IsTrue (is_spoken command) → first_cause r command ≡ None → IsOffered (after r command)
 
 -- ---- causes
 
 -- the causes that may be the first
 abbrev pub offered_causes : List Cause
-offered_causes = UnknownWord ∷ UnbornHead ∷ Taken ∷ BadPath ∷ NoSuchPath ∷ BadActor ∷ BadTime ∷ BadMessage ∷ TooLarge ∷ []
+offered_causes = BadName ∷ PrivateName ∷ UnknownWord ∷ UnbornHead ∷ NoSuchName ∷ Taken ∷ NotExpected ∷ Collides ∷ TooManyParents ∷ DuplicateParent
+    ∷ BadPath ∷ NoSuchPath ∷ BadActor ∷ BadTime ∷ BadMessage ∷ TooLarge ∷ []
 
 abbrev pub FirstOfferedCause : Type 0
-FirstOfferedCause = (r : Repository) (command : Command) → IsOffered r → HasWholeNames r → IsTrue (is_offered command)
+FirstOfferedCause = (r : Repository) (command : Command) → IsOffered r → HasWholeNames r → IsTrue (is_spoken command)
     → first_cause r command ≡ find (λ cause. holds cause r command) offered_causes

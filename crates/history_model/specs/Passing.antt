@@ -26,7 +26,7 @@ use Rattle.history_model.specs.Replies.{Reply, Faulted}
 use Rattle.history_model.specs.Steps.{some_failed}
 use Rattle.history_model.specs.Moments.{LeavesStopped, Moment, ActsOn, Traces, last_moment}
 use Rattle.history_model.specs.Offered.{IsOffered}
-use Rattle.history_model.specs.Stage.{is_offered}
+use Rattle.history_model.specs.Stage.{is_spoken}
 use Rattle.history_model.specs.Wholeness.{IsSound}
 use Rattle.gix_hash.specs.declared.kind.Kind.{Kind}
 use Rattle.history_model.specs.declared.Fault.TheVariants.{File}
@@ -60,7 +60,7 @@ StoresWhole r more = (first rest : List Value) → more ≡ first ++ rest → Is
 
 -- A commit of this stage puts its values in such an order.
 abbrev pub CommitsStoreWhole : Type 0
-CommitsStoreWhole = (r : Repository) (c : CommitCommand) → IsSound r → IsOffered r → IsTrue (is_offered (Commit c)) → first_cause r (Commit c) ≡ None
+CommitsStoreWhole = (r : Repository) (c : CommitCommand) → IsSound r → IsOffered r → IsTrue (is_spoken (Commit c)) → first_cause r (Commit c) ≡ None
     → StoresWhole r (stored_by r (Commit c))
 
 -- A stop while a command's values are stored, before its first name moves.

@@ -1,30 +1,15 @@
--- What is offered at this stage. The other modules state all commands; each of the four cuts below is applied at one place
--- of them (the grammar, its table of lines, the words, the test for a bad path), and to offer more is to widen this module alone.
-use Rattle.std.specs.Prelude.{Bool, true, false, not, ◌&&◌, ◌||◌, bytes_eq, codes}
-use Rattle.std.specs.List.{list_all}
-use Rattle.history_model.specs.Bytes.{Bytes, is_empty, has_byte}
-use Rattle.history_model.specs.Repository.{first_branch}
-use Rattle.history_model.specs.Commands.{Command, Commit, Files, Show, EditLine, PutLine}
+-- What is offered at this stage. The other modules state all commands; each of the three cuts below is applied at one place
+-- of them (the grammar, the words, the test for a bad path), and to offer more is to widen this module alone.
+use Rattle.std.specs.Prelude.{Bool, true, false, not}
+use Rattle.history_model.specs.Bytes.{Bytes, has_byte}
+use Rattle.history_model.specs.Commands.{Command, Commit, Files, Show}
 
-abbrev pub is_put : EditLine → Bool
-is_put (PutLine kind path content) = true
-is_put _ = false
-
--- the one name that stands
-abbrev pub main_name : Bytes
-main_name = first_branch
-
--- the names that a commit may move
-abbrev pub is_commit_name : Bytes → Bool
-is_commit_name name = bytes_eq name main_name || bytes_eq name (codes "HEAD")
-
--- A commit on the first branch without parent lines, whose edits are all `put`, and the readings `files` and `show`.
--- In a stream any other line is one that the grammar doesn't allow.
-abbrev pub is_offered : Command → Bool
-is_offered (Commit c) = is_commit_name c.name && is_empty c.parents && list_all is_put c.edits
-is_offered (Files word) = true
-is_offered (Show word path) = true
-is_offered _ = false
+-- Commits, and the readings `files` and `show`. In a stream any other line is one that the grammar doesn't allow.
+abbrev pub is_spoken : Command → Bool
+is_spoken (Commit c) = true
+is_spoken (Files word) = true
+is_spoken (Show word path) = true
+is_spoken _ = false
 
 -- A path has one component: any other is a bad path.
 abbrev pub is_offered_path : Bytes → Bool

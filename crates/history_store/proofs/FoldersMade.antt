@@ -131,7 +131,7 @@ abbrev pub HasFoldersBefore : ℕ → Bytes → Tree → Type 0
 HasFoldersBefore end path tree = (place : Bytes) → IsAbove place path → length place < end → IsTrue (is_folder (node_at tree place))
 
 -- a place above is a front of the path, and a slash follows
-front_of : (place path : Bytes) → IsAbove place path → (place ≡ take (length place) path) × (get_or path (length place) 0 ≡ 47)
+pub front_of : (place path : Bytes) → IsAbove place path → (place ≡ take (length place) path) × (get_or path (length place) 0 ≡ 47)
 front_of place path (rest, is) = (at_front place ∙ ap (take (length place)) (sym is), ap (λ p. get_or p (length place) 0) is ∙ slash place)
   where
     at_front : (p : Bytes) → p ≡ take (length p) (p ++ 47 ∷ rest)

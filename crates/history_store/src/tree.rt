@@ -57,6 +57,13 @@ impl Tree {
         Ok(())
     }
 
+    /// Takes out what stands under a name, if anything does.
+    pub fn remove(&mut self, name: &[u8])
+        ensures { self.new ≡ map.remove self.old name.now }
+    {
+        self.entries.remove(name);
+    }
+
     /// What stands under a name.
     pub fn get(&self, name: &[u8]) -> Option<TreeEntry>
         ensures { result ≡ map.get self.now name.now }

@@ -1,12 +1,12 @@
-//! The way of a file: the folders that it stands in, and no folder in its place.
-ghost use Rattle.std.specs.Prelude.{◌≡◌, ◌≢◌, ◌≤◌, OnOk, IsErrOf, IsTrue, Some};
+//! The way of a file: the folders that it stands in, no folder in its place, and which files are in the way.
+ghost use Rattle.std.specs.Prelude.{◌≡◌, ◌≢◌, ◌≤◌, [], IfOk, OnOk, IsErrOf, IsTrue, Some};
 ghost use Rattle.std.specs.FinMap.{get};
 ghost use Rattle.gix_ref_file.specs.Tree.{folder, is_path};
-ghost use Rattle.gix_ref_file.specs.Changes.{may_hold_file};
-ghost use Rattle.gix_ref_file.specs.Calls.{Achieves, HasFault, Passes};
+ghost use Rattle.gix_ref_file.specs.Changes.{is_file_at, may_hold_file};
+ghost use Rattle.gix_ref_file.specs.Calls.{Achieves, Finds, HasFault, Passes};
 ghost use Rattle.gix_ref_file.specs.declared.files.FileError.TheVariants.{Failed};
 ghost use Rattle.history_store.specs.Stores.{SameFiles, FoldersAbove};
-ghost use Rattle.history_store.specs.References.{ClearsWay, KeepsOtherFolders, HasWay, NoFileBelow};
+ghost use Rattle.history_store.specs.References.{ClearsWay, KeepsOtherFolders, HasWay, NoFileBelow, TellsAbove, TellsBelow};
 
 use crate::folders::make_folders;
 use crate::parts::{is_deeper, joined};
@@ -56,4 +56,53 @@ fn clear_way<F: Files>(alloc: Global, files: &mut F, place: &[u8]) -> Result<(),
         }
     }
     files.remove_empty_folder(alloc, place)
+}
+
+// Whether a file stands at the path.
+fn is_file<F: Files>(files: &F, path: &[u8]) -> Result<bool, FileError>
+    ensures found { Finds F.is_honest F.history files.now
+        (λ tree. IfOk result (λ found. found ≡ is_file_at tree path.now)) }
+    ensures failed { IsErrOf result Failed → F.reading_may_fail }
+{
+    match files.kind_of(path)? {
+        Place::File(_) => Ok(true),
+        Place::Folder => Ok(false),
+        Place::Absent => Ok(false),
+    }
+}
+
+/// Whether a file stands where the path needs a folder.
+pub fn has_file_above<F: Files>(files: &F, path: &[u8]) -> Result<bool, FileError>
+    ensures found { Finds F.is_honest F.history files.now
+        (λ tree. IfOk result (λ found. TellsAbove path.now tree found)) }
+    ensures failed { IsErrOf result Failed → F.reading_may_fail }
+{
+    for (end, byte) in path.iter().enumerate() {
+        if *byte == b'/' {
+            if is_file(files, &path[..end])? {
+                return Ok(true);
+            }
+        }
+    }
+    Ok(false)
+}
+
+/// Whether a file stands below a path that isn't the root's.
+pub fn has_file_below<F: Files>(alloc: Global, files: &F, path: &[u8]) -> Result<bool, FileError>
+    ensures found { path.now ≢ [] → Finds F.is_honest F.history files.now
+        (λ tree. IfOk result (λ found. TellsBelow path.now tree found)) }
+    ensures failed { IsErrOf result Failed → F.reading_may_fail }
+{
+    for name in &files.list(alloc, path)? {
+        let inner = joined(alloc, path, name)?;
+        if is_file(files, &inner)? {
+            return Ok(true);
+        }
+        if is_deeper(&inner, path) {
+            if has_file_below(alloc, files, &inner)? {
+                return Ok(true);
+            }
+        }
+    }
+    Ok(false)
 }

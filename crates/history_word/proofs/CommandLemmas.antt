@@ -3,7 +3,7 @@ use Rattle.std.proofs.Common.{◌≡◌, ◌≢◌, Bool, true, false, ◌&&◌,
 use Rattle.std.specs.List.{list_all}
 use Rattle.history_model.specs.Commands as model
 use Rattle.history_model.specs.Spelling.{Part, parts_of, parts_text, is_part, has_enough}
-use Rattle.history_model.specs.Stage.{is_offered}
+use Rattle.history_model.specs.Stage.{is_spoken}
 use Rattle.history_model.specs.Grammar.{Spells}
 use Rattle.history_model.specs.LineTable as table
 use Rattle.history_model.specs.TableRuns.{reached}
@@ -18,8 +18,8 @@ pub live : (p : Place) → p ≢ place.Done → place_of p ≢ table.Done
 live place.Done h e = h refl
 live p h e = cc
 
-is_enough : (d : Draft) (order : model.Command) → IsDraft d order → (has_enough order ≡ true) × (is_offered order ≡ true)
-is_enough (draft.Commit c) (model.Commit order) h = (refl, h.offered)
+is_enough : (d : Draft) (order : model.Command) → IsDraft d order → (has_enough order ≡ true) × (is_spoken order ≡ true)
+is_enough (draft.Commit c) (model.Commit order) h = (refl, refl)
 is_enough (draft.Files w) (model.Files word) h = (refl, refl)
 is_enough (draft.Show s) (model.Show word path) h = (refl, refl)
 is_enough d order h = absurd h
@@ -33,7 +33,7 @@ pub spells : (parts : List Part) (p : table.Place) (d : Draft) (order : model.Co
 spells parts p d order e is h =
     let fit = parts_fit parts [] table.Start (at [] p) refl e in
     let enough = is_enough d order h in (
-      both (list_all is_part (parts_of order) && has_enough order) (is_offered order)
+      both (list_all is_part (parts_of order) && has_enough order) (is_spoken order)
           (both (list_all is_part (parts_of order)) (has_enough order) (subst (λ ps. list_all is_part ps ≡ true) is fit.0) enough.0) enough.1,
       ap parts_text is,
     )

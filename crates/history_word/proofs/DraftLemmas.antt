@@ -1,17 +1,14 @@
 -- What a draft has after each line.
-use Rattle.std.proofs.Common.{◌≡◌, ℕ, ◌<◌, Bool, true, false, List, [], ◌∷◌, ◌++◌, length, map, Some, None, refl, sym, ap, subst, ◌∙◌, arith, flat_map}
+use Rattle.std.proofs.Common.{◌≡◌, ℕ, ◌<◌, true, List, [], ◌∷◌, ◌++◌, length, map, Some, ◌⊎◌, inl, inr, refl, sym, ap, subst, ◌∙◌, arith, flat_map}
 use Rattle.std.specs.List.{join_with_byte}
-use Rattle.std.specs.Prelude.{if◌then◌else◌}
-use Rattle.std.proofs.lemmas.List.{length-append}
+use Rattle.std.proofs.lemmas.List.{append-nil, length-append}
 use Rattle.history_model.specs.Bytes.{Bytes, line}
 use Rattle.history_model.specs.Commands as model
 use Rattle.history_model.specs.Spelling as spelling
-use Rattle.history_model.specs.Stage.{is_commit_name}
 use Rattle.history_model.specs.LineTable as table
 use Rattle.history_model.specs.TableRuns.{run_from}
-use Rattle.history_model.specs.declared.FileKind.{FileKind}
 use Rattle.history_model.proofs.TableLaws.{at}
-use Rattle.history_word.specs.Drafts.{place_of, HasCome, TakesLine, TakesParts}
+use Rattle.history_word.specs.Drafts.{place_of, edit_heading, to_parents, HasCome, TakesLine, TakesParts}
 use Rattle.history_word.specs.declared.heading.Heading.{Heading}
 use Rattle.history_word.specs.declared.place.Place.{Place}
 use Rattle.history_word.specs.declared.place.Place.TheVariants as place
@@ -64,22 +61,41 @@ takes_parts p q from to old new h xs taken fields t sizes is_from is_to split co
 
 -- ---- where each line stands, and what it leads to
 
-chosen : (b : Bool) (q : Place) → b ≡ true → (if b then Some table.Edits else None) ≡ Some (place_of q) → q ≡ place.Edits
-chosen true place.Edits h e = refl
-chosen true q h e = cc
-chosen false q h e = cc
+pub commit_place : (p q : Place) (n : Bytes) (x : model.Expect) → table.next (place_of p) (table.CommitHeading n x) ≡ Some (place_of q) → (p ≡ place.Start) × (q ≡ place.Parents)
+commit_place place.Start place.Parents n x e = (refl, refl)
+commit_place p q n x e = cc
 
-pub commit_place : (p q : Place) (n : Bytes) (x : model.Expect) → is_commit_name n ≡ true → table.next (place_of p) (table.CommitHeading n x) ≡ Some (place_of q) → (p ≡ place.Start) × (q ≡ place.Edits)
-commit_place place.Start q n x h e = (refl, chosen (is_commit_name n) q h e)
-commit_place p q n x h e = cc
+pub parent_place : (p q : Place) (w : Bytes) → table.next (place_of p) (table.ParentHeading w) ≡ Some (place_of q) → (p ≡ place.Parents) × (q ≡ place.Parents)
+parent_place place.Parents place.Parents w e = (refl, refl)
+parent_place p q w e = cc
 
-pub put_place : (p q : Place) (kind : FileKind) (m n : ℕ) → table.next (place_of p) (table.PutHeading kind m n) ≡ Some (place_of q) → (p ≡ place.Edits) × (q ≡ place.Edits)
-put_place place.Edits place.Edits kind m n e = (refl, refl)
-put_place p q kind m n e = cc
+-- where an edit or the author may stand
+abbrev pub AtEdits : Place → Type 0
+AtEdits p = (p ≡ place.Parents) ⊎ (p ≡ place.Edits)
 
-pub author_place : (p q : Place) (m n : ℕ) (s o : Bytes) → table.next (place_of p) (table.ActorHeading table.Author m n s o) ≡ Some (place_of q) → (p ≡ place.Edits) × (q ≡ place.Committer)
-author_place place.Edits place.Committer m n s o e = (refl, refl)
+pub edit_place : (p q : Place) (l : model.EditLine) → table.next (place_of p) (edit_heading l) ≡ Some (place_of q) → AtEdits p × (q ≡ place.Edits)
+edit_place place.Parents place.Edits l e = (inl refl, refl)
+edit_place place.Edits place.Edits l e = (inr refl, refl)
+edit_place p q (model.PutLine kind path content) e = cc
+edit_place p q (model.RemoveLine path) e = cc
+edit_place p q (model.RemoveFileLine path) e = cc
+
+pub author_place : (p q : Place) (m n : ℕ) (s o : Bytes) → table.next (place_of p) (table.ActorHeading table.Author m n s o) ≡ Some (place_of q) → AtEdits p × (q ≡ place.Committer)
+author_place place.Parents place.Committer m n s o e = (inl refl, refl)
+author_place place.Edits place.Committer m n s o e = (inr refl, refl)
 author_place p q m n s o e = cc
+
+-- behind the parents no edit has come
+pub come_to_edits : (p : Place) (d : Draft) (before : List spelling.Part) → AtEdits p → HasCome p d before → HasCome place.Edits d before
+come_to_edits p d before (inl e) come = no_edits (subst (λ q. HasCome q d before) e come)
+  where
+    no_edits : HasCome place.Parents d before → HasCome place.Edits d before
+    no_edits c = (
+      c.0,
+      c.1 ∙ sym (append-nil (to_parents c.0)) ∙ ap (λ es. to_parents c.0 ++ flat_map spelling.edit_parts es) (sym c.3),
+      c.2,
+    )
+come_to_edits p d before (inr e) come = subst (λ q. HasCome q d before) e come
 
 pub committer_place : (p q : Place) (m n : ℕ) (s o : Bytes) → table.next (place_of p) (table.ActorHeading table.Committer m n s o) ≡ Some (place_of q) → (p ≡ place.Committer) × (q ≡ place.Message)
 committer_place place.Committer place.Message m n s o e = (refl, refl)

@@ -1,22 +1,23 @@
 -- What a line that was taken, and the fields behind it, leave in the draft.
-use Rattle.std.proofs.Common.{◌≡◌, ℕ, true, List, [], ◌∷◌, ◌++◌, length, map, Option, Some, None, refl, sym, ap, ◌∙◌, append_assoc, codes, flat_map, ◌&&◌, Bool, false}
-use Rattle.std.specs.Prelude.{IfSome, IsTrue}
+use Rattle.std.proofs.Common.{◌≡◌, ℕ, List, [], ◌∷◌, ◌++◌, length, map, Option, Some, None, refl, sym, ap, ◌∙◌, append_assoc, codes, flat_map}
+use Rattle.std.specs.Prelude.{IfSome}
 use Rattle.std.proofs.lemmas.Grind.{flat_map-append}
-use Rattle.std.proofs.lemmas.List.{append-nil}
+use Rattle.std.proofs.lemmas.List.{append-nil, map-append}
 use Rattle.history_model.specs.Bytes.{Bytes, line}
 use Rattle.history_model.specs.Commands as model
 use Rattle.history_model.specs.Spelling as spelling
-use Rattle.history_model.specs.Stage.{is_offered, is_commit_name}
 use Rattle.history_model.specs.LineTable as table
 use Rattle.history_model.specs.TableRuns.{run_from}
 use Rattle.history_model.specs.declared.Cause.{Cause}
-use Rattle.history_model.specs.declared.FileKind.{FileKind}
 use Rattle.history_model.proofs.TableLaws.{at}
 use Rattle.history_word.specs.Commands.{IsExpect}
 use Rattle.history_word.specs.Progress.{IsNoField, StopsFrom}
-use Rattle.history_word.specs.Drafts.{role_of, place_of, IsHeading, IsDraft, TakesLine, TakesParts, with_edit, with_actor, with_message}
+use Rattle.history_word.specs.Drafts.{role_of, place_of, edit_heading, edit_fields, edit_sizes, to_parents, IsEditHeading, IsHeading, IsDraft, TakesLine, TakesEdit, TakesParts, with_parent, with_edit, with_actor, with_message}
 use Rattle.std.proofs.Common.{Vec, Global}
 use Rattle.history_word.specs.declared.command.Expect.{Expect}
+use Rattle.history_word.specs.declared.command.Edit.{Edit}
+use Rattle.history_word.specs.declared.heading.EditHeading.{EditHeading}
+use Rattle.history_word.specs.declared.heading.EditHeading.TheVariants as edit
 use Rattle.history_word.specs.declared.heading.Heading.{Heading}
 use Rattle.history_word.specs.declared.heading.Heading.TheVariants as heading
 use Rattle.history_word.specs.declared.heading.Role.{Role}
@@ -26,16 +27,37 @@ use Rattle.history_word.specs.declared.place.Place.TheVariants as place
 use Rattle.history_word.specs.declared.draft.Draft.{Draft}
 use Rattle.history_word.specs.declared.draft.Draft.TheVariants as draft
 use Rattle.history_word.proofs.ProgressLemmas.{leads_line, leads_field, stops_here, stops_after, field_stops}
-use Rattle.history_word.proofs.DraftLemmas.{as_said, parts_with, takes_parts, commit_place, put_place, author_place, committer_place, message_place, end_place, files_place, show_place, path_place}
+use Rattle.history_word.proofs.DraftLemmas.{as_said, parts_with, takes_parts, come_to_edits, commit_place, parent_place, edit_place, author_place, committer_place, message_place, end_place, files_place, show_place, path_place}
 
 abbrev Word : Type 0
 Word = Option (Vec ℕ Global)
 
 -- ---- what a line says is one line of the table
 
-pub put_said : (kind : FileKind) (m n : ℕ) (h : table.Heading) → IsHeading (heading.Put kind m n) h → h ≡ table.PutHeading kind m n
-put_said kind m n (table.PutHeading k a b) e = λ i. table.PutHeading (sym e.0 i) (sym e.1 i) (sym e.2 i)
-put_said kind m n h e = absurd e
+table_line : EditHeading → table.Heading
+table_line (edit.Put kind m n) = table.PutHeading kind m n
+table_line (edit.Remove n) = table.RemoveHeading n
+table_line (edit.RemoveFile n) = table.RemoveFileHeading n
+
+edit_line : (said : EditHeading) (h : table.Heading) → IsEditHeading said h → h ≡ table_line said
+unfolding table_line
+edit_line (edit.Put kind m n) (table.PutHeading k a b) e = λ i. table.PutHeading (sym e.0 i) (sym e.1 i) (sym e.2 i)
+edit_line (edit.Remove n) (table.RemoveHeading a) e = λ i. table.RemoveHeading (sym e i)
+edit_line (edit.RemoveFile n) (table.RemoveFileHeading a) e = λ i. table.RemoveFileHeading (sym e i)
+edit_line said h e = absurd e
+
+pub edit_said : (said : EditHeading) (g h : table.Heading) → IsEditHeading said g → IsEditHeading said h → g ≡ h
+edit_said said g h e f = edit_line said g e ∙ sym (edit_line said h f)
+
+pub edit_sizes_are : (said : EditHeading) (h : table.Heading) → IsEditHeading said h → table.sizes h ≡ edit_sizes said
+edit_sizes_are (edit.Put kind m n) (table.PutHeading k a b) e = λ i. sym e.1 i ∷ sym e.2 i ∷ []
+edit_sizes_are (edit.Remove n) (table.RemoveHeading a) e = λ i. sym e i ∷ []
+edit_sizes_are (edit.RemoveFile n) (table.RemoveFileHeading a) e = λ i. sym e i ∷ []
+edit_sizes_are said h e = absurd e
+
+pub parent_said : (word : Word) (h : table.Heading) → IsHeading (heading.Parent word) h → (w : Bytes) × (h ≡ table.ParentHeading w) × IfSome word (λ x. x.items ≡ w)
+parent_said word (table.ParentHeading w) e = (w, refl, e)
+parent_said word h e = absurd e
 
 pub message_said : (n : ℕ) (h : table.Heading) → IsHeading (heading.Message n) h → h ≡ table.MessageHeading n
 message_said n (table.MessageHeading a) e = λ i. table.MessageHeading (sym e i)
@@ -51,8 +73,8 @@ actor_said role m n seconds offset (table.ActorHeading r a b s o) e = (s, o, (λ
 actor_said role m n seconds offset h e = absurd e
 
 pub commit_said : (name : Word) (expect : Option Expect) (h : table.Heading) → IsHeading (heading.Commit name expect) h
-    → (n : Bytes) × (x : model.Expect) × (h ≡ table.CommitHeading n x) × IfSome name (λ w. w.items ≡ n) × IfSome expect (λ e. IsExpect e x) × IsTrue (is_commit_name n)
-commit_said name expect (table.CommitHeading n x) e = (n, x, refl, e.0, e.1, e.2)
+    → (n : Bytes) × (x : model.Expect) × (h ≡ table.CommitHeading n x) × IfSome name (λ w. w.items ≡ n) × IfSome expect (λ e. IsExpect e x)
+commit_said name expect (table.CommitHeading n x) e = (n, x, refl, e.0, e.1)
 commit_said name expect h e = absurd e
 
 pub files_said : (word : Word) (h : table.Heading) → IsHeading (heading.Files word) h → (w : Bytes) × (h ≡ table.FilesHeading w) × IfSome word (λ x. x.items ≡ w)
@@ -74,9 +96,6 @@ pub path_sizes : (word : Word) (n : ℕ) (h : table.Heading) → IsHeading (head
 path_sizes word n h e = ap table.sizes (path_said word n h e).1
 
 -- ---- the sizes of the fields that follow
-
-pub put_sizes : (kind : FileKind) (m n : ℕ) (h : table.Heading) → IsHeading (heading.Put kind m n) h → table.sizes h ≡ m ∷ n ∷ []
-put_sizes kind m n h e = ap table.sizes (put_said kind m n h e)
 
 pub message_sizes : (n : ℕ) (h : table.Heading) → IsHeading (heading.Message n) h → table.sizes h ≡ n ∷ []
 message_sizes n h e = ap table.sizes (message_said n h e)
@@ -102,28 +121,66 @@ second_stops p q said xs zs t first size later e field l z ys cause bad =
     (ap (λ x. x ++ zs) t.spelled ∙ ap (λ z. spelling.part_text head ++ z) (z ∙ sym (append-nil (line field))))
     (stops_here (size ∷ later) (place_of q) ys cause (field_stops size later (place_of q) ys cause bad))
 
+pub field_first_stops : (size : ℕ) (later : List ℕ) (place : table.Place) (ys : Bytes) (cause : Cause) → IsNoField size ys cause → StopsFrom (size ∷ later) place ys cause
+field_first_stops size later place ys cause bad = stops_here (size ∷ later) place ys cause (field_stops size later place ys cause bad)
+
+pub field_second_stops : (field zs : Bytes) (first size : ℕ) (later : List ℕ) (place : table.Place) → length field ≡ first → zs ≡ line field → (ys : Bytes) (cause : Cause) → IsNoField size ys cause
+    → StopsFrom (first ∷ size ∷ later) place (zs ++ ys) cause
+field_second_stops field zs first size later place l z ys cause bad =
+    stops_after (first ∷ size ∷ later) (size ∷ later) place place (spelling.Field field ∷ []) zs ys cause
+    (ap (λ n. run_from (at (n ∷ size ∷ later) place) (spelling.Field field ∷ [])) (sym l) ∙ leads_field field (size ∷ later) place [])
+    (z ∙ sym (append-nil (line field)))
+    (field_first_stops size later place ys cause bad)
+
+-- all of the fields that follow a line stop
+pub fields_stop : (p q : Place) (said : Heading) (xs : Bytes) (t : TakesLine p said q xs) (fields : List ℕ) → table.sizes t.heading ≡ fields
+    → (ys : Bytes) (cause : Cause) → ((place : table.Place) → StopsFrom fields place ys cause) → StopsFrom [] (place_of p) (xs ++ ys) cause
+fields_stop p q said xs t fields e ys cause bad =
+    stops_after [] fields (place_of p) (place_of q) (spelling.Line (table.words_of t.heading) ∷ []) xs ys cause
+    (leads_line (place_of p) (place_of q) t.heading [] t.stands t.known t.sized ∙ ap (λ s. Some (at s (place_of q))) e)
+    (t.spelled ∙ sym (append-nil (spelling.part_text (spelling.Line (table.words_of t.heading)))))
+    (bad (place_of q))
+
 -- ---- the text of the fields
 
-one_text : (xs ys a : Bytes) → ys ≡ line a → xs ++ ys ≡ xs ++ flat_map line (a ∷ [])
+pub one_text : (xs ys a : Bytes) → ys ≡ line a → xs ++ ys ≡ xs ++ flat_map line (a ∷ [])
 one_text xs ys a e = ap (λ y. xs ++ y) (e ∙ sym (append-nil (line a)))
 
 two_texts : (xs ys zs a b : Bytes) → ys ≡ line a → zs ≡ line b → (xs ++ ys) ++ zs ≡ xs ++ flat_map line (a ∷ b ∷ [])
 two_texts xs ys zs a b e f = append_assoc xs ys zs ∙ ap (λ y. xs ++ (y ++ zs)) e ∙ ap (λ z. xs ++ (line a ++ z)) (f ∙ sym (append-nil (line b)))
 
+pub two_line_texts : (ys zs a b : Bytes) → ys ≡ line a → zs ≡ line b → ys ++ zs ≡ flat_map line (a ∷ b ∷ [])
+two_line_texts ys zs a b e f = two_texts [] ys zs a b e f
+
 -- ---- the lines, one by one
 
-pub put_parts : (p q : Place) (kind : FileKind) (m n : ℕ) (xs ys zs : Bytes) (old new : Draft) → TakesLine p (heading.Put kind m n) q xs → (a b : Bytes) → length a ≡ m → ys ≡ line a → length b ≡ n → zs ≡ line b
-    → ((order : model.CommitCommand) → IsDraft old (model.Commit order) → IsDraft new (model.Commit (with_edit order (model.PutLine kind a b)))) → TakesParts p old q new ((xs ++ ys) ++ zs)
-put_parts p q kind m n xs ys zs old new t a b la ya lb zb f =
-    let h = table.PutHeading kind (length a) (length b) in
-    let said : t.heading ≡ h = put_said kind m n t.heading t.is ∙ (λ i. table.PutHeading kind (sym la i) (sym lb i)) in
-    let s = as_said p q (heading.Put kind m n) h xs t said in
-    let places = put_place p q kind (length a) (length b) s.stands in
-    takes_parts p q place.Edits place.Edits old new h xs ((xs ++ ys) ++ zs) (a ∷ b ∷ []) s refl places.0 places.1 (two_texts xs ys zs a b ya zb)
-    (λ before come.
-    let edit = model.PutLine kind a b in
-    let head = spelling.Line (codes "commit" ∷ come.0.name ∷ spelling.expect_words come.0.expect) in
-    (with_edit come.0 edit, ap (λ x. x ++ spelling.edit_parts edit) come.1 ∙ ap (λ y. head ∷ y) (sym (flat_map-append spelling.edit_parts come.0.edits (edit ∷ []))), f come.0 come.2))
+edit_spelled : (l : model.EditLine) → parts_with (edit_heading l) (edit_fields l) ≡ spelling.edit_parts l
+edit_spelled (model.PutLine kind path content) = refl
+edit_spelled (model.RemoveLine path) = refl
+edit_spelled (model.RemoveFileLine path) = refl
+
+edit_lengths : (l : model.EditLine) → table.sizes (edit_heading l) ≡ map length (edit_fields l)
+edit_lengths (model.PutLine kind path content) = refl
+edit_lengths (model.RemoveLine path) = refl
+edit_lengths (model.RemoveFileLine path) = refl
+
+pub edit_parts : (p q : Place) (said : EditHeading) (edit : Option Edit) (xs ys : Bytes) (old new : Draft) → TakesLine p (heading.Edit said) q xs → (t : TakesEdit said edit ys)
+    → ((order : model.CommitCommand) → IsDraft old (model.Commit order) → IsDraft new (model.Commit (with_edit order t.line_is))) → TakesParts p old q new (xs ++ ys)
+edit_parts p q said edit xs ys old new t took f =
+    let l = took.line_is in
+    let s = as_said p q (heading.Edit said) (edit_heading l) xs t (edit_said said t.heading (edit_heading l) t.is took.heads) in
+    let places = edit_place p q l s.stands in
+    takes_parts p q p place.Edits old new (edit_heading l) xs (xs ++ ys) (edit_fields l) s (edit_lengths l) refl places.1 (ap (λ y. xs ++ y) took.spelled)
+    (λ before here.
+    let come = come_to_edits p old before places.0 here in
+    let c = come.0 in (
+      with_edit c l,
+      ap (λ x. x ++ parts_with (edit_heading l) (edit_fields l)) come.1
+          ∙ append_assoc (to_parents c) (flat_map spelling.edit_parts c.edits) (parts_with (edit_heading l) (edit_fields l))
+          ∙ ap (λ ps. to_parents c ++ (flat_map spelling.edit_parts c.edits ++ ps)) (edit_spelled l ∙ sym (append-nil (spelling.edit_parts l)))
+          ∙ ap (λ ps. to_parents c ++ ps) (sym (flat_map-append spelling.edit_parts c.edits (l ∷ []))),
+      f c come.2,
+    ))
 
 pub message_parts : (p q : Place) (n : ℕ) (xs ys : Bytes) (old new : Draft) → TakesLine p (heading.Message n) q xs → (a : Bytes) → length a ≡ n → ys ≡ line a
     → ((order : model.CommitCommand) → IsDraft old (model.Commit order) → IsDraft new (model.Commit (with_message order a))) → TakesParts p old q new (xs ++ ys)
@@ -135,12 +192,9 @@ message_parts p q n xs ys old new t a la ya f =
     takes_parts p q place.Message place.End old new h xs (xs ++ ys) (a ∷ []) s refl places.0 places.1 (one_text xs ys a ya)
     (λ before come. (with_message come.0 a, ap (λ x. x ++ spelling.message_parts a) come.1, f come.0 come.2))
 
-no_parents : (d : Draft) (order : model.CommitCommand) → IsDraft d (model.Commit order) → order.parents ≡ []
-no_parents (draft.Commit c) order h = h.parents
-no_parents d order h = absurd h
-
-whole : (head : spelling.Part) (e a c m z : List spelling.Part) → ((((head ∷ e) ++ a) ++ c) ++ m) ++ z ≡ head ∷ (e ++ (a ++ (c ++ (m ++ z))))
-whole head e a c m z = ap (λ t. head ∷ t) (append_assoc ((e ++ a) ++ c) m z ∙ append_assoc (e ++ a) c (m ++ z) ∙ append_assoc e a (c ++ (m ++ z)))
+whole : (head : spelling.Part) (ps e a c m z : List spelling.Part) → (((((head ∷ ps) ++ e) ++ a) ++ c) ++ m) ++ z ≡ head ∷ (ps ++ (e ++ (a ++ (c ++ (m ++ z)))))
+whole head ps e a c m z =
+    ap (λ t. head ∷ t) (append_assoc (((ps ++ e) ++ a) ++ c) m z ∙ append_assoc ((ps ++ e) ++ a) c (m ++ z) ∙ append_assoc (ps ++ e) a (c ++ (m ++ z)) ∙ append_assoc ps e (a ++ (c ++ (m ++ z))))
 
 pub end_parts : (p q : Place) (xs : Bytes) (d : Draft) → TakesLine p heading.End q xs → TakesParts p d q d xs
 end_parts p q xs d t =
@@ -153,29 +207,41 @@ end_parts p q xs d t =
     let head = spelling.Line (codes "commit" ∷ c.name ∷ spelling.expect_words c.expect) in (
       model.Commit c,
       ap (λ x. x ++ spelling.end_part) come.1
-          ∙ whole head (flat_map spelling.edit_parts c.edits) (spelling.actor_parts (codes "author") c.author) (spelling.actor_parts (codes "committer") c.committer) (spelling.message_parts c.message) spelling.end_part
-          ∙ ap (λ ps. head ∷ (map spelling.parent_part ps ++ (flat_map spelling.edit_parts c.edits ++ spelling.signed_parts c))) (sym (no_parents d c come.2)),
+          ∙ whole head (map spelling.parent_part c.parents) (flat_map spelling.edit_parts c.edits) (spelling.actor_parts (codes "author") c.author) (spelling.actor_parts (codes "committer") c.committer) (spelling.message_parts c.message) spelling.end_part,
       come.2,
     ))
 
 nobody : model.ActorLine
 nobody = record { name = []; email = []; seconds = []; offset = [] }
 
-both_true : (a b : Bool) → a ≡ true → b ≡ true → (a && b) ≡ true
-both_true true b e f = f
-both_true false b e f = cc
-
 pub commit_parts : (p q : Place) (name : Word) (expect : Option Expect) (xs : Bytes) (old new : Draft) → TakesLine p (heading.Commit name expect) q xs
-    → ((order : model.CommitCommand) → IfSome name (λ w. w.items ≡ order.name) → IfSome expect (λ e. IsExpect e order.expect) → order.parents ≡ [] → IsTrue (is_offered (model.Commit order)) → order.edits ≡ [] → IsDraft new (model.Commit order))
+    → ((order : model.CommitCommand) → IfSome name (λ w. w.items ≡ order.name) → IfSome expect (λ e. IsExpect e order.expect) → order.parents ≡ [] → order.edits ≡ [] → IsDraft new (model.Commit order))
     → TakesParts p old q new xs
 commit_parts p q name expect xs old new t f =
     let said = commit_said name expect t.heading t.is in
     let h = table.CommitHeading said.0 said.1 in
     let s = as_said p q (heading.Commit name expect) h xs t said.2 in
-    let places = commit_place p q said.0 said.1 said.5 s.stands in
+    let places = commit_place p q said.0 said.1 s.stands in
     let order : model.CommitCommand = record { name = said.0; expect = said.1; parents = []; edits = []; author = nobody; committer = nobody; message = [] } in
-    takes_parts p q place.Start place.Edits old new h xs xs [] s refl places.0 places.1 (sym (append-nil xs))
-    (λ before come. (order, ap (λ x. x ++ parts_with h []) come, f order said.3 said.4 refl (both_true (is_commit_name said.0 && true) true (both_true (is_commit_name said.0) true said.5 refl) refl) refl))
+    takes_parts p q place.Start place.Parents old new h xs xs [] s refl places.0 places.1 (sym (append-nil xs))
+    (λ before come. (order, ap (λ x. x ++ parts_with h []) come, f order said.3 said.4 refl refl, refl))
+
+pub parent_parts : (p q : Place) (word : Word) (xs : Bytes) (old new : Draft) → TakesLine p (heading.Parent word) q xs
+    → ((order : model.CommitCommand) (w : Bytes) → IsDraft old (model.Commit order) → IfSome word (λ x. x.items ≡ w) → IsDraft new (model.Commit (with_parent order w)))
+    → TakesParts p old q new xs
+parent_parts p q word xs old new t f =
+    let said = parent_said word t.heading t.is in
+    let h = table.ParentHeading said.0 in
+    let s = as_said p q (heading.Parent word) h xs t said.1 in
+    let places = parent_place p q said.0 s.stands in
+    takes_parts p q place.Parents place.Parents old new h xs xs [] s refl places.0 places.1 (sym (append-nil xs))
+    (λ before come.
+    let head = spelling.Line (codes "commit" ∷ come.0.name ∷ spelling.expect_words come.0.expect) in (
+      with_parent come.0 said.0,
+      ap (λ x. x ++ parts_with h []) come.1 ∙ ap (λ ps. head ∷ ps) (sym (map-append spelling.parent_part come.0.parents (said.0 ∷ []))),
+      f come.0 said.0 come.2 said.2,
+      come.3,
+    ))
 
 pub actor_parts : (p q : Place) (role : Role) (m n : ℕ) (seconds offset : Word) (xs ys zs : Bytes) (old new : Draft) → TakesLine p (heading.Actor role m n seconds offset) q xs
     → (a b : Bytes) → length a ≡ m → ys ≡ line a → length b ≡ n → zs ≡ line b → (A B : Bytes → Type 0)
@@ -189,8 +255,8 @@ actor_parts p q Author m n seconds offset xs ys zs old new t a b la ya lb zb A B
     let s = as_said p q (heading.Actor Author m n seconds offset) h xs t is in
     let places = author_place p q (length a) (length b) said.0 said.1 s.stands in
     let line : model.ActorLine = record { name = a; email = b; seconds = said.0; offset = said.1 } in
-    takes_parts p q place.Edits place.Committer old new h xs ((xs ++ ys) ++ zs) (a ∷ b ∷ []) s refl places.0 places.1 (two_texts xs ys zs a b ya zb)
-    (λ before come. (with_actor table.Author come.0 line, ap (λ x. x ++ spelling.actor_parts (codes "author") line) come.1, f line come.0 come.2 ka kb said.3 said.4))
+    takes_parts p q p place.Committer old new h xs ((xs ++ ys) ++ zs) (a ∷ b ∷ []) s refl refl places.1 (two_texts xs ys zs a b ya zb)
+    (λ before here. let come = come_to_edits p old before places.0 here in (with_actor table.Author come.0 line, ap (λ x. x ++ spelling.actor_parts (codes "author") line) come.1, f line come.0 come.2 ka kb said.3 said.4))
 actor_parts p q Committer m n seconds offset xs ys zs old new t a b la ya lb zb A B f ka kb =
     let said = actor_said Committer m n seconds offset t.heading t.is in
     let h = table.ActorHeading table.Committer (length a) (length b) said.0 said.1 in

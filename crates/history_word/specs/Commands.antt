@@ -1,5 +1,5 @@
 -- What a command that was read stands for.
-use Rattle.std.specs.Prelude.{◌≡◌, ℕ, ⊤, List, [], Option, Some, None}
+use Rattle.std.specs.Prelude.{◌≡◌, ℕ, ⊤, List, map, Option, Some, None}
 use Rattle.std.specs.List.{AllZip}
 use Rattle.history_model.specs.Bytes.{Bytes}
 use Rattle.history_model.specs.Commands as model
@@ -9,7 +9,7 @@ use Rattle.history_word.specs.declared.command.Field.{Field}
 use Rattle.history_word.specs.declared.command.Expect.{Expect}
 use Rattle.history_word.specs.declared.command.Expect.TheVariants.{Any, New, At}
 use Rattle.history_word.specs.declared.command.Edit.{Edit}
-use Rattle.history_word.specs.declared.command.Edit.TheVariants.{Put}
+use Rattle.history_word.specs.declared.command.Edit.TheVariants.{Put, Remove, RemoveFile}
 use Rattle.history_word.specs.declared.command.ActorLine.{ActorLine}
 use Rattle.history_word.specs.declared.command.CommitCommand.{CommitCommand}
 use Rattle.history_word.specs.declared.command.Command.{Command}
@@ -35,6 +35,8 @@ IsExpect _ _ = ⊥
 
 abbrev pub IsEdit : Edit → model.EditLine → Type 0
 IsEdit (Put put) (model.PutLine kind path content) = (put.kind ≡ kind) × Keeps max_path put.path path × Keeps max_content put.content content
+IsEdit (Remove path) (model.RemoveLine bytes) = Keeps max_path path bytes
+IsEdit (RemoveFile path) (model.RemoveFileLine bytes) = Keeps max_path path bytes
 IsEdit _ _ = ⊥
 
 abbrev pub AreEdits : List Edit → List model.EditLine → Type 0
@@ -49,7 +51,7 @@ pub record IsActor (actor : ActorLine) (line : model.ActorLine) : Type 0 where
 pub record IsCommit (commit : CommitCommand) (order : model.CommitCommand) : Type 0 where
   pub name : commit.name.items ≡ order.name
   pub expect : IsExpect commit.expect order.expect
-  pub parents : order.parents ≡ []
+  pub parents : map (λ word. word.items) commit.parents.items ≡ order.parents
   pub edits : AreEdits commit.edits.items order.edits
   pub author : IsActor commit.author order.author
   pub committer : IsActor commit.committer order.committer

@@ -1,17 +1,19 @@
 -- What a command's draft, and the line that stands first, have of the command.
-use Rattle.std.specs.Prelude.{◌≡◌, ◌<◌, ⊤, IsTrue, List, [], ◌∷◌, ◌++◌, length, Option, Some, None, IfSome, codes}
+use Rattle.std.specs.Prelude.{◌≡◌, ℕ, ◌<◌, ⊤, IsTrue, List, [], ◌∷◌, ◌++◌, length, Option, Some, None, map, IfSome, codes}
 use Rattle.std.specs.List.{flat_map, join_with_byte}
-use Rattle.history_model.specs.Bytes.{Bytes}
+use Rattle.history_model.specs.Bytes.{Bytes, line}
 use Rattle.history_model.specs.Commands as model
 use Rattle.history_model.specs.Spelling as spelling
-use Rattle.history_model.specs.Stage.{is_offered, is_commit_name}
 use Rattle.history_model.specs.LineTable as table
 use Rattle.history_model.specs.TableRuns as runs
 use Rattle.history_word.specs.Fields.{Keeps}
-use Rattle.history_word.specs.Commands.{IsExpect, AreEdits, IsActor, IsPath, max_content}
+use Rattle.history_word.specs.Commands.{IsExpect, IsEdit, AreEdits, IsActor, IsPath, max_content}
+use Rattle.history_word.specs.declared.command.Edit.{Edit}
 use Rattle.history_word.specs.declared.command.Expect.{Expect}
 use Rattle.history_word.specs.declared.heading.Role.{Role}
 use Rattle.history_word.specs.declared.heading.Role.TheVariants.{Author, Committer}
+use Rattle.history_word.specs.declared.heading.EditHeading.{EditHeading}
+use Rattle.history_word.specs.declared.heading.EditHeading.TheVariants as edit
 use Rattle.history_word.specs.declared.heading.Heading.{Heading}
 use Rattle.history_word.specs.declared.heading.Heading.TheVariants as heading
 use Rattle.history_word.specs.declared.place.Place.{Place}
@@ -26,16 +28,25 @@ role_of Committer = table.Committer
 
 abbrev pub place_of : Place → table.Place
 place_of place.Start = table.Start
+place_of place.Parents = table.Parents
 place_of place.Edits = table.Edits
 place_of place.Committer = table.ToCommitter
 place_of place.Message = table.ToMessage
 place_of place.End = table.ToEnd
 place_of place.Done = table.Done
 
+-- the line of an edit is this one
+abbrev pub IsEditHeading : EditHeading → table.Heading → Type 0
+IsEditHeading (edit.Put kind path content) (table.PutHeading k m n) = (kind ≡ k) × (path ≡ m) × (content ≡ n)
+IsEditHeading (edit.Remove path) (table.RemoveHeading n) = path ≡ n
+IsEditHeading (edit.RemoveFile path) (table.RemoveFileHeading n) = path ≡ n
+IsEditHeading _ _ = ⊥
+
 -- The line is this one. A word that found no memory may be any.
 abbrev pub IsHeading : Heading → table.Heading → Type 0
-IsHeading (heading.Commit name expect) (table.CommitHeading n e) = IfSome name (λ word. word.items ≡ n) × IfSome expect (λ x. IsExpect x e) × IsTrue (is_commit_name n)
-IsHeading (heading.Put kind path content) (table.PutHeading k m n) = (kind ≡ k) × (path ≡ m) × (content ≡ n)
+IsHeading (heading.Commit name expect) (table.CommitHeading n e) = IfSome name (λ word. word.items ≡ n) × IfSome expect (λ x. IsExpect x e)
+IsHeading (heading.Parent word) (table.ParentHeading w) = IfSome word (λ x. x.items ≡ w)
+IsHeading (heading.Edit line) h = IsEditHeading line h
 IsHeading (heading.Actor role name email seconds offset) (table.ActorHeading r m n s o) = (role_of role ≡ r) × (name ≡ m) × (email ≡ n) × IfSome seconds (λ word. word.items ≡ s) × IfSome offset (λ word. word.items ≡ o)
 IsHeading (heading.Message size) (table.MessageHeading n) = size ≡ n
 IsHeading heading.End table.EndHeading = ⊤
@@ -60,8 +71,7 @@ SaysExpect _ _ = ⊥
 pub record IsCommitDraft (draft : CommitDraft) (order : model.CommitCommand) : Type 0 where
   pub name : IfSome draft.name (λ word. word.items ≡ order.name)
   pub expect : IfSome draft.expect (λ x. IsExpect x order.expect)
-  pub parents : order.parents ≡ []
-  pub offered : IsTrue (is_offered (model.Commit order))
+  pub parents : IfSome draft.parents (λ words. map (λ word. word.items) words.items ≡ order.parents)
   pub edits : IfSome draft.edits (λ edits. AreEdits edits.items order.edits)
   pub author : IfSome draft.author (λ actor. IsActor actor order.author)
   pub committer : IfSome draft.committer (λ actor. IsActor actor order.committer)
@@ -77,6 +87,9 @@ abbrev pub with_actor : table.Role → model.CommitCommand → model.ActorLine �
 with_actor table.Author order actor = record order { author = actor }
 with_actor table.Committer order actor = record order { committer = actor }
 
+abbrev pub with_parent : model.CommitCommand → Bytes → model.CommitCommand
+with_parent order word = record order { parents = order.parents ++ word ∷ [] }
+
 abbrev pub with_edit : model.CommitCommand → model.EditLine → model.CommitCommand
 with_edit order edit = record order { edits = order.edits ++ edit ∷ [] }
 
@@ -85,8 +98,11 @@ with_message order message = record order { message = message }
 
 -- ---- as far as a commit has come
 
+abbrev pub to_parents : model.CommitCommand → List spelling.Part
+to_parents c = spelling.Line (codes "commit" ∷ c.name ∷ spelling.expect_words c.expect) ∷ map spelling.parent_part c.parents
+
 abbrev pub to_edits : model.CommitCommand → List spelling.Part
-to_edits c = spelling.Line (codes "commit" ∷ c.name ∷ spelling.expect_words c.expect) ∷ flat_map spelling.edit_parts c.edits
+to_edits c = to_parents c ++ flat_map spelling.edit_parts c.edits
 
 abbrev pub to_author : model.CommitCommand → List spelling.Part
 to_author c = to_edits c ++ spelling.actor_parts (codes "author") c.author
@@ -100,6 +116,7 @@ to_message c = to_committer c ++ spelling.message_parts c.message
 -- the parts that have come where a commit stands at this place
 abbrev pub parts_before : Place → model.CommitCommand → List spelling.Part
 parts_before place.Start c = []
+parts_before place.Parents c = to_parents c
 parts_before place.Edits c = to_edits c
 parts_before place.Committer c = to_author c
 parts_before place.Message c = to_committer c
@@ -110,6 +127,7 @@ parts_before place.Done c = spelling.parts_of (model.Commit c)
 abbrev pub HasCome : Place → Draft → List spelling.Part → Type 0
 HasCome place.Start d parts = parts ≡ []
 HasCome place.Done d parts = (order : model.Command) × (parts ≡ spelling.parts_of order) × IsDraft d order
+HasCome place.Parents d parts = (order : model.CommitCommand) × (parts ≡ to_parents order) × IsDraft d (model.Commit order) × (order.edits ≡ [])
 HasCome p d parts = (order : model.CommitCommand) × (parts ≡ parts_before p order) × IsDraft d (model.Commit order)
 
 -- ---- what the readers of a line and of a line with its fields give
@@ -130,6 +148,29 @@ pub record TakesLine (place : Place) (line : Heading) (next : Place) (taken : By
   pub sized : IsTrue (table.are_sizes (table.sizes heading))
   pub stands : table.next (place_of place) heading ≡ Some (place_of next)
   pub is : IsHeading line heading
+
+abbrev pub edit_sizes : EditHeading → List ℕ
+edit_sizes (edit.Put kind path content) = path ∷ content ∷ []
+edit_sizes (edit.Remove path) = path ∷ []
+edit_sizes (edit.RemoveFile path) = path ∷ []
+
+-- the line of an edit, and the fields that follow it
+abbrev pub edit_heading : model.EditLine → table.Heading
+edit_heading (model.PutLine kind path content) = table.PutHeading kind (length path) (length content)
+edit_heading (model.RemoveLine path) = table.RemoveHeading (length path)
+edit_heading (model.RemoveFileLine path) = table.RemoveFileHeading (length path)
+
+abbrev pub edit_fields : model.EditLine → List Bytes
+edit_fields (model.PutLine kind path content) = path ∷ content ∷ []
+edit_fields (model.RemoveLine path) = path ∷ []
+edit_fields (model.RemoveFileLine path) = path ∷ []
+
+-- the fields of an edit were taken
+pub record TakesEdit (heading : EditHeading) (edit : Option Edit) (taken : Bytes) : Type 0 where
+  pub line_is : model.EditLine
+  pub heads : IsEditHeading heading (edit_heading line_is)
+  pub spelled : taken ≡ flat_map line (edit_fields line_is)
+  pub is : IfSome edit (λ x. IsEdit x line_is)
 
 -- parts were taken into the draft, and lead from the one place to the other
 pub record TakesParts (place : Place) (old : Draft) (next : Place) (new : Draft) (taken : Bytes) : Type 0 where

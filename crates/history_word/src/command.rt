@@ -43,10 +43,14 @@ pub struct Put {
     pub content: Field,
 }
 
-/// One change of a commit's files.
+/// One change of a commit's files. The path of a removal has at most 4,096 bytes.
 #[derive(Debug, Drop)]
 pub enum Edit {
     Put(Put),
+    /// Takes out all at or below the path, also where nothing stands.
+    Remove(Field),
+    /// Takes out the file at the path; nothing may stand below it.
+    RemoveFile(Field),
 }
 
 /// Who acts, and when: the words for the seconds and the offset are as they were sent. The name and the email have at
@@ -59,11 +63,12 @@ pub struct ActorLine {
     pub offset: Vec<u8>,
 }
 
-/// The edits are made in order. The message has at most 16,777,216 bytes.
+/// The parents are words, in their order; the edits are made in order. The message has at most 16,777,216 bytes.
 #[derive(Debug, Drop)]
 pub struct CommitCommand {
     pub name: Vec<u8>,
     pub expect: Expect,
+    pub parents: Vec<Vec<u8>>,
     pub edits: Vec<Edit>,
     pub author: ActorLine,
     pub committer: ActorLine,

@@ -1,13 +1,12 @@
 //! A command that is being read: the parts that it has so far.
 
-ghost use Rattle.std.specs.Prelude.{◌≡◌, List, [], ◌∷◌, ◌++◌, None, Some, IfSome, IsTrue};
+ghost use Rattle.std.specs.Prelude.{◌≡◌, [], ◌∷◌, ◌++◌, None, Some, IfSome, MatchOption};
 ghost use Rattle.history_model.specs.Bytes.{Bytes};
 ghost use Rattle.history_model.specs.Commands as model;
-ghost use Rattle.history_model.specs.Stage.{is_put, is_offered};
 ghost use Rattle.history_model.specs.Stops.{is_changing};
 ghost use Rattle.history_word.specs.Fields.{Keeps};
-ghost use Rattle.history_word.specs.Commands.{IsExpect, IsEdit, AreEdits, IsActor, IsCommit, StandsFor, max_path, max_actor_part, max_content};
-ghost use Rattle.history_word.specs.Drafts.{IsCommitDraft, IsDraft, role_of, with_actor, with_edit, with_message};
+ghost use Rattle.history_word.specs.Commands.{IsExpect, IsEdit, IsActor, IsCommit, StandsFor, max_path, max_actor_part, max_content};
+ghost use Rattle.history_word.specs.Drafts.{IsCommitDraft, IsDraft, role_of, with_parent, with_actor, with_edit, with_message};
 
 use crate::command::{ActorLine, Command, CommitCommand, Edit, Expect, Field, Put, Show};
 use crate::heading::Role;
@@ -19,6 +18,7 @@ use std::alloc::Global;
 pub(crate) struct CommitDraft {
     name: Option<Vec<u8>>,
     expect: Option<Expect>,
+    parents: Option<Vec<Vec<u8>>>,
     edits: Option<Vec<Edit>>,
     author: Option<ActorLine>,
     committer: Option<ActorLine>,
@@ -38,12 +38,13 @@ impl CommitDraft {
     fn new(alloc: Global, name: Option<Vec<u8>>, expect: Option<Expect>) -> Self
         ensures { (order : model.CommitCommand) → IfSome name (λ word. word.items ≡ order.name)
             → IfSome expect (λ x. IsExpect x order.expect)
-            → order.parents ≡ [] → IsTrue (is_offered (model.Commit order)) → order.edits ≡ []
+            → order.parents ≡ [] → order.edits ≡ []
             → IsCommitDraft result order }
     {
         CommitDraft {
             name,
             expect,
+            parents: Some(Vec::new(alloc)),
             edits: Some(Vec::new(alloc)),
             author: None,
             committer: None,
@@ -51,10 +52,18 @@ impl CommitDraft {
         }
     }
 
+    fn add_parent(&mut self, word: Option<Vec<u8>>)
+        ensures { (order : model.CommitCommand) (w : Bytes)
+            → IsCommitDraft self.old order → IfSome word (λ x. x.items ≡ w)
+            → IsCommitDraft self.new (with_parent order w) }
+    {
+        self.parents = pushed(self.parents.take(), word);
+    }
+
     fn add_edit(&mut self, edit: Option<Edit>)
         ensures { (order : model.CommitCommand) (line : model.EditLine)
             → IsCommitDraft self.old order → IfSome edit (λ x. IsEdit x line)
-            → IsTrue (is_put line) → IsCommitDraft self.new (with_edit order line) }
+            → IsCommitDraft self.new (with_edit order line) }
     {
         self.edits = pushed(self.edits.take(), edit);
     }
@@ -66,6 +75,7 @@ impl CommitDraft {
         Some(CommitCommand {
             name: self.name?,
             expect: self.expect?,
+            parents: self.parents?,
             edits: self.edits?,
             author: self.author?,
             committer: self.committer?,
@@ -78,7 +88,7 @@ impl Draft {
     pub(crate) fn commit(alloc: Global, name: Option<Vec<u8>>, expect: Option<Expect>) -> Self
         ensures { (order : model.CommitCommand) → IfSome name (λ word. word.items ≡ order.name)
             → IfSome expect (λ x. IsExpect x order.expect)
-            → order.parents ≡ [] → IsTrue (is_offered (model.Commit order)) → order.edits ≡ []
+            → order.parents ≡ [] → order.edits ≡ []
             → IsDraft result (model.Commit order) }
     {
         Draft::Commit(CommitDraft::new(alloc, name, expect))
@@ -104,14 +114,23 @@ impl Draft {
         }))
     }
 
-    pub(crate) fn add_put(&mut self, kind: FileKind, path: Option<Field>, content: Option<Field>)
-        ensures { (order : model.CommitCommand) (p c : Bytes)
-            → IsDraft self.old (model.Commit order)
-            → IfSome path (λ x. Keeps max_path x p) → IfSome content (λ x. Keeps max_content x c)
-            → IsDraft self.new (model.Commit (with_edit order (model.PutLine kind p c))) }
+    pub(crate) fn add_parent(&mut self, word: Option<Vec<u8>>)
+        ensures { (order : model.CommitCommand) (w : Bytes)
+            → IsDraft self.old (model.Commit order) → IfSome word (λ x. x.items ≡ w)
+            → IsDraft self.new (model.Commit (with_parent order w)) }
     {
         if let Draft::Commit(commit) = self {
-            commit.add_edit(put(kind, path, content));
+            commit.add_parent(word);
+        }
+    }
+
+    pub(crate) fn add_edit(&mut self, edit: Option<Edit>)
+        ensures { (order : model.CommitCommand) (line : model.EditLine)
+            → IsDraft self.old (model.Commit order) → IfSome edit (λ x. IsEdit x line)
+            → IsDraft self.new (model.Commit (with_edit order line)) }
+    {
+        if let Draft::Commit(commit) = self {
+            commit.add_edit(edit);
         }
     }
 
@@ -159,18 +178,18 @@ impl Draft {
     }
 }
 
-/// The edits and one more, if there is memory for them.
-fn pushed(edits: Option<Vec<Edit>>, edit: Option<Edit>) -> Option<Vec<Edit>>
-    ensures { (lines : List model.EditLine) (line : model.EditLine)
-        → IfSome edits (λ es. AreEdits es.items lines) → IfSome edit (λ x. IsEdit x line)
-        → IfSome result (λ es. AreEdits es.items (lines ++ line ∷ [])) }
+/// The list and one item more, if there is memory for them.
+fn pushed<T: Drop>(list: Option<Vec<T>>, item: Option<T>) -> Option<Vec<T>>
+    ensures { IfSome result (λ all. MatchOption list ⊥
+        (λ old. MatchOption item ⊥ (λ x. all.items ≡ old.items ++ x ∷ []))) }
 {
-    let mut edits = edits?;
-    edits.push(edit?).ok()?;
-    Some(edits)
+    let mut list = list?;
+    list.push(item?).ok()?;
+    Some(list)
 }
 
-fn put(kind: FileKind, path: Option<Field>, content: Option<Field>) -> Option<Edit>
+/// The edit of a line and its two fields, if each of them found memory.
+pub(crate) fn put(kind: FileKind, path: Option<Field>, content: Option<Field>) -> Option<Edit>
     ensures { (p c : Bytes) → IfSome path (λ x. Keeps max_path x p)
         → IfSome content (λ x. Keeps max_content x c)
         → IfSome result (λ edit. IsEdit edit (model.PutLine kind p c)) }

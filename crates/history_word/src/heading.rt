@@ -1,8 +1,7 @@
 //! What the first line of a part says.
 
 ghost use Rattle.std.specs.Prelude.{◌≡◌, ◌∷◌, ◌≤◌, length, IfSome, IfNone, OnSome, IsTrue};
-ghost use Rattle.history_model.specs.Stage.{is_commit_name};
-ghost use Rattle.history_model.specs.LineTable.{Place, heading_of, expect_of, commit_of_words, put_of_words, actor_of_words, message_of_words, end_of_words, files_of_words, show_of_words};
+ghost use Rattle.history_model.specs.LineTable.{Place, RemoveHeading, RemoveFileHeading, heading_of, expect_of, commit_of_words, parent_of_words, put_of_words, removal_of_words, actor_of_words, message_of_words, end_of_words, files_of_words, show_of_words};
 ghost use Rattle.history_model.specs.TableRuns.{IsLineAt};
 ghost use Rattle.history_word.specs.Held.{IsUnbroken};
 ghost use Rattle.history_word.specs.Lines.{split_words};
@@ -21,6 +20,22 @@ pub(crate) enum Role {
     Committer,
 }
 
+/// What an edit's line says. A number is the size of a field that follows the line.
+#[derive(Clone, Copy, Debug, PartialEq, Eq)]
+pub(crate) enum EditHeading {
+    Put {
+        kind: FileKind,
+        path: u64,
+        content: u64,
+    },
+    Remove {
+        path: u64,
+    },
+    RemoveFile {
+        path: u64,
+    },
+}
+
 /// What a line says. A number is the size of a field that follows the line; a word is `None` where it found no memory.
 #[derive(Debug, Drop)]
 pub(crate) enum Heading {
@@ -28,11 +43,10 @@ pub(crate) enum Heading {
         name: Option<Vec<u8>>,
         expect: Option<Expect>,
     },
-    Put {
-        kind: FileKind,
-        path: u64,
-        content: u64,
+    Parent {
+        word: Option<Vec<u8>>,
     },
+    Edit(EditHeading),
     Actor {
         role: Role,
         name: u64,
@@ -63,13 +77,6 @@ fn kept(alloc: Global, word: &[u8]) -> Option<Vec<u8>>
     Vec::from_slice(alloc, word).ok()
 }
 
-/// Whether a commit may move this name.
-fn is_commit_name(name: &[u8]) -> bool
-    ensures { result ≡ is_commit_name name.now }
-{
-    name == b"refs/heads/main".as_slice() || name == b"HEAD".as_slice()
-}
-
 /// `any`, `new` or `at <word>`. It is `Some(None)` where the word found no memory.
 fn expect(alloc: Global, words: &mut Words) -> Option<Option<Expect>>
     ensures { SaysExpect result (expect_of (left words.old)) }
@@ -96,13 +103,20 @@ fn commit(alloc: Global, words: &mut Words) -> Option<Heading>
     ensures { Says result (commit_of_words (left words.old)) }
 {
     let name = words.next()?;
-    if !is_commit_name(name) {
-        return None;
-    }
     let expect = expect(alloc, words)?;
     Some(Heading::Commit {
         name: kept(alloc, name),
         expect,
+    })
+}
+
+/// What follows `parent`: `<word>`.
+fn parent(alloc: Global, words: &mut Words) -> Option<Heading>
+    ensures { Says result (parent_of_words (left words.old)) }
+{
+    let word = words.last()?;
+    Some(Heading::Parent {
+        word: kept(alloc, word),
     })
 }
 
@@ -113,11 +127,27 @@ fn put(words: &mut Words) -> Option<Heading>
     let kind = file_kind(words.next()?)?;
     let path = number(words.next()?)?;
     let content = number(words.last()?)?;
-    Some(Heading::Put {
+    Some(Heading::Edit(EditHeading::Put {
         kind,
         path,
         content,
-    })
+    }))
+}
+
+/// What follows `remove`: `<path size>`.
+fn remove(words: &mut Words) -> Option<Heading>
+    ensures { Says result (removal_of_words RemoveHeading (left words.old)) }
+{
+    let path = number(words.last()?)?;
+    Some(Heading::Edit(EditHeading::Remove { path }))
+}
+
+/// What follows `remove-file`: `<path size>`.
+fn remove_file(words: &mut Words) -> Option<Heading>
+    ensures { Says result (removal_of_words RemoveFileHeading (left words.old)) }
+{
+    let path = number(words.last()?)?;
+    Some(Heading::Edit(EditHeading::RemoveFile { path }))
 }
 
 /// What follows a role: `<name size> <email size> <seconds> <offset>`.
@@ -194,8 +224,14 @@ fn said(alloc: Global, line: &[u8]) -> Option<Heading>
     let first = words.next()?;
     if first == b"commit".as_slice() {
         commit(alloc, &mut words)
+    } else if first == b"parent".as_slice() {
+        parent(alloc, &mut words)
     } else if first == b"put".as_slice() {
         put(&mut words)
+    } else if first == b"remove".as_slice() {
+        remove(&mut words)
+    } else if first == b"remove-file".as_slice() {
+        remove_file(&mut words)
     } else if first == b"author".as_slice() {
         actor(alloc, Role::Author, &mut words)
     } else if first == b"committer".as_slice() {

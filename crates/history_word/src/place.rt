@@ -10,6 +10,7 @@ use crate::heading::{Heading, Role};
 #[derive(Clone, Copy, Debug, PartialEq, Eq)]
 pub(crate) enum Place {
     Start,
+    Parents,
     Edits,
     Committer,
     Message,
@@ -24,13 +25,14 @@ impl Place {
             → option_map place_of result ≡ table.next (place_of self) h }
     {
         match (self, heading) {
-            (Place::Start, Heading::Commit { .. }) => Some(Place::Edits),
+            (Place::Start, Heading::Commit { .. }) => Some(Place::Parents),
             (Place::Start, Heading::Files { .. }) => Some(Place::Done),
             (Place::Start, Heading::Show { .. }) => Some(Place::Done),
             (Place::Start, Heading::ShowPath { .. }) => Some(Place::Done),
-            (Place::Edits, Heading::Put { .. }) => Some(Place::Edits),
+            (Place::Parents, Heading::Parent { .. }) => Some(Place::Parents),
+            (Place::Parents | Place::Edits, Heading::Edit(_)) => Some(Place::Edits),
             (
-                Place::Edits,
+                Place::Parents | Place::Edits,
                 Heading::Actor {
                     role: Role::Author,
                     ..

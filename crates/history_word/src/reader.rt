@@ -11,16 +11,16 @@ ghost use Rattle.history_word.specs.Held.{IsLineOf};
 ghost use Rattle.history_word.specs.Buffer.{unread};
 ghost use Rattle.history_word.specs.Fields.{KeepsFront, Keeps};
 ghost use Rattle.history_word.specs.Commands.{IsReading};
-ghost use Rattle.history_word.specs.Drafts.{place_of, TakesLine, TakesParts};
+ghost use Rattle.history_word.specs.Drafts.{place_of, edit_sizes, TakesLine, TakesEdit, TakesParts};
 ghost use Rattle.history_word.specs.Progress.{IsEndless, IsNoField, StopsFrom, IsCauseOf};
 ghost use Rattle.history_word.specs.Reading.{Reads};
 ghost use Rattle.history_word.specs.Taking.{AsksForMore};
 ghost use Rattle.history_word.specs.declared.reader.Stop.TheVariants.{Broken as broken};
 
 use crate::buffer::{Buffer, MAX_LINE};
-use crate::command::{Command, Field, MAX_ACTOR_PART, MAX_CONTENT, MAX_PATH};
-use crate::draft::{Draft, actor_line};
-use crate::heading::{Heading, parse};
+use crate::command::{Command, Edit, Field, MAX_ACTOR_PART, MAX_CONTENT, MAX_PATH};
+use crate::draft::{Draft, actor_line, put};
+use crate::heading::{EditHeading, Heading, parse};
 use crate::place::Place;
 use crate::streams::{Broken, Source};
 use history_model::Cause;
@@ -139,6 +139,40 @@ fn added(field: Option<Field>, bytes: &[u8]) -> Option<Field>
     Some(field)
 }
 
+/// Takes the fields of an edit's line. The edit is `None` where one of them found no memory.
+fn read_edit<R: Source>(
+    alloc: Global,
+    buffer: &mut Buffer,
+    source: &mut R,
+    heading: EditHeading,
+) -> Result<Option<Edit>, Stop>
+    ensures { Reads R.left R.has_failed R.readings source.old buffer.old source.new buffer.new
+        (λ edit taken. TakesEdit heading edit taken
+        × AsksForMore source.old buffer.old source.new taken)
+        (λ bytes cause. (place : table.Place)
+        → StopsFrom (edit_sizes heading) place bytes cause) result }
+{
+    match heading {
+        EditHeading::Put {
+            kind,
+            path,
+            content,
+        } => {
+            let path = read_field(alloc, buffer, source, path, MAX_PATH)?;
+            let content = read_field(alloc, buffer, source, content, MAX_CONTENT)?;
+            Ok(put(kind, path, content))
+        }
+        EditHeading::Remove { path } => {
+            let path = read_field(alloc, buffer, source, path, MAX_PATH)?;
+            Ok(path.map(Edit::Remove))
+        }
+        EditHeading::RemoveFile { path } => {
+            let path = read_field(alloc, buffer, source, path, MAX_PATH)?;
+            Ok(path.map(Edit::RemoveFile))
+        }
+    }
+}
+
 /// Takes a line and its fields into the draft, and says where the next line stands.
 fn read_part<R: Source>(
     alloc: Global,
@@ -156,14 +190,10 @@ fn read_part<R: Source>(
     let (heading, next) = read_heading(alloc, buffer, source, place)?;
     match heading {
         Heading::Commit { name, expect } => *draft = Draft::commit(alloc, name, expect),
-        Heading::Put {
-            kind,
-            path,
-            content,
-        } => {
-            let path = read_field(alloc, buffer, source, path, MAX_PATH)?;
-            let content = read_field(alloc, buffer, source, content, MAX_CONTENT)?;
-            draft.add_put(kind, path, content);
+        Heading::Parent { word } => draft.add_parent(word),
+        Heading::Edit(heading) => {
+            let edit = read_edit(alloc, buffer, source, heading)?;
+            draft.add_edit(edit);
         }
         Heading::Actor {
             role,

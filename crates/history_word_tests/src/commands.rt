@@ -19,18 +19,30 @@ fn is_put(put: &Put) -> bool {
     put.kind == FileKind::File && is_whole(&put.path, b"a") && is_whole(&put.content, b"hello")
 }
 
-fn has_one_put(commit: &CommitCommand) -> bool {
+fn has_parents(commit: &CommitCommand) -> bool {
+    match commit.parents.as_slice() {
+        [first, second] => {
+            first.as_slice() == b"m".as_slice() && second.as_slice() == b"refs/heads/t".as_slice()
+        }
+        _ => false,
+    }
+}
+
+fn has_edits(commit: &CommitCommand) -> bool {
     match commit.edits.as_slice() {
-        [Edit::Put(put)] => is_put(put),
+        [Edit::Put(put), Edit::Remove(below), Edit::RemoveFile(path)] => {
+            is_put(put) && is_whole(below, b"d") && is_whole(path, b"d/x")
+        }
         _ => false,
     }
 }
 
 // Whether it is the commit of `COMMIT`.
 fn is_commit(commit: &CommitCommand) -> bool {
-    commit.name.as_slice() == b"refs/heads/main".as_slice()
+    commit.name.as_slice() == b"refs/heads/s".as_slice()
         && matches!(commit.expect, Expect::New)
-        && has_one_put(commit)
+        && has_parents(commit)
+        && has_edits(commit)
         && is_actor(&commit.author)
         && is_actor(&commit.committer)
         && is_whole(&commit.message, b"one")

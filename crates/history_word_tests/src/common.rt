@@ -5,7 +5,7 @@ use history_word::{Buffer, Bytes, Command, Field, Reading, Show, Stop, read_comm
 use std::alloc::Global;
 
 pub const COMMIT: &[u8] =
-    b"commit refs/heads/main new\nput file 1 5\na\nhello\nauthor 1 3 1 +0000\nA\na@b\ncommitter 1 3 1 +0000\nA\na@b\nmessage 3\none\nend\n";
+    b"commit refs/heads/s new\nparent m\nparent refs/heads/t\nput file 1 5\na\nhello\nremove 1\nd\nremove-file 3\nd/x\nauthor 1 3 1 +0000\nA\na@b\ncommitter 1 3 1 +0000\nA\na@b\nmessage 3\none\nend\n";
 
 pub fn read(alloc: Global, input: &[u8]) -> Result<Reading, Stop> {
     let mut source = Bytes::new(input);

@@ -1,7 +1,7 @@
 //! Laws of the repositories of this stage, over the definitions alone.
 
-ghost use Rattle.history_model.specs.Offered.{FlatRoots, FlatFolders, FlatPuts, FilesAreStored, FreshIsOffered, OfferedStays, FirstOfferedCause};
-ghost use Rattle.history_model.specs.OfferedWords.{CommitsStoreFlat, WordsMeanMain, CommitsNameMain, WordsStandForMain, CommitsFollowMain, MainHoldsACommit};
+ghost use Rattle.history_model.specs.Offered.{FlatRoots, FlatFolders, FlatPuts, FlatRemovals, FilesAreStored, FreshIsOffered, OfferedStays, FirstOfferedCause};
+ghost use Rattle.history_model.specs.OfferedWords.{CommitsStoreFlat, WordsReadNames, NoneIsAmbiguous, NamesHoldCommits, NamesStandForTheirs, WordsStandForTheirs, ParentsAreCommits};
 
 /// The tree of flat files is their entries, one after another.
 pub fn flat_roots()
@@ -16,6 +16,11 @@ pub fn flat_folders()
 /// A `put` to flat files replaces the file of its path, and no other.
 pub fn flat_puts()
     ensures { FlatPuts }
+{}
+
+/// A removal takes out of flat files the file of its path, and no other.
+pub fn flat_removals()
+    ensures { FlatRemovals }
 {}
 
 /// The bytes of each file of a stored folder are stored.
@@ -43,27 +48,32 @@ pub fn commits_store_flat()
     ensures { CommitsStoreFlat }
 {}
 
-/// HEAD and the words that mean the one name read as it, where it stands.
-pub fn main_is_meant()
-    ensures { WordsMeanMain }
+/// A word that reads as an id reads as one that a name holds.
+pub fn words_read_names()
+    ensures { WordsReadNames }
 {}
 
-/// The name of a commit is the one name.
-pub fn commits_name_main()
-    ensures { CommitsNameMain }
+/// No word is ambiguous.
+pub fn none_is_ambiguous()
+    ensures { NoneIsAmbiguous }
 {}
 
-/// HEAD and the words that mean the one name stand for the commit that it holds.
-pub fn words_stand_for_main()
-    ensures { WordsStandForMain }
+/// Each name holds a stored commit.
+pub fn names_hold_commits()
+    ensures { NamesHoldCommits }
 {}
 
-/// The one parent of a commit is what the one name holds.
-pub fn commits_follow_main()
-    ensures { CommitsFollowMain }
+/// A name stands for the commit that it holds.
+pub fn names_stand_for_theirs()
+    ensures { NamesStandForTheirs }
 {}
 
-/// The one name holds a stored commit.
-pub fn main_holds_a_commit()
-    ensures { MainHoldsACommit }
+/// A word stands for the commit that it reads as.
+pub fn words_stand_for_theirs()
+    ensures { WordsStandForTheirs }
+{}
+
+/// Each parent of a commit is a stored commit.
+pub fn parents_are_commits()
+    ensures { ParentsAreCommits }
 {}

@@ -6,7 +6,7 @@ use Rattle.history_word.specs.Commands.{AreEdits}
 use Rattle.history.specs.CommitCauses.{AreTimes, ReadsTime}
 use Rattle.history.proofs.FieldLemmas.{turned, not_beyond, over}
 use Rattle.history.proofs.FirstCauses.{long_content, long_message}
-use Rattle.history.proofs.ParentLemmas.{only_error}
+use Rattle.history.proofs.Tested.{only_error}
 use Rattle.history.proofs.TimesLemmas.{path_refused, actor_refused, time_refused, title_refused, size_refused, all_formed, some_bad, other_bad, neither_bad, good, time_good, absent}
 use Rattle.history.proofs.TitleLemmas.{bad_kept}
 use Rattle.history.proofs.causes.read_times.Goals as goal

@@ -1,14 +1,15 @@
 use Rattle.std.proofs.Common.{◌++◌, [], ◌∷◌}
 use Rattle.std.proofs.lemmas.Result.{err_from_is_err_and}
+use Rattle.history_model.specs.LineTable as table
 use Rattle.history_model.specs.TableRuns.{StopsAt}
 use Rattle.std.specs.Prelude.{IfSome}
 use Rattle.history_word.specs.Fields.{Keeps}
 use Rattle.history_word.specs.Progress.{IsNoField, StopsFrom}
-use Rattle.history_word.specs.Drafts.{place_of}
+use Rattle.history_word.specs.Drafts.{place_of, edit_sizes}
 use Rattle.history_word.proofs.TakingLemmas.{asks_then, took_then, took_none}
 use Rattle.history_word.proofs.StopLemmas.{stops_then}
 use Rattle.history_word.proofs.ProgressLemmas.{stops_here}
-use Rattle.history_word.proofs.LineEndLemmas.{first_stops, second_stops, put_sizes, actor_sizes, message_sizes, path_sizes, commit_parts, put_parts, actor_parts, message_parts, end_parts, files_parts, show_parts, path_parts}
+use Rattle.history_word.proofs.LineEndLemmas.{first_stops, second_stops, actor_sizes, message_sizes, path_sizes, commit_parts, parent_parts, edit_parts, edit_sizes_are, fields_stop, actor_parts, message_parts, end_parts, files_parts, show_parts, path_parts}
 use Rattle.history_word.proofs.reader.read_part.Goals as goal
 
 pub returns-in_err-heading : goal.returns-in_err-heading
@@ -18,22 +19,14 @@ returns-in_err-heading g c =
     rw (p.1, p.2) (stops_then g.R.Source.left g.R.Source.has_failed g.R.Source.readings _ _ _ _ _ _ [] (StopsAt [] here) (StopsFrom [] here) (λ ys m bad. stops_here [] here ys m bad)
     c.in_err-heading.field-0.0 (took_none g.R.Source.left g.R.Source.readings c.args.source.now c.args.buffer.now) c.in_err-heading.ensures)
 
-pub returns-in_err-path-in-Put : goal.returns-in_err-path-in-Put
-returns-in_err-path-in-Put g c =
-    let p = err_from_is_err_and c.from_residual-in_err-path-in-Put.result c.from_residual-in_err-path-in-Put.ensures.1 in
-    let h = rw c.in-Put.is at c.in_ok-heading.ensures in
-    rw (p.1, p.2) (stops_then g.R.Source.left g.R.Source.has_failed g.R.Source.readings _ _ _ _ _ _ h.0 (IsNoField c.in-Put.path) (StopsFrom [] (place_of c.args.place))
-    (first_stops c.args.place c.in_ok-heading.next _ h.0 h.2.0 c.in-Put.path (c.in-Put.content ∷ []) (put_sizes c.in-Put.kind c.in-Put.path c.in-Put.content h.2.0.heading h.2.0.is))
-    c.in_err-path-in-Put.field-0.0 h.1 c.in_err-path-in-Put.ensures)
-
-pub returns-in_err-content-in-Put : goal.returns-in_err-content-in-Put
-returns-in_err-content-in-Put g c =
-    let p = err_from_is_err_and c.from_residual-in_err-content-in-Put.result c.from_residual-in_err-content-in-Put.ensures.1 in
-    let h = rw c.in-Put.is at c.in_ok-heading.ensures in
-    let a = c.in_ok-path-in-Put.ensures in
-    rw (p.1, p.2) (stops_then g.R.Source.left g.R.Source.has_failed g.R.Source.readings _ _ _ _ _ _ (h.0 ++ a.0) (IsNoField c.in-Put.content) (StopsFrom [] (place_of c.args.place))
-    (second_stops c.args.place c.in_ok-heading.next _ h.0 a.0 h.2.0 c.in-Put.path c.in-Put.content [] (put_sizes c.in-Put.kind c.in-Put.path c.in-Put.content h.2.0.heading h.2.0.is) a.2.0 a.2.1 a.2.2)
-    c.in_err-content-in-Put.field-0.0 (took_then g.R.Source.left g.R.Source.readings _ _ _ _ _ _ h.0 a.0 h.1 a.1) c.in_err-content-in-Put.ensures)
+pub returns-in_err-edit-in-Edit : goal.returns-in_err-edit-in-Edit
+returns-in_err-edit-in-Edit g c =
+    let p = err_from_is_err_and c.from_residual-in_err-edit-in-Edit.result c.from_residual-in_err-edit-in-Edit.ensures.1 in
+    let h = rw c.in-Edit.is at c.in_ok-heading.ensures in
+    rw (p.1, p.2) (stops_then g.R.Source.left g.R.Source.has_failed g.R.Source.readings _ _ _ _ _ _ h.0
+    (λ bytes cause. (place : table.Place) → StopsFrom (edit_sizes c.in-Edit.heading) place bytes cause) (StopsFrom [] (place_of c.args.place))
+    (fields_stop c.args.place c.in_ok-heading.next _ h.0 h.2.0 (edit_sizes c.in-Edit.heading) (edit_sizes_are c.in-Edit.heading h.2.0.heading h.2.0.is))
+    c.in_err-edit-in-Edit.field-0.0 h.1 c.in_err-edit-in-Edit.ensures)
 
 pub returns-in_err-name-in-Actor : goal.returns-in_err-name-in-Actor
 returns-in_err-name-in-Actor g c =
@@ -73,17 +66,20 @@ returns-in-Commit g c =
     let h = rw c.in-Commit.is at c.in_ok-heading.ensures in
     (h.0, h.1, (commit_parts c.args.place c.in_ok-heading.next c.in-Commit.name c.in-Commit.expect h.0 _ _ h.2.0 c.commit.ensures, h.2.1))
 
-pub returns-in_ok-content-in-Put : goal.returns-in_ok-content-in-Put
-returns-in_ok-content-in-Put g c =
-    let h = rw c.in-Put.is at c.in_ok-heading.ensures in
-    let a = c.in_ok-path-in-Put.ensures in
-    let b = c.in_ok-content-in-Put.ensures in (
-      (h.0 ++ a.0) ++ b.0,
-      took_then g.R.Source.left g.R.Source.readings _ _ _ _ _ _ (h.0 ++ a.0) b.0 (took_then g.R.Source.left g.R.Source.readings _ _ _ _ _ _ h.0 a.0 h.1 a.1) b.1,
+pub returns-in-Parent : goal.returns-in-Parent
+returns-in-Parent g c =
+    let h = rw c.in-Parent.is at c.in_ok-heading.ensures in
+    (h.0, h.1, (parent_parts c.args.place c.in_ok-heading.next c.in-Parent.word h.0 _ _ h.2.0 c.add_parent.ensures, h.2.1))
+
+pub returns-in_ok-edit-in-Edit : goal.returns-in_ok-edit-in-Edit
+returns-in_ok-edit-in-Edit g c =
+    let h = rw c.in-Edit.is at c.in_ok-heading.ensures in
+    let a = c.in_ok-edit-in-Edit.ensures in (
+      h.0 ++ a.0,
+      took_then g.R.Source.left g.R.Source.readings _ _ _ _ _ _ h.0 a.0 h.1 a.1,
       (
-        put_parts c.args.place c.in_ok-heading.next c.in-Put.kind c.in-Put.path c.in-Put.content h.0 a.0 b.0 _ _ h.2.0 a.2.0 b.2.0 a.2.1 a.2.2 b.2.1 b.2.2
-            (λ order d. c.add_put.ensures order a.2.0 b.2.0 d a.2.3 b.2.3),
-        asks_then g.R.Source.left g.R.Source.readings _ _ _ _ _ (h.0 ++ a.0) b.0 (took_then g.R.Source.left g.R.Source.readings _ _ _ _ _ _ h.0 a.0 h.1 a.1) (asks_then g.R.Source.left g.R.Source.readings _ _ _ _ _ h.0 a.0 h.1 h.2.1 a.2.4) b.2.4,
+        edit_parts c.args.place c.in_ok-heading.next c.in-Edit.heading c.in_ok-edit-in-Edit.edit h.0 a.0 _ _ h.2.0 a.2.0 (λ order d. c.add_edit.ensures order a.2.0.line_is d a.2.0.is),
+        asks_then g.R.Source.left g.R.Source.readings _ _ _ _ _ h.0 a.0 h.1 h.2.1 a.2.1,
       ),
     )
 

@@ -1,0 +1,214 @@
+-- What a commit stands on, and the causes that its words, its name and its parents tell.
+use Rattle.std.specs.declared.alloc.Global.{Global}
+use Rattle.std.specs.Prelude.{Vec, Result, IsErrOf}
+use Rattle.std.proofs.Common.{◌≡◌, ℕ, zero, suc, ◌+◌, ◌<◌, length, take, drop, get_or, arith, append_assoc, Bool, true, false, cond, not, ◌||◌, ◌==◌, List, [], ◌∷◌, ◌++◌, map, filter, refl, sym, ◌∙◌, ap, subst, Option, Some, None, option_map, option_to_list, Err}
+use Rattle.std.specs.List.{list_any, filter_map, cons_option}
+use Rattle.std.proofs.lemmas.List.{map-append, take_more}
+use Rattle.history_model.specs.Bytes.{Bytes, has_twice}
+use Rattle.gix_hash.specs.Id.{Id, id_of}
+use Rattle.gix_hash.specs.Order.{id_eq}
+use Rattle.history_model.specs.Repository.{Repository, HasWholeNames, id_at, stands}
+use Rattle.history_model.specs.Words as model
+use Rattle.history_model.specs.Words.{WordReading, ReadsAs, Unborn, Unknown, Ambiguous, word_reading, commit_of}
+use Rattle.history_model.specs.Commands.{Commit, CommitCommand, Expect, Any, New, At}
+use Rattle.history_model.specs.CommandParts.{at_word}
+use Rattle.history_model.specs.Meaning.{branch_or_name, name_commit, parents_of}
+use Rattle.history_model.specs.Causes.{is_new, is_at, is_elsewhere, same_id, is_unknown, is_unborn}
+use Rattle.history_model.specs.Offered.{IsOffered}
+use Rattle.history_model.specs.OfferedWords.{read_id}
+use Rattle.history_model.specs.declared.Cause.{Cause}
+use Rattle.history_model.specs.declared.Cause.TheVariants.{UnknownWord, UnbornHead, NoSuchName, Taken, NotExpected}
+use Rattle.history_model.proofs.OfferedReads.{names_stand_for_theirs, words_stand_for_theirs}
+use Rattle.history_word.specs.Commands.{IsExpect}
+use Rattle.history_word.specs.declared.command.Expect.TheVariants as sent
+use Rattle.gix_hash.specs.declared.object_id.ObjectId.{ObjectId}
+use Rattle.history.specs.Acts.{IsReadingFault, Gives}
+use Rattle.history.specs.Bases.{IsExpected, expected_readings, words_cause, held_cause, reads_as, parents_cause}
+use Rattle.history.specs.CommitCauses.{first_among, word_causes, held_causes, parent_causes, IsToldBy, Tests}
+use Rattle.history.specs.Readings.{reading_of, commit_in}
+use Rattle.history.specs.declared.words.WordReading as own
+use Rattle.history.specs.declared.words.WordReading.TheVariants as read
+use Rattle.history.specs.declared.base.Expected.{Expected}
+use Rattle.history.specs.declared.base.Expected.TheVariants as expected
+use Rattle.history.specs.declared.stopped.Stopped.{Stopped}
+use Rattle.history.specs.declared.stopped.Stopped.TheVariants.{Refused, Fault}
+use Rattle.history.proofs.ReplyTexts.{map-map}
+use Rattle.history.proofs.WordReads.{stands_so}
+use Rattle.gix_ref_file.specs.History.{History}
+use Rattle.gix_ref_file.specs.declared.files.FileError.{FileError}
+use Rattle.gix_ref_file.specs.declared.files.FileError.TheVariants.{Failed, Memory}
+use Rattle.history_model.specs.Forms.{is_name}
+use Rattle.history_store.specs.References.{NameHolds}
+use Rattle.history.specs.Face.{names_part}
+use Rattle.history.specs.Faults.{file_fault}
+use Rattle.history.specs.Stands.{Serves}
+use Rattle.history.specs.declared.repository.Repository as own_repository
+use Rattle.history.proofs.NameReads.{held, refs_front}
+
+-- ---- what is expected
+
+pub any_sent : (r : Repository) (expect : Expect) → IsExpect sent.Any expect → IsExpected r expect expected.Any
+any_sent r Any h = tt
+any_sent r New h = absurd h
+any_sent r (At word) h = absurd h
+
+pub new_sent : (r : Repository) (expect : Expect) → IsExpect sent.New expect → IsExpected r expect expected.New
+new_sent r Any h = absurd h
+new_sent r New h = tt
+new_sent r (At word) h = absurd h
+
+pub at_sent : (r : Repository) (word : Vec ℕ Global) (reading : own.WordReading) (expect : Expect) → IsExpect (sent.At word) expect → reading_of reading ≡ word_reading r word.items → IsExpected r expect (expected.At reading)
+at_sent r word reading Any h is = absurd h
+at_sent r word reading New h is = absurd h
+at_sent r word reading (At bytes) h is = is ∙ ap (word_reading r) h
+
+-- a fault of reading is told whatever the causes
+pub fault_told : (MayFail : Type 0) (causes : List Cause) (r : Repository) (order : CommitCommand) (stopped : Stopped) → IsReadingFault MayFail stopped → IsToldBy MayFail causes r order stopped
+fault_told MayFail causes r order (Refused cause) h = absurd h
+fault_told MayFail causes r order (Fault fault) h = h
+
+pub gives_told : {A : Type 0} (MayFail : Type 0) (P : A → Type 0) (causes : List Cause) (r : Repository) (order : CommitCommand) (result : Result A Stopped) (stopped : Stopped) → result ≡ Err stopped → Gives MayFail P result → IsToldBy MayFail causes r order stopped
+gives_told {A} MayFail P causes r order result stopped was gives = fault_told MayFail causes r order stopped (subst (λ (x : Result A Stopped). Gives MayFail P x) was gives)
+
+-- ---- words
+
+pub any_map : {X Y : Type 0} (p : Y → Bool) (f : X → Y) (xs : List X) → list_any p (map f xs) ≡ list_any (λ x. p (f x)) xs
+any_map p f [] = refl
+any_map p f (x ∷ xs) = ap (λ b. p (f x) || b) (any_map p f xs)
+
+module _ (r : Repository) (order : CommitCommand) where
+  words_told : first_among word_causes r (Commit order) ≡ words_cause (map (word_reading r) (at_word order.expect ++ order.parents))
+  words_told = λ i.
+      let words = at_word order.expect ++ order.parents in
+      cond (sym (any_map is_unknown (word_reading r) words) i) (Some UnknownWord) (cond (sym (any_map is_unborn (word_reading r) words) i) (Some UnbornHead) None)
+
+  at_readings : (expect : Expect) (what : Expected) → IsExpected r expect what → expected_readings what ≡ map (word_reading r) (at_word expect)
+  at_readings Any expected.Any is = refl
+  at_readings New expected.New is = refl
+  at_readings (At word) (expected.At reading) is = ap (λ x. x ∷ []) is
+  at_readings Any expected.New is = absurd is
+  at_readings Any (expected.At reading) is = absurd is
+  at_readings New expected.Any is = absurd is
+  at_readings New (expected.At reading) is = absurd is
+  at_readings (At word) expected.Any is = absurd is
+  at_readings (At word) expected.New is = absurd is
+
+  -- what the parents' words read as
+  pub parent_readings : (words : List (Vec ℕ Global)) (readings : List own.WordReading) → map (λ (word : Vec ℕ Global). word.items) words ≡ order.parents
+      → map reading_of readings ≡ map (λ (word : Vec ℕ Global). word_reading r word.items) words → map reading_of readings ≡ map (word_reading r) order.parents
+  parent_readings words readings are is = is ∙ sym (map-map (word_reading r) (λ (word : Vec ℕ Global). word.items) words) ∙ ap (map (word_reading r)) are
+
+  pub words_so : (what : Expected) (readings : List own.WordReading) → IsExpected r order.expect what → map reading_of readings ≡ map (word_reading r) order.parents
+      → first_among word_causes r (Commit order) ≡ words_cause (expected_readings what ++ map reading_of readings)
+  words_so what readings is are =
+      words_told
+      ∙ ap words_cause (map-append (word_reading r) (at_word order.expect) order.parents ∙ (λ i. sym (at_readings order.expect what is) i ++ sym are i))
+
+-- ---- what the name holds
+
+module _ (r : Repository) (order : CommitCommand) (o : IsOffered r) (w : HasWholeNames r) where
+  abbrev name : Bytes
+  name = branch_or_name r order.name
+
+  abbrev of_expect : Expect → Option Cause
+  of_expect expect =
+      cond (list_any (λ n. not (stands r n)) (map (λ (e : Bytes × Expect). e.0) (filter (λ (e : Bytes × Expect). is_at e.1) ((name, expect) ∷ [])))) (Some NoSuchName)
+      (cond (list_any (stands r) (map (λ (e : Bytes × Expect). e.0) (filter (λ (e : Bytes × Expect). is_new e.1) ((name, expect) ∷ [])))) (Some Taken)
+      (cond (list_any (is_elsewhere r) ((name, expect) ∷ [])) (Some NotExpected) None))
+
+  compared : (id : Id) (x : WordReading) → cond (not (same_id (Some id) (read_id x)) || false) (Some NotExpected) None ≡ reads_as id x
+  compared id (ReadsAs other) = go (id_eq id other)
+    where
+      go : (b : Bool) → cond (not b || false) (Some NotExpected) None ≡ cond b None (Some NotExpected)
+      go true = refl
+      go false = refl
+  compared id Unborn = refl
+  compared id Unknown = refl
+  compared id Ambiguous = refl
+
+  by_expect : (expect : Expect) (what : Expected) (held : Option Id) → IsExpected r expect what → id_at r name ≡ held → of_expect expect ≡ held_cause what held
+  by_expect Any expected.Any held is at = refl
+  by_expect New expected.New None is at = ap (λ s. cond (s || false) (Some Taken) None) (stands_so r name None at)
+  by_expect New expected.New (Some id) is at = ap (λ s. cond (s || false) (Some Taken) None) (stands_so r name (Some id) at)
+  by_expect (At word) (expected.At reading) None is at =
+      ap (λ s. cond (not s || false) (Some NoSuchName) (cond (list_any (is_elsewhere r) ((name, At word) ∷ [])) (Some NotExpected) None)) (stands_so r name None at)
+  by_expect (At word) (expected.At reading) (Some id) is at =
+      ap (λ s. cond (not s || false) (Some NoSuchName) (cond (list_any (is_elsewhere r) ((name, At word) ∷ [])) (Some NotExpected) None)) (stands_so r name (Some id) at)
+      ∙ (λ i. cond (not (same_id ((names_stand_for_theirs r name o w ∙ at) i) ((words_stand_for_theirs r word o w ∙ ap read_id (sym is)) i)) || false) (Some NotExpected) None)
+      ∙ compared id (reading_of reading)
+  by_expect Any expected.New held is at = absurd is
+  by_expect Any (expected.At reading) held is at = absurd is
+  by_expect New expected.Any held is at = absurd is
+  by_expect New (expected.At reading) held is at = absurd is
+  by_expect (At word) expected.Any held is at = absurd is
+  by_expect (At word) expected.New held is at = absurd is
+
+  pub held_told : (what : Expected) (held : Option Id) → IsExpected r order.expect what → held ≡ id_at r name → first_among held_causes r (Commit order) ≡ held_cause what held
+  held_told what held is at = by_expect order.expect what held is (sym at)
+
+  -- ---- the parents
+
+  ids_read : (readings : List own.WordReading) → map id_of (filter_map commit_in readings) ≡ filter_map read_id (map reading_of readings)
+  ids_read [] = refl
+  ids_read (read.Commit id ∷ readings) = ap (λ ids. id_of id ∷ ids) (ids_read readings)
+  ids_read (read.Unborn ∷ readings) = ids_read readings
+  ids_read (read.Unknown ∷ readings) = ids_read readings
+
+  commits_read : (words : List Bytes) → filter_map (commit_of r) words ≡ filter_map read_id (map (word_reading r) words)
+  commits_read [] = refl
+  commits_read (word ∷ words) = λ i. cons_option (words_stand_for_theirs r word o w i) (commits_read words i)
+
+  pub parents_told : (held : Option ObjectId) (readings : List own.WordReading) (parents : List ObjectId) → option_map id_of held ≡ id_at r name → map reading_of readings ≡ map (word_reading r) order.parents
+      → parents ≡ option_to_list held ++ filter_map commit_in readings → map id_of parents ≡ parents_of r order
+  parents_told held readings parents at are is =
+      ap (map id_of) is ∙ map-append id_of (option_to_list held) (filter_map commit_in readings)
+      ∙ (λ i. first i ++ second i)
+    where
+      told : (held : Option ObjectId) → map id_of (option_to_list held) ≡ option_to_list (option_map id_of held)
+      told None = refl
+      told (Some id) = refl
+
+      first : map id_of (option_to_list held) ≡ option_to_list (name_commit r name)
+      first = told held ∙ ap option_to_list (at ∙ sym (names_stand_for_theirs r name o w))
+
+      second : map id_of (filter_map commit_in readings) ≡ filter_map (commit_of r) order.parents
+      second = ids_read readings ∙ ap (filter_map read_id) are ∙ sym (commits_read order.parents)
+
+  pub parents_so : (parents : List ObjectId) → map id_of parents ≡ parents_of r order → first_among parent_causes r (Commit order) ≡ parents_cause (map id_of parents)
+  parents_so parents is = ap parents_cause (sym is)
+
+-- ---- one word after another
+
+-- one reading more of the words
+pub reading_added : (r : Repository) (words : List (Vec ℕ Global)) (i : ℕ) (word : Vec ℕ Global) (reading : own.WordReading) (readings more : List own.WordReading) → i < length words → word ≡ get_or words i word
+    → reading_of reading ≡ word_reading r word.items → map reading_of readings ≡ map (λ (word : Vec ℕ Global). word_reading r word.items) (take i words) → more ≡ readings ++ reading ∷ []
+    → map reading_of more ≡ map (λ (word : Vec ℕ Global). word_reading r word.items) (take (i + 1) words)
+reading_added r words i word reading readings more less is read so_far added =
+    ap (map reading_of) added ∙ map-append reading_of readings (reading ∷ []) ∙ (λ j. so_far j ++ read j ∷ [])
+    ∙ sym (ap (map (λ (word : Vec ℕ Global). word_reading r word.items)) (take_more words i word less ∙ ap (λ (x : Vec ℕ Global). take i words ++ x ∷ []) (sym is)) ∙ map-append (λ (word : Vec ℕ Global). word_reading r word.items) (take i words) (word ∷ []))
+
+-- ---- ids that stand twice
+
+pub twice_told : (ids : List ObjectId) (d : ObjectId) → (length ids == 0) ≡ false
+    → has_twice id_eq (map id_of ids) ≡ (list_any (λ id. id_eq (id_of (get_or ids 0 d)) (id_of id)) (drop 1 ids) || has_twice id_eq (map id_of (drop 1 ids)))
+twice_told [] d some = cc
+twice_told (x ∷ xs) d some = ap (λ b. b || has_twice id_eq (map id_of xs)) (any_map (id_eq (id_of x)) id_of xs)
+
+-- ---- a repository with its files
+
+-- what the file of a commit's name tells is what the name holds
+pub name_held : {F : Type 0} (IsHonest : F → Type 0) (history : F → History) (repository : own_repository.Repository F) (r : Repository) (order : CommitCommand) → Serves IsHonest history repository r
+    → (name : Bytes) → name ≡ branch_or_name r order.name → is_name name ≡ true → (found : Option ObjectId) → NameHolds repository.names.kind (history (names_part repository)).tree name found
+    → option_map id_of found ≡ id_at r (branch_or_name r order.name)
+name_held IsHonest history repository r order stand name named formed found holds =
+    held IsHonest history repository r stand name (refs_front name formed) found (subst (λ kind. NameHolds kind (history (names_part repository)).tree name found) stand.stands.names_kind holds) ∙ ap (id_at r) named
+
+-- a call of the files that failed
+pub file_told : {A B : Type 0} (MayFail : Type 0) (causes : List Cause) (r : Repository) (order : CommitCommand) (Q : B → Type 0) (result : Result A FileError) (ends : Result B Stopped) (error : FileError)
+    → result ≡ Err error → ends ≡ Err (Fault (file_fault error)) → (IsErrOf result Failed → MayFail) → Tests MayFail causes r order Q ends
+file_told {A} {B} MayFail causes r order Q result ends error was is_end failed =
+    subst (λ (x : Result B Stopped). Tests MayFail causes r order Q x) (sym is_end) (by_error error (subst (λ (x : Result A FileError). IsErrOf x Failed → MayFail) was failed))
+  where
+    by_error : (error : FileError) → (IsErrOf {T = A} (Err error) Failed → MayFail) → IsReadingFault MayFail (Fault (file_fault error))
+    by_error Failed may = may refl
+    by_error Memory may = tt

@@ -1,0 +1,70 @@
+-- Whether a name may stand beside the others, by the files that stand above it and below it.
+use Rattle.std.proofs.Common.{◌≡◌, ◌⊎◌, inl, inr, Bool, true, false, not, refl, sym, ◌∙◌, ap, None, is_some}
+use Rattle.std.specs.Prelude.{IsTrue}
+use Rattle.std.specs.FinMap.{keys, contains_key}
+use Rattle.gix_ref_file.specs.History.{History}
+use Rattle.gix_ref_file.specs.Tree.{Tree}
+use Rattle.gix_ref_file.specs.Changes.{is_file_at}
+use Rattle.history_model.specs.Bytes.{Bytes}
+use Rattle.history_model.specs.FileMap.{is_below}
+use Rattle.history_model.specs.Repository as plain
+use Rattle.history_model.specs.Repository.{stands}
+use Rattle.history_model.specs.Forms.{is_name}
+use Rattle.history_model.specs.Commands.{Commit, CommitCommand}
+use Rattle.history_model.specs.Meaning.{branch_or_name}
+use Rattle.history_model.specs.Causes.{do_collide, some_collide}
+use Rattle.history_model.specs.Places.{file_at}
+use Rattle.history_model.proofs.OfferedFiles.{all_keys}
+use Rattle.history_store.specs.Stores.{IsAbove}
+use Rattle.history_store.specs.References.{HasWay, TellsCollision}
+use Rattle.history.specs.Face.{names_part}
+use Rattle.history.specs.Stands.{Serves, pair_of}
+use Rattle.history.specs.Halves.{NamesStand}
+use Rattle.history.specs.declared.repository.Repository.{Repository}
+use Rattle.history.proofs.Collisions.{none_any, neither, above_it, new_collides, fits_so}
+use Rattle.history.proofs.Commits.{names_stand}
+use Rattle.history.proofs.Moving.{way}
+use Rattle.history.proofs.NameReads.{file_stands}
+
+-- ---- a repository with its files
+
+module _ {F : Type 0} (IsHonest : F → Type 0) (history : F → History) (repository : Repository F) (r : plain.Repository) (order : CommitCommand) (stand : Serves IsHonest history repository r)
+    (formed : is_name (branch_or_name r order.name) ≡ true) (new : stands r (branch_or_name r order.name) ≡ false) where
+  abbrev tree : Tree
+  tree = (history (names_part repository)).tree
+
+  parts : NamesStand IsHonest history repository r
+  parts = names_stand IsHonest history repository repository r stand (record { names = refl; branch = refl; failed = refl })
+
+  no_file : {A : Type 0} (path : Bytes) → IsTrue (is_file_at tree path) → file_at tree path ≡ None → A
+  no_file path there none = absurd (cc (sym there ∙ ap is_some none))
+
+  -- a file that stands in the way is another name's
+  pub collision : TellsCollision (branch_or_name r order.name) tree true → some_collide r (Commit order) ≡ true
+  collision (other, beside, there) = go (some_collide r (Commit order)) refl
+    where
+      in_the_way : {A : Type 0} → HasWay (branch_or_name r order.name) tree → (IsAbove other (branch_or_name r order.name) ⊎ IsAbove (branch_or_name r order.name) other) → A
+      in_the_way clear (inl above) = no_file other there (clear.above other above)
+      in_the_way clear (inr below) = no_file other there (clear.below other below)
+
+      go : (b : Bool) → some_collide r (Commit order) ≡ b → some_collide r (Commit order) ≡ true
+      go true is = is
+      go false is = in_the_way (way r tree parts.holds parts.named (branch_or_name r order.name) (fits_so r order stand.stands.whole.whole.names formed is)) beside
+
+  -- with a clear way there is no such name
+  pub no_collision : HasWay (branch_or_name r order.name) tree → some_collide r (Commit order) ≡ false
+  no_collision clear = new_collides r order new ∙ none_any (do_collide (branch_or_name r order.name)) (keys r.names) (all_keys (λ k. not (do_collide (branch_or_name r order.name) k)) r.names (λ k there. ap not (apart k there)))
+    where
+      has_file : (k : Bytes) → contains_key r.names k ≡ true → {A : Type 0} → file_at tree k ≡ None → A
+      has_file k there none = let f = file_stands (pair_of history repository) r stand.stands.whole.stands stand.stage.unpacked k there in absurd (cc (sym none ∙ f.1))
+
+      apart : (k : Bytes) → contains_key r.names k ≡ true → do_collide (branch_or_name r order.name) k ≡ false
+      apart k there = neither _ _ (below (is_below (branch_or_name r order.name) k) refl) (above (is_below k (branch_or_name r order.name)) refl)
+        where
+          below : (b : Bool) → is_below (branch_or_name r order.name) k ≡ b → is_below (branch_or_name r order.name) k ≡ false
+          below false is = is
+          below true is = has_file k there (clear.below k (above_it (branch_or_name r order.name) k is))
+
+          above : (b : Bool) → is_below k (branch_or_name r order.name) ≡ b → is_below k (branch_or_name r order.name) ≡ false
+          above false is = is
+          above true is = has_file k there (clear.above k (above_it k (branch_or_name r order.name) is))

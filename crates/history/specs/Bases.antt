@@ -1,0 +1,60 @@
+-- What a commit stands on, and why it can't stand on it.
+use Rattle.std.specs.Prelude.{◌≡◌, ⊤, List, [], ◌∷◌, map, length, nat_lt, Option, Some, None, option_map, if◌then◌else◌}
+use Rattle.std.specs.List.{list_any}
+use Rattle.history_model.specs.Bytes.{has_twice}
+use Rattle.history_model.specs.Repository as plain
+use Rattle.history_model.specs.Repository.{id_at}
+use Rattle.history_model.specs.Forms.{max_parents}
+use Rattle.history_model.specs.Words as model
+use Rattle.history_model.specs.Words.{word_reading}
+use Rattle.history_model.specs.Commands as orders
+use Rattle.history_model.specs.Meaning.{branch_or_name, parents_of}
+use Rattle.history_model.specs.Causes.{is_unknown, is_unborn}
+use Rattle.history_model.specs.declared.Cause.{Cause}
+use Rattle.history_model.specs.declared.Cause.TheVariants.{UnknownWord, UnbornHead, NoSuchName, Taken, NotExpected, TooManyParents, DuplicateParent}
+use Rattle.gix_hash.specs.Id.{Id, id_of}
+use Rattle.gix_hash.specs.Order.{id_eq}
+use Rattle.history.specs.Readings.{reading_of}
+use Rattle.history.specs.declared.base.Base.{Base}
+use Rattle.history.specs.declared.base.Expected.{Expected}
+use Rattle.history.specs.declared.base.Expected.TheVariants.{Any, New, At}
+
+-- the same is expected, its word read
+abbrev pub IsExpected : plain.Repository → orders.Expect → Expected → Type 0
+IsExpected r orders.Any Any = ⊤
+IsExpected r orders.New New = ⊤
+IsExpected r (orders.At word) (At reading) = reading_of reading ≡ word_reading r word
+IsExpected r _ _ = ⊥
+
+-- what the word of the expectation reads as, if there is one
+abbrev pub expected_readings : Expected → List model.WordReading
+expected_readings Any = []
+expected_readings New = []
+expected_readings (At reading) = reading_of reading ∷ []
+
+-- why one of the words that read so stands for no commit
+abbrev pub words_cause : List model.WordReading → Option Cause
+words_cause readings = if list_any is_unknown readings then Some UnknownWord else if list_any is_unborn readings then Some UnbornHead else None
+
+-- whether a word that reads so reads as this id
+abbrev pub reads_as : Id → model.WordReading → Option Cause
+reads_as id (model.ReadsAs other) = if id_eq id other then None else Some NotExpected
+reads_as id _ = Some NotExpected
+
+-- why what a name holds isn't as expected
+abbrev pub held_cause : Expected → Option Id → Option Cause
+held_cause Any held = None
+held_cause New None = None
+held_cause New (Some id) = Some Taken
+held_cause (At reading) None = Some NoSuchName
+held_cause (At reading) (Some id) = reads_as id (reading_of reading)
+
+-- why these can't be a commit's parents
+abbrev pub parents_cause : List Id → Option Cause
+parents_cause ids = if nat_lt max_parents (length ids) then Some TooManyParents else if has_twice id_eq ids then Some DuplicateParent else None
+
+-- the name that the commit moves, what it holds, and the commit's parents
+pub record IsBase (r : plain.Repository) (order : orders.CommitCommand) (base : Base) : Type 0 where
+  pub name : base.name.items ≡ branch_or_name r order.name
+  pub held : option_map id_of base.held ≡ id_at r (branch_or_name r order.name)
+  pub parents : map id_of base.parents.items ≡ parents_of r order

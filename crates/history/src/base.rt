@@ -1,0 +1,229 @@
+//! What a `commit` stands on: the name that it moves, what that holds, and the commit's parents.
+
+ghost use Rattle.std.specs.Prelude.{◌≡◌, ◌++◌, ⊤, Some, None, IfOk, IsTrue, MatchResult, map, length, option_map, option_to_list};
+ghost use Rattle.std.specs.List.{filter_map, list_any};
+ghost use Rattle.history_model.specs.Causes.{is_unborn, is_unknown};
+ghost use Rattle.history_model.specs.Bytes.{has_twice};
+ghost use Rattle.history_model.specs.Forms.{is_name};
+ghost use Rattle.history_model.specs.Commands as orders;
+ghost use Rattle.history_model.specs.Repository as plain;
+ghost use Rattle.history_model.specs.Repository.{id_at};
+ghost use Rattle.history_model.specs.Words.{word_reading};
+ghost use Rattle.history_model.specs.Meaning.{branch_or_name};
+ghost use Rattle.history_word.specs.Commands.{IsExpect};
+ghost use Rattle.history.specs.Acts.{Gives};
+ghost use Rattle.history.specs.Asked.{AskedCommit};
+ghost use Rattle.history.specs.Bases.{IsBase, IsExpected, expected_readings, held_cause, parents_cause, words_cause};
+ghost use Rattle.history.specs.CommitCauses.{Tests, name_causes, place_causes};
+ghost use Rattle.history.specs.Readings.{commit_in, reading_of};
+ghost use Rattle.history.specs.Stands.{Serves};
+ghost use Rattle.gix_hash.specs.Id.{id_of};
+ghost use Rattle.gix_hash.specs.Order.{id_eq};
+
+use crate::repository::Repository;
+use crate::stopped::Stopped;
+use crate::words::WordReading;
+use gix_hash::ObjectId;
+use gix_ref_file::Files;
+use history_model::Cause;
+use history_word::{CommitCommand, Expect};
+use std::alloc::{AllocError, Global};
+
+/// The most parents of a commit.
+const MAX_PARENTS: usize = 64;
+
+/// The name that a commit moves, what it holds, and the commit's parents.
+#[derive(Drop)]
+pub(crate) struct Base {
+    pub(crate) name: Vec<u8>,
+    pub(crate) held: Option<ObjectId>,
+    pub(crate) parents: Vec<ObjectId>,
+}
+
+/// What is expected of a name, its word read.
+#[derive(Clone, Copy, Debug, PartialEq, Eq)]
+enum Expected {
+    Any,
+    New,
+    At(WordReading),
+}
+
+impl Expected {
+    /// Whether the word reads as nothing.
+    fn is_unknown(self) -> bool
+        ensures { result ≡ list_any is_unknown (expected_readings self) }
+    {
+        match self {
+            Expected::Any => false,
+            Expected::New => false,
+            Expected::At(reading) => reading.is_unknown(),
+        }
+    }
+
+    /// Whether the word is HEAD, whose branch doesn't stand.
+    fn is_unborn(self) -> bool
+        ensures { result ≡ list_any is_unborn (expected_readings self) }
+    {
+        match self {
+            Expected::Any => false,
+            Expected::New => false,
+            Expected::At(reading) => reading.is_unborn(),
+        }
+    }
+
+    /// Tests what the name holds.
+    fn test(self, held: Option<ObjectId>) -> Result<(), Cause>
+        ensures { MatchResult result (λ _. held_cause self (option_map id_of held) ≡ None)
+            (λ cause. held_cause self (option_map id_of held) ≡ Some cause) }
+    {
+        match self {
+            Expected::Any => Ok(()),
+            Expected::New => match held {
+                Some(_) => Err(Cause::Taken),
+                None => Ok(()),
+            },
+            Expected::At(reading) => match held {
+                Some(id) => reading.test(id),
+                None => Err(Cause::NoSuchName),
+            },
+        }
+    }
+}
+
+/// Tests that the words read: an unknown one is told before HEAD without a commit.
+fn test_words(expected: Expected, parents: &[WordReading]) -> Result<(), Cause>
+    ensures { MatchResult result
+        (λ _. words_cause (expected_readings expected ++ map reading_of parents.now) ≡ None)
+        (λ cause. words_cause (expected_readings expected ++ map reading_of parents.now) ≡ Some cause) }
+{
+    if expected.is_unknown() || have_unknown(parents) {
+        return Err(Cause::UnknownWord);
+    }
+    if expected.is_unborn() || have_unborn(parents) {
+        return Err(Cause::UnbornHead);
+    }
+    Ok(())
+}
+
+fn have_unknown(readings: &[WordReading]) -> bool
+    ensures { result ≡ list_any is_unknown (map reading_of readings.now) }
+{
+    readings.iter().any(|reading| reading.is_unknown())
+}
+
+fn have_unborn(readings: &[WordReading]) -> bool
+    ensures { result ≡ list_any is_unborn (map reading_of readings.now) }
+{
+    readings.iter().any(|reading| reading.is_unborn())
+}
+
+/// The parents of a commit: what its name holds, and then what its words read as.
+fn parents_of(
+    alloc: Global,
+    held: Option<ObjectId>,
+    words: &[WordReading],
+) -> Result<Vec<ObjectId>, AllocError>
+    ensures { IfOk result (λ parents. parents.items ≡ option_to_list held ++ filter_map commit_in words.now) }
+{
+    let mut parents = Vec::new(alloc);
+    parents.extend(held)?;
+    parents.extend(words.iter().filter_map(|word| word.id()))?;
+    Ok(parents)
+}
+
+/// Tests that the parents are few, and that none stands twice.
+fn test_parents(parents: &[ObjectId]) -> Result<(), Cause>
+    ensures { MatchResult result (λ _. parents_cause (map id_of parents.now) ≡ None)
+        (λ cause. parents_cause (map id_of parents.now) ≡ Some cause) }
+{
+    if parents.len() > MAX_PARENTS {
+        return Err(Cause::TooManyParents);
+    }
+    if has_twice(parents) {
+        return Err(Cause::DuplicateParent);
+    }
+    Ok(())
+}
+
+fn has_twice(ids: &[ObjectId]) -> bool
+    ensures { result ≡ has_twice id_eq (map id_of ids.now) }
+{
+    if ids.is_empty() {
+        return false;
+    }
+    let first = ids[0];
+    let rest = &ids[1..];
+    rest.iter().any(|id| first == *id) || has_twice(rest)
+}
+
+impl<F: Files> Repository<F> {
+    /// What is expected of a commit's name, its word read.
+    fn read_expected(&self, alloc: Global, expect: &Expect) -> Result<Expected, Stopped>
+        ensures { (r : plain.Repository) (order : orders.Expect)
+            → Serves F.is_honest F.history self.now r → IsExpect expect.now order
+            → Gives F.reading_may_fail (IsExpected r order) result }
+    {
+        Ok(match expect {
+            Expect::Any => Expected::Any,
+            Expect::New => Expected::New,
+            Expect::At(word) => Expected::At(self.read_word(alloc, word)?),
+        })
+    }
+
+    /// What words read as.
+    fn read_words(&self, alloc: Global, words: &[Vec<u8>]) -> Result<Vec<WordReading>, Stopped>
+        ensures { (r : plain.Repository) → Serves F.is_honest F.history self.now r
+            → Gives F.reading_may_fail (λ readings. map reading_of readings.items
+            ≡ map (λ word. word_reading r word.items) words.now) result }
+    {
+        let mut readings = Vec::new(alloc);
+        for word in words {
+            readings.push(self.read_word(alloc, word)?)?;
+        }
+        Ok(readings)
+    }
+
+    /// Tests that the name stands, or may come to stand beside the others.
+    fn test_place(
+        &self,
+        alloc: Global,
+        name: &[u8],
+        held: Option<ObjectId>,
+    ) -> Result<(), Stopped>
+        ensures { (r : plain.Repository) (order : orders.CommitCommand)
+            → Serves F.is_honest F.history self.now r
+            → name.now ≡ branch_or_name r order.name → IsTrue (is_name name.now)
+            → option_map id_of held ≡ id_at r (branch_or_name r order.name)
+            → Tests F.reading_may_fail place_causes r order (λ _. ⊤) result }
+    {
+        if held.is_some() {
+            return Ok(());
+        }
+        if self.names.collides(alloc, name)? {
+            return Err(Stopped::Refused(Cause::Collides));
+        }
+        Ok(())
+    }
+
+    /// What a `commit` stands on, where no cause of its name, its words and its parents holds.
+    pub(crate) fn base(&self, alloc: Global, command: &CommitCommand) -> Result<Base, Stopped>
+        ensures { (r : plain.Repository) (order : orders.CommitCommand)
+            → AskedCommit F.is_honest F.history self.now command.now r order
+            → Tests F.reading_may_fail name_causes r order (IsBase r order) result }
+    {
+        let name = self.name_of(alloc, &command.name)?;
+        let expected = self.read_expected(alloc, &command.expect)?;
+        let words = self.read_words(alloc, &command.parents)?;
+        test_words(expected, &words)?;
+        let held = self.names.read(alloc, &name)?;
+        expected.test(held)?;
+        self.test_place(alloc, &name, held)?;
+        let parents = parents_of(alloc, held, &words)?;
+        test_parents(&parents)?;
+        Ok(Base {
+            name,
+            held,
+            parents,
+        })
+    }
+}

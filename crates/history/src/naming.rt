@@ -1,0 +1,68 @@
+//! Which names a command may move.
+
+ghost use Rattle.std.specs.Prelude.{◌≡◌, MatchResult, None, Some};
+ghost use Rattle.history_model.specs.Forms.{is_name, is_private};
+ghost use Rattle.history_model.specs.Commands.{CommitCommand as CommitOrder};
+ghost use Rattle.history_model.specs.Repository as plain;
+ghost use Rattle.history.specs.CommitCauses.{form_cause, IsNamed, Tests, name_form_causes};
+ghost use Rattle.history.specs.Stands.{Stands};
+
+use crate::repository::Repository;
+use crate::stopped::Stopped;
+use gix_object::lines::is_full_name;
+use gix_ref_file::Files;
+use history_model::Cause;
+use std::alloc::Global;
+
+/// The word, and the name in commands, that stands for HEAD's branch.
+pub(crate) const HEAD: &[u8] = b"HEAD";
+
+/// The most bytes of a name.
+const MAX_NAME: usize = 1_024;
+
+/// Whether a repository may hold the name, or one working tree may: a full name below `refs/`, in UTF-8.
+fn is_name(name: &[u8]) -> bool
+    ensures { result ≡ is_name name.now }
+{
+    is_full_name(name)
+        && name.starts_with(b"refs/")
+        && str::from_utf8(name).is_ok()
+        && name.len() <= MAX_NAME
+}
+
+/// Whether the name belongs to one working tree.
+pub(crate) fn is_private(name: &[u8]) -> bool
+    ensures { result ≡ is_private name.now }
+{
+    name.starts_with(b"refs/bisect/")
+        || name.starts_with(b"refs/worktree/")
+        || name.starts_with(b"refs/rewritten/")
+}
+
+/// Tests that a repository may hold the name.
+fn test_name(name: &[u8]) -> Result<(), Cause>
+    ensures { MatchResult result (λ _. form_cause name.now ≡ None) (λ cause. form_cause name.now ≡ Some cause) }
+{
+    if !is_name(name) {
+        return Err(Cause::BadName);
+    }
+    if is_private(name) {
+        return Err(Cause::PrivateName);
+    }
+    Ok(())
+}
+
+impl<F: Files> Repository<F> {
+    /// The name that a `commit` moves: HEAD stands for its branch, and any other is one that a repository may hold.
+    pub(crate) fn name_of(&self, alloc: Global, name: &[u8]) -> Result<Vec<u8>, Stopped>
+        ensures { (r : plain.Repository) (order : CommitOrder)
+            → Stands F.is_honest F.history self.now r → name.now ≡ order.name
+            → Tests F.reading_may_fail name_form_causes r order (IsNamed r order) result }
+    {
+        if name == HEAD {
+            return Ok(Vec::from_slice(alloc, &self.branch)?);
+        }
+        test_name(name)?;
+        Ok(Vec::from_slice(alloc, name)?)
+    }
+}
