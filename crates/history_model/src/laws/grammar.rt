@@ -1,7 +1,9 @@
 //! Laws of the table of lines, over the definitions alone.
 
 ghost use Rattle.history_model.specs.LineTable.{WordsAreHeadings};
-ghost use Rattle.history_model.specs.TableRuns.{TableTellsCommands, TableTellsWhatGoesOn, TableTellsFields, TableTellsLines, TableTellsWhatFits, TableTellsStops, TableTakesLines, TableTakesFields, RestBeginsOrHasCause};
+ghost use Rattle.history_model.specs.TableRuns.{TableTellsCommands, TableTellsWhatGoesOn, TableTellsFields, TableTellsLines, TableTellsWhatFits, TableTellsStops, TableTakesLines, TableTakesFields};
+ghost use Rattle.history_model.specs.Spelling.{has_spelling};
+ghost use Rattle.history_model.specs.Grammar.{is_command, RestBeginsOrHasCause};
 
 /// Words say what a line of the table says exactly where they are that line's words.
 pub fn words_are_headings()
@@ -48,7 +50,8 @@ pub fn table_takes_fields()
     ensures { TableTakesFields }
 {}
 
-/// A rest that isn't empty begins with a command or has a cause.
+/// A rest that isn't empty begins with a command or has a cause: of all commands, and of those that are offered.
 pub fn rest_begins_or_has_cause()
-    ensures { RestBeginsOrHasCause }
+    ensures all { RestBeginsOrHasCause has_spelling }
+    ensures offered { RestBeginsOrHasCause is_command }
 {}
