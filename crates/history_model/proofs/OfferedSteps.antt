@@ -1,5 +1,5 @@
 -- A new repository is one of this stage, and accepted commands of the stage leave one.
-use Rattle.std.proofs.Common.{◌≡◌, Bool, true, false, cond, not, ◌&&◌, ◌||◌, List, [], ◌∷◌, ◌++◌, map, refl, sym, ◌∙◌, ap, subst, Option, Some, None, option_map, option_and_then, unwrap_or, find, nat_lt, length}
+use Rattle.std.proofs.Common.{◌≡◌, Bool, true, false, cond, not, ◌&&◌, List, [], ◌∷◌, ◌++◌, map, refl, sym, ◌∙◌, subst, Option, Some, None, option_map, option_and_then, unwrap_or, find, nat_lt, length}
 use Rattle.std.specs.List.{list_all, list_any, flat_map, AllByRecursion}
 use Rattle.std.specs.FinMap.{FinMap, get, empty, insert, contains_key, get-empty}
 use Rattle.history_model.specs.Bytes.{Bytes}

@@ -81,12 +81,12 @@ pub files_said : (word : Word) (h : table.Heading) → IsHeading (heading.Files 
 files_said word (table.FilesHeading w) e = (w, refl, e)
 files_said word h e = absurd e
 
-pub show_said : (word : Word) (h : table.Heading) → IsHeading (heading.Show word) h → (w : Bytes) × (h ≡ table.ShowHeading w) × IfSome word (λ x. x.items ≡ w)
-show_said word (table.ShowHeading w) e = (w, refl, e)
+pub show_said : (word : Word) (h : table.Heading) → IsHeading (heading.Show word) h → (w : Bytes) × (h ≡ table.ShowHeading w None) × IfSome word (λ x. x.items ≡ w)
+show_said word (table.ShowHeading w None) e = (w, refl, e)
 show_said word h e = absurd e
 
-pub path_said : (word : Word) (n : ℕ) (h : table.Heading) → IsHeading (heading.ShowPath word n) h → (w : Bytes) × (h ≡ table.ShowPathHeading w n) × IfSome word (λ x. x.items ≡ w)
-path_said word n (table.ShowPathHeading w m) e = (w, (λ i. table.ShowPathHeading w (sym e.1 i)), e.0)
+pub path_said : (word : Word) (n : ℕ) (h : table.Heading) → IsHeading (heading.ShowPath word n) h → (w : Bytes) × (h ≡ table.ShowHeading w (Some n)) × IfSome word (λ x. x.items ≡ w)
+path_said word n (table.ShowHeading w (Some m)) e = (w, (λ i. table.ShowHeading w (Some (sym e.1 i))), e.0)
 path_said word n h e = absurd e
 
 pub actor_sizes : (role : Role) (m n : ℕ) (seconds offset : Word) (h : table.Heading) → IsHeading (heading.Actor role m n seconds offset) h → table.sizes h ≡ m ∷ n ∷ []
@@ -246,7 +246,7 @@ parent_parts p q word xs old new t f =
 pub actor_parts : (p q : Place) (role : Role) (m n : ℕ) (seconds offset : Word) (xs ys zs : Bytes) (old new : Draft) → TakesLine p (heading.Actor role m n seconds offset) q xs
     → (a b : Bytes) → length a ≡ m → ys ≡ line a → length b ≡ n → zs ≡ line b → (A B : Bytes → Type 0)
     → ((line : model.ActorLine) (order : model.CommitCommand) → IsDraft old (model.Commit order) → A line.name → B line.email → IfSome seconds (λ x. x.items ≡ line.seconds) → IfSome offset (λ x. x.items ≡ line.offset)
-    → IsDraft new (model.Commit (with_actor (role_of role) order line)))
+    → IsDraft new (model.Commit (with_actor role order line)))
     → A a → B b → TakesParts p old q new ((xs ++ ys) ++ zs)
 actor_parts p q Author m n seconds offset xs ys zs old new t a b la ya lb zb A B f ka kb =
     let said = actor_said Author m n seconds offset t.heading t.is in
@@ -256,7 +256,7 @@ actor_parts p q Author m n seconds offset xs ys zs old new t a b la ya lb zb A B
     let places = author_place p q (length a) (length b) said.0 said.1 s.stands in
     let line : model.ActorLine = record { name = a; email = b; seconds = said.0; offset = said.1 } in
     takes_parts p q p place.Committer old new h xs ((xs ++ ys) ++ zs) (a ∷ b ∷ []) s refl refl places.1 (two_texts xs ys zs a b ya zb)
-    (λ before here. let come = come_to_edits p old before places.0 here in (with_actor table.Author come.0 line, ap (λ x. x ++ spelling.actor_parts (codes "author") line) come.1, f line come.0 come.2 ka kb said.3 said.4))
+    (λ before here. let come = come_to_edits p old before places.0 here in (with_actor Author come.0 line, ap (λ x. x ++ spelling.actor_parts (codes "author") line) come.1, f line come.0 come.2 ka kb said.3 said.4))
 actor_parts p q Committer m n seconds offset xs ys zs old new t a b la ya lb zb A B f ka kb =
     let said = actor_said Committer m n seconds offset t.heading t.is in
     let h = table.ActorHeading table.Committer (length a) (length b) said.0 said.1 in
@@ -265,7 +265,7 @@ actor_parts p q Committer m n seconds offset xs ys zs old new t a b la ya lb zb 
     let places = committer_place p q (length a) (length b) said.0 said.1 s.stands in
     let line : model.ActorLine = record { name = a; email = b; seconds = said.0; offset = said.1 } in
     takes_parts p q place.Committer place.Message old new h xs ((xs ++ ys) ++ zs) (a ∷ b ∷ []) s refl places.0 places.1 (two_texts xs ys zs a b ya zb)
-    (λ before come. (with_actor table.Committer come.0 line, ap (λ x. x ++ spelling.actor_parts (codes "committer") line) come.1, f line come.0 come.2 ka kb said.3 said.4))
+    (λ before come. (with_actor Committer come.0 line, ap (λ x. x ++ spelling.actor_parts (codes "committer") line) come.1, f line come.0 come.2 ka kb said.3 said.4))
 
 pub files_parts : (p q : Place) (word : Word) (xs : Bytes) (old : Draft) → TakesLine p (heading.Files word) q xs → TakesParts p old q (draft.Files word) xs
 files_parts p q word xs old t =
@@ -280,7 +280,7 @@ pub show_parts : (p q : Place) (word : Word) (xs : Bytes) (old new : Draft) → 
     → ((w : Bytes) → IfSome word (λ x. x.items ≡ w) → IsDraft new (model.Show w None)) → TakesParts p old q new xs
 show_parts p q word xs old new t f =
     let said = show_said word t.heading t.is in
-    let h = table.ShowHeading said.0 in
+    let h = table.ShowHeading said.0 None in
     let s = as_said p q (heading.Show word) h xs t said.1 in
     let places = show_place p q said.0 s.stands in
     takes_parts p q place.Start place.Done old new h xs xs [] s refl places.0 places.1 (sym (append-nil xs))
@@ -290,8 +290,8 @@ pub path_parts : (p q : Place) (word : Word) (n : ℕ) (xs ys : Bytes) (old new 
     → ((w : Bytes) → IfSome word (λ x. x.items ≡ w) → IsDraft new (model.Show w (Some a))) → TakesParts p old q new (xs ++ ys)
 path_parts p q word n xs ys old new t a la ya f =
     let said = path_said word n t.heading t.is in
-    let h = table.ShowPathHeading said.0 (length a) in
-    let is : t.heading ≡ h = said.1 ∙ (λ i. table.ShowPathHeading said.0 (sym la i)) in
+    let h = table.ShowHeading said.0 (Some (length a)) in
+    let is : t.heading ≡ h = said.1 ∙ (λ i. table.ShowHeading said.0 (Some (sym la i))) in
     let s = as_said p q (heading.ShowPath word n) h xs t is in
     let places = path_place p q said.0 (length a) s.stands in
     takes_parts p q place.Start place.Done old new h xs (xs ++ ys) (a ∷ []) s refl places.0 places.1 (one_text xs ys a ya)

@@ -51,15 +51,15 @@ IsHeading (heading.Actor role name email seconds offset) (table.ActorHeading r m
 IsHeading (heading.Message size) (table.MessageHeading n) = size ≡ n
 IsHeading heading.End table.EndHeading = ⊤
 IsHeading (heading.Files word) (table.FilesHeading w) = IfSome word (λ x. x.items ≡ w)
-IsHeading (heading.Show word) (table.ShowHeading w) = IfSome word (λ x. x.items ≡ w)
-IsHeading (heading.ShowPath word path) (table.ShowPathHeading w n) = IfSome word (λ x. x.items ≡ w) × (path ≡ n)
+IsHeading (heading.Show word) (table.ShowHeading w None) = IfSome word (λ x. x.items ≡ w)
+IsHeading (heading.ShowPath word path) (table.ShowHeading w (Some n)) = IfSome word (λ x. x.items ≡ w) × (path ≡ n)
 IsHeading _ _ = ⊥
 
--- What is read is what the words say; none is read where they say nothing that may stand anywhere.
+-- What is read is what the words say; none is read where they say no line that may stand at a place of an offered command.
 abbrev pub Says : Option Heading → Option table.Heading → Type 0
 Says (Some line) (Some h) = IsHeading line h
 Says (Some line) None = ⊥
-Says None (Some h) = (p : table.Place) → table.next p h ≡ None
+Says None (Some h) = (p : Place) → runs.next_offered (place_of p) h ≡ None
 Says None None = ⊤
 
 abbrev pub SaysExpect : Option (Option Expect) → Option model.Expect → Type 0
@@ -83,9 +83,9 @@ IsDraft (draft.Files word) (model.Files bytes) = IfSome word (λ x. x.items ≡ 
 IsDraft (draft.Show show) (model.Show word path) = IfSome show (λ x. (x.word.items ≡ word) × IsPath x.path path)
 IsDraft _ _ = ⊥
 
-abbrev pub with_actor : table.Role → model.CommitCommand → model.ActorLine → model.CommitCommand
-with_actor table.Author order actor = record order { author = actor }
-with_actor table.Committer order actor = record order { committer = actor }
+abbrev pub with_actor : Role → model.CommitCommand → model.ActorLine → model.CommitCommand
+with_actor Author order actor = record order { author = actor }
+with_actor Committer order actor = record order { committer = actor }
 
 abbrev pub with_parent : model.CommitCommand → Bytes → model.CommitCommand
 with_parent order word = record order { parents = order.parents ++ word ∷ [] }
@@ -146,7 +146,7 @@ pub record TakesLine (place : Place) (line : Heading) (next : Place) (taken : By
   pub spelled : taken ≡ spelling.part_text (spelling.Line (table.words_of heading))
   pub known : IsTrue (spelling.is_part (spelling.Line (table.words_of heading)))
   pub sized : IsTrue (table.are_sizes (table.sizes heading))
-  pub stands : table.next (place_of place) heading ≡ Some (place_of next)
+  pub stands : runs.next_offered (place_of place) heading ≡ Some (place_of next)
   pub is : IsHeading line heading
 
 abbrev pub edit_sizes : EditHeading → List ℕ
