@@ -8,12 +8,13 @@ use Rattle.history_model.specs.Spelling.{Part, Line, Field, parts_of, edit_parts
 use Rattle.history_model.specs.Commands as commands
 use Rattle.history_model.specs.Grammar.{GoesOnOf, LineStandsOf, FieldStandsOf, LineFitsOf}
 use Rattle.history_model.specs.LineTable as whole
-use Rattle.history_model.specs.LineTable.{Role, Author, Committer, Tagger, Mover, Heading, CommitHeading, ParentHeading, PutHeading, RemoveHeading, RemoveFileHeading, ActorHeading, MessageHeading, EndHeading, TagHeading, MoveHeading, ToHeading, RenameHeading, DeleteHeading, SwitchHeading, PackHeading, IndexHeading, NamesHeading, FilesHeading, PastHeading, LogHeading, ShowHeading, role_word, words_of, sizes, are_sizes, first_line, Place, Start, Parents, Edits, ToCommitter, ToTagger, ToFirst, ToMore, ToMessage, ToEnd, Done, next_edit}
-use Rattle.history_model.specs.TableRuns.{Progress, begin, done, next_of, part_step_of, run_from_of, reached_of, IsLineAtOf}
+use Rattle.history_model.specs.Lines.{Role, Author, Committer, Tagger, Mover, Heading, CommitHeading, ParentHeading, PutHeading, RemoveHeading, RemoveFileHeading, ActorHeading, MessageHeading, EndHeading, TagHeading, MoveHeading, ToHeading, RenameHeading, DeleteHeading, SwitchHeading, PackHeading, IndexHeading, NamesHeading, FilesHeading, PastHeading, LogHeading, ShowHeading, role_word, words_of, sizes, are_sizes, first_line}
+use Rattle.history_model.specs.LineTable.{Place, Start, Parents, Edits, ToCommitter, ToTagger, ToFirst, ToMore, ToMessage, ToEnd, Done, next_edit}
+use Rattle.history_model.specs.TableRuns.{Progress, at, begin, done, is_told, next_of, part_step_of, run_from_of, reached_of, IsLineAtOf}
 use Rattle.std.proofs.lemmas.List.{length-replicate}
 use Rattle.history_model.proofs.PartLemmas.{both_true, head_same, tail_same}
 use Rattle.history_model.proofs.TableLines.{and_true, if_taken, then_some}
-use Rattle.history_model.proofs.TableRunLemmas.{at, is_told, line_step, line_goes, field_goes, run_append, commands_run}
+use Rattle.history_model.proofs.TableRunLemmas.{line_step, line_goes, field_goes, run_append, commands_run}
 
 -- a field of this length
 zeros : ℕ → Bytes

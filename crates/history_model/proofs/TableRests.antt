@@ -8,10 +8,11 @@ use Rattle.history_model.specs.Spelling.{Part, Line, Field, parts_text, part_tex
 use Rattle.history_model.specs.Grammar.{LineFitsOf, FieldStandsOf, StopsByOf, HasRestCauseOf, RestBeginsOrHasCause}
 use Rattle.history_model.specs.declared.Cause.{Cause}
 use Rattle.history_model.specs.declared.Cause.TheVariants.{Syntax, Truncated, LineTooLong}
-use Rattle.history_model.specs.LineTable.{Heading, CommitHeading, ParentHeading, PutHeading, RemoveHeading, RemoveFileHeading, ActorHeading, MessageHeading, EndHeading, TagHeading, MoveHeading, ToHeading, RenameHeading, DeleteHeading, SwitchHeading, PackHeading, IndexHeading, NamesHeading, FilesHeading, PastHeading, LogHeading, ShowHeading, words_of, Place, Start, Done}
-use Rattle.history_model.specs.TableRuns.{Progress, part_step_of, reached_of}
+use Rattle.history_model.specs.Lines.{Heading, CommitHeading, ParentHeading, PutHeading, RemoveHeading, RemoveFileHeading, ActorHeading, MessageHeading, EndHeading, TagHeading, MoveHeading, ToHeading, RenameHeading, DeleteHeading, SwitchHeading, PackHeading, IndexHeading, NamesHeading, FilesHeading, PastHeading, LogHeading, ShowHeading, words_of}
+use Rattle.history_model.specs.LineTable.{Place, Start, Done}
+use Rattle.history_model.specs.TableRuns.{Progress, at, is_told, part_step_of, reached_of}
 use Rattle.history_model.proofs.PartLemmas.{both_true, either_false}
-use Rattle.history_model.proofs.TableRunLemmas.{at, is_told, line_goes, commands_run}
+use Rattle.history_model.proofs.TableRunLemmas.{line_goes, commands_run}
 use Rattle.history_model.proofs.TableReaches.{table_tells_fields, table_tells_lines, table_tells_what_fits, table_takes_fields, step_on}
 
 -- ---- the words of a line

@@ -1,17 +1,15 @@
 -- The parts that lead from the table's start to its end are those of a command.
-use Rattle.std.proofs.Common.{◌≡◌, ◌≢◌, ℕ, zero, suc, ◌^◌, ◌<◌, ◌≤◌, Bool, true, false, ◌&&◌, ◌==◌, List, [], ◌∷◌, ◌++◌, length, map, refl, sym, ap, ◌∙◌, subst, Option, Some, None, option_map, option_and_then, codes, decimal, nat_lt, if◌then◌else◌, flat_map, arith, tests}
+use Rattle.std.proofs.Common.{◌≡◌, ◌≢◌, ℕ, zero, suc, ◌^◌, ◌<◌, ◌≤◌, Bool, true, false, ◌==◌, List, [], ◌∷◌, ◌++◌, length, map, refl, sym, ap, ◌∙◌, subst, Option, Some, None, option_map, option_and_then, codes, decimal, nat_lt, if◌then◌else◌, flat_map, arith, tests}
 use Rattle.std.specs.List.{list_all}
 use Rattle.history_model.specs.Bytes.{Bytes}
 use Rattle.history_model.specs.Commands.{Command, Commit, Tag, Move, Rename, Delete, Switch, Pack, Index, Names, Files, Past, Log, Show, CommitCommand, Expect, EditLine, PutLine, RemoveLine, RemoveFileLine, To, Order, LogItem}
 use Rattle.history_model.specs.Spelling.{Part, Line, Field, parts_of, expect_words, order_words, parents_word, item_word, kind_word, parent_part, edit_parts, to_part, actor_parts, message_parts, end_part, is_part, are_items, has_spelling, has_enough}
 use Rattle.history_model.specs.Commands as commands
-use Rattle.history_model.specs.LineTable.{Role, Author, Committer, Tagger, Mover, Heading, CommitHeading, ParentHeading, PutHeading, RemoveHeading, RemoveFileHeading, ActorHeading, MessageHeading, EndHeading, TagHeading, MoveHeading, ToHeading, RenameHeading, DeleteHeading, SwitchHeading, PackHeading, IndexHeading, NamesHeading, FilesHeading, PastHeading, LogHeading, ShowHeading, role_word, words_of, sizes, are_sizes, heading_of, first_line, Place, Start, Parents, Edits, ToCommitter, ToTagger, ToFirst, ToMore, ToMessage, ToEnd, Done, next_edit, next}
-use Rattle.history_model.specs.TableRuns.{Progress, done, next_of, after_line_of, part_step_of, run_from_of, reached_of}
+use Rattle.history_model.specs.Lines.{Role, Author, Committer, Tagger, Mover, Heading, CommitHeading, ParentHeading, PutHeading, RemoveHeading, RemoveFileHeading, ActorHeading, MessageHeading, EndHeading, TagHeading, MoveHeading, ToHeading, RenameHeading, DeleteHeading, SwitchHeading, PackHeading, IndexHeading, NamesHeading, FilesHeading, PastHeading, LogHeading, ShowHeading, role_word, words_of, sizes, are_sizes, first_line}
+use Rattle.history_model.specs.LineTable.{heading_of, Place, Start, Parents, Edits, ToCommitter, ToTagger, ToFirst, ToMore, ToMessage, ToEnd, Done, next_edit, next}
+use Rattle.history_model.specs.TableRuns.{Progress, at, done, is_told, next_of, after_line_of, part_step_of, run_from_of, reached_of}
 use Rattle.history_model.proofs.PartLemmas.{both_true}
 use Rattle.history_model.proofs.TableLines.{and_true, if_some, map_some, then_some, heading_told, heading_reads}
-
-abbrev pub at : List ℕ → Place → Progress
-at fields place = record { fields = fields; place = place }
 
 some_same : {B : Type 0} {x y : B} → Some x ≡ Some y → x ≡ y
 some_same e = cc
@@ -24,9 +22,6 @@ no_line e = cc
 
 -- of the commands whose first lines are offered
 module _ (offers : Heading → Bool) where
-  abbrev pub is_told : Command → Bool
-  is_told command = has_spelling command && offers (first_line command)
-
   abbrev after_line : Place → Heading → Option Progress
   after_line = after_line_of offers
 
@@ -469,7 +464,7 @@ module _ (offers : Heading → Bool) where
       nothing : (h : Heading) → None ≡ Some following → ⊥
       nothing h e = cc
 
-  pub commands_run : (parts : List Part) → reached parts ≡ Some done → (command : Command) × (is_told command ≡ true) × (parts_of command ≡ parts)
+  pub commands_run : (parts : List Part) → reached parts ≡ Some done → (command : Command) × (is_told offers command ≡ true) × (parts_of command ≡ parts)
   commands_run parts e =
       let line = line_run Start parts (λ e. cc) e in
       let found = if_some (offers line.heading) (next Start line.heading) line.following line.stands in

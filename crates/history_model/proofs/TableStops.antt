@@ -5,9 +5,10 @@ use Rattle.history_model.specs.Spelling.{Part, Line, Field}
 use Rattle.history_model.specs.Grammar.{LineStandsOf, FieldStandsOf, StopsByOf}
 use Rattle.history_model.specs.declared.Cause.{Cause}
 use Rattle.history_model.specs.declared.Cause.TheVariants.{Syntax, Truncated, LineTooLong}
-use Rattle.history_model.specs.LineTable.{Heading, FilesHeading, Place, Done}
-use Rattle.history_model.specs.TableRuns.{Progress, next_of, reached_of, StopsAtOf}
-use Rattle.history_model.proofs.TableRunLemmas.{at, is_told, line_step, field_step}
+use Rattle.history_model.specs.Lines.{Heading, FilesHeading}
+use Rattle.history_model.specs.LineTable.{Place, Done}
+use Rattle.history_model.specs.TableRuns.{Progress, at, is_told, next_of, reached_of, StopsAtOf}
+use Rattle.history_model.proofs.TableRunLemmas.{line_step, field_step}
 use Rattle.history_model.proofs.TableReaches.{table_tells_fields, table_tells_lines, table_tells_what_fits, step_of}
 
 module _ (offers : Heading → Bool) (some_offered : offers (FilesHeading (codes "HEAD")) ≡ true) where

@@ -6,12 +6,12 @@ use Rattle.history_model.specs.Bytes.{Bytes, has_byte, is_empty}
 use Rattle.history_model.specs.Spelling.{Part, Line, is_part, is_word, max_line, parts_text}
 use Rattle.history_model.specs.Grammar.{HasRestCause}
 use Rattle.history_model.specs.Stage.{opens}
-use Rattle.history_model.specs.LineTable.{Heading, words_of, sizes, are_sizes, heading_of, Place}
-use Rattle.history_model.specs.TableRuns.{reached, IsLineAt, StopsAt}
+use Rattle.history_model.specs.Lines.{Heading, words_of, sizes, are_sizes}
+use Rattle.history_model.specs.LineTable.{heading_of, Place}
+use Rattle.history_model.specs.TableRuns.{at, reached, IsLineAt, StopsAt}
 use Rattle.history_model.specs.declared.Cause.{Cause}
 use Rattle.history_model.proofs.PartLemmas.{either_false}
 use Rattle.history_model.proofs.TableLines.{and_true, heading_told, heading_reads}
-use Rattle.history_model.proofs.TableRunLemmas.{at}
 use Rattle.history_model.proofs.TableRests.{line_words, heading_words, some_words}
 use Rattle.history_model.proofs.TableStops.{table_tells_stops}
 

@@ -1,115 +1,12 @@
--- The lines of the command grammar as a table: what each line says and which fields follow it, where it may stand, and where the next line then stands.
-use Rattle.std.specs.Prelude.{◌≡◌, ◌↔◌, ℕ, ◌^◌, Bool, true, false, ◌&&◌, ◌==◌, List, [], ◌∷◌, ◌++◌, length, map, nat_lt, Option, Some, None, option_map, bytes_eq, codes, decimal, if◌then◌else◌, IsTrue}
-use Rattle.std.specs.List.{list_all, flat_map}
+-- The lines of the command grammar as a table: where each may stand, where the next line then stands, and what words say which line.
+use Rattle.std.specs.Prelude.{◌≡◌, ◌↔◌, ℕ, ◌^◌, Bool, true, false, ◌&&◌, ◌==◌, List, [], ◌∷◌, nat_lt, Option, Some, None, option_map, bytes_eq, codes, if◌then◌else◌, IsTrue}
 use Rattle.std.specs.Option.{option_and_then}
 use Rattle.history_model.specs.Bytes.{Bytes, is_decimal, digits_value}
-use Rattle.history_model.specs.Commands.{Command, Commit, Tag, Move, Rename, Delete, Switch, Pack, Index, Names, Files, Past, Log, Show, Expect, Any, New, At, Order, Breadth, Newest, Oldest, NewestSince, OldestSince, Date, Topological, LogItem, Tip, Hidden}
-use Rattle.history_model.specs.Spelling.{expect_words, kind_word, at_words, option_list, order_words, parents_word, item_word, are_items}
+use Rattle.history_model.specs.Commands.{Expect, Any, New, At, Order, Breadth, Newest, Oldest, NewestSince, OldestSince, Date, Topological, LogItem, Tip, Hidden}
+use Rattle.history_model.specs.Spelling.{are_items}
+use Rattle.history_model.specs.Lines.{Role, Author, Committer, Tagger, Mover, Heading, CommitHeading, ParentHeading, PutHeading, RemoveHeading, RemoveFileHeading, ActorHeading, MessageHeading, EndHeading, TagHeading, MoveHeading, ToHeading, RenameHeading, DeleteHeading, SwitchHeading, PackHeading, IndexHeading, NamesHeading, FilesHeading, PastHeading, LogHeading, ShowHeading, words_of, sizes, are_sizes}
 use Rattle.history_model.specs.declared.FileKind.{FileKind}
 use Rattle.history_model.specs.declared.FileKind.TheVariants.{File, Exec, Link}
-
--- ---- the lines
-
-pub data Role : Type 0 where
-  Author : Role
-  Committer : Role
-  Tagger : Role
-  -- of a move
-  Mover : Role
-
--- What a line says. A number is the length of a field that follows the line.
-pub data Heading : Type 0 where
-  CommitHeading : (name : Bytes) → (expect : Expect) → Heading
-  ParentHeading : (word : Bytes) → Heading
-  PutHeading : (kind : FileKind) → (path : ℕ) → (content : ℕ) → Heading
-  RemoveHeading : (path : ℕ) → Heading
-  RemoveFileHeading : (path : ℕ) → Heading
-  ActorHeading : (role : Role) → (name : ℕ) → (email : ℕ) → (seconds : Bytes) → (offset : Bytes) → Heading
-  MessageHeading : (message : ℕ) → Heading
-  EndHeading : Heading
-  TagHeading : (name : Bytes) → (expect : Expect) → (word : Bytes) → Heading
-  MoveHeading : Heading
-  ToHeading : (name : Bytes) → (expect : Expect) → (word : Bytes) → Heading
-  RenameHeading : (old : Bytes) → (new : Bytes) → Heading
-  DeleteHeading : (name : Bytes) → (at : Option Bytes) → Heading
-  SwitchHeading : (name : Bytes) → Heading
-  PackHeading : Heading
-  IndexHeading : Heading
-  NamesHeading : (folder : Option Bytes) → Heading
-  FilesHeading : (word : Bytes) → Heading
-  PastHeading : (name : Bytes) → Heading
-  LogHeading : (order : Order) → (first_parents : Bool) → (items : List LogItem) → (path : Option ℕ) → Heading
-  ShowHeading : (word : Bytes) → (path : Option ℕ) → Heading
-
-abbrev pub role_word : Role → Bytes
-role_word Author = codes "author"
-role_word Committer = codes "committer"
-role_word Tagger = codes "tagger"
-role_word Mover = codes "actor"
-
-abbrev pub size_words : ℕ → List Bytes
-size_words path = codes "path" ∷ decimal path ∷ []
-
-abbrev pub words_of : Heading → List Bytes
-words_of (CommitHeading name expect) = codes "commit" ∷ name ∷ expect_words expect
-words_of (ParentHeading word) = codes "parent" ∷ word ∷ []
-words_of (PutHeading kind path content) = codes "put" ∷ kind_word kind ∷ decimal path ∷ decimal content ∷ []
-words_of (RemoveHeading path) = codes "remove" ∷ decimal path ∷ []
-words_of (RemoveFileHeading path) = codes "remove-file" ∷ decimal path ∷ []
-words_of (ActorHeading role name email seconds offset) = role_word role ∷ decimal name ∷ decimal email ∷ seconds ∷ offset ∷ []
-words_of (MessageHeading message) = codes "message" ∷ decimal message ∷ []
-words_of EndHeading = codes "end" ∷ []
-words_of (TagHeading name expect word) = codes "tag" ∷ name ∷ (expect_words expect ++ word ∷ [])
-words_of MoveHeading = codes "move" ∷ []
-words_of (ToHeading name expect word) = codes "to" ∷ name ∷ (expect_words expect ++ word ∷ [])
-words_of (RenameHeading old new) = codes "rename" ∷ old ∷ new ∷ []
-words_of (DeleteHeading name at) = codes "delete" ∷ name ∷ at_words at
-words_of (SwitchHeading name) = codes "switch" ∷ name ∷ []
-words_of PackHeading = codes "pack" ∷ []
-words_of IndexHeading = codes "index" ∷ []
-words_of (NamesHeading folder) = codes "names" ∷ option_list folder
-words_of (FilesHeading word) = codes "files" ∷ word ∷ []
-words_of (PastHeading name) = codes "past" ∷ name ∷ []
-words_of (LogHeading order first_parents items path) =
-    codes "log" ∷ (order_words order ++ (parents_word first_parents ∷ (map item_word items ++ flat_map size_words (option_list path))))
-words_of (ShowHeading word path) = codes "show" ∷ word ∷ flat_map size_words (option_list path)
-
--- the lengths of the fields that follow the line
-abbrev pub sizes : Heading → List ℕ
-sizes (PutHeading kind path content) = path ∷ content ∷ []
-sizes (RemoveHeading path) = path ∷ []
-sizes (RemoveFileHeading path) = path ∷ []
-sizes (ActorHeading role name email seconds offset) = name ∷ email ∷ []
-sizes (MessageHeading message) = message ∷ []
-sizes (LogHeading order first_parents items path) = option_list path
-sizes (ShowHeading word path) = option_list path
-sizes _ = []
-
-abbrev pub are_sizes : List ℕ → Bool
-are_sizes = list_all (λ size. nat_lt size (2 ^ 64))
-
--- the length of the first of these, if there is one
-abbrev pub first_length : List Bytes → Option ℕ
-first_length [] = None
-first_length (bytes ∷ more) = Some (length bytes)
-
--- the line that a command begins with
-abbrev pub first_line : Command → Heading
-first_line (Commit c) = CommitHeading c.name c.expect
-first_line (Tag c) = TagHeading c.name c.expect c.word
-first_line (Move c) = MoveHeading
-first_line (Rename old new) = RenameHeading old new
-first_line (Delete name at) = DeleteHeading name at
-first_line (Switch name) = SwitchHeading name
-first_line Pack = PackHeading
-first_line Index = IndexHeading
-first_line (Names folder) = NamesHeading folder
-first_line (Files word) = FilesHeading word
-first_line (Past name) = PastHeading name
-first_line (Log c) = LogHeading c.order c.first_parents c.items (first_length c.paths)
-first_line (Show word path) = ShowHeading word (option_map length path)
-
--- ---- the table
 
 -- where the next line of a command stands
 pub data Place : Type 0 where
@@ -164,7 +61,8 @@ next _ _ = None
 
 -- a length: a number below 2 ^ 64 in decimal, without a leading zero
 abbrev pub number_of : Bytes → Option ℕ
-number_of word = if is_decimal word && nat_lt (digits_value word) (2 ^ 64) then Some (digits_value word) else None
+number_of word =
+    if is_decimal word && nat_lt (digits_value word) (2 ^ 64) then Some (digits_value word) else None
 
 abbrev pub kind_of : Bytes → Option FileKind
 kind_of word = if bytes_eq word (codes "file") then Some File
@@ -173,7 +71,9 @@ kind_of word = if bytes_eq word (codes "file") then Some File
     else None
 
 abbrev pub expect_of : List Bytes → Option Expect
-expect_of (first ∷ []) = if bytes_eq first (codes "any") then Some Any else if bytes_eq first (codes "new") then Some New else None
+expect_of (first ∷ []) = if bytes_eq first (codes "any") then Some Any
+    else if bytes_eq first (codes "new") then Some New
+    else None
 expect_of (first ∷ word ∷ []) = if bytes_eq first (codes "at") then Some (At word) else None
 expect_of _ = None
 
@@ -198,23 +98,29 @@ commit_of_words _ = None
 
 abbrev pub put_of_words : List Bytes → Option Heading
 put_of_words (kind ∷ path ∷ content ∷ []) =
-    option_and_then (λ k. option_and_then (λ m. option_map (PutHeading k m) (number_of content)) (number_of path)) (kind_of kind)
+    option_and_then (λ k.
+    option_and_then (λ m. option_map (PutHeading k m) (number_of content)) (number_of path)) (kind_of kind)
 put_of_words _ = None
 
 abbrev pub actor_of_words : Role → List Bytes → Option Heading
 actor_of_words role (name ∷ email ∷ seconds ∷ offset ∷ []) =
-    option_and_then (λ m. option_map (λ n. ActorHeading role m n seconds offset) (number_of email)) (number_of name)
+    option_and_then (λ m. option_map (λ n. ActorHeading role m n seconds offset) (number_of email))
+    (number_of name)
 actor_of_words role _ = None
 
 abbrev pub show_of_words : List Bytes → Option Heading
 show_of_words (word ∷ []) = Some (ShowHeading word None)
-show_of_words (word ∷ path ∷ size ∷ []) = if bytes_eq path (codes "path") then option_map (λ n. ShowHeading word (Some n)) (number_of size) else None
+show_of_words (word ∷ path ∷ size ∷ []) =
+    if bytes_eq path (codes "path") then option_map (λ n. ShowHeading word (Some n)) (number_of size)
+    else None
 show_of_words _ = None
 
 -- a name, what is expected of it, and a word
 abbrev pub target_of_words : (Bytes → Expect → Bytes → Heading) → List Bytes → Option Heading
-target_of_words heading (name ∷ first ∷ word ∷ []) = option_map (λ expect. heading name expect word) (expect_of (first ∷ []))
-target_of_words heading (name ∷ first ∷ second ∷ word ∷ []) = option_map (λ expect. heading name expect word) (expect_of (first ∷ second ∷ []))
+target_of_words heading (name ∷ first ∷ word ∷ []) =
+    option_map (λ expect. heading name expect word) (expect_of (first ∷ []))
+target_of_words heading (name ∷ first ∷ second ∷ word ∷ []) =
+    option_map (λ expect. heading name expect word) (expect_of (first ∷ second ∷ []))
 target_of_words heading _ = None
 
 abbrev pub rename_of_words : List Bytes → Option Heading
@@ -222,8 +128,10 @@ rename_of_words (old ∷ new ∷ []) = Some (RenameHeading old new)
 rename_of_words _ = None
 
 abbrev pub delete_of_words : List Bytes → Option Heading
-delete_of_words (name ∷ any ∷ []) = if bytes_eq any (codes "any") then Some (DeleteHeading name None) else None
-delete_of_words (name ∷ at ∷ word ∷ []) = if bytes_eq at (codes "at") then Some (DeleteHeading name (Some word)) else None
+delete_of_words (name ∷ any ∷ []) =
+    if bytes_eq any (codes "any") then Some (DeleteHeading name None) else None
+delete_of_words (name ∷ at ∷ word ∷ []) =
+    if bytes_eq at (codes "at") then Some (DeleteHeading name (Some word)) else None
 delete_of_words _ = None
 
 abbrev pub names_of_words : List Bytes → Option Heading
@@ -231,7 +139,7 @@ names_of_words [] = Some (NamesHeading None)
 names_of_words (folder ∷ []) = Some (NamesHeading (Some folder))
 names_of_words _ = None
 
--- ---- of a log: its order, whether it follows first parents alone, its items, and the length of its path, if it has one
+-- ---- of a log: its order, whether it follows first parents alone, its items, and its path's length
 
 abbrev pub since_of : (Bytes → Order) → List Bytes → Option (Order × List Bytes)
 since_of order [] = None
@@ -251,18 +159,23 @@ order_of (first ∷ words) =
     else None
 
 abbrev pub first_parents_of : Bytes → Option Bool
-first_parents_of word = if bytes_eq word (codes "first") then Some true else if bytes_eq word (codes "all") then Some false else None
+first_parents_of word = if bytes_eq word (codes "first") then Some true
+    else if bytes_eq word (codes "all") then Some false
+    else None
 
 -- `+` and the word of a tip, or `-` and one that is hidden
 abbrev pub item_of : Bytes → Option LogItem
 item_of [] = None
-item_of (sign ∷ word) = if sign == 43 then Some (Tip word) else if sign == 45 then Some (Hidden word) else None
+item_of (sign ∷ word) = if sign == 43 then Some (Tip word)
+    else if sign == 45 then Some (Hidden word)
+    else None
 
 abbrev pub Items : Type 0
 Items = List LogItem × Option ℕ
 
 abbrev pub path_of : List Bytes → Option Items
-path_of (first ∷ size ∷ []) = if bytes_eq first (codes "path") then option_map (λ n. ([], Some n)) (number_of size) else None
+path_of (first ∷ size ∷ []) =
+    if bytes_eq first (codes "path") then option_map (λ n. ([], Some n)) (number_of size) else None
 path_of _ = None
 
 abbrev pub with_item : Option LogItem → Option Items → Option Items → Option Items
@@ -275,7 +188,9 @@ items_of (word ∷ words) = with_item (item_of word) (items_of words) (path_of (
 
 abbrev pub walk_of_words : Order → List Bytes → Option Heading
 walk_of_words order [] = None
-walk_of_words order (parents ∷ words) = option_and_then (λ first. option_map (λ items. LogHeading order first items.0 items.1) (items_of words)) (first_parents_of parents)
+walk_of_words order (parents ∷ words) =
+    option_and_then (λ first. option_map (λ items. LogHeading order first items.0 items.1) (items_of words))
+    (first_parents_of parents)
 
 abbrev pub log_of_words : List Bytes → Option Heading
 log_of_words words = option_and_then (λ order. walk_of_words order.0 order.1) (order_of words)
@@ -318,4 +233,5 @@ heading_of (first ∷ words) =
 
 -- Words say what a line says exactly where they are that line's, and its lengths below 2 ^ 64.
 abbrev pub WordsAreHeadings : Type 0
-WordsAreHeadings = (words : List Bytes) (heading : Heading) → (heading_of words ≡ Some heading) ↔ ((words ≡ words_of heading) × IsTrue (are_sizes (sizes heading)))
+WordsAreHeadings = (words : List Bytes) (heading : Heading)
+    → (heading_of words ≡ Some heading) ↔ ((words ≡ words_of heading) × IsTrue (are_sizes (sizes heading)))

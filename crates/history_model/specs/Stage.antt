@@ -1,12 +1,12 @@
--- What is offered at this stage. The other modules state all commands; each of the four cuts below is applied at one place
--- of them (the grammar, its table of lines, the words, the test for a bad path), and to offer more is to widen this module alone.
+-- What is offered at this stage: first lines, paths and words. The other modules state all commands, and to offer more is to
+-- widen this module alone: the grammar, its table of lines, the words and the test for a bad path each ask it at one place.
 use Rattle.std.specs.Prelude.{Bool, true, false, not}
 use Rattle.history_model.specs.Bytes.{Bytes, has_byte}
 use Rattle.history_model.specs.Commands.{Command}
-use Rattle.history_model.specs.LineTable.{Heading, CommitHeading, FilesHeading, ShowHeading, first_line}
+use Rattle.history_model.specs.Lines.{Heading, CommitHeading, FilesHeading, ShowHeading, first_line}
 
--- The lines that may begin a command of a stream: those of commits, and of the readings `files` and `show`. Any other is one that
--- the grammar doesn't allow.
+-- The lines that may begin a command: those of commits, and of the readings `files` and `show`. In a stream the grammar allows
+-- no other there.
 abbrev pub opens : Heading → Bool
 opens (CommitHeading name expect) = true
 opens (FilesHeading word) = true

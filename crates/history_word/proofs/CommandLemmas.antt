@@ -6,8 +6,8 @@ use Rattle.history_model.specs.Spelling.{Part, parts_of, parts_text, is_part, ha
 use Rattle.history_model.specs.Stage.{opens, is_spoken}
 use Rattle.history_model.specs.Grammar.{Spells}
 use Rattle.history_model.specs.LineTable as table
-use Rattle.history_model.specs.TableRuns.{reached}
-use Rattle.history_model.proofs.TableLaws.{at, parts_fit}
+use Rattle.history_model.specs.TableRuns.{at, reached}
+use Rattle.history_model.proofs.TableLaws.{parts_fit}
 use Rattle.history_word.specs.Drafts.{IsDraft, place_of}
 use Rattle.history_word.specs.declared.place.Place.{Place}
 use Rattle.history_word.specs.declared.place.Place.TheVariants as place

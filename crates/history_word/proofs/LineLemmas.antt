@@ -8,8 +8,10 @@ use Rattle.std.proofs.lemmas.Bool.Decides.{nat_tests}
 use Rattle.std.proofs.lemmas.List.Splits.{slice_split_none, slice_split_at, length-slice_split, join_with_byte-slice_split}
 use Rattle.history_model.specs.Bytes.{Bytes, has_byte, is_empty}
 use Rattle.history_model.specs.Spelling.{Line, is_word, is_part, max_line}
+use Rattle.history_model.specs.Lines as lines
 use Rattle.history_model.specs.LineTable as table
-use Rattle.history_model.specs.LineTable.{heading_of, number_of, words_of}
+use Rattle.history_model.specs.Lines.{words_of}
+use Rattle.history_model.specs.LineTable.{heading_of, number_of}
 use Rattle.history_model.specs.TableRuns.{IsLineAt}
 use Rattle.history_model.proofs.TableLaws.{number_decimal, decimal_number, heading_told, heading_reads, heading_words, some_words}
 use Rattle.history_word.specs.declared.heading.Heading.{Heading}
@@ -116,7 +118,7 @@ pub found_line : (line : Bytes) (result : Option Heading) → IsUnbroken line �
 found_line line None whole short nonempty says = tt
 found_line line (Some said) whole short nonempty says = at (heading_of (split_words line)) refl says
   where
-    at : (o : Option table.Heading) → heading_of (split_words line) ≡ o → Says (Some said) o → IsLine said line
+    at : (o : Option lines.Heading) → heading_of (split_words line) ≡ o → Says (Some said) o → IsLine said line
     at None e s = absurd s
     at (Some h) e s =
         let told = heading_told (split_words line) h e in
