@@ -1,9 +1,9 @@
 -- The lines of the command grammar: what each says, its words, the fields that follow it, and the line that a command begins with.
-use Rattle.std.specs.Prelude.{ℕ, ◌^◌, Bool, List, [], ◌∷◌, ◌++◌, length, map, nat_lt, Option, Some, None, option_map, codes, decimal}
+use Rattle.std.specs.Prelude.{◌≡◌, ℕ, ◌^◌, Bool, List, [], ◌∷◌, ◌++◌, length, map, nat_lt, Option, Some, None, option_map, codes, decimal, IsTrue}
 use Rattle.std.specs.List.{list_all, flat_map}
 use Rattle.history_model.specs.Bytes.{Bytes}
 use Rattle.history_model.specs.Commands.{Command, Commit, Tag, Move, Rename, Delete, Switch, Pack, Index, Names, Files, Past, Log, Show, Expect, Order, LogItem}
-use Rattle.history_model.specs.Spelling.{expect_words, kind_word, at_words, option_list, order_words, parents_word, item_word}
+use Rattle.history_model.specs.Spelling.{Part, Line, parts_of, has_spelling, expect_words, kind_word, at_words, option_list, order_words, parents_word, item_word}
 use Rattle.history_model.specs.declared.FileKind.{FileKind}
 
 pub data Role : Type 0 where
@@ -109,3 +109,8 @@ first_line (Files word) = FilesHeading word
 first_line (Past name) = PastHeading name
 first_line (Log c) = LogHeading c.order c.first_parents c.items (first_length c.paths)
 first_line (Show word path) = ShowHeading word (option_map length path)
+
+-- The line is that of the command's own first part.
+abbrev pub FirstLinesBegin : Type 0
+FirstLinesBegin = (command : Command) → IsTrue (has_spelling command)
+    → (more : List Part) × (parts_of command ≡ Line (words_of (first_line command)) ∷ more)

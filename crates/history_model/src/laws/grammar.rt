@@ -1,10 +1,16 @@
 //! Laws of the table of lines, over the definitions alone: of all commands, and of those that are offered.
 
+ghost use Rattle.history_model.specs.Lines.{FirstLinesBegin};
 ghost use Rattle.history_model.specs.LineTable.{WordsAreHeadings};
 ghost use Rattle.history_model.specs.TableRuns.{all_lines, TableTellsCommands, TableTellsWhatGoesOn, TableTellsFields, TableTellsLines, TableTellsWhatFits, TableTellsStops, TableTakesLines, TableTakesFields};
 ghost use Rattle.history_model.specs.Spelling.{has_spelling};
 ghost use Rattle.history_model.specs.Stage.{opens};
 ghost use Rattle.history_model.specs.Grammar.{is_command, RestBeginsOrHasCause};
+
+/// The line by which a command is offered or not is that of its own first part.
+pub fn first_lines_begin()
+    ensures { FirstLinesBegin }
+{}
 
 /// Words say what a line of the table says exactly where they are that line's words.
 pub fn words_are_headings()
