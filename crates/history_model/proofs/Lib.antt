@@ -20,6 +20,7 @@ mod AfterFirstLemmas
 mod OneFileLemmas
 mod StreamRowLemmas
 mod EntryLemmas
+mod FirstLines
 mod TableLines
 mod TableRunLemmas
 mod TableReaches

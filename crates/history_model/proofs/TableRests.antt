@@ -1,17 +1,18 @@
 -- A rest that isn't empty begins with a command or has a cause.
-use Rattle.std.proofs.Common.{◌≡◌, ◌≢◌, ◌⊎◌, ℕ, zero, suc, ◌+◌, ◌<◌, ◌≤◌, Bool, true, false, not, ◌&&◌, ◌||◌, ◌==◌, eqb, List, [], ◌∷◌, ◌++◌, length, take, refl, sym, ap, ◌∙◌, subst, Option, Some, None, nat_le, IsTrue, inl, inr, append_assoc, append-nil, length-append, arith, tests}
+use Rattle.std.proofs.Common.{◌≡◌, ◌≢◌, ◌⊎◌, ℕ, zero, suc, ◌+◌, ◌<◌, ◌≤◌, Bool, true, false, not, ◌&&◌, ◌||◌, ◌==◌, eqb, List, [], ◌∷◌, ◌++◌, length, take, refl, sym, ap, ◌∙◌, subst, Option, Some, None, nat_le, IsTrue, inl, inr, codes, append_assoc, append-nil, length-append, arith, tests}
 use Rattle.std.specs.List.{list_all, join_with_byte, slice_split, onto_first}
 use Rattle.std.proofs.lemmas.List.Splits.{join_with_byte-slice_split, slice_split-cons_no}
 use Rattle.history_model.specs.Bytes.{Bytes, line, has_byte, is_empty}
 use Rattle.history_model.specs.Commands.{Command}
 use Rattle.history_model.specs.Spelling.{Part, Line, Field, parts_text, part_text, spelling, is_part, is_word, max_line}
-use Rattle.history_model.specs.Grammar.{is_command, LineFits, FieldStands, StopsBy, HasRestCause}
+use Rattle.history_model.specs.Grammar.{LineFitsOf, FieldStandsOf, StopsByOf, HasRestCauseOf, RestBeginsOrHasCause}
 use Rattle.history_model.specs.declared.Cause.{Cause}
 use Rattle.history_model.specs.declared.Cause.TheVariants.{Syntax, Truncated, LineTooLong}
-use Rattle.history_model.specs.LineTable.{Heading, CommitHeading, ParentHeading, PutHeading, RemoveHeading, RemoveFileHeading, ActorHeading, MessageHeading, EndHeading, FilesHeading, ShowHeading, ShowPathHeading, words_of, Place, Start, Done}
-use Rattle.history_model.specs.TableRuns.{Progress, part_step, reached, RestBeginsOrHasCause}
+use Rattle.history_model.specs.Lines.{Heading, CommitHeading, ParentHeading, PutHeading, RemoveHeading, RemoveFileHeading, ActorHeading, MessageHeading, EndHeading, TagHeading, MoveHeading, ToHeading, RenameHeading, DeleteHeading, SwitchHeading, PackHeading, IndexHeading, NamesHeading, FilesHeading, PastHeading, LogHeading, ShowHeading, words_of}
+use Rattle.history_model.specs.LineTable.{Place, Start, Done}
+use Rattle.history_model.specs.TableRuns.{Progress, at, is_told, part_step_of, reached_of}
 use Rattle.history_model.proofs.PartLemmas.{both_true, either_false}
-use Rattle.history_model.proofs.TableRunLemmas.{at, line_goes, commands_run}
+use Rattle.history_model.proofs.TableRunLemmas.{line_goes, commands_run}
 use Rattle.history_model.proofs.TableReaches.{table_tells_fields, table_tells_lines, table_tells_what_fits, table_takes_fields, step_on}
 
 -- ---- the words of a line
@@ -58,9 +59,19 @@ some_words (RemoveFileHeading path) e = cc
 some_words (ActorHeading role name email seconds offset) e = cc
 some_words (MessageHeading message) e = cc
 some_words EndHeading e = cc
+some_words (TagHeading name expect word) e = cc
+some_words MoveHeading e = cc
+some_words (ToHeading name expect word) e = cc
+some_words (RenameHeading old new) e = cc
+some_words (DeleteHeading name at) e = cc
+some_words (SwitchHeading name) e = cc
+some_words PackHeading e = cc
+some_words IndexHeading e = cc
+some_words (NamesHeading folder) e = cc
 some_words (FilesHeading word) e = cc
-some_words (ShowHeading word) e = cc
-some_words (ShowPathHeading word path) e = cc
+some_words (PastHeading name) e = cc
+some_words (LogHeading order first items path) e = cc
+some_words (ShowHeading word path) e = cc
 
 -- ---- cutting
 
@@ -129,90 +140,109 @@ text_on (p ∷ parts) part more =
 
 -- ---- reading
 
-abbrev Found : Bytes → Type 0
-Found rest = ((command : Command) × (more : Bytes) × IsTrue (is_command command) × (rest ≡ spelling command ++ more)) ⊎ ((cause : Cause) × HasRestCause rest cause)
+module _ (offers : Heading → Bool) (some_offered : offers (FilesHeading (codes "HEAD")) ≡ true) where
+  abbrev part_step : List ℕ → Place → Part → Option Progress
+  part_step = part_step_of offers
 
--- what follows parts that lead somewhere, and is shorter than this, is judged
-abbrev Judged : ℕ → Bytes → Type 0
-Judged n rest = (parts : List Part) (tail : Bytes) (fields : List ℕ) (place : Place) → length tail < n → rest ≡ parts_text parts ++ tail → reached parts ≡ Some (at fields place) → Found rest
+  abbrev reached : List Part → Option Progress
+  reached = reached_of offers
 
-stopped : (rest : Bytes) → rest ≢ [] → (parts : List Part) (tail : Bytes) (cause : Cause) → rest ≡ parts_text parts ++ tail → StopsBy parts tail cause → Found rest
-stopped rest some parts tail cause split stops = inr (cause, record { some = some; parts = parts; tail = tail; split = split; stops = stops })
+  abbrev LineFits : List Part → Bytes → Type 0
+  LineFits = LineFitsOf (is_told offers)
 
--- one part more is split off
-split_on : (rest : Bytes) (parts : List Part) (part : Part) (tail more : Bytes) → rest ≡ parts_text parts ++ tail → tail ≡ part_text part ++ more → rest ≡ parts_text (parts ++ part ∷ []) ++ more
-split_on rest parts part tail more split is = split ∙ ap (λ t. parts_text parts ++ t) is ∙ sym (text_on parts part more)
+  abbrev FieldStands : List Part → ℕ → Type 0
+  FieldStands = FieldStandsOf (is_told offers)
 
-fits_length : (n m : ℕ) → nat_le n m ≡ true → n ≤ m
-fits_length n m h = grind (arith, tests)
+  abbrev StopsBy : List Part → Bytes → Cause → Type 0
+  StopsBy = StopsByOf (is_told offers)
 
-exceeds_length : (n m : ℕ) → nat_le n m ≡ false → m < n
-exceeds_length n m h = grind (arith, tests)
+  abbrev HasRestCause : Bytes → Cause → Type 0
+  HasRestCause = HasRestCauseOf (is_told offers)
 
-line_length : (text more : Bytes) → length (line text ++ more) ≡ suc (length text + length more)
-line_length [] more = omega arith
-line_length (b ∷ text) more = let rest = line_length text more in omega arith
+  abbrev Found : Bytes → Type 0
+  Found rest = ((command : Command) × (more : Bytes) × IsTrue (is_told offers command) × (rest ≡ spelling command ++ more)) ⊎ ((cause : Cause) × HasRestCause rest cause)
 
--- a line that the table hasn't doesn't fit
-unfit : (parts : List Part) (place : Place) (text : Bytes) → reached parts ≡ Some (at [] place) → part_step [] place (Line (line_words text)) ≡ None → LineFits parts text → ⊥
-unfit parts place text e none f =
-    let h = (table_tells_what_fits parts place e text).0 f in
-    let words : line_words text ≡ words_of h.heading = ap line_words h.spelled ∙ heading_words (words_of h.heading) (some_words h.heading) h.known in
-    no_step (sym none ∙ ap (λ ws. part_step [] place (Line ws)) words ∙ line_goes place h.following h.heading h.stands h.known h.sized)
-  where
-    no_step : {A : Type 0} {x : A} → None ≡ Some x → ⊥
-    no_step e = cc
+  -- what follows parts that lead somewhere, and is shorter than this, is judged
+  abbrev Judged : ℕ → Bytes → Type 0
+  Judged n rest = (parts : List Part) (tail : Bytes) (fields : List ℕ) (place : Place) → length tail < n → rest ≡ parts_text parts ++ tail → reached parts ≡ Some (at fields place) → Found rest
 
-module _ (n : ℕ) (rest : Bytes) (some : rest ≢ []) (judged : Judged n rest) (parts : List Part) (tail : Bytes) (short : length tail < suc n) (split : rest ≡ parts_text parts ++ tail) where
-  whole_line : (place : Place) → reached parts ≡ Some (at [] place) → place ≢ Done → (text more : Bytes) → tail ≡ line text ++ more → has_byte 10 text ≡ false → length text ≤ max_line
-      → (o : Option Progress) → part_step [] place (Line (line_words text)) ≡ o → Found rest
-  whole_line place e live text more is none le (Some q) s =
-      let len : length tail ≡ suc (length text + length more) = ap length is ∙ line_length text more in
-      let words : tail ≡ part_text (Line (line_words text)) ++ more = is ∙ ap (λ t. line t ++ more) (sym (join_with_byte-slice_split 32 text)) in
-      judged (parts ++ Line (line_words text) ∷ []) more q.fields q.place (omega arith) (split_on rest parts (Line (line_words text)) tail more split words) (step_on parts (Line (line_words text)) [] place q e s)
-  whole_line place e live text more is none le None s =
-      stopped rest some parts tail Syntax split (inl (text, more, table_tells_lines parts place e live, is, none, le, unfit parts place text e s))
+  stopped : (rest : Bytes) → rest ≢ [] → (parts : List Part) (tail : Bytes) (cause : Cause) → rest ≡ parts_text parts ++ tail → StopsBy parts tail cause → Found rest
+  stopped rest some parts tail cause split stops = inr (cause, record { some = some; parts = parts; tail = tail; split = split; stops = stops })
 
-  long_line : (place : Place) → reached parts ≡ Some (at [] place) → place ≢ Done → (text more : Bytes) → tail ≡ line text ++ more → has_byte 10 text ≡ false → (b : Bool) → nat_le (length text) max_line ≡ b → Found rest
-  long_line place e live text more is none true le = whole_line place e live text more is none (fits_length (length text) max_line le) (part_step [] place (Line (line_words text))) refl
-  long_line place e live text more is none false le =
-      let over = exceeds_length (length text) max_line le in
-      let len : length tail ≡ suc (length text + length more) = ap length is ∙ line_length text more in
-      stopped rest some parts tail LineTooLong split
-      (table_tells_lines parts place e live, omega arith, subst (λ t. has_byte 10 (take (max_line + 1) t) ≡ false) (sym is) (none_before (max_line + 1) text more (omega arith) none))
+  -- one part more is split off
+  split_on : (rest : Bytes) (parts : List Part) (part : Part) (tail more : Bytes) → rest ≡ parts_text parts ++ tail → tail ≡ part_text part ++ more → rest ≡ parts_text (parts ++ part ∷ []) ++ more
+  split_on rest parts part tail more split is = split ∙ ap (λ t. parts_text parts ++ t) is ∙ sym (text_on parts part more)
 
-  endless_line : (place : Place) → reached parts ≡ Some (at [] place) → place ≢ Done → has_byte 10 tail ≡ false → (b : Bool) → nat_le (length tail) max_line ≡ b → Found rest
-  endless_line place e live none true le = stopped rest some parts tail Truncated split (inl (table_tells_lines parts place e live, none, fits_length (length tail) max_line le))
-  endless_line place e live none false le =
-      stopped rest some parts tail LineTooLong split (table_tells_lines parts place e live, exceeds_length (length tail) max_line le, none_in_front (max_line + 1) tail none)
+  fits_length : (n m : ℕ) → nat_le n m ≡ true → n ≤ m
+  fits_length n m h = grind (arith, tests)
 
-  line_judged : (place : Place) → reached parts ≡ Some (at [] place) → place ≢ Done → Cut tail → Found rest
-  line_judged place e live (whole none) = endless_line place e live none (nat_le (length tail) max_line) refl
-  line_judged place e live (cut text more is none) = long_line place e live text more is none (nat_le (length text) max_line) refl
+  exceeds_length : (n m : ℕ) → nat_le n m ≡ false → m < n
+  exceeds_length n m h = grind (arith, tests)
 
-  field_end : (size : ℕ) (fields : List ℕ) (place : Place) → reached parts ≡ Some (at (size ∷ fields) place) → (f : FieldCut size tail) → (b : Bool) → (f.byte == 10) ≡ b → Found rest
-  field_end size fields place e f true h =
-      let is : tail ≡ part_text (Field f.bytes) ++ f.more = f.is ∙ ap (λ b. f.bytes ++ b ∷ f.more) (is_ten f.byte h) ∙ sym (append_assoc f.bytes (10 ∷ []) f.more) in
-      let len : length tail ≡ length f.bytes + suc (length f.more) = ap length f.is ∙ length-append f.bytes (f.byte ∷ f.more) in
-      judged (parts ++ Field f.bytes ∷ []) f.more fields place (omega arith) (split_on rest parts (Field f.bytes) tail f.more split is)
-      (table_takes_fields parts f.bytes fields place (subst (λ n. reached parts ≡ Some (at (n ∷ fields) place)) (sym f.long) e))
-  field_end size fields place e f false h =
-      let stands = subst (FieldStands parts) (sym f.long) (table_tells_fields parts size fields place e) in
-      stopped rest some parts tail Syntax split (inr (f.bytes, f.more, f.byte, stands, f.is, is_other f.byte h))
+  line_length : (text more : Bytes) → length (line text ++ more) ≡ suc (length text + length more)
+  line_length [] more = omega arith
+  line_length (b ∷ text) more = let rest = line_length text more in omega arith
 
-  field_judged : (size : ℕ) (fields : List ℕ) (place : Place) → reached parts ≡ Some (at (size ∷ fields) place) → (b : Bool) → nat_le (length tail) size ≡ b → Found rest
-  field_judged size fields place e true le = stopped rest some parts tail Truncated split (inr (size, table_tells_fields parts size fields place e, fits_length (length tail) size le))
-  field_judged size fields place e false le =
-      let f = cut_field size tail (exceeds_length (length tail) size le) in
-      field_end size fields place e f (f.byte == 10) refl
+  -- a line that the table hasn't doesn't fit
+  unfit : (parts : List Part) (place : Place) (text : Bytes) → reached parts ≡ Some (at [] place) → part_step [] place (Line (line_words text)) ≡ None → LineFits parts text → ⊥
+  unfit parts place text e none f =
+      let h = (table_tells_what_fits offers some_offered parts place e text).0 f in
+      let words : line_words text ≡ words_of h.heading = ap line_words h.spelled ∙ heading_words (words_of h.heading) (some_words h.heading) h.known in
+      no_step (sym none ∙ ap (λ ws. part_step [] place (Line ws)) words ∙ line_goes offers place h.following h.heading h.stands h.known h.sized)
+    where
+      no_step : {A : Type 0} {x : A} → None ≡ Some x → ⊥
+      no_step e = cc
 
-judges : (n : ℕ) (rest : Bytes) → rest ≢ [] → Judged n rest
-judges zero rest some parts tail fields place short split e = absurd (omega arith)
-judges (suc n) rest some parts tail (size ∷ fields) place short split e = field_judged n rest some (judges n rest some) parts tail short split size fields place e (nat_le (length tail) size) refl
-judges (suc n) rest some parts tail [] Done short split e =
-    let found = commands_run parts e in
-    inl (found.0, tail, found.1, split ∙ ap (λ ps. parts_text ps ++ tail) (sym found.2))
-judges (suc n) rest some parts tail [] place short split e = line_judged n rest some (judges n rest some) parts tail short split place e (λ same. cc) (cut_line tail)
+  module _ (n : ℕ) (rest : Bytes) (some : rest ≢ []) (judged : Judged n rest) (parts : List Part) (tail : Bytes) (short : length tail < suc n) (split : rest ≡ parts_text parts ++ tail) where
+    whole_line : (place : Place) → reached parts ≡ Some (at [] place) → place ≢ Done → (text more : Bytes) → tail ≡ line text ++ more → has_byte 10 text ≡ false → length text ≤ max_line
+        → (o : Option Progress) → part_step [] place (Line (line_words text)) ≡ o → Found rest
+    whole_line place e live text more is none le (Some q) s =
+        let len : length tail ≡ suc (length text + length more) = ap length is ∙ line_length text more in
+        let words : tail ≡ part_text (Line (line_words text)) ++ more = is ∙ ap (λ t. line t ++ more) (sym (join_with_byte-slice_split 32 text)) in
+        judged (parts ++ Line (line_words text) ∷ []) more q.fields q.place (omega arith) (split_on rest parts (Line (line_words text)) tail more split words) (step_on offers some_offered parts (Line (line_words text)) [] place q e s)
+    whole_line place e live text more is none le None s =
+        stopped rest some parts tail Syntax split (inl (text, more, table_tells_lines offers some_offered parts place e live, is, none, le, unfit parts place text e s))
 
-pub rest_begins_or_has_cause : RestBeginsOrHasCause
-rest_begins_or_has_cause rest some = judges (suc (length rest)) rest some [] rest [] Start (omega arith) refl refl
+    long_line : (place : Place) → reached parts ≡ Some (at [] place) → place ≢ Done → (text more : Bytes) → tail ≡ line text ++ more → has_byte 10 text ≡ false → (b : Bool) → nat_le (length text) max_line ≡ b → Found rest
+    long_line place e live text more is none true le = whole_line place e live text more is none (fits_length (length text) max_line le) (part_step [] place (Line (line_words text))) refl
+    long_line place e live text more is none false le =
+        let over = exceeds_length (length text) max_line le in
+        let len : length tail ≡ suc (length text + length more) = ap length is ∙ line_length text more in
+        stopped rest some parts tail LineTooLong split
+        (table_tells_lines offers some_offered parts place e live, omega arith, subst (λ t. has_byte 10 (take (max_line + 1) t) ≡ false) (sym is) (none_before (max_line + 1) text more (omega arith) none))
+
+    endless_line : (place : Place) → reached parts ≡ Some (at [] place) → place ≢ Done → has_byte 10 tail ≡ false → (b : Bool) → nat_le (length tail) max_line ≡ b → Found rest
+    endless_line place e live none true le = stopped rest some parts tail Truncated split (inl (table_tells_lines offers some_offered parts place e live, none, fits_length (length tail) max_line le))
+    endless_line place e live none false le =
+        stopped rest some parts tail LineTooLong split (table_tells_lines offers some_offered parts place e live, exceeds_length (length tail) max_line le, none_in_front (max_line + 1) tail none)
+
+    line_judged : (place : Place) → reached parts ≡ Some (at [] place) → place ≢ Done → Cut tail → Found rest
+    line_judged place e live (whole none) = endless_line place e live none (nat_le (length tail) max_line) refl
+    line_judged place e live (cut text more is none) = long_line place e live text more is none (nat_le (length text) max_line) refl
+
+    field_end : (size : ℕ) (fields : List ℕ) (place : Place) → reached parts ≡ Some (at (size ∷ fields) place) → (f : FieldCut size tail) → (b : Bool) → (f.byte == 10) ≡ b → Found rest
+    field_end size fields place e f true h =
+        let is : tail ≡ part_text (Field f.bytes) ++ f.more = f.is ∙ ap (λ b. f.bytes ++ b ∷ f.more) (is_ten f.byte h) ∙ sym (append_assoc f.bytes (10 ∷ []) f.more) in
+        let len : length tail ≡ length f.bytes + suc (length f.more) = ap length f.is ∙ length-append f.bytes (f.byte ∷ f.more) in
+        judged (parts ++ Field f.bytes ∷ []) f.more fields place (omega arith) (split_on rest parts (Field f.bytes) tail f.more split is)
+        (table_takes_fields offers some_offered parts f.bytes fields place (subst (λ n. reached parts ≡ Some (at (n ∷ fields) place)) (sym f.long) e))
+    field_end size fields place e f false h =
+        let stands = subst (FieldStands parts) (sym f.long) (table_tells_fields offers some_offered parts size fields place e) in
+        stopped rest some parts tail Syntax split (inr (f.bytes, f.more, f.byte, stands, f.is, is_other f.byte h))
+
+    field_judged : (size : ℕ) (fields : List ℕ) (place : Place) → reached parts ≡ Some (at (size ∷ fields) place) → (b : Bool) → nat_le (length tail) size ≡ b → Found rest
+    field_judged size fields place e true le = stopped rest some parts tail Truncated split (inr (size, table_tells_fields offers some_offered parts size fields place e, fits_length (length tail) size le))
+    field_judged size fields place e false le =
+        let f = cut_field size tail (exceeds_length (length tail) size le) in
+        field_end size fields place e f (f.byte == 10) refl
+
+  judges : (n : ℕ) (rest : Bytes) → rest ≢ [] → Judged n rest
+  judges zero rest some parts tail fields place short split e = absurd (omega arith)
+  judges (suc n) rest some parts tail (size ∷ fields) place short split e = field_judged n rest some (judges n rest some) parts tail short split size fields place e (nat_le (length tail) size) refl
+  judges (suc n) rest some parts tail [] Done short split e =
+      let found = commands_run offers parts e in
+      inl (found.0, tail, found.1, split ∙ ap (λ ps. parts_text ps ++ tail) (sym found.2))
+  judges (suc n) rest some parts tail [] place short split e = line_judged n rest some (judges n rest some) parts tail short split place e (λ same. cc) (cut_line tail)
+
+  pub rest_begins_or_has_cause : RestBeginsOrHasCause (is_told offers)
+  rest_begins_or_has_cause rest some = judges (suc (length rest)) rest some [] rest [] Start (omega arith) refl refl

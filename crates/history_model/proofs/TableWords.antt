@@ -5,12 +5,13 @@ use Rattle.std.proofs.lemmas.List.Splits.{join_with_byte-slice_split, slice_spli
 use Rattle.history_model.specs.Bytes.{Bytes, has_byte, is_empty}
 use Rattle.history_model.specs.Spelling.{Part, Line, is_part, is_word, max_line, parts_text}
 use Rattle.history_model.specs.Grammar.{HasRestCause}
-use Rattle.history_model.specs.LineTable.{Heading, words_of, sizes, are_sizes, heading_of, Place}
-use Rattle.history_model.specs.TableRuns.{reached, IsLineAt, StopsAt}
+use Rattle.history_model.specs.Stage.{opens}
+use Rattle.history_model.specs.Lines.{Heading, words_of, sizes, are_sizes}
+use Rattle.history_model.specs.LineTable.{heading_of, Place}
+use Rattle.history_model.specs.TableRuns.{at, reached, IsLineAt, StopsAt}
 use Rattle.history_model.specs.declared.Cause.{Cause}
 use Rattle.history_model.proofs.PartLemmas.{either_false}
 use Rattle.history_model.proofs.TableLines.{and_true, heading_told, heading_reads}
-use Rattle.history_model.proofs.TableRunLemmas.{at}
 use Rattle.history_model.proofs.TableRests.{line_words, heading_words, some_words}
 use Rattle.history_model.proofs.TableStops.{table_tells_stops}
 
@@ -102,4 +103,4 @@ line_has_words place text l = ap line_words l.spelled ∙ heading_words (words_o
 
 pub rest_has_cause : (rest : Bytes) → rest ≢ [] → (parts : List Part) (tail : Bytes) (fields : List ℕ) (place : Place) (cause : Cause) → reached parts ≡ Some (at fields place) → rest ≡ parts_text parts ++ tail → StopsAt fields place tail cause
     → HasRestCause rest cause
-rest_has_cause rest some parts tail fields place cause e split stops = record { some = some; parts = parts; tail = tail; split = split; stops = (table_tells_stops parts fields place e tail cause).1 stops }
+rest_has_cause rest some parts tail fields place cause e split stops = record { some = some; parts = parts; tail = tail; split = split; stops = (table_tells_stops opens refl parts fields place e tail cause).1 stops }

@@ -93,3 +93,8 @@ HasOneRestCause is_known = (rest : Bytes) (x y : Cause) → HasRestCauseOf is_kn
 abbrev pub RestBeginsWithNone : (Command → Bool) → Type 0
 RestBeginsWithNone is_known = (rest more : Bytes) (cause : Cause) (command : Command)
     → HasRestCauseOf is_known rest cause → IsTrue (is_known command) → rest ≡ spelling command ++ more → ⊥
+
+-- a rest that isn't empty begins with a command or has a cause
+abbrev pub RestBeginsOrHasCause : (Command → Bool) → Type 0
+RestBeginsOrHasCause is_known = (rest : Bytes) → rest ≢ []
+    → ((command : Command) × (more : Bytes) × IsTrue (is_known command) × (rest ≡ spelling command ++ more)) ⊎ ((cause : Cause) × HasRestCauseOf is_known rest cause)

@@ -139,10 +139,14 @@ abbrev pub item_target : LogItem → Bytes
 item_target (Tip word) = word
 item_target (Hidden word) = word
 
--- a move has a line; a log has a tip, at most one path, and none of its items is a sign alone
+-- some item is a tip, and none is a sign alone
+abbrev pub are_items : List LogItem → Bool
+are_items items = list_any is_tip items && list_all (λ item. not (is_empty (item_target item))) items
+
+-- a move has a line; a log has a tip, and at most one path
 abbrev pub has_enough : Command → Bool
 has_enough (Move c) = not (is_empty c.to)
-has_enough (Log c) = list_any is_tip c.items && list_all (λ item. not (is_empty (item_target item))) c.items && nat_le (length c.paths) 1
+has_enough (Log c) = are_items c.items && nat_le (length c.paths) 1
 has_enough _ = true
 
 -- the command has a spelling

@@ -1,15 +1,20 @@
--- What is offered at this stage. The other modules state all commands; each of the three cuts below is applied at one place
--- of them (the grammar, the words, the test for a bad path), and to offer more is to widen this module alone.
+-- What is offered at this stage: first lines, paths and words. The other modules state all commands, and to offer more is to
+-- widen this module alone: the grammar, its table of lines, the words and the test for a bad path each ask it at one place.
 use Rattle.std.specs.Prelude.{Bool, true, false, not}
 use Rattle.history_model.specs.Bytes.{Bytes, has_byte}
-use Rattle.history_model.specs.Commands.{Command, Commit, Files, Show}
+use Rattle.history_model.specs.Commands.{Command}
+use Rattle.history_model.specs.Lines.{Heading, CommitHeading, FilesHeading, ShowHeading, first_line}
 
--- Commits, and the readings `files` and `show`. In a stream any other line is one that the grammar doesn't allow.
+-- The lines that may begin a command: those of commits, and of the readings `files` and `show`. In a stream the grammar allows
+-- no other there.
+abbrev pub opens : Heading → Bool
+opens (CommitHeading name expect) = true
+opens (FilesHeading word) = true
+opens (ShowHeading word path) = true
+opens _ = false
+
 abbrev pub is_spoken : Command → Bool
-is_spoken (Commit c) = true
-is_spoken (Files word) = true
-is_spoken (Show word path) = true
-is_spoken _ = false
+is_spoken command = opens (first_line command)
 
 -- A path has one component: any other is a bad path.
 abbrev pub is_offered_path : Bytes → Bool

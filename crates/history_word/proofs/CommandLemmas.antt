@@ -3,11 +3,11 @@ use Rattle.std.proofs.Common.{◌≡◌, ◌≢◌, Bool, true, false, ◌&&◌,
 use Rattle.std.specs.List.{list_all}
 use Rattle.history_model.specs.Commands as model
 use Rattle.history_model.specs.Spelling.{Part, parts_of, parts_text, is_part, has_enough}
-use Rattle.history_model.specs.Stage.{is_spoken}
+use Rattle.history_model.specs.Stage.{opens, is_spoken}
 use Rattle.history_model.specs.Grammar.{Spells}
 use Rattle.history_model.specs.LineTable as table
-use Rattle.history_model.specs.TableRuns.{reached}
-use Rattle.history_model.proofs.TableLaws.{at, parts_fit}
+use Rattle.history_model.specs.TableRuns.{at, reached}
+use Rattle.history_model.proofs.TableLaws.{parts_fit}
 use Rattle.history_word.specs.Drafts.{IsDraft, place_of}
 use Rattle.history_word.specs.declared.place.Place.{Place}
 use Rattle.history_word.specs.declared.place.Place.TheVariants as place
@@ -31,7 +31,7 @@ both false b e f = cc
 -- at the end, the parts are those of the command that the draft has
 pub spells : (parts : List Part) (p : table.Place) (d : Draft) (order : model.Command) → reached parts ≡ Some (at [] p) → parts ≡ parts_of order → IsDraft d order → Spells (parts_text parts) order
 spells parts p d order e is h =
-    let fit = parts_fit parts [] table.Start (at [] p) refl e in
+    let fit = parts_fit opens parts [] table.Start (at [] p) refl e in
     let enough = is_enough d order h in (
       both (list_all is_part (parts_of order) && has_enough order) (is_spoken order)
           (both (list_all is_part (parts_of order)) (has_enough order) (subst (λ ps. list_all is_part ps ≡ true) is fit.0) enough.0) enough.1,

@@ -5,6 +5,7 @@ pub mod StopLemmas
 pub mod SinkLemmas
 pub mod FieldLemmas
 pub mod LineLemmas
+pub mod UnofferedLemmas
 pub mod ProgressLemmas
 pub mod DraftLemmas
 pub mod LineEndLemmas

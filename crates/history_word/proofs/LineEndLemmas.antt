@@ -6,10 +6,10 @@ use Rattle.std.proofs.lemmas.List.{append-nil, map-append}
 use Rattle.history_model.specs.Bytes.{Bytes, line}
 use Rattle.history_model.specs.Commands as model
 use Rattle.history_model.specs.Spelling as spelling
+use Rattle.history_model.specs.Lines as lines
 use Rattle.history_model.specs.LineTable as table
-use Rattle.history_model.specs.TableRuns.{run_from}
+use Rattle.history_model.specs.TableRuns.{at, run_from}
 use Rattle.history_model.specs.declared.Cause.{Cause}
-use Rattle.history_model.proofs.TableLaws.{at}
 use Rattle.history_word.specs.Commands.{IsExpect}
 use Rattle.history_word.specs.Progress.{IsNoField, StopsFrom}
 use Rattle.history_word.specs.Drafts.{role_of, place_of, edit_heading, edit_fields, edit_sizes, to_parents, IsEditHeading, IsHeading, IsDraft, TakesLine, TakesEdit, TakesParts, with_parent, with_edit, with_actor, with_message}
@@ -34,87 +34,87 @@ Word = Option (Vec ℕ Global)
 
 -- ---- what a line says is one line of the table
 
-table_line : EditHeading → table.Heading
-table_line (edit.Put kind m n) = table.PutHeading kind m n
-table_line (edit.Remove n) = table.RemoveHeading n
-table_line (edit.RemoveFile n) = table.RemoveFileHeading n
+table_line : EditHeading → lines.Heading
+table_line (edit.Put kind m n) = lines.PutHeading kind m n
+table_line (edit.Remove n) = lines.RemoveHeading n
+table_line (edit.RemoveFile n) = lines.RemoveFileHeading n
 
-edit_line : (said : EditHeading) (h : table.Heading) → IsEditHeading said h → h ≡ table_line said
+edit_line : (said : EditHeading) (h : lines.Heading) → IsEditHeading said h → h ≡ table_line said
 unfolding table_line
-edit_line (edit.Put kind m n) (table.PutHeading k a b) e = λ i. table.PutHeading (sym e.0 i) (sym e.1 i) (sym e.2 i)
-edit_line (edit.Remove n) (table.RemoveHeading a) e = λ i. table.RemoveHeading (sym e i)
-edit_line (edit.RemoveFile n) (table.RemoveFileHeading a) e = λ i. table.RemoveFileHeading (sym e i)
+edit_line (edit.Put kind m n) (lines.PutHeading k a b) e = λ i. lines.PutHeading (sym e.0 i) (sym e.1 i) (sym e.2 i)
+edit_line (edit.Remove n) (lines.RemoveHeading a) e = λ i. lines.RemoveHeading (sym e i)
+edit_line (edit.RemoveFile n) (lines.RemoveFileHeading a) e = λ i. lines.RemoveFileHeading (sym e i)
 edit_line said h e = absurd e
 
-pub edit_said : (said : EditHeading) (g h : table.Heading) → IsEditHeading said g → IsEditHeading said h → g ≡ h
+pub edit_said : (said : EditHeading) (g h : lines.Heading) → IsEditHeading said g → IsEditHeading said h → g ≡ h
 edit_said said g h e f = edit_line said g e ∙ sym (edit_line said h f)
 
-pub edit_sizes_are : (said : EditHeading) (h : table.Heading) → IsEditHeading said h → table.sizes h ≡ edit_sizes said
-edit_sizes_are (edit.Put kind m n) (table.PutHeading k a b) e = λ i. sym e.1 i ∷ sym e.2 i ∷ []
-edit_sizes_are (edit.Remove n) (table.RemoveHeading a) e = λ i. sym e i ∷ []
-edit_sizes_are (edit.RemoveFile n) (table.RemoveFileHeading a) e = λ i. sym e i ∷ []
+pub edit_sizes_are : (said : EditHeading) (h : lines.Heading) → IsEditHeading said h → lines.sizes h ≡ edit_sizes said
+edit_sizes_are (edit.Put kind m n) (lines.PutHeading k a b) e = λ i. sym e.1 i ∷ sym e.2 i ∷ []
+edit_sizes_are (edit.Remove n) (lines.RemoveHeading a) e = λ i. sym e i ∷ []
+edit_sizes_are (edit.RemoveFile n) (lines.RemoveFileHeading a) e = λ i. sym e i ∷ []
 edit_sizes_are said h e = absurd e
 
-pub parent_said : (word : Word) (h : table.Heading) → IsHeading (heading.Parent word) h → (w : Bytes) × (h ≡ table.ParentHeading w) × IfSome word (λ x. x.items ≡ w)
-parent_said word (table.ParentHeading w) e = (w, refl, e)
+pub parent_said : (word : Word) (h : lines.Heading) → IsHeading (heading.Parent word) h → (w : Bytes) × (h ≡ lines.ParentHeading w) × IfSome word (λ x. x.items ≡ w)
+parent_said word (lines.ParentHeading w) e = (w, refl, e)
 parent_said word h e = absurd e
 
-pub message_said : (n : ℕ) (h : table.Heading) → IsHeading (heading.Message n) h → h ≡ table.MessageHeading n
-message_said n (table.MessageHeading a) e = λ i. table.MessageHeading (sym e i)
+pub message_said : (n : ℕ) (h : lines.Heading) → IsHeading (heading.Message n) h → h ≡ lines.MessageHeading n
+message_said n (lines.MessageHeading a) e = λ i. lines.MessageHeading (sym e i)
 message_said n h e = absurd e
 
-pub end_said : (h : table.Heading) → IsHeading heading.End h → h ≡ table.EndHeading
-end_said table.EndHeading e = refl
+pub end_said : (h : lines.Heading) → IsHeading heading.End h → h ≡ lines.EndHeading
+end_said lines.EndHeading e = refl
 end_said h e = absurd e
 
-pub actor_said : (role : Role) (m n : ℕ) (seconds offset : Word) (h : table.Heading) → IsHeading (heading.Actor role m n seconds offset) h
-    → (s o : Bytes) × (h ≡ table.ActorHeading (role_of role) m n s o) × IfSome seconds (λ x. x.items ≡ s) × IfSome offset (λ x. x.items ≡ o)
-actor_said role m n seconds offset (table.ActorHeading r a b s o) e = (s, o, (λ i. table.ActorHeading (sym e.0 i) (sym e.1 i) (sym e.2 i) s o), e.3, e.4)
+pub actor_said : (role : Role) (m n : ℕ) (seconds offset : Word) (h : lines.Heading) → IsHeading (heading.Actor role m n seconds offset) h
+    → (s o : Bytes) × (h ≡ lines.ActorHeading (role_of role) m n s o) × IfSome seconds (λ x. x.items ≡ s) × IfSome offset (λ x. x.items ≡ o)
+actor_said role m n seconds offset (lines.ActorHeading r a b s o) e = (s, o, (λ i. lines.ActorHeading (sym e.0 i) (sym e.1 i) (sym e.2 i) s o), e.3, e.4)
 actor_said role m n seconds offset h e = absurd e
 
-pub commit_said : (name : Word) (expect : Option Expect) (h : table.Heading) → IsHeading (heading.Commit name expect) h
-    → (n : Bytes) × (x : model.Expect) × (h ≡ table.CommitHeading n x) × IfSome name (λ w. w.items ≡ n) × IfSome expect (λ e. IsExpect e x)
-commit_said name expect (table.CommitHeading n x) e = (n, x, refl, e.0, e.1)
+pub commit_said : (name : Word) (expect : Option Expect) (h : lines.Heading) → IsHeading (heading.Commit name expect) h
+    → (n : Bytes) × (x : model.Expect) × (h ≡ lines.CommitHeading n x) × IfSome name (λ w. w.items ≡ n) × IfSome expect (λ e. IsExpect e x)
+commit_said name expect (lines.CommitHeading n x) e = (n, x, refl, e.0, e.1)
 commit_said name expect h e = absurd e
 
-pub files_said : (word : Word) (h : table.Heading) → IsHeading (heading.Files word) h → (w : Bytes) × (h ≡ table.FilesHeading w) × IfSome word (λ x. x.items ≡ w)
-files_said word (table.FilesHeading w) e = (w, refl, e)
+pub files_said : (word : Word) (h : lines.Heading) → IsHeading (heading.Files word) h → (w : Bytes) × (h ≡ lines.FilesHeading w) × IfSome word (λ x. x.items ≡ w)
+files_said word (lines.FilesHeading w) e = (w, refl, e)
 files_said word h e = absurd e
 
-pub show_said : (word : Word) (h : table.Heading) → IsHeading (heading.Show word) h → (w : Bytes) × (h ≡ table.ShowHeading w) × IfSome word (λ x. x.items ≡ w)
-show_said word (table.ShowHeading w) e = (w, refl, e)
+pub show_said : (word : Word) (h : lines.Heading) → IsHeading (heading.Show word) h → (w : Bytes) × (h ≡ lines.ShowHeading w None) × IfSome word (λ x. x.items ≡ w)
+show_said word (lines.ShowHeading w None) e = (w, refl, e)
 show_said word h e = absurd e
 
-pub path_said : (word : Word) (n : ℕ) (h : table.Heading) → IsHeading (heading.ShowPath word n) h → (w : Bytes) × (h ≡ table.ShowPathHeading w n) × IfSome word (λ x. x.items ≡ w)
-path_said word n (table.ShowPathHeading w m) e = (w, (λ i. table.ShowPathHeading w (sym e.1 i)), e.0)
+pub path_said : (word : Word) (n : ℕ) (h : lines.Heading) → IsHeading (heading.ShowPath word n) h → (w : Bytes) × (h ≡ lines.ShowHeading w (Some n)) × IfSome word (λ x. x.items ≡ w)
+path_said word n (lines.ShowHeading w (Some m)) e = (w, (λ i. lines.ShowHeading w (Some (sym e.1 i))), e.0)
 path_said word n h e = absurd e
 
-pub actor_sizes : (role : Role) (m n : ℕ) (seconds offset : Word) (h : table.Heading) → IsHeading (heading.Actor role m n seconds offset) h → table.sizes h ≡ m ∷ n ∷ []
-actor_sizes role m n seconds offset h e = ap table.sizes (actor_said role m n seconds offset h e).2
+pub actor_sizes : (role : Role) (m n : ℕ) (seconds offset : Word) (h : lines.Heading) → IsHeading (heading.Actor role m n seconds offset) h → lines.sizes h ≡ m ∷ n ∷ []
+actor_sizes role m n seconds offset h e = ap lines.sizes (actor_said role m n seconds offset h e).2
 
-pub path_sizes : (word : Word) (n : ℕ) (h : table.Heading) → IsHeading (heading.ShowPath word n) h → table.sizes h ≡ n ∷ []
-path_sizes word n h e = ap table.sizes (path_said word n h e).1
+pub path_sizes : (word : Word) (n : ℕ) (h : lines.Heading) → IsHeading (heading.ShowPath word n) h → lines.sizes h ≡ n ∷ []
+path_sizes word n h e = ap lines.sizes (path_said word n h e).1
 
 -- ---- the sizes of the fields that follow
 
-pub message_sizes : (n : ℕ) (h : table.Heading) → IsHeading (heading.Message n) h → table.sizes h ≡ n ∷ []
-message_sizes n h e = ap table.sizes (message_said n h e)
+pub message_sizes : (n : ℕ) (h : lines.Heading) → IsHeading (heading.Message n) h → lines.sizes h ≡ n ∷ []
+message_sizes n h e = ap lines.sizes (message_said n h e)
 
 -- ---- a field that stops
 
-pub first_stops : (p q : Place) (said : Heading) (xs : Bytes) (t : TakesLine p said q xs) (size : ℕ) (later : List ℕ) → table.sizes t.heading ≡ size ∷ later
+pub first_stops : (p q : Place) (said : Heading) (xs : Bytes) (t : TakesLine p said q xs) (size : ℕ) (later : List ℕ) → lines.sizes t.heading ≡ size ∷ later
     → (ys : Bytes) (cause : Cause) → IsNoField size ys cause → StopsFrom [] (place_of p) (xs ++ ys) cause
 first_stops p q said xs t size later e ys cause bad =
-    stops_after [] (size ∷ later) (place_of p) (place_of q) (spelling.Line (table.words_of t.heading) ∷ []) xs ys cause
+    stops_after [] (size ∷ later) (place_of p) (place_of q) (spelling.Line (lines.words_of t.heading) ∷ []) xs ys cause
     (leads_line (place_of p) (place_of q) t.heading [] t.stands t.known t.sized ∙ ap (λ s. Some (at s (place_of q))) e)
-    (t.spelled ∙ sym (append-nil (spelling.part_text (spelling.Line (table.words_of t.heading)))))
+    (t.spelled ∙ sym (append-nil (spelling.part_text (spelling.Line (lines.words_of t.heading)))))
     (stops_here (size ∷ later) (place_of q) ys cause (field_stops size later (place_of q) ys cause bad))
 
-pub second_stops : (p q : Place) (said : Heading) (xs zs : Bytes) (t : TakesLine p said q xs) (first size : ℕ) (later : List ℕ) → table.sizes t.heading ≡ first ∷ size ∷ later
+pub second_stops : (p q : Place) (said : Heading) (xs zs : Bytes) (t : TakesLine p said q xs) (first size : ℕ) (later : List ℕ) → lines.sizes t.heading ≡ first ∷ size ∷ later
     → (field : Bytes) → length field ≡ first → zs ≡ line field → (ys : Bytes) (cause : Cause) → IsNoField size ys cause → StopsFrom [] (place_of p) ((xs ++ zs) ++ ys) cause
 second_stops p q said xs zs t first size later e field l z ys cause bad =
-    let head = spelling.Line (table.words_of t.heading) in
-    let sizes : table.sizes t.heading ≡ length field ∷ size ∷ later = e ∙ ap (λ n. n ∷ size ∷ later) (sym l) in
+    let head = spelling.Line (lines.words_of t.heading) in
+    let sizes : lines.sizes t.heading ≡ length field ∷ size ∷ later = e ∙ ap (λ n. n ∷ size ∷ later) (sym l) in
     stops_after [] (size ∷ later) (place_of p) (place_of q) (head ∷ spelling.Field field ∷ []) (xs ++ zs) ys cause
     (leads_line (place_of p) (place_of q) t.heading (spelling.Field field ∷ []) t.stands t.known t.sized
     ∙ ap (λ s. run_from (at s (place_of q)) (spelling.Field field ∷ [])) sizes ∙ leads_field field (size ∷ later) (place_of q) [])
@@ -133,12 +133,12 @@ field_second_stops field zs first size later place l z ys cause bad =
     (field_first_stops size later place ys cause bad)
 
 -- all of the fields that follow a line stop
-pub fields_stop : (p q : Place) (said : Heading) (xs : Bytes) (t : TakesLine p said q xs) (fields : List ℕ) → table.sizes t.heading ≡ fields
+pub fields_stop : (p q : Place) (said : Heading) (xs : Bytes) (t : TakesLine p said q xs) (fields : List ℕ) → lines.sizes t.heading ≡ fields
     → (ys : Bytes) (cause : Cause) → ((place : table.Place) → StopsFrom fields place ys cause) → StopsFrom [] (place_of p) (xs ++ ys) cause
 fields_stop p q said xs t fields e ys cause bad =
-    stops_after [] fields (place_of p) (place_of q) (spelling.Line (table.words_of t.heading) ∷ []) xs ys cause
+    stops_after [] fields (place_of p) (place_of q) (spelling.Line (lines.words_of t.heading) ∷ []) xs ys cause
     (leads_line (place_of p) (place_of q) t.heading [] t.stands t.known t.sized ∙ ap (λ s. Some (at s (place_of q))) e)
-    (t.spelled ∙ sym (append-nil (spelling.part_text (spelling.Line (table.words_of t.heading)))))
+    (t.spelled ∙ sym (append-nil (spelling.part_text (spelling.Line (lines.words_of t.heading)))))
     (bad (place_of q))
 
 -- ---- the text of the fields
@@ -159,7 +159,7 @@ edit_spelled (model.PutLine kind path content) = refl
 edit_spelled (model.RemoveLine path) = refl
 edit_spelled (model.RemoveFileLine path) = refl
 
-edit_lengths : (l : model.EditLine) → table.sizes (edit_heading l) ≡ map length (edit_fields l)
+edit_lengths : (l : model.EditLine) → lines.sizes (edit_heading l) ≡ map length (edit_fields l)
 edit_lengths (model.PutLine kind path content) = refl
 edit_lengths (model.RemoveLine path) = refl
 edit_lengths (model.RemoveFileLine path) = refl
@@ -185,8 +185,8 @@ edit_parts p q said edit xs ys old new t took f =
 pub message_parts : (p q : Place) (n : ℕ) (xs ys : Bytes) (old new : Draft) → TakesLine p (heading.Message n) q xs → (a : Bytes) → length a ≡ n → ys ≡ line a
     → ((order : model.CommitCommand) → IsDraft old (model.Commit order) → IsDraft new (model.Commit (with_message order a))) → TakesParts p old q new (xs ++ ys)
 message_parts p q n xs ys old new t a la ya f =
-    let h = table.MessageHeading (length a) in
-    let said : t.heading ≡ h = message_said n t.heading t.is ∙ (λ i. table.MessageHeading (sym la i)) in
+    let h = lines.MessageHeading (length a) in
+    let said : t.heading ≡ h = message_said n t.heading t.is ∙ (λ i. lines.MessageHeading (sym la i)) in
     let s = as_said p q (heading.Message n) h xs t said in
     let places = message_place p q (length a) s.stands in
     takes_parts p q place.Message place.End old new h xs (xs ++ ys) (a ∷ []) s refl places.0 places.1 (one_text xs ys a ya)
@@ -198,7 +198,7 @@ whole head ps e a c m z =
 
 pub end_parts : (p q : Place) (xs : Bytes) (d : Draft) → TakesLine p heading.End q xs → TakesParts p d q d xs
 end_parts p q xs d t =
-    let h = table.EndHeading in
+    let h = lines.EndHeading in
     let s = as_said p q heading.End h xs t (end_said t.heading t.is) in
     let places = end_place p q s.stands in
     takes_parts p q place.End place.Done d d h xs xs [] s refl places.0 places.1 (sym (append-nil xs))
@@ -219,7 +219,7 @@ pub commit_parts : (p q : Place) (name : Word) (expect : Option Expect) (xs : By
     → TakesParts p old q new xs
 commit_parts p q name expect xs old new t f =
     let said = commit_said name expect t.heading t.is in
-    let h = table.CommitHeading said.0 said.1 in
+    let h = lines.CommitHeading said.0 said.1 in
     let s = as_said p q (heading.Commit name expect) h xs t said.2 in
     let places = commit_place p q said.0 said.1 s.stands in
     let order : model.CommitCommand = record { name = said.0; expect = said.1; parents = []; edits = []; author = nobody; committer = nobody; message = [] } in
@@ -231,7 +231,7 @@ pub parent_parts : (p q : Place) (word : Word) (xs : Bytes) (old new : Draft) �
     → TakesParts p old q new xs
 parent_parts p q word xs old new t f =
     let said = parent_said word t.heading t.is in
-    let h = table.ParentHeading said.0 in
+    let h = lines.ParentHeading said.0 in
     let s = as_said p q (heading.Parent word) h xs t said.1 in
     let places = parent_place p q said.0 s.stands in
     takes_parts p q place.Parents place.Parents old new h xs xs [] s refl places.0 places.1 (sym (append-nil xs))
@@ -246,31 +246,31 @@ parent_parts p q word xs old new t f =
 pub actor_parts : (p q : Place) (role : Role) (m n : ℕ) (seconds offset : Word) (xs ys zs : Bytes) (old new : Draft) → TakesLine p (heading.Actor role m n seconds offset) q xs
     → (a b : Bytes) → length a ≡ m → ys ≡ line a → length b ≡ n → zs ≡ line b → (A B : Bytes → Type 0)
     → ((line : model.ActorLine) (order : model.CommitCommand) → IsDraft old (model.Commit order) → A line.name → B line.email → IfSome seconds (λ x. x.items ≡ line.seconds) → IfSome offset (λ x. x.items ≡ line.offset)
-    → IsDraft new (model.Commit (with_actor (role_of role) order line)))
+    → IsDraft new (model.Commit (with_actor role order line)))
     → A a → B b → TakesParts p old q new ((xs ++ ys) ++ zs)
 actor_parts p q Author m n seconds offset xs ys zs old new t a b la ya lb zb A B f ka kb =
     let said = actor_said Author m n seconds offset t.heading t.is in
-    let h = table.ActorHeading table.Author (length a) (length b) said.0 said.1 in
-    let is : t.heading ≡ h = said.2 ∙ (λ i. table.ActorHeading table.Author (sym la i) (sym lb i) said.0 said.1) in
+    let h = lines.ActorHeading lines.Author (length a) (length b) said.0 said.1 in
+    let is : t.heading ≡ h = said.2 ∙ (λ i. lines.ActorHeading lines.Author (sym la i) (sym lb i) said.0 said.1) in
     let s = as_said p q (heading.Actor Author m n seconds offset) h xs t is in
     let places = author_place p q (length a) (length b) said.0 said.1 s.stands in
     let line : model.ActorLine = record { name = a; email = b; seconds = said.0; offset = said.1 } in
     takes_parts p q p place.Committer old new h xs ((xs ++ ys) ++ zs) (a ∷ b ∷ []) s refl refl places.1 (two_texts xs ys zs a b ya zb)
-    (λ before here. let come = come_to_edits p old before places.0 here in (with_actor table.Author come.0 line, ap (λ x. x ++ spelling.actor_parts (codes "author") line) come.1, f line come.0 come.2 ka kb said.3 said.4))
+    (λ before here. let come = come_to_edits p old before places.0 here in (with_actor Author come.0 line, ap (λ x. x ++ spelling.actor_parts (codes "author") line) come.1, f line come.0 come.2 ka kb said.3 said.4))
 actor_parts p q Committer m n seconds offset xs ys zs old new t a b la ya lb zb A B f ka kb =
     let said = actor_said Committer m n seconds offset t.heading t.is in
-    let h = table.ActorHeading table.Committer (length a) (length b) said.0 said.1 in
-    let is : t.heading ≡ h = said.2 ∙ (λ i. table.ActorHeading table.Committer (sym la i) (sym lb i) said.0 said.1) in
+    let h = lines.ActorHeading lines.Committer (length a) (length b) said.0 said.1 in
+    let is : t.heading ≡ h = said.2 ∙ (λ i. lines.ActorHeading lines.Committer (sym la i) (sym lb i) said.0 said.1) in
     let s = as_said p q (heading.Actor Committer m n seconds offset) h xs t is in
     let places = committer_place p q (length a) (length b) said.0 said.1 s.stands in
     let line : model.ActorLine = record { name = a; email = b; seconds = said.0; offset = said.1 } in
     takes_parts p q place.Committer place.Message old new h xs ((xs ++ ys) ++ zs) (a ∷ b ∷ []) s refl places.0 places.1 (two_texts xs ys zs a b ya zb)
-    (λ before come. (with_actor table.Committer come.0 line, ap (λ x. x ++ spelling.actor_parts (codes "committer") line) come.1, f line come.0 come.2 ka kb said.3 said.4))
+    (λ before come. (with_actor Committer come.0 line, ap (λ x. x ++ spelling.actor_parts (codes "committer") line) come.1, f line come.0 come.2 ka kb said.3 said.4))
 
 pub files_parts : (p q : Place) (word : Word) (xs : Bytes) (old : Draft) → TakesLine p (heading.Files word) q xs → TakesParts p old q (draft.Files word) xs
 files_parts p q word xs old t =
     let said = files_said word t.heading t.is in
-    let h = table.FilesHeading said.0 in
+    let h = lines.FilesHeading said.0 in
     let s = as_said p q (heading.Files word) h xs t said.1 in
     let places = files_place p q said.0 s.stands in
     takes_parts p q place.Start place.Done old (draft.Files word) h xs xs [] s refl places.0 places.1 (sym (append-nil xs))
@@ -280,7 +280,7 @@ pub show_parts : (p q : Place) (word : Word) (xs : Bytes) (old new : Draft) → 
     → ((w : Bytes) → IfSome word (λ x. x.items ≡ w) → IsDraft new (model.Show w None)) → TakesParts p old q new xs
 show_parts p q word xs old new t f =
     let said = show_said word t.heading t.is in
-    let h = table.ShowHeading said.0 in
+    let h = lines.ShowHeading said.0 None in
     let s = as_said p q (heading.Show word) h xs t said.1 in
     let places = show_place p q said.0 s.stands in
     takes_parts p q place.Start place.Done old new h xs xs [] s refl places.0 places.1 (sym (append-nil xs))
@@ -290,8 +290,8 @@ pub path_parts : (p q : Place) (word : Word) (n : ℕ) (xs ys : Bytes) (old new 
     → ((w : Bytes) → IfSome word (λ x. x.items ≡ w) → IsDraft new (model.Show w (Some a))) → TakesParts p old q new (xs ++ ys)
 path_parts p q word n xs ys old new t a la ya f =
     let said = path_said word n t.heading t.is in
-    let h = table.ShowPathHeading said.0 (length a) in
-    let is : t.heading ≡ h = said.1 ∙ (λ i. table.ShowPathHeading said.0 (sym la i)) in
+    let h = lines.ShowHeading said.0 (Some (length a)) in
+    let is : t.heading ≡ h = said.1 ∙ (λ i. lines.ShowHeading said.0 (Some (sym la i))) in
     let s = as_said p q (heading.ShowPath word n) h xs t is in
     let places = path_place p q said.0 (length a) s.stands in
     takes_parts p q place.Start place.Done old new h xs (xs ++ ys) (a ∷ []) s refl places.0 places.1 (one_text xs ys a ya)

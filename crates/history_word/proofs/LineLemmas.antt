@@ -8,14 +8,17 @@ use Rattle.std.proofs.lemmas.Bool.Decides.{nat_tests}
 use Rattle.std.proofs.lemmas.List.Splits.{slice_split_none, slice_split_at, length-slice_split, join_with_byte-slice_split}
 use Rattle.history_model.specs.Bytes.{Bytes, has_byte, is_empty}
 use Rattle.history_model.specs.Spelling.{Line, is_word, is_part, max_line}
+use Rattle.history_model.specs.Lines as lines
 use Rattle.history_model.specs.LineTable as table
-use Rattle.history_model.specs.LineTable.{heading_of, number_of, words_of}
+use Rattle.history_model.specs.Lines.{words_of}
+use Rattle.history_model.specs.LineTable.{heading_of, number_of}
 use Rattle.history_model.specs.TableRuns.{IsLineAt}
 use Rattle.history_model.proofs.TableLaws.{number_decimal, decimal_number, heading_told, heading_reads, heading_words, some_words}
 use Rattle.history_word.specs.declared.heading.Heading.{Heading}
 use Rattle.history_word.specs.Held.{IsUnbroken}
 use Rattle.history_word.specs.Lines.{split_words, words_left, are_nonempty, IsCut}
-use Rattle.history_word.specs.Drafts.{Says, IsLine}
+use Rattle.history_word.specs.declared.place.Place.{Place}
+use Rattle.history_word.specs.Drafts.{place_of, Says, IsLine}
 
 -- a line that is cut at its first space has the word before it, and then the others
 pub cut_words : (line word : Bytes) (rest : Option Bytes) → IsCut line word rest → split_words line ≡ word ∷ words_left rest
@@ -115,7 +118,7 @@ pub found_line : (line : Bytes) (result : Option Heading) → IsUnbroken line �
 found_line line None whole short nonempty says = tt
 found_line line (Some said) whole short nonempty says = at (heading_of (split_words line)) refl says
   where
-    at : (o : Option table.Heading) → heading_of (split_words line) ≡ o → Says (Some said) o → IsLine said line
+    at : (o : Option lines.Heading) → heading_of (split_words line) ≡ o → Says (Some said) o → IsLine said line
     at None e s = absurd s
     at (Some h) e s =
         let told = heading_told (split_words line) h e in
@@ -130,16 +133,16 @@ found_line line (Some said) whole short nonempty says = at (heading_of (split_wo
 words_at : (line : Bytes) (place : table.Place) (at : IsLineAt place line) → split_words line ≡ words_of at.heading
 words_at line place at = ap split_words at.spelled ∙ heading_words (words_of at.heading) (some_words at.heading) at.known
 
-pub no_line : (line : Bytes) (result : Option Heading) → Says result (heading_of (split_words line)) → IfNone result ((place : table.Place) → ¬ (IsLineAt place line))
+pub no_line : (line : Bytes) (result : Option Heading) → Says result (heading_of (split_words line)) → IfNone result ((place : Place) → ¬ (IsLineAt (place_of place) line))
 no_line line (Some said) says = tt
 no_line line None says = λ place at.
-    let found : heading_of (split_words line) ≡ Some at.heading = ap heading_of (words_at line place at) ∙ heading_reads at.heading at.sized in
+    let found : heading_of (split_words line) ≡ Some at.heading = ap heading_of (words_at line (place_of place) at) ∙ heading_reads at.heading at.sized in
     let nowhere = subst (Says None) found says in
     let e = sym (nowhere place) ∙ at.stands in
     cc
 
-pub no_empty_word : (line : Bytes) → are_nonempty (split_words line) ≡ false → (place : table.Place) → ¬ (IsLineAt place line)
+pub no_empty_word : (line : Bytes) → are_nonempty (split_words line) ≡ false → (place : Place) → ¬ (IsLineAt (place_of place) line)
 no_empty_word line e place at =
     let words = and_parts (list_all is_word (words_of at.heading)) _ at.known in
-    let nonempty : are_nonempty (split_words line) ≡ true = ap are_nonempty (words_at line place at) ∙ are_nonempty-words (words_of at.heading) words.0 in
+    let nonempty : are_nonempty (split_words line) ≡ true = ap are_nonempty (words_at line (place_of place) at) ∙ are_nonempty-words (words_of at.heading) words.0 in
     cc

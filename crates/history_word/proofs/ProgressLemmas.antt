@@ -6,22 +6,24 @@ use Rattle.std.proofs.lemmas.Grind.{flat_map-append}
 use Rattle.std.proofs.lemmas.List.{length-append, length-take, take_more, take-append-drop}
 use Rattle.history_model.specs.Bytes.{Bytes, line}
 use Rattle.history_model.specs.Spelling.{Part, Line, Field, part_text, parts_text, is_part}
-use Rattle.history_model.specs.LineTable.{Heading, words_of, sizes, are_sizes, heading_of, Place, Start, Done, next}
-use Rattle.history_model.specs.TableRuns.{run_from, StopsAt, IsLineAt}
+use Rattle.history_model.specs.Stage.{opens}
+use Rattle.history_model.specs.Lines.{Heading, words_of, sizes, are_sizes}
+use Rattle.history_model.specs.LineTable.{heading_of, Place, Start, Done}
+use Rattle.history_model.specs.TableRuns.{at, run_from, next_offered, StopsAt, IsLineAt}
 use Rattle.history_model.specs.declared.Cause.{Cause}
 use Rattle.history_model.specs.declared.Cause.TheVariants.{Syntax, Truncated, LineTooLong}
-use Rattle.history_model.proofs.TableLaws.{at, line_goes, field_goes, run_append, heading_reads, heading_words, some_words, line_words, table_tells_stops}
+use Rattle.history_model.proofs.TableLaws.{line_goes, field_goes, run_append, heading_reads, heading_words, some_words, line_words, table_tells_stops}
 use Rattle.history_word.specs.Held.{IsLineOf}
 use Rattle.history_word.specs.Progress.{IsEndless, IsNoField, StopsFrom, IsCauseOf}
 
 -- ---- what was taken leads on
 
-pub leads_line : (place following : Place) (h : Heading) (more : List Part) → next place h ≡ Some following → is_part (Line (words_of h)) ≡ true → are_sizes (sizes h) ≡ true
+pub leads_line : (place following : Place) (h : Heading) (more : List Part) → next_offered place h ≡ Some following → is_part (Line (words_of h)) ≡ true → are_sizes (sizes h) ≡ true
     → run_from (at [] place) (Line (words_of h) ∷ more) ≡ run_from (at (sizes h) following) more
-leads_line place following h more stands known sized = ap (option_and_then (λ after. run_from after more)) (line_goes place following h stands known sized)
+leads_line place following h more stands known sized = ap (option_and_then (λ after. run_from after more)) (line_goes opens place following h stands known sized)
 
 pub leads_field : (bytes : Bytes) (fields : List ℕ) (place : Place) (more : List Part) → run_from (at (length bytes ∷ fields) place) (Field bytes ∷ more) ≡ run_from (at fields place) more
-leads_field bytes fields place more = ap (option_and_then (λ after. run_from after more)) (field_goes bytes fields place)
+leads_field bytes fields place more = ap (option_and_then (λ after. run_from after more)) (field_goes opens bytes fields place)
 
 pub text_then : (xs ys : List Part) → parts_text (xs ++ ys) ≡ parts_text xs ++ parts_text ys
 text_then xs ys = flat_map-append part_text xs ys
@@ -37,7 +39,7 @@ stops_after fields later place following parts taken tail cause e spelled s = re
   parts = parts ++ s.parts;
   tail = s.tail;
   then = s.then;
-  runs = run_append (at fields place) parts s.parts ∙ ap (option_and_then (λ q. run_from q s.parts)) e ∙ s.runs;
+  runs = run_append opens (at fields place) parts s.parts ∙ ap (option_and_then (λ q. run_from q s.parts)) e ∙ s.runs;
   split = ap (λ t. t ++ tail) spelled ∙ ap (λ t. parts_text parts ++ t) s.split ∙ sym (append_assoc (parts_text parts) (parts_text s.parts) s.tail) ∙ ap (λ t. t ++ s.tail) (sym (text_then parts s.parts));
   stops = s.stops;
 }

@@ -4,6 +4,7 @@ use Rattle.std.specs.List.{flat_map, join_with_byte}
 use Rattle.history_model.specs.Bytes.{Bytes, line}
 use Rattle.history_model.specs.Commands as model
 use Rattle.history_model.specs.Spelling as spelling
+use Rattle.history_model.specs.Lines as lines
 use Rattle.history_model.specs.LineTable as table
 use Rattle.history_model.specs.TableRuns as runs
 use Rattle.history_word.specs.Fields.{Keeps}
@@ -22,9 +23,9 @@ use Rattle.history_word.specs.declared.draft.CommitDraft.{CommitDraft}
 use Rattle.history_word.specs.declared.draft.Draft.{Draft}
 use Rattle.history_word.specs.declared.draft.Draft.TheVariants as draft
 
-abbrev pub role_of : Role → table.Role
-role_of Author = table.Author
-role_of Committer = table.Committer
+abbrev pub role_of : Role → lines.Role
+role_of Author = lines.Author
+role_of Committer = lines.Committer
 
 abbrev pub place_of : Place → table.Place
 place_of place.Start = table.Start
@@ -36,30 +37,30 @@ place_of place.End = table.ToEnd
 place_of place.Done = table.Done
 
 -- the line of an edit is this one
-abbrev pub IsEditHeading : EditHeading → table.Heading → Type 0
-IsEditHeading (edit.Put kind path content) (table.PutHeading k m n) = (kind ≡ k) × (path ≡ m) × (content ≡ n)
-IsEditHeading (edit.Remove path) (table.RemoveHeading n) = path ≡ n
-IsEditHeading (edit.RemoveFile path) (table.RemoveFileHeading n) = path ≡ n
+abbrev pub IsEditHeading : EditHeading → lines.Heading → Type 0
+IsEditHeading (edit.Put kind path content) (lines.PutHeading k m n) = (kind ≡ k) × (path ≡ m) × (content ≡ n)
+IsEditHeading (edit.Remove path) (lines.RemoveHeading n) = path ≡ n
+IsEditHeading (edit.RemoveFile path) (lines.RemoveFileHeading n) = path ≡ n
 IsEditHeading _ _ = ⊥
 
 -- The line is this one. A word that found no memory may be any.
-abbrev pub IsHeading : Heading → table.Heading → Type 0
-IsHeading (heading.Commit name expect) (table.CommitHeading n e) = IfSome name (λ word. word.items ≡ n) × IfSome expect (λ x. IsExpect x e)
-IsHeading (heading.Parent word) (table.ParentHeading w) = IfSome word (λ x. x.items ≡ w)
+abbrev pub IsHeading : Heading → lines.Heading → Type 0
+IsHeading (heading.Commit name expect) (lines.CommitHeading n e) = IfSome name (λ word. word.items ≡ n) × IfSome expect (λ x. IsExpect x e)
+IsHeading (heading.Parent word) (lines.ParentHeading w) = IfSome word (λ x. x.items ≡ w)
 IsHeading (heading.Edit line) h = IsEditHeading line h
-IsHeading (heading.Actor role name email seconds offset) (table.ActorHeading r m n s o) = (role_of role ≡ r) × (name ≡ m) × (email ≡ n) × IfSome seconds (λ word. word.items ≡ s) × IfSome offset (λ word. word.items ≡ o)
-IsHeading (heading.Message size) (table.MessageHeading n) = size ≡ n
-IsHeading heading.End table.EndHeading = ⊤
-IsHeading (heading.Files word) (table.FilesHeading w) = IfSome word (λ x. x.items ≡ w)
-IsHeading (heading.Show word) (table.ShowHeading w) = IfSome word (λ x. x.items ≡ w)
-IsHeading (heading.ShowPath word path) (table.ShowPathHeading w n) = IfSome word (λ x. x.items ≡ w) × (path ≡ n)
+IsHeading (heading.Actor role name email seconds offset) (lines.ActorHeading r m n s o) = (role_of role ≡ r) × (name ≡ m) × (email ≡ n) × IfSome seconds (λ word. word.items ≡ s) × IfSome offset (λ word. word.items ≡ o)
+IsHeading (heading.Message size) (lines.MessageHeading n) = size ≡ n
+IsHeading heading.End lines.EndHeading = ⊤
+IsHeading (heading.Files word) (lines.FilesHeading w) = IfSome word (λ x. x.items ≡ w)
+IsHeading (heading.Show word) (lines.ShowHeading w None) = IfSome word (λ x. x.items ≡ w)
+IsHeading (heading.ShowPath word path) (lines.ShowHeading w (Some n)) = IfSome word (λ x. x.items ≡ w) × (path ≡ n)
 IsHeading _ _ = ⊥
 
--- What is read is what the words say; none is read where they say nothing that may stand anywhere.
-abbrev pub Says : Option Heading → Option table.Heading → Type 0
+-- What is read is what the words say; none is read where they say no line that may stand at a place of an offered command.
+abbrev pub Says : Option Heading → Option lines.Heading → Type 0
 Says (Some line) (Some h) = IsHeading line h
 Says (Some line) None = ⊥
-Says None (Some h) = (p : table.Place) → table.next p h ≡ None
+Says None (Some h) = (p : Place) → runs.next_offered (place_of p) h ≡ None
 Says None None = ⊤
 
 abbrev pub SaysExpect : Option (Option Expect) → Option model.Expect → Type 0
@@ -83,9 +84,9 @@ IsDraft (draft.Files word) (model.Files bytes) = IfSome word (λ x. x.items ≡ 
 IsDraft (draft.Show show) (model.Show word path) = IfSome show (λ x. (x.word.items ≡ word) × IsPath x.path path)
 IsDraft _ _ = ⊥
 
-abbrev pub with_actor : table.Role → model.CommitCommand → model.ActorLine → model.CommitCommand
-with_actor table.Author order actor = record order { author = actor }
-with_actor table.Committer order actor = record order { committer = actor }
+abbrev pub with_actor : Role → model.CommitCommand → model.ActorLine → model.CommitCommand
+with_actor Author order actor = record order { author = actor }
+with_actor Committer order actor = record order { committer = actor }
 
 abbrev pub with_parent : model.CommitCommand → Bytes → model.CommitCommand
 with_parent order word = record order { parents = order.parents ++ word ∷ [] }
@@ -134,19 +135,19 @@ HasCome p d parts = (order : model.CommitCommand) × (parts ≡ parts_before p o
 
 -- the line, without its line feed, is one of the table's
 pub record IsLine (line : Heading) (text : Bytes) : Type 0 where
-  pub heading : table.Heading
-  pub spelled : text ≡ join_with_byte 32 (table.words_of heading)
-  pub known : IsTrue (spelling.is_part (spelling.Line (table.words_of heading)))
-  pub sized : IsTrue (table.are_sizes (table.sizes heading))
+  pub heading : lines.Heading
+  pub spelled : text ≡ join_with_byte 32 (lines.words_of heading)
+  pub known : IsTrue (spelling.is_part (spelling.Line (lines.words_of heading)))
+  pub sized : IsTrue (lines.are_sizes (lines.sizes heading))
   pub is : IsHeading line heading
 
 -- the line was taken, and leads from the one place to the other
 pub record TakesLine (place : Place) (line : Heading) (next : Place) (taken : Bytes) : Type 0 where
-  pub heading : table.Heading
-  pub spelled : taken ≡ spelling.part_text (spelling.Line (table.words_of heading))
-  pub known : IsTrue (spelling.is_part (spelling.Line (table.words_of heading)))
-  pub sized : IsTrue (table.are_sizes (table.sizes heading))
-  pub stands : table.next (place_of place) heading ≡ Some (place_of next)
+  pub heading : lines.Heading
+  pub spelled : taken ≡ spelling.part_text (spelling.Line (lines.words_of heading))
+  pub known : IsTrue (spelling.is_part (spelling.Line (lines.words_of heading)))
+  pub sized : IsTrue (lines.are_sizes (lines.sizes heading))
+  pub stands : runs.next_offered (place_of place) heading ≡ Some (place_of next)
   pub is : IsHeading line heading
 
 abbrev pub edit_sizes : EditHeading → List ℕ
@@ -155,10 +156,10 @@ edit_sizes (edit.Remove path) = path ∷ []
 edit_sizes (edit.RemoveFile path) = path ∷ []
 
 -- the line of an edit, and the fields that follow it
-abbrev pub edit_heading : model.EditLine → table.Heading
-edit_heading (model.PutLine kind path content) = table.PutHeading kind (length path) (length content)
-edit_heading (model.RemoveLine path) = table.RemoveHeading (length path)
-edit_heading (model.RemoveFileLine path) = table.RemoveFileHeading (length path)
+abbrev pub edit_heading : model.EditLine → lines.Heading
+edit_heading (model.PutLine kind path content) = lines.PutHeading kind (length path) (length content)
+edit_heading (model.RemoveLine path) = lines.RemoveHeading (length path)
+edit_heading (model.RemoveFileLine path) = lines.RemoveFileHeading (length path)
 
 abbrev pub edit_fields : model.EditLine → List Bytes
 edit_fields (model.PutLine kind path content) = path ∷ content ∷ []

@@ -6,7 +6,7 @@ ghost use Rattle.history_model.specs.Commands as model;
 ghost use Rattle.history_model.specs.Stops.{is_changing};
 ghost use Rattle.history_word.specs.Fields.{Keeps};
 ghost use Rattle.history_word.specs.Commands.{IsExpect, IsEdit, IsActor, IsCommit, StandsFor, max_path, max_actor_part, max_content};
-ghost use Rattle.history_word.specs.Drafts.{IsCommitDraft, IsDraft, role_of, with_parent, with_actor, with_edit, with_message};
+ghost use Rattle.history_word.specs.Drafts.{IsCommitDraft, IsDraft, with_parent, with_actor, with_edit, with_message};
 
 use crate::command::{ActorLine, Command, CommitCommand, Edit, Expect, Field, Put, Show};
 use crate::heading::Role;
@@ -137,7 +137,7 @@ impl Draft {
     pub(crate) fn set_actor(&mut self, role: Role, actor: Option<ActorLine>)
         ensures { (order : model.CommitCommand) (line : model.ActorLine)
             → IsDraft self.old (model.Commit order) → IfSome actor (λ x. IsActor x line)
-            → IsDraft self.new (model.Commit (with_actor (role_of role) order line)) }
+            → IsDraft self.new (model.Commit (with_actor role order line)) }
     {
         if let Draft::Commit(commit) = self {
             match role {

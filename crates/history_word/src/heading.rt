@@ -1,12 +1,14 @@
 //! What the first line of a part says.
 
 ghost use Rattle.std.specs.Prelude.{◌≡◌, ◌∷◌, ◌≤◌, length, IfSome, IfNone, OnSome, IsTrue};
-ghost use Rattle.history_model.specs.LineTable.{Place, RemoveHeading, RemoveFileHeading, heading_of, expect_of, commit_of_words, parent_of_words, put_of_words, removal_of_words, actor_of_words, message_of_words, end_of_words, files_of_words, show_of_words};
+ghost use Rattle.history_model.specs.Lines.{ParentHeading, RemoveHeading, RemoveFileHeading, MessageHeading, EndHeading, FilesHeading};
+ghost use Rattle.history_model.specs.LineTable.{heading_of, expect_of, end_of_words, word_of_words, size_of_words, commit_of_words, put_of_words, actor_of_words, show_of_words};
 ghost use Rattle.history_model.specs.TableRuns.{IsLineAt};
 ghost use Rattle.history_word.specs.Held.{IsUnbroken};
 ghost use Rattle.history_word.specs.Lines.{split_words};
 ghost use Rattle.history_word.specs.Words.{left};
-ghost use Rattle.history_word.specs.Drafts.{role_of, Says, SaysExpect, IsLine};
+ghost use Rattle.history_word.specs.Drafts.{role_of, place_of, Says, SaysExpect, IsLine};
+ghost use Rattle.history_word.specs.declared.place.Place.{Place};
 
 use crate::command::Expect;
 use crate::words::{Words, are_words, file_kind, number};
@@ -112,7 +114,7 @@ fn commit(alloc: Global, words: &mut Words) -> Option<Heading>
 
 /// What follows `parent`: `<word>`.
 fn parent(alloc: Global, words: &mut Words) -> Option<Heading>
-    ensures { Says result (parent_of_words (left words.old)) }
+    ensures { Says result (word_of_words ParentHeading (left words.old)) }
 {
     let word = words.last()?;
     Some(Heading::Parent {
@@ -136,7 +138,7 @@ fn put(words: &mut Words) -> Option<Heading>
 
 /// What follows `remove`: `<path size>`.
 fn remove(words: &mut Words) -> Option<Heading>
-    ensures { Says result (removal_of_words RemoveHeading (left words.old)) }
+    ensures { Says result (size_of_words RemoveHeading (left words.old)) }
 {
     let path = number(words.last()?)?;
     Some(Heading::Edit(EditHeading::Remove { path }))
@@ -144,7 +146,7 @@ fn remove(words: &mut Words) -> Option<Heading>
 
 /// What follows `remove-file`: `<path size>`.
 fn remove_file(words: &mut Words) -> Option<Heading>
-    ensures { Says result (removal_of_words RemoveFileHeading (left words.old)) }
+    ensures { Says result (size_of_words RemoveFileHeading (left words.old)) }
 {
     let path = number(words.last()?)?;
     Some(Heading::Edit(EditHeading::RemoveFile { path }))
@@ -169,7 +171,7 @@ fn actor(alloc: Global, role: Role, words: &mut Words) -> Option<Heading>
 
 /// What follows `message`: `<size>`.
 fn message(words: &mut Words) -> Option<Heading>
-    ensures { Says result (message_of_words (left words.old)) }
+    ensures { Says result (size_of_words MessageHeading (left words.old)) }
 {
     let size = number(words.last()?)?;
     Some(Heading::Message { size })
@@ -177,7 +179,7 @@ fn message(words: &mut Words) -> Option<Heading>
 
 /// What follows `end`: nothing.
 fn end(words: &Words) -> Option<Heading>
-    ensures { Says result (end_of_words (left words.now)) }
+    ensures { Says result (end_of_words EndHeading (left words.now)) }
 {
     if words.is_done() {
         Some(Heading::End)
@@ -188,7 +190,7 @@ fn end(words: &Words) -> Option<Heading>
 
 /// What follows `files`: `<word>`.
 fn files(alloc: Global, words: &mut Words) -> Option<Heading>
-    ensures { Says result (files_of_words (left words.old)) }
+    ensures { Says result (word_of_words FilesHeading (left words.old)) }
 {
     let word = words.last()?;
     Some(Heading::Files {
@@ -254,7 +256,7 @@ pub(crate) fn parse(alloc: Global, line: &[u8]) -> Option<Heading>
     requires whole { IsUnbroken line.now }
     requires short { length line.now ≤ 4096 }
     ensures found { IfSome result (λ heading. IsLine heading line.now) }
-    ensures none { IfNone result ((place : Place) → ¬ (IsLineAt place line.now)) }
+    ensures none { IfNone result ((place : Place) → ¬ (IsLineAt (place_of place) line.now)) }
 {
     if !are_words(line) {
         return None;

@@ -1,7 +1,8 @@
 //! Which line may stand next.
 
 ghost use Rattle.std.specs.Prelude.{◌≡◌, option_map};
-ghost use Rattle.history_model.specs.LineTable as table;
+ghost use Rattle.history_model.specs.Lines as lines;
+ghost use Rattle.history_model.specs.TableRuns.{next_offered};
 ghost use Rattle.history_word.specs.Drafts.{place_of, IsHeading};
 
 use crate::heading::{Heading, Role};
@@ -21,8 +22,8 @@ pub(crate) enum Place {
 impl Place {
     /// The place behind a line that may stand here.
     pub(crate) fn next(self, heading: &Heading) -> Option<Place>
-        ensures { (h : table.Heading) → IsHeading heading.now h
-            → option_map place_of result ≡ table.next (place_of self) h }
+        ensures { (h : lines.Heading) → IsHeading heading.now h
+            → option_map place_of result ≡ next_offered (place_of self) h }
     {
         match (self, heading) {
             (Place::Start, Heading::Commit { .. }) => Some(Place::Parents),

@@ -1,7 +1,16 @@
-//! Laws of the table of lines, over the definitions alone.
+//! Laws of the table of lines, over the definitions alone: of all commands, and of those that are offered.
 
+ghost use Rattle.history_model.specs.Lines.{FirstLinesBegin};
 ghost use Rattle.history_model.specs.LineTable.{WordsAreHeadings};
-ghost use Rattle.history_model.specs.TableRuns.{TableTellsCommands, TableTellsWhatGoesOn, TableTellsFields, TableTellsLines, TableTellsWhatFits, TableTellsStops, TableTakesLines, TableTakesFields, RestBeginsOrHasCause};
+ghost use Rattle.history_model.specs.TableRuns.{all_lines, TableTellsCommands, TableTellsWhatGoesOn, TableTellsFields, TableTellsLines, TableTellsWhatFits, TableTellsStops, TableTakesLines, TableTakesFields};
+ghost use Rattle.history_model.specs.Spelling.{has_spelling};
+ghost use Rattle.history_model.specs.Stage.{opens};
+ghost use Rattle.history_model.specs.Grammar.{is_command, RestBeginsOrHasCause};
+
+/// The line by which a command is offered or not is that of its own first part.
+pub fn first_lines_begin()
+    ensures { FirstLinesBegin }
+{}
 
 /// Words say what a line of the table says exactly where they are that line's words.
 pub fn words_are_headings()
@@ -10,45 +19,54 @@ pub fn words_are_headings()
 
 /// Parts lead from the table's start to its end exactly where they are a command's.
 pub fn table_tells_commands()
-    ensures { TableTellsCommands }
+    ensures all { TableTellsCommands all_lines }
+    ensures offered { TableTellsCommands opens }
 {}
 
 /// Some command goes on with a part exactly where the table has a step for it.
 pub fn table_tells_what_goes_on()
-    ensures { TableTellsWhatGoesOn }
+    ensures all { TableTellsWhatGoesOn all_lines }
+    ensures offered { TableTellsWhatGoesOn opens }
 {}
 
 /// Where the table awaits a field, one of that length stands.
 pub fn table_tells_fields()
-    ensures { TableTellsFields }
+    ensures all { TableTellsFields all_lines }
+    ensures offered { TableTellsFields opens }
 {}
 
 /// Where the table awaits a line, a line stands.
 pub fn table_tells_lines()
-    ensures { TableTellsLines }
+    ensures all { TableTellsLines all_lines }
+    ensures offered { TableTellsLines opens }
 {}
 
 /// A whole line fits exactly where the table has it.
 pub fn table_tells_what_fits()
-    ensures { TableTellsWhatFits }
+    ensures all { TableTellsWhatFits all_lines }
+    ensures offered { TableTellsWhatFits opens }
 {}
 
 /// The cause for which what follows doesn't go on is told by the place and the awaited fields alone.
 pub fn table_tells_stops()
-    ensures { TableTellsStops }
+    ensures all { TableTellsStops all_lines }
+    ensures offered { TableTellsStops opens }
 {}
 
 /// A line that the table has leads to its fields and its next place.
 pub fn table_takes_lines()
-    ensures { TableTakesLines }
+    ensures all { TableTakesLines all_lines }
+    ensures offered { TableTakesLines opens }
 {}
 
 /// A field of the length that was told leads to the next one, or to the place behind it.
 pub fn table_takes_fields()
-    ensures { TableTakesFields }
+    ensures all { TableTakesFields all_lines }
+    ensures offered { TableTakesFields opens }
 {}
 
 /// A rest that isn't empty begins with a command or has a cause.
 pub fn rest_begins_or_has_cause()
-    ensures { RestBeginsOrHasCause }
+    ensures all { RestBeginsOrHasCause has_spelling }
+    ensures offered { RestBeginsOrHasCause is_command }
 {}

@@ -1,4 +1,4 @@
-use Rattle.std.proofs.Common.{◌≡◌, ◌∷◌, sym, ap, subst, ◌∙◌}
+use Rattle.std.proofs.Common.{◌≡◌, ◌∷◌, None, sym, ap, subst, ◌∙◌}
 use Rattle.std.specs.Prelude.{codes}
 use Rattle.std.proofs.lemmas.Slice.Eq.{slice_eq-Decides}
 use Rattle.std.proofs.lemmas.Bool.Decides.{Decides-eqb}
@@ -6,6 +6,7 @@ use Rattle.history_model.specs.LineTable.{heading_of}
 use Rattle.history_word.specs.Lines.{split_words}
 use Rattle.history_word.specs.Words.{left}
 use Rattle.history_word.specs.Drafts.{Says}
+use Rattle.history_word.proofs.UnofferedLemmas.{is_other, no_line_of}
 use Rattle.history_word.proofs.heading.said.Goals as goal
 
 pub returns-then-eq : goal.returns-then-eq
@@ -73,3 +74,18 @@ returns-then-eq-11 c =
     let name = (slice_eq-Decides Decides-eqb _ _ _ c.eq-else-eq-10.ensures).0 c.if-eq-11.true ∙ c.as_slice-else-eq-10.ensures in
     let words : split_words c.args.line.now ≡ codes "show" ∷ left c.next.new.self = sym c.new-words.ensures ∙ c.in_ok-first.ensures.found ∙ ap (λ w. w ∷ left c.next.new.self) name in
     subst (λ ws. Says c.show.result (heading_of ws)) (sym words) c.show.ensures
+
+pub returns-else-eq-11 : goal.returns-else-eq-11
+returns-else-eq-11 c =
+    subst (λ ws. Says None (heading_of ws)) (sym (sym c.new-words.ensures ∙ c.in_ok-first.ensures.found)) (no_line_of c.in_ok-first.first.now (left c.next.new.self)
+    (is_other c.in_ok-first.first.now _ (codes "commit") _ (slice_eq-Decides Decides-eqb _ _ _ c.eq.ensures).1 c.as_slice.ensures c.if-eq.false)
+    (is_other c.in_ok-first.first.now _ (codes "parent") _ (slice_eq-Decides Decides-eqb _ _ _ c.eq-else-eq.ensures).1 c.as_slice-else-eq.ensures c.if-eq-2.false)
+    (is_other c.in_ok-first.first.now _ (codes "put") _ (slice_eq-Decides Decides-eqb _ _ _ c.eq-else-eq-2.ensures).1 c.as_slice-else-eq-2.ensures c.if-eq-3.false)
+    (is_other c.in_ok-first.first.now _ (codes "remove") _ (slice_eq-Decides Decides-eqb _ _ _ c.eq-else-eq-3.ensures).1 c.as_slice-else-eq-3.ensures c.if-eq-4.false)
+    (is_other c.in_ok-first.first.now _ (codes "remove-file") _ (slice_eq-Decides Decides-eqb _ _ _ c.eq-else-eq-4.ensures).1 c.as_slice-else-eq-4.ensures c.if-eq-5.false)
+    (is_other c.in_ok-first.first.now _ (codes "author") _ (slice_eq-Decides Decides-eqb _ _ _ c.eq-else-eq-5.ensures).1 c.as_slice-else-eq-5.ensures c.if-eq-6.false)
+    (is_other c.in_ok-first.first.now _ (codes "committer") _ (slice_eq-Decides Decides-eqb _ _ _ c.eq-else-eq-6.ensures).1 c.as_slice-else-eq-6.ensures c.if-eq-7.false)
+    (is_other c.in_ok-first.first.now _ (codes "message") _ (slice_eq-Decides Decides-eqb _ _ _ c.eq-else-eq-7.ensures).1 c.as_slice-else-eq-7.ensures c.if-eq-8.false)
+    (is_other c.in_ok-first.first.now _ (codes "end") _ (slice_eq-Decides Decides-eqb _ _ _ c.eq-else-eq-8.ensures).1 c.as_slice-else-eq-8.ensures c.if-eq-9.false)
+    (is_other c.in_ok-first.first.now _ (codes "files") _ (slice_eq-Decides Decides-eqb _ _ _ c.eq-else-eq-9.ensures).1 c.as_slice-else-eq-9.ensures c.if-eq-10.false)
+    (is_other c.in_ok-first.first.now _ (codes "show") _ (slice_eq-Decides Decides-eqb _ _ _ c.eq-else-eq-10.ensures).1 c.as_slice-else-eq-10.ensures c.if-eq-11.false))

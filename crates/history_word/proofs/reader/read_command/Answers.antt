@@ -1,8 +1,10 @@
 use Rattle.std.proofs.Common.{◌≡◌, ◌++◌, [], refl, sym, ap, subst, ◌∙◌, rules}
 use Rattle.std.proofs.lemmas.Result.{err_from_is_err_and}
+use Rattle.history_model.specs.TableRuns.{at}
 use Rattle.history_model.specs.LineTable as table
 use Rattle.history_model.specs.Spelling.{parts_text}
-use Rattle.history_model.proofs.TableLaws.{at, run_on}
+use Rattle.history_model.specs.Stage.{opens}
+use Rattle.history_model.proofs.TableLaws.{run_on}
 use Rattle.history_word.specs.Taking.{Took, AsksForMore}
 use Rattle.history_word.specs.Progress.{StopsFrom, IsCauseOf}
 use Rattle.history_word.specs.Drafts.{place_of, HasCome}
@@ -26,7 +28,7 @@ loop-alloc-preserved g c =
       subst (Took g.R.Source.left g.R.Source.readings c.args.source.now c.args.buffer.now c.read_part.new.source c.read_part.new.buffer)
           spelled
           (took_then g.R.Source.left g.R.Source.readings _ _ _ _ _ _ (parts_text i.0) r.0 i.1 r.1),
-      run_on i.0 t.parts (at [] (place_of c.loop-alloc.place)) i.2 ∙ t.leads,
+      run_on opens refl i.0 t.parts (at [] (place_of c.loop-alloc.place)) i.2 ∙ t.leads,
       t.come i.0 i.3,
       subst (AsksForMore c.args.source.now c.args.buffer.now c.read_part.new.source) spelled (asks_then g.R.Source.left g.R.Source.readings _ _ _ _ _ (parts_text i.0) r.0 i.1 i.4 r.2.1),
     )

@@ -2,8 +2,7 @@ use Rattle.std.proofs.Common.{◌≡◌, ◌+◌, ◌++◌, take, None, subst, a
 use Rattle.std.specs.Option.{option_map}
 use Rattle.std.proofs.lemmas.List.{length-append, length-take}
 use Rattle.history_model.specs.Bytes.{line}
-use Rattle.history_model.specs.LineTable as table
-use Rattle.history_model.specs.TableRuns.{IsLineAt}
+use Rattle.history_model.specs.TableRuns.{next_offered, IsLineAt}
 use Rattle.history_word.specs.Buffer.{unread}
 use Rattle.history_word.specs.Drafts.{place_of}
 use Rattle.history_word.proofs.TakingLemmas.{took_then, skipped, came_unread}
@@ -18,7 +17,7 @@ returns-in_default g c =
       unread b,
       came_unread g.R.Source.left g.R.Source.readings _ _ _ _ w.0 w.1 w.2.0,
       strange_stops (place_of c.args.place) n (unread b) c.requires w.2.1
-          (λ at. c.in_default.ensures.none (place_of c.args.place) (subst (λ u. IsLineAt (place_of c.args.place) (take n u)) (sym c.unread.ensures) at)),
+          (λ at. c.in_default.ensures.none c.args.place (subst (λ u. IsLineAt (place_of c.args.place) (take n u)) (sym c.unread.ensures) at)),
       λ e. absurd cc,
     )
 
@@ -34,8 +33,8 @@ returns-in_default-next g c =
           (λ at.
           let text : take n (unread b) ≡ take n c.unread.result.now = ap (take n) (sym c.unread.ensures) in
           let same = one_heading l.heading at.heading (take n (unread b)) (text ∙ l.spelled) l.known l.sized at.spelled at.known at.sized in
-          let none : table.next (place_of c.args.place) l.heading ≡ None = sym (c.next.ensures l.heading l.is) ∙ ap (option_map place_of) c.in_default-next.is in
-          let e = sym none ∙ ap (table.next (place_of c.args.place)) same ∙ at.stands in
+          let none : next_offered (place_of c.args.place) l.heading ≡ None = sym (c.next.ensures l.heading l.is) ∙ ap (option_map place_of) c.in_default-next.is in
+          let e = sym none ∙ ap (next_offered (place_of c.args.place)) same ∙ at.stands in
           cc),
       λ e. absurd cc,
     )

@@ -1,5 +1,11 @@
-use Rattle.history_model.proofs.TableLaws.{table_tells_stops as lemma}
+use Rattle.std.proofs.Common.{refl}
+use Rattle.history_model.specs.Stage.{opens}
+use Rattle.history_model.specs.TableRuns.{all_lines}
+use Rattle.history_model.proofs.TableStops.{table_tells_stops as lemma}
 use Rattle.history_model.proofs.laws.grammar.table_tells_stops.Goals as goal
 
-pub returns : goal.returns
-returns c = lemma
+pub returns-clause-all : goal.returns-clause-all
+returns-clause-all c = lemma all_lines refl
+
+pub returns-clause-offered : goal.returns-clause-offered
+returns-clause-offered c = lemma opens refl

@@ -1,0 +1,129 @@
+-- A line of the table that isn't read stands at no place of an offered command.
+use Rattle.std.proofs.Common.{◌≡◌, ℕ, Bool, true, false, List, [], ◌∷◌, Option, Some, None, refl, sym, ◌∙◌, bytes_eq, codes, if◌then◌else◌, option_map, option_and_then}
+use Rattle.std.proofs.lemmas.Slice.Eq.{bytes_eq-Decides}
+use Rattle.history_model.specs.Bytes.{Bytes}
+use Rattle.history_model.specs.Commands.{Expect, Order}
+use Rattle.history_model.specs.Lines as lines
+use Rattle.history_model.specs.LineTable as table
+use Rattle.history_model.specs.LineTable.{expect_of, number_of, end_of_words, word_of_words, actor_of_words, target_of_words, rename_of_words, delete_of_words, names_of_words, order_of, first_parents_of, items_of, walk_of_words, log_of_words, name_heading_of, heading_of}
+use Rattle.history_model.specs.TableRuns.{next_offered}
+use Rattle.history_word.specs.declared.place.Place.{Place}
+use Rattle.history_word.specs.declared.place.Place.TheVariants as place
+use Rattle.history_word.specs.Drafts.{place_of, Says}
+
+abbrev Nowhere : lines.Heading → Type 0
+Nowhere h = (p : Place) → next_offered (place_of p) h ≡ None
+
+-- it stands at none of the places, one by one
+nowhere : (h : lines.Heading) → next_offered table.Start h ≡ None → next_offered table.Parents h ≡ None → next_offered table.Edits h ≡ None → next_offered table.ToCommitter h ≡ None → next_offered table.ToMessage h ≡ None
+    → next_offered table.ToEnd h ≡ None → Nowhere h
+nowhere h start parents edits committer message end place.Start = start
+nowhere h start parents edits committer message end place.Parents = parents
+nowhere h start parents edits committer message end place.Edits = edits
+nowhere h start parents edits committer message end place.Committer = committer
+nowhere h start parents edits committer message end place.Message = message
+nowhere h start parents edits committer message end place.End = end
+nowhere h start parents edits committer message end place.Done = refl
+
+-- ---- words that say such a line, or none
+
+mapped : {A : Type 0} (g : A → lines.Heading) → ((x : A) → Nowhere (g x)) → (o : Option A) → Says None (option_map g o)
+mapped g none None = tt
+mapped g none (Some x) = none x
+
+either : (b : Bool) (x y : Option lines.Heading) → Says None x → Says None y → Says None (if b then x else y)
+either true x y e f = e
+either false x y e f = f
+
+chained : {A : Type 0} (f : A → Option lines.Heading) → ((x : A) → Says None (f x)) → (o : Option A) → Says None (option_and_then f o)
+chained f none None = tt
+chained f none (Some x) = none x
+
+no_end : (h : lines.Heading) → Nowhere h → (words : List Bytes) → Says None (end_of_words h words)
+no_end h none [] = none
+no_end h none (word ∷ words) = tt
+
+no_word : (g : Bytes → lines.Heading) → ((w : Bytes) → Nowhere (g w)) → (words : List Bytes) → Says None (word_of_words g words)
+no_word g none [] = tt
+no_word g none (word ∷ []) = none word
+no_word g none (word ∷ more ∷ words) = tt
+
+no_target : (g : Bytes → Expect → Bytes → lines.Heading) → ((n : Bytes) (x : Expect) (w : Bytes) → Nowhere (g n x w)) → (words : List Bytes) → Says None (target_of_words g words)
+no_target g none (name ∷ first ∷ word ∷ []) = mapped (λ x. g name x word) (λ x. none name x word) (expect_of (first ∷ []))
+no_target g none (name ∷ first ∷ second ∷ word ∷ []) = mapped (λ x. g name x word) (λ x. none name x word) (expect_of (first ∷ second ∷ []))
+no_target g none words = tt
+
+no_actor : (role : lines.Role) → ((m n : ℕ) (s o : Bytes) → Nowhere (lines.ActorHeading role m n s o)) → (words : List Bytes) → Says None (actor_of_words role words)
+no_actor role none (name ∷ email ∷ seconds ∷ offset ∷ []) =
+    chained (λ m. option_map (λ n. lines.ActorHeading role m n seconds offset) (number_of email)) (λ m. mapped (λ n. lines.ActorHeading role m n seconds offset) (λ n. none m n seconds offset) (number_of email)) (number_of name)
+no_actor role none words = tt
+
+no_rename : (words : List Bytes) → Says None (rename_of_words words)
+no_rename (old ∷ new ∷ []) = nowhere (lines.RenameHeading old new) refl refl refl refl refl refl
+no_rename words = tt
+
+no_delete : (words : List Bytes) → Says None (delete_of_words words)
+no_delete (name ∷ any ∷ []) = either (bytes_eq any (codes "any")) (Some (lines.DeleteHeading name None)) None (nowhere (lines.DeleteHeading name None) refl refl refl refl refl refl) tt
+no_delete (name ∷ at ∷ word ∷ []) = either (bytes_eq at (codes "at")) (Some (lines.DeleteHeading name (Some word))) None (nowhere (lines.DeleteHeading name (Some word)) refl refl refl refl refl refl) tt
+no_delete words = tt
+
+no_names : (words : List Bytes) → Says None (names_of_words words)
+no_names [] = nowhere (lines.NamesHeading None) refl refl refl refl refl refl
+no_names (folder ∷ []) = nowhere (lines.NamesHeading (Some folder)) refl refl refl refl refl refl
+no_names words = tt
+
+no_walk : (order : Order) (words : List Bytes) → Says None (walk_of_words order words)
+no_walk order [] = tt
+no_walk order (parents ∷ words) =
+    chained (λ first. option_map (λ items. lines.LogHeading order first items.0 items.1) (items_of words))
+    (λ first. mapped (λ items. lines.LogHeading order first items.0 items.1) (λ items. nowhere (lines.LogHeading order first items.0 items.1) refl refl refl refl refl refl) (items_of words)) (first_parents_of parents)
+
+no_log : (words : List Bytes) → Says None (log_of_words words)
+no_log words = chained (λ order. walk_of_words order.0 order.1) (λ order. no_walk order.0 order.1) (order_of words)
+
+-- ---- by the first word
+
+no_name_line : (first : Bytes) (words : List Bytes) → Says None (name_heading_of first words)
+no_name_line first words =
+    either (bytes_eq first (codes "tag")) (target_of_words lines.TagHeading words) _ (no_target lines.TagHeading (λ n x w. nowhere (lines.TagHeading n x w) refl refl refl refl refl refl) words) (
+    either (bytes_eq first (codes "tagger")) (actor_of_words lines.Tagger words) _ (no_actor lines.Tagger (λ m n s o. nowhere (lines.ActorHeading lines.Tagger m n s o) refl refl refl refl refl refl) words) (
+    either (bytes_eq first (codes "move")) (end_of_words lines.MoveHeading words) _ (no_end lines.MoveHeading (nowhere lines.MoveHeading refl refl refl refl refl refl) words) (
+    either (bytes_eq first (codes "to")) (target_of_words lines.ToHeading words) _ (no_target lines.ToHeading (λ n x w. nowhere (lines.ToHeading n x w) refl refl refl refl refl refl) words) (
+    either (bytes_eq first (codes "actor")) (actor_of_words lines.Mover words) _ (no_actor lines.Mover (λ m n s o. nowhere (lines.ActorHeading lines.Mover m n s o) refl refl refl refl refl refl) words) (
+    either (bytes_eq first (codes "rename")) (rename_of_words words) _ (no_rename words) (
+    either (bytes_eq first (codes "delete")) (delete_of_words words) _ (no_delete words) (
+    either (bytes_eq first (codes "switch")) (word_of_words lines.SwitchHeading words) _ (no_word lines.SwitchHeading (λ w. nowhere (lines.SwitchHeading w) refl refl refl refl refl refl) words) (
+    either (bytes_eq first (codes "pack")) (end_of_words lines.PackHeading words) _ (no_end lines.PackHeading (nowhere lines.PackHeading refl refl refl refl refl refl) words) (
+    either (bytes_eq first (codes "index")) (end_of_words lines.IndexHeading words) _ (no_end lines.IndexHeading (nowhere lines.IndexHeading refl refl refl refl refl refl) words) (
+    either (bytes_eq first (codes "names")) (names_of_words words) _ (no_names words) (
+    either (bytes_eq first (codes "past")) (word_of_words lines.PastHeading words) _ (no_word lines.PastHeading (λ w. nowhere (lines.PastHeading w) refl refl refl refl refl refl) words) (
+    either (bytes_eq first (codes "log")) (log_of_words words) None (no_log words) tt))))))))))))
+
+-- the first word isn't this one, where a test of them fails
+pub is_other : (first word name : Bytes) (test : Bool) → (first ≡ word → test ≡ true) → word ≡ name → test ≡ false → bytes_eq first name ≡ false
+is_other first word name test finds is fails = at (bytes_eq first name) refl
+  where
+    at : (b : Bool) → bytes_eq first name ≡ b → b ≡ false
+    at true e = sym (finds ((bytes_eq-Decides first name).0 e ∙ sym is)) ∙ fails
+    at false e = refl
+
+passed : (b : Bool) (x y : Option lines.Heading) → b ≡ false → Says None y → Says None (if b then x else y)
+passed true x y e f = cc
+passed false x y e f = f
+
+-- a line whose first word is none of those that are read
+pub no_line_of : (first : Bytes) (words : List Bytes) → bytes_eq first (codes "commit") ≡ false → bytes_eq first (codes "parent") ≡ false → bytes_eq first (codes "put") ≡ false → bytes_eq first (codes "remove") ≡ false
+    → bytes_eq first (codes "remove-file") ≡ false → bytes_eq first (codes "author") ≡ false → bytes_eq first (codes "committer") ≡ false → bytes_eq first (codes "message") ≡ false → bytes_eq first (codes "end") ≡ false
+    → bytes_eq first (codes "files") ≡ false → bytes_eq first (codes "show") ≡ false → Says None (heading_of (first ∷ words))
+no_line_of first words commit parent put remove remove_file author committer message end files show =
+    passed (bytes_eq first (codes "commit")) _ _ commit (
+    passed (bytes_eq first (codes "parent")) _ _ parent (
+    passed (bytes_eq first (codes "put")) _ _ put (
+    passed (bytes_eq first (codes "remove")) _ _ remove (
+    passed (bytes_eq first (codes "remove-file")) _ _ remove_file (
+    passed (bytes_eq first (codes "author")) _ _ author (
+    passed (bytes_eq first (codes "committer")) _ _ committer (
+    passed (bytes_eq first (codes "message")) _ _ message (
+    passed (bytes_eq first (codes "end")) _ _ end (
+    passed (bytes_eq first (codes "files")) _ _ files (
+    passed (bytes_eq first (codes "show")) _ _ show (no_name_line first words)))))))))))
