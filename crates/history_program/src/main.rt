@@ -1,17 +1,14 @@
 //! The program `history`: a run over standard input and output, on a new repository in memory.
 #![tactic(auto)]
 
-use history::files::MemoryFiles;
-use history::{End, Kind, Repository, Stream, create, run};
+use history::{End, Kind, Stream, run};
+use history_in_memory::new_repository;
 use std::process::ExitCode;
 
 /// Makes a repository and runs on it. `None` where that didn't succeed.
 fn serve(rt: &HostRuntime) -> Option<End> {
     let alloc = rt.alloc();
-    let mut objects = MemoryFiles::new(alloc);
-    let mut names = MemoryFiles::new(alloc);
-    create(alloc, &mut objects, &mut names, Kind::Sha1).ok()?;
-    let mut repository = Repository::open(alloc, objects, names, Kind::Sha1).ok()?;
+    let mut repository = new_repository(alloc, Kind::Sha1).ok()?;
     // Each reply is written by one call, so neither stream needs a buffer of its own.
     let mut reader = Stream::new(rt.stdin());
     let mut writer = Stream::new(rt.stdout());

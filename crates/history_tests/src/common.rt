@@ -1,7 +1,8 @@
 //! New repositories, and runs over them.
 
 use history::files::{Files, MemoryFiles};
-use history::{Bytes, Collected, End, Kind, Repository, RunError, create, run};
+use history::{Bytes, Collected, End, Kind, Repository, RunError, run};
+use history_in_memory::{answer_stream, new_repository};
 use std::alloc::{AllocError, Global};
 use std::process::Abort;
 
@@ -44,10 +45,7 @@ pub fn joined(alloc: Global, parts: &[&[u8]]) -> Result<Vec<u8>, AllocError> {
 
 /// A new repository in memory.
 pub fn fresh(rt: &impl Abort, alloc: Global, kind: Kind) -> Repository<MemoryFiles> {
-    let mut objects = MemoryFiles::new(alloc);
-    let mut names = MemoryFiles::new(alloc);
-    assert!(rt; create(alloc, &mut objects, &mut names, kind) == Ok(()));
-    match Repository::open(alloc, objects, names, kind) {
+    match new_repository(alloc, kind) {
         Ok(repository) => repository,
         Err(_) => panic!(rt; "not opened"),
     }
@@ -84,8 +82,11 @@ pub fn commits<F: Files>(alloc: Global, repository: &mut Repository<F>, input: &
 
 /// Stops where a run over the input, in a new repository of this kind, doesn't write just this or ends otherwise.
 pub fn answers(rt: &impl Abort, alloc: Global, kind: Kind, input: &[u8], wanted: &[u8], end: End) {
-    let mut repository = fresh(rt, alloc, kind);
-    let (writer, ended) = answered(alloc, &mut repository, input);
-    assert!(rt; ended == Ok(end));
-    assert!(rt; writer.as_slice() == wanted);
+    match answer_stream(alloc, kind, input) {
+        Ok(answer) => {
+            assert!(rt; answer.end == end);
+            assert!(rt; answer.written.as_slice() == wanted);
+        }
+        Err(_) => panic!(rt; "not answered"),
+    }
 }

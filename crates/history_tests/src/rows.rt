@@ -3,6 +3,7 @@
 use crate::common::{ByKind, KINDS, SIGNED, answers, joined};
 use crate::stored;
 use history::End;
+use history_in_memory::rows as worked;
 use std::alloc::AllocError;
 
 const NO_FILES: ByKind = ByKind {
@@ -25,6 +26,18 @@ fn one_file(rt: HostRuntime) {
     for kind in KINDS {
         let wanted = stored::REPLIES.of(kind);
         answers(&rt, rt.alloc(), kind, stored::INPUT, wanted, End::Input);
+    }
+}
+
+#[test]
+fn worked_streams(rt: HostRuntime) {
+    match worked::first_commit(rt.alloc()) {
+        Ok(answer) => assert!(rt; answer.written.as_slice() == NO_FILES.sha1),
+        Err(_) => panic!(rt; "not answered"),
+    }
+    match worked::hello_file(rt.alloc()) {
+        Ok(answer) => assert!(rt; answer.written.as_slice() == stored::REPLIES.sha1),
+        Err(_) => panic!(rt; "not answered"),
     }
 }
 
