@@ -8,3 +8,5 @@ pub mod GatherLemmas
 pub mod ListingLemmas
 pub mod ItemLemmas
 pub mod FollowLemmas
+pub mod PeelLemmas
+pub mod PristineLemmas

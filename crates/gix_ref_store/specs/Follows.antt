@@ -1,18 +1,27 @@
 -- Where symbolic references lead: a chain of readings.
-use Rattle.std.specs.Prelude.{ℕ, zero, suc, ◌≡◌, Bool, List, [], ◌∷◌, ◌++◌, bytes_eq, if◌then◌else◌}
+use Rattle.std.specs.Prelude.{ℕ, zero, suc, ◌≡◌, Bool, List, [], ◌∷◌, ◌++◌, Option, Some, None, option_map, Result, Ok, Err, bytes_eq, if◌then◌else◌}
 use Rattle.std.specs.List.{list_any}
-use Rattle.gix_hash.specs.Id.{Id}
-use Rattle.gix_ref_name.specs.Targets.{Points, ToObject, ToName}
-use Rattle.gix_ref_store.specs.Readings.{Reading, Stands, Absent, Faulty}
+use Rattle.gix_hash.specs.Id.{Id, id_of}
+use Rattle.gix_hash.specs.declared.object_id.ObjectId.{ObjectId}
+use Rattle.gix_ref_file.specs.Tree.{Tree}
+use Rattle.gix_ref_name.specs.Targets.{Points, ToObject, ToName, IsObject, target_view}
+use Rattle.gix_ref_format.specs.PackedBuffer.{FileFault}
+use Rattle.gix_ref_format.specs.declared.packed.buffer.Error.{Error as OpenError}
+use Rattle.gix_ref_store.specs.Finds as finds
+use Rattle.gix_ref_store.specs.Finds.{reading_of, OnExisting}
+use Rattle.gix_ref_store.specs.Places.{Base}
+use Rattle.gix_ref_store.specs.Readings.{Reading, Stands, Absent, Faulty, packed_text_in}
+use Rattle.gix_ref_store.specs.declared.reference.Reference.{Reference}
 use Rattle.gix_ref_store.specs.declared.store.file.find.Error.{Error as FindError}
 use Rattle.gix_ref_store.specs.declared.store.file.find.Error.TheVariants as find
-use Rattle.gix_ref_store.specs.declared.store.file.find.ExistingError.TheVariants as existing
+use Rattle.gix_ref_store.specs.declared.store.file.find.ExistingError.{ExistingError}
 use Rattle.gix_ref_store.specs.declared.store.file.follow.Error.{Error}
 use Rattle.gix_ref_store.specs.declared.store.file.follow.Error.TheVariants.{Follow, Cycle, DepthLimitExceeded, Memory}
 
--- the chain ends at an object, meets a name again, is too long, or leads to a name that isn't there or can't be read
+-- The chain ends at a name that points to an object, with the peeled id told of it; or it meets a name again, is too long, or
+-- leads to a name that isn't there or can't be read.
 pub data Followed : Type 0 where
-  Ends : Id → Followed
+  Ends : List ℕ → Id → Option Id → Followed
   Cycles : Followed
   TooDeep : Followed
   Dangles : Followed
@@ -21,43 +30,61 @@ pub data Followed : Type 0 where
 abbrev pub is_among : List (List ℕ) → List ℕ → Bool
 is_among seen name = list_any (λ other. bytes_eq other name) seen
 
--- on from what a name reads as
-abbrev pub onward : (Points → Followed) → Reading → Followed
-onward follow (Stands points peeled) = follow points
-onward follow Absent = Dangles
-onward follow Faulty = Breaks
+-- from a name and what it reads as, over at most so many other names, of which some were met
+abbrev pub follow : (List ℕ → Reading) → ℕ → List (List ℕ) → List ℕ → Reading → Followed
+follow read left seen from Absent = Dangles
+follow read left seen from Faulty = Breaks
+follow read left seen from (Stands (ToObject id) peeled) = Ends from id peeled
+follow read zero seen from (Stands (ToName name) peeled) = if is_among seen name then Cycles else TooDeep
+follow read (suc left) seen from (Stands (ToName name) peeled) =
+    if is_among seen name then Cycles else follow read left (seen ++ name ∷ []) name (read name)
 
--- at most so many names are followed, of which some were met
-abbrev pub follow : (List ℕ → Reading) → ℕ → List (List ℕ) → Points → Followed
-follow read left seen (ToObject id) = Ends id
-follow read zero seen (ToName name) = if is_among seen name then Cycles else TooDeep
-follow read (suc left) seen (ToName name) = if is_among seen name then Cycles else onward (λ points. follow read left (seen ++ name ∷ []) points) (read name)
+-- from a reference, over at most 5 names
+abbrev pub follow_from : (List ℕ → Reading) → Reference → Followed
+follow_from read r = follow read 5 [] r.name (reading_of r)
+
+-- the chain ends at an object of this id
+abbrev pub EndsAt : Id → Followed → Type 0
+EndsAt id followed = (name : List ℕ) × (peeled : Option Id) × (followed ≡ Ends name id peeled)
+
+-- the chain ends at this reference, which points to an object of this id
+abbrev pub EndsBy : Reference → ObjectId → Followed → Type 0
+EndsBy r id followed = (target_view r.target ≡ ToObject (id_of id)) × (followed ≡ Ends r.name (id_of id) (option_map id_of r.peeled))
+
+-- ---- what is told, where `Unopened` says why packed references aren't opened
+
+-- the packed references that a caller gives are open
+abbrev pub IsGiven : OpenError → Type 0
+IsGiven error = ⊥
+
+-- those of the tree can't be opened
+abbrev pub CantOpen : Base → Tree → OpenError → Type 0
+CantOpen b tree error = FileFault b.kind (packed_text_in b tree) error
 
 -- why a name isn't read
-abbrev pub ReadFault : Reading → FindError → Type 0
-ReadFault reading (find.ReferenceCreation error) = reading ≡ Faulty
-ReadFault reading (find.PackedOpen error) = ⊥
-ReadFault reading find.ReadFileContents = Unit {0}
-ReadFault reading find.Memory = Unit {0}
+abbrev pub ReadFault : (OpenError → Type 0) → Type 0 → FindError → Type 0
+ReadFault Unopened faulty (find.ReferenceCreation error) = faulty
+ReadFault Unopened faulty (find.PackedOpen error) = Unopened error
+ReadFault Unopened faulty find.ReadFileContents = Unit {0}
+ReadFault Unopened faulty find.Memory = Unit {0}
+
+-- the reference that a target names: none where it is an object
+abbrev pub FollowsTo : (OpenError → Type 0) → (List ℕ → Reading) → Points → Option (Result Reference ExistingError) → Type 0
+FollowsTo Unopened read target None = IsObject target
+FollowsTo Unopened read target (Some (Ok r)) = (target ≡ ToName r.name) × (read r.name ≡ reading_of r)
+FollowsTo Unopened read target (Some (Err error)) =
+    (name : List ℕ) × (target ≡ ToName name) × OnExisting (read name ≡ Absent) (ReadFault Unopened (read name ≡ Faulty)) error
 
 -- why no object is reached
-abbrev pub FollowFault : Followed → Error → Type 0
-FollowFault followed (Follow existing.NotFound) = followed ≡ Dangles
-FollowFault followed (Follow (existing.Find (find.ReferenceCreation error))) = followed ≡ Breaks
-FollowFault followed (Follow (existing.Find (find.PackedOpen error))) = ⊥
-FollowFault followed (Follow (existing.Find find.ReadFileContents)) = Unit {0}
-FollowFault followed (Follow (existing.Find find.Memory)) = Unit {0}
-FollowFault followed Cycle = followed ≡ Cycles
-FollowFault followed DepthLimitExceeded = followed ≡ TooDeep
-FollowFault followed Memory = Unit {0}
+abbrev pub FollowFault : (OpenError → Type 0) → Followed → Error → Type 0
+FollowFault Unopened followed (Follow error) = OnExisting (followed ≡ Dangles) (ReadFault Unopened (followed ≡ Breaks)) error
+FollowFault Unopened followed Cycle = followed ≡ Cycles
+FollowFault Unopened followed DepthLimitExceeded = followed ≡ TooDeep
+FollowFault Unopened followed Memory = Unit {0}
 
 -- a failed reading is told only where a reading may fail
 abbrev pub MayTell : Type 0 → Error → Type 0
-MayTell may_fail (Follow existing.NotFound) = Unit {0}
-MayTell may_fail (Follow (existing.Find (find.ReferenceCreation error))) = Unit {0}
-MayTell may_fail (Follow (existing.Find (find.PackedOpen error))) = Unit {0}
-MayTell may_fail (Follow (existing.Find find.ReadFileContents)) = may_fail
-MayTell may_fail (Follow (existing.Find find.Memory)) = Unit {0}
+MayTell may_fail (Follow error) = OnExisting (Unit {0}) (finds.MayTell may_fail) error
 MayTell may_fail Cycle = Unit {0}
 MayTell may_fail DepthLimitExceeded = Unit {0}
 MayTell may_fail Memory = Unit {0}

@@ -1,6 +1,7 @@
 pub mod Places
 pub mod Readings
 pub mod Stores
+pub mod Stripped
 pub mod Homes
 pub mod Folders
 pub mod Finds
@@ -9,4 +10,6 @@ pub mod Logs
 pub mod Listings
 pub mod Walks
 pub mod Items
+pub mod Pristine
 pub mod Follows
+pub mod Peels

@@ -1,7 +1,17 @@
 //! References that own what they hold.
 
+ghost use Rattle.std.specs.Prelude.{◌≡◌, ◌++◌, ℕ, List, None, IsFalse, IfErr, MatchOption, MatchResult};
+ghost use Rattle.gix_object_lines.specs.NameTest.{is_full_name};
+ghost use Rattle.gix_ref_name.specs.Names.{name_of};
+ghost use Rattle.gix_ref_name.specs.Namespaces.{outside_of};
+ghost use Rattle.gix_ref_name.specs.Targets.{kind_of, target_view};
+ghost use Rattle.gix_ref_store.specs.Stripped.{points_outside};
+
 use gix_hash::ObjectId;
-use gix_ref_name::{FullName, Target};
+use gix_object_lines::cut::behind;
+use gix_ref_format::loose;
+use gix_ref_name::{FullName, FullNameRef, Kind, Namespace, Target};
+use std::alloc::{AllocError, Global};
 
 /// A reference, from a file of its own or from a packed record.
 #[derive(Debug, Drop, PartialEq, Eq)]
@@ -12,4 +22,75 @@ pub struct Reference {
     pub target: Target,
     /// The id of the object that a tag points to in the end, where a packed record tells it.
     pub peeled: Option<ObjectId>,
+}
+
+impl Reference {
+    /// Whether it points to an object or to another reference.
+    pub fn kind(&self) -> Kind
+        ensures { result ≡ kind_of (target_view self.now.target) }
+    {
+        self.target.kind()
+    }
+
+    /// The name without the namespace's front; `None` where it doesn't begin with the front, or what is left is no full name.
+    pub fn name_without_namespace(&self, namespace: &Namespace) -> Option<FullNameRef<'_>>
+        ensures { MatchOption result ((rest : List ℕ) → self.now.name ≡ namespace.now ++ rest → IsFalse (is_full_name rest))
+            (λ name. self.now.name ≡ namespace.now ++ name_of name) }
+    {
+        let rest = behind(self.name.to_path(), namespace.as_bytes())?;
+        match FullNameRef::new(rest) {
+            Ok(name) => Some(name),
+            Err(_) => None,
+        }
+    }
+
+    /// Takes the namespace's front off the name, and off the name that it points to, as `FullName::strip_namespace` does. Where no
+    /// memory is left it is as it was.
+    pub fn strip_namespace(
+        &mut self,
+        alloc: Global,
+        namespace: &Namespace,
+    ) -> Result<(), AllocError>
+        ensures stripped { MatchResult result (λ _. (self.new.name ≡ outside_of namespace.now self.old.name)
+            × (target_view self.new.target ≡ points_outside namespace.now (target_view self.old.target)) × (self.new.peeled ≡ self.old.peeled))
+            (λ _. self.new ≡ self.old) }
+    {
+        let name = self.name.strip_namespace(alloc, namespace)?;
+        let target = stripped(alloc, &self.target, namespace)?;
+        self.name = name;
+        self.target = target;
+        Ok(())
+    }
+}
+
+// The target without the namespace's front.
+fn stripped(alloc: Global, target: &Target, namespace: &Namespace) -> Result<Target, AllocError>
+    ensures { MatchResult result (λ stripped. target_view stripped ≡ points_outside namespace.now (target_view target.now)) (λ _. Unit {0}) }
+{
+    match target {
+        Target::Object(id) => Ok(Target::Object(*id)),
+        Target::Symbolic(name) => Ok(Target::Symbolic(name.strip_namespace(alloc, namespace)?)),
+    }
+}
+
+impl From<loose::Reference> for Reference {
+    ghost from_gives = { λ given r. (r.name ≡ given.name) × (r.target ≡ given.target) × (r.peeled ≡ None) };
+
+    fn from(reference: loose::Reference) -> Reference {
+        let loose::Reference { name, target } = reference;
+        Reference {
+            name,
+            target,
+            peeled: None,
+        }
+    }
+}
+
+impl From<Reference> for loose::Reference {
+    ghost from_gives = { λ given r. (r.name ≡ given.name) × (r.target ≡ given.target) };
+
+    fn from(reference: Reference) -> loose::Reference {
+        let Reference { name, target, .. } = reference;
+        loose::Reference { name, target }
+    }
 }

@@ -74,6 +74,24 @@ class Repository:
     def ask(self, operation, asked, answer, folder="-"):
         rows.append((f"{operation} {folder} {asked or '-'} {self.files(operation == 'log')}", answer))
 
+    def loose(self, id):
+        """The text of an object as its id is the digest of."""
+        kind = self.git("cat-file", "-t", id)
+        content = subprocess.run(["git", "cat-file", kind, id], cwd=self.folder, env=env, check=True, capture_output=True).stdout
+        return (f"{kind} {len(content)}\0".encode() + content).hex()
+
+    def lead(self, operation, asked, answer, objects=()):
+        """What the reference of a word leads to, by these objects."""
+        text = " " + ";".join(map(self.loose, objects)) if objects else ""
+        logs = ";" + self.files(True) if operation == "lines" else ""
+        rows.append((f"{operation} - {asked} {self.files()}{logs}{text}", answer))
+
+    def peel(self, name, objects):
+        """The object that git peels a name to, and the last name on the way, which then tells it."""
+        id = self.git("rev-parse", name + "^{}")
+        last = self.git("rev-parse", "--symbolic-full-name", name)
+        self.lead("peel", name, f"{id} {id} {last} {id} ^{id}", objects)
+
     def list(self, prefix):
         """Lists by prefix: the lines of `git for-each-ref` that begin so, in its order."""
         names = [name for name in self.names() if name.startswith(prefix)]
@@ -247,6 +265,71 @@ for length in [1, 2, 5]:
     chain(links, f"refs/chain/{length - 1}", length)
     assert run(links.folder, "rev-parse", "--verify", "-q", "refs/chain/0", ok=False).returncode != 0
     links.ask("follow", "refs/chain/0", "references point to one another in a ring")
+
+# The next reference, and the object in the end: a tag of a tag, by files and by records that tell what they peel to.
+ends = Repository("ends")
+fill(ends)
+ends.git("tag", "-a", "-m", "x", "v3", "v2")
+ends.git("tag", "-a", "-m", "x", "tree", ends.commits[0] + "^{tree}")
+ends.git("symbolic-ref", "refs/heads/tagged", "refs/tags/v3")
+ends.git("symbolic-ref", "refs/heads/twice", "refs/heads/tagged")
+ends.git("symbolic-ref", "refs/heads/none", "refs/heads/nosuch")
+every = ends.git("cat-file", "--batch-all-objects", "--batch-check=%(objectname)").split()
+for word, then in [("HEAD", "refs/heads/main"), ("twice", "refs/heads/tagged"), ("tagged", "refs/tags/v3"), ("sym", "refs/heads/feature")]:
+    ends.lead("next", word, ends.shown(then))
+for word in ["v1", "v3", "main", "light"]:
+    ends.lead("next", word, "object")
+ends.lead("next", "none", "none")
+for name in ["HEAD", "refs/heads/main", "refs/heads/sym", "refs/heads/tagged", "refs/heads/twice", "refs/tags/v1", "refs/tags/v2", "refs/tags/v3", "refs/tags/light", "refs/tags/tree"]:
+    ends.peel(name, every)
+ends.lead("peel", "none", "there is no reference of this name", every)
+tags = [ends.git("rev-parse", f"refs/tags/v{k}") for k in [1, 2, 3]]
+ends.lead("peel", "v3", "lost " + tags[2])
+ends.lead("peel", "v3", "lost " + tags[1], tags[2:])
+ends.lead("peel", "v3", "lost " + ends.commits[2], tags)
+ends.lead("peel", "twice", "lost " + tags[0], tags[1:])
+# A tag that names nothing: git can't peel it.
+bad = ends.git("hash-object", "-t", "tag", "-w", "--literally", "--stdin", input="no object\n")
+ends.write("refs/tags/bad", bad + "\n")
+assert run(ends.folder, "rev-parse", "--verify", "-q", "refs/tags/bad^{}", ok=False).returncode != 0
+ends.lead("peel", "refs/tags/bad", "lost " + bad, [bad])
+os.remove(ends.path("refs/tags/bad"))
+for name in ["HEAD", "refs/heads/feature", "refs/heads/main"]:
+    count = len(ends.git("log", "-g", "--format=%H", name).split())
+    ends.lead("lines", name, f"{'+' * count}/{'+' * count}" if count else "none")
+ends.git("pack-refs", "--all")
+for name in ["refs/tags/v3", "refs/heads/twice", "refs/heads/main"]:
+    ends.peel(name, every)
+# A record tells what its tag peels to, so no object is asked for.
+for name in ["refs/tags/v1", "refs/tags/v3"]:
+    ends.peel(name, [])
+ends.lead("next", "twice", ends.shown("refs/heads/tagged"))
+ends.lead("next", "tagged", ends.shown("refs/tags/v3"))
+
+# A store as a new one.
+fresh = Repository("fresh")
+fresh.ask("pristine", "refs/heads/main", "true")
+fresh.ask("pristine", "refs/heads/master", "false")
+fresh.git("symbolic-ref", "HEAD", "refs/heads/other")
+fresh.ask("pristine", "refs/heads/main", "false")
+fresh.ask("pristine", "refs/heads/other", "true")
+fresh.git("update-ref", "ORIG_HEAD", fresh.commits[0])
+fresh.ask("pristine", "refs/heads/other", "true")
+fresh.git("update-ref", "refs/tags/t", fresh.commits[0])
+fresh.ask("pristine", "refs/heads/other", "false")
+fresh.git("pack-refs", "--all")
+fresh.ask("pristine", "refs/heads/other", "false")
+fresh.git("update-ref", "-d", "refs/tags/t")
+os.remove(fresh.path("packed-refs"))
+fresh.ask("pristine", "refs/heads/other", "true")
+# A file that tells no target is no reference.
+fresh.write("refs/heads/broken", "no id\n")
+fresh.ask("pristine", "refs/heads/other", "true")
+os.remove(fresh.path("refs/heads/broken"))
+fresh.git("update-ref", "--no-deref", "HEAD", fresh.commits[0])
+fresh.ask("pristine", "refs/heads/other", "false")
+fresh.write("HEAD", "no id\n")
+fresh.ask("pristine", "refs/heads/other", "no head")
 
 look_linked()
 tree.git("pack-refs", "--all")

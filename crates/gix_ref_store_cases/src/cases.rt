@@ -1,7 +1,9 @@
 //! One case to one line.
 
+use crate::ends::{end, pristine};
 use crate::files;
 use crate::lists::list;
+use crate::objects::Objects;
 use gix_ref_file::MemoryFiles;
 use gix_ref_name::{FullNameRef, PartialNameRef};
 use gix_ref_store::store::file::{Store, find};
@@ -39,7 +41,11 @@ pub fn shown(alloc: Global, reference: &Reference) -> Result<String, AllocError>
     }
 }
 
-fn found(alloc: Global, res: Result<Reference, find::ExistingError>) -> Result<String, AllocError> {
+/// A reference, or why there is none.
+pub fn found_in(
+    alloc: Global,
+    res: Result<Reference, find::ExistingError>,
+) -> Result<String, AllocError> {
     match res {
         Ok(reference) => shown(alloc, &reference),
         Err(find::ExistingError::NotFound) => format!(in alloc; "none"),
@@ -67,7 +73,7 @@ fn find_word(
         return format!(in alloc; "no name");
     };
     match operation {
-        "find" => found(alloc, store.find(alloc, name)),
+        "find" => found_in(alloc, store.find(alloc, name)),
         "loose" => found_loose(alloc, store, name),
         _ => found_packed(alloc, store, name),
     }
@@ -91,7 +97,7 @@ fn found_packed(
     name: PartialNameRef<'_>,
 ) -> Result<String, AllocError> {
     match store.open_packed_buffer(alloc) {
-        Ok(packed) => found(alloc, store.find_packed(alloc, name, packed.as_ref())),
+        Ok(packed) => found_in(alloc, store.find_packed(alloc, name, packed.as_ref())),
         Err(_) => format!(in alloc; "packed broken"),
     }
 }
@@ -170,6 +176,7 @@ pub fn answer(alloc: Global, line: &str) -> Result<String, AllocError> {
     let Some((asked, text)) = rest.split_once(' ') else {
         return format!(in alloc; "nothing asked");
     };
+    let (text, objects) = text.split_once(' ').unwrap_or((text, ""));
     let Some(files) = files::read(alloc, text)? else {
         return format!(in alloc; "no files");
     };
@@ -180,6 +187,11 @@ pub fn answer(alloc: Global, line: &str) -> Result<String, AllocError> {
         "find" | "loose" | "packed" => find_word(alloc, &store, asked, operation),
         "log" => log(alloc, &store, asked),
         "follow" => follow(alloc, &store, asked),
+        "next" | "peel" | "lines" => {
+            let objects = Objects::read(alloc, objects)?;
+            end(alloc, &store, &objects, operation, asked)
+        }
+        "pristine" => pristine(alloc, &store, asked),
         "all" | "prefixed" | "files" | "pseudo" => list(alloc, &store, operation, asked),
         _ => format!(in alloc; "no operation"),
     }

@@ -1,10 +1,12 @@
 //! Answers cases of stores of references, a line each: an operation, the folder of a linked worktree or `-`, what is asked for or
-//! `-`, and the files.
+//! `-`, the files, and to peel with also objects.
 #![tactic(auto)]
 
 mod cases;
+mod ends;
 mod files;
 mod lists;
+mod objects;
 
 use std::io;
 

@@ -11,14 +11,18 @@ mod init;
 pub mod iter;
 mod listing;
 pub mod log;
+mod logged;
 mod packed;
+pub mod peel;
 mod place;
+mod pristine;
 mod search;
 mod walk;
 
 use crate::options::Options;
 pub use crate::store::file::init::{FolderError, Refused};
 pub use crate::store::file::listing::Platform;
+pub use crate::store::file::logged::Platform as LogPlatform;
 use crate::store::file::place::push_under;
 use gix_ref_file::Files;
 use std::alloc::{AllocError, Global};

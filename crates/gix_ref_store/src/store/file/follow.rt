@@ -1,17 +1,12 @@
 //! Following symbolic references.
 
-ghost use Rattle.std.specs.Prelude.{◌≡◌, ℕ, List, [], IfErr, IfOk, MatchResult, MatchOption, is_some, option_map};
-ghost use Rattle.gix_ref_file.specs.Tree.{node_at, bytes_of};
-ghost use Rattle.gix_ref_format.specs.LogForward.{lines_of};
-ghost use Rattle.gix_ref_store.specs.Logs as logs;
-ghost use Rattle.gix_ref_store.specs.Logs.{ReadsForward};
-ghost use Rattle.gix_ref_store.specs.Places.{log_place};
+ghost use Rattle.std.specs.Prelude.{◌≡◌, [], IfErr, IfOk, MatchResult, MatchOption, unwrap_or, option_map};
 ghost use Rattle.gix_hash.specs.Id.{id_of};
-ghost use Rattle.gix_ref_name.specs.Targets.{ToName, IsObject, target_view};
+ghost use Rattle.gix_ref_name.specs.Targets.{target_view};
 ghost use Rattle.gix_ref_store.specs.Finds.{reading_of, records_in, OnExisting};
 ghost use Rattle.gix_ref_store.specs.Finds as finds;
-ghost use Rattle.gix_ref_store.specs.Follows.{Ends, follow, ReadFault, FollowFault, MayTell};
-ghost use Rattle.gix_ref_store.specs.Readings.{Absent, reading_among};
+ghost use Rattle.gix_ref_store.specs.Follows.{EndsAt, EndsBy, FollowsTo, FollowFault, ReadFault, IsGiven, CantOpen, MayTell, follow, follow_from};
+ghost use Rattle.gix_ref_store.specs.Readings.{Absent, Faulty, reading, reading_among};
 ghost use Rattle.gix_ref_store.specs.Searches.{reads_in};
 ghost use Rattle.gix_ref_store.specs.Stores.{base_of};
 ghost use Rattle.gix_ref_store.specs.declared.store.file.follow.Error.TheVariants.{Memory, Follow};
@@ -19,10 +14,9 @@ ghost use Rattle.gix_ref_store.specs.declared.store.file.follow.Error.TheVariant
 use crate::reference::Reference;
 use crate::store::file::find::ExistingError;
 use crate::store::file::search::Search;
-use crate::store::file::{Store, find, log};
+use crate::store::file::{Store, find};
 use gix_hash::ObjectId;
 use gix_ref_file::Files;
-use gix_ref_format::log::iter::Forward;
 use gix_ref_format::packed::Buffer;
 use gix_ref_name::{FullName, Target};
 use std::alloc::{AllocError, AllocFailed, Global};
@@ -65,17 +59,33 @@ impl<T: Drop> From<AllocFailed<T>> for Error {
 }
 
 impl Reference {
-    /// The reference that this one points to; `None` where it points to an object. `NotFound` where no reference has the name.
+    /// The reference that this one points to; `None` where it points to an object. `NotFound` where no reference has the name,
+    /// and `PackedOpen` where the packed references can't be opened, which is done first.
+    pub fn follow<F: Files>(
+        &self,
+        alloc: Global,
+        store: &Store<F>,
+    ) -> Option<Result<Reference, ExistingError>>
+        ensures followed { F.is_honest store.now.files → let b = base_of store.now in let tree = (F.history store.now.files).tree in
+            FollowsTo (CantOpen b tree) (reading b tree) (target_view self.now.target) result }
+        ensures failed { MatchOption result (Unit {0}) (λ next. IfErr next (OnExisting (Unit {0}) (finds.MayTell F.reading_may_fail))) }
+    {
+        let Target::Symbolic(name) = &self.target else {
+            return None;
+        };
+        Some(named_in(alloc, store, name))
+    }
+
+    /// The reference that this one points to, as `follow` has it, with these packed references; without any, `None`, only those
+    /// with files of their own are found.
     pub fn follow_packed<F: Files>(
         &self,
         alloc: Global,
         store: &Store<F>,
         packed: Option<&Buffer>,
     ) -> Option<Result<Reference, ExistingError>>
-        ensures followed { F.is_honest store.now.files → let read = reading_among (base_of store.now) (F.history store.now.files).tree (records_in packed.entry) in
-            MatchOption result (IsObject (target_view self.now.target)) (λ next. MatchResult next
-            (λ r. (target_view self.now.target ≡ ToName r.name) × (read r.name ≡ reading_of r))
-            (λ error. (name : List ℕ) × (target_view self.now.target ≡ ToName name) × OnExisting (read name ≡ Absent) (ReadFault (read name)) error)) }
+        ensures followed { F.is_honest store.now.files
+            → FollowsTo IsGiven (reading_among (base_of store.now) (F.history store.now.files).tree (records_in packed.entry)) (target_view self.now.target) result }
         ensures failed { MatchOption result (Unit {0}) (λ next. IfErr next (OnExisting (Unit {0}) (finds.MayTell F.reading_may_fail))) }
     {
         let search = Search {
@@ -98,8 +108,8 @@ impl Reference {
         packed: Option<&Buffer>,
     ) -> Result<ObjectId, Error>
         ensures followed { F.is_honest store.now.files
-            → let end = follow (reading_among (base_of store.now) (F.history store.now.files).tree (records_in packed.entry)) 5 [] (target_view self.now.target) in
-            MatchResult result (λ id. end ≡ Ends (id_of id)) (FollowFault end) }
+            → let end = follow_from (reading_among (base_of store.now) (F.history store.now.files).tree (records_in packed.entry)) self.now in
+            MatchResult result (λ id. EndsAt (id_of id) end) (FollowFault IsGiven end) }
         ensures failed { IfErr result (MayTell F.reading_may_fail) }
     {
         let search = Search {
@@ -107,35 +117,73 @@ impl Reference {
             store,
             packed,
         };
-        object_of(&search, &self.target, MAX_DEPTH, Vec::new(alloc))
+        let (id, _) = end_from(&search, self)?;
+        Ok(id)
     }
 
-    /// Whether the reference has a log.
-    pub fn log_exists<F: Files>(&self, alloc: Global, store: &Store<F>) -> Result<bool, log::Error>
-        ensures exists { F.is_honest store.now.files → IfOk result (λ found. found ≡ is_some (bytes_of (node_at (F.history store.now.files).tree (log_place (base_of store.now) self.now.name)))) }
-        ensures failed { IfErr result (logs.MayTell F.reading_may_fail) }
-    {
-        store.reflog_exists(alloc, self.name.as_ref())
-    }
-
-    /// Reads the reference's log from its beginning, as `Store::reflog_iter` does; `None` where it has none.
-    pub fn log_iter<'b, F: Files>(
-        &self,
+    /// The same id; and the reference becomes the last of those on the way, which points to the object itself. After an error it
+    /// is as it was.
+    pub fn follow_to_object_in_place_packed<F: Files>(
+        &mut self,
         alloc: Global,
         store: &Store<F>,
-        buffer: &'b mut Vec<u8>,
-    ) -> Result<Option<Forward<'b>>, log::Error>
-        ensures lines { F.is_honest store.now.files → IfOk result (λ found. ReadsForward (bytes_of (node_at (F.history store.now.files).tree (log_place (base_of store.now) self.now.name))) (option_map lines_of found)) }
-        ensures failed { IfErr result (logs.MayTell F.reading_may_fail) }
+        packed: Option<&Buffer>,
+    ) -> Result<ObjectId, Error>
+        ensures followed { F.is_honest store.now.files
+            → let end = follow_from (reading_among (base_of store.now) (F.history store.now.files).tree (records_in packed.entry)) self.old in
+            MatchResult result (λ id. EndsBy self.new id end) (FollowFault IsGiven end) }
+        ensures refused { IfErr result (λ _. self.new ≡ self.old) }
+        ensures failed { IfErr result (MayTell F.reading_may_fail) }
     {
-        store.reflog_iter(alloc, self.name.as_ref(), buffer)
+        let search = Search {
+            alloc,
+            store,
+            packed,
+        };
+        let (id, end) = end_from(&search, self)?;
+        if let Some(end) = end {
+            *self = end;
+        }
+        Ok(id)
+    }
+}
+
+// The reference of a full name, which must stand, with the packed references as they are now.
+fn named_in<F: Files>(
+    alloc: Global,
+    store: &Store<F>,
+    name: &FullName,
+) -> Result<Reference, ExistingError>
+    ensures told { F.is_honest store.now.files → let b = base_of store.now in let tree = (F.history store.now.files).tree in
+        MatchResult result (λ r. (r.name ≡ name.now) × (reading b tree name.now ≡ reading_of r))
+        (OnExisting (reading b tree name.now ≡ Absent) (ReadFault (CantOpen b tree) (reading b tree name.now ≡ Faulty))) }
+    ensures failed { IfErr result (OnExisting (Unit {0}) (finds.MayTell F.reading_may_fail)) }
+{
+    match store.open_packed_buffer(alloc) {
+        Ok(Some(packed)) => named(
+            &Search {
+                alloc,
+                store,
+                packed: Some(&packed),
+            },
+            name,
+        ),
+        Ok(None) => named(
+            &Search {
+                alloc,
+                store,
+                packed: None,
+            },
+            name,
+        ),
+        Err(error) => Err(ExistingError::Find(find::Error::PackedOpen(error))),
     }
 }
 
 // The reference of a full name, which must stand.
 fn named<F: Files>(search: &Search<'_, '_, F>, name: &FullName) -> Result<Reference, ExistingError>
     ensures told { F.is_honest search.now.store.now.files → let reading = reads_in (F.history search.now.store.now.files).tree search.now name.now in
-        MatchResult result (λ r. (r.name ≡ name.now) × (reading ≡ reading_of r)) (OnExisting (reading ≡ Absent) (ReadFault reading)) }
+        MatchResult result (λ r. (r.name ≡ name.now) × (reading ≡ reading_of r)) (OnExisting (reading ≡ Absent) (ReadFault IsGiven (reading ≡ Faulty))) }
     ensures failed { IfErr result (OnExisting (Unit {0}) (finds.MayTell F.reading_may_fail)) }
 {
     let Ok(copy) = name.try_clone() else {
@@ -148,19 +196,33 @@ fn named<F: Files>(search: &Search<'_, '_, F>, name: &FullName) -> Result<Refere
     }
 }
 
-// The object that a target leads to, over at most so many names, of which these were met.
-fn object_of<F: Files>(
+// The object at the end of the chain that begins with a reference, and the last reference where it is another.
+pub(crate) fn end_from<F: Files>(
     search: &Search<'_, '_, F>,
-    target: &Target,
-    left: usize,
-    mut seen: Vec<FullName>,
-) -> Result<ObjectId, Error>
-    ensures followed { F.is_honest search.now.store.now.files → let end = follow (reads_in (F.history search.now.store.now.files).tree search.now) left seen.items (target_view target.now) in
-        MatchResult result (λ id. end ≡ Ends (id_of id)) (FollowFault end) }
+    from: &Reference,
+) -> Result<(ObjectId, Option<Reference>), Error>
+    ensures followed { F.is_honest search.now.store.now.files
+        → let end = follow_from (reads_in (F.history search.now.store.now.files).tree search.now) from.now in
+        MatchResult result (λ found. EndsBy (unwrap_or found.1 from.now) found.0 end) (FollowFault IsGiven end) }
     ensures failed { IfErr result (MayTell F.reading_may_fail) }
 {
-    let name = match target {
-        Target::Object(id) => return Ok(*id),
+    end_of(search, from, MAX_DEPTH, Vec::new(search.alloc))
+}
+
+// The same over at most so many names, of which these were met.
+fn end_of<F: Files>(
+    search: &Search<'_, '_, F>,
+    from: &Reference,
+    left: usize,
+    mut seen: Vec<FullName>,
+) -> Result<(ObjectId, Option<Reference>), Error>
+    ensures followed { F.is_honest search.now.store.now.files
+        → let end = follow (reads_in (F.history search.now.store.now.files).tree search.now) left seen.items from.now.name (reading_of from.now) in
+        MatchResult result (λ found. EndsBy (unwrap_or found.1 from.now) found.0 end) (FollowFault IsGiven end) }
+    ensures failed { IfErr result (MayTell F.reading_may_fail) }
+{
+    let name = match &from.target {
+        Target::Object(id) => return Ok((*id, None)),
         Target::Symbolic(name) => name,
     };
     if seen.contains(name) {
@@ -174,5 +236,6 @@ fn object_of<F: Files>(
         Err(error) => return Err(Error::Follow(error)),
     };
     seen.push(name.try_clone()?)?;
-    object_of(search, &next.target, left - 1, seen)
+    let (id, end) = end_of(search, &next, left - 1, seen)?;
+    Ok((id, Some(end.unwrap_or(next))))
 }

@@ -1,0 +1,90 @@
+-- Listings in which nothing points anywhere.
+use Rattle.std.proofs.Common.{◌≡◌, ◌≢◌, ◌∙◌, ◌⊎◌, inl, inr, sym, ap, subst, ℕ, Bool, true, false, List, [], ◌∷◌, ◌++◌, Option, Some, None, refl, arith}
+use Rattle.std.specs.Prelude.{◌↔◌, IsTrue, not, is_some}
+use Rattle.std.specs.List.{Contains}
+use Rattle.std.proofs.lemmas.List.Elements.{Contains-append_left, Contains-append_cases, Contains-append_right, Contains-push, Contains-push_cases}
+use Rattle.gix_hash.specs.Id.{Id}
+use Rattle.gix_ref_file.specs.Tree.{Tree}
+use Rattle.gix_ref_name.specs.Targets.{Points, ToName}
+use Rattle.gix_ref_store.specs.Places.{Base}
+use Rattle.gix_ref_store.specs.Readings.{Reading, Absent, Faulty, Stands, Met, reading_among, packed_text_in}
+use Rattle.gix_ref_store.specs.Finds.{met_of}
+use Rattle.gix_ref_store.specs.Listings.{IsListing, is_below_refs}
+use Rattle.gix_ref_store.specs.Pristine.{SomeStands, IsPristine, head_in}
+use Rattle.gix_ref_store.specs.declared.reference.Reference.{Reference}
+
+-- what was passed by can't be read, and the rest is still to come
+pub record Passed (out left : List Met) : Type 0 where
+  pub gone : (met : Met) → Contains out met → Contains left met ⊎ (met.reading ≡ Faulty)
+  pub here : (met : Met) → Contains left met → Contains out met
+
+pub passed_none : (out : List Met) → Passed out out
+passed_none out = record { gone = λ met is. inl is; here = λ met is. is }
+
+none_in : (met : Met) → Contains [] met → ⊥
+none_in met (k, below, at) = omega (arith, below)
+
+first_or : (first met : Met) (rest : List Met) → Contains (first ∷ rest) met → (first ≡ met) ⊎ Contains rest met
+first_or first met rest is = by_case (Contains-append_cases (first ∷ []) rest met is)
+  where
+    at_first : Contains [] met ⊎ (first ≡ met) → (first ≡ met) ⊎ Contains rest met
+    at_first (inl none) = absurd (none_in met none)
+    at_first (inr same) = inl same
+
+    by_case : Contains (first ∷ []) met ⊎ Contains rest met → (first ≡ met) ⊎ Contains rest met
+    by_case (inl one) = at_first (Contains-push_cases [] first met one)
+    by_case (inr later) = inr later
+
+pub passed_on : (out left after : List Met) (name : List ℕ) → Passed out left → left ≡ record { name = name; reading = Faulty } ∷ after → Passed out after
+passed_on out left after name passed is = record {
+  gone = λ met there. by_case met (passed.gone met there);
+  here = λ met there. passed.here met (subst (λ (l : List Met). Contains l met) (sym is) (Contains-append_right (first ∷ []) after met there));
+}
+  where
+    first : Met
+    first = record { name = name; reading = Faulty }
+
+    by_first : (met : Met) → (first ≡ met) ⊎ Contains after met → Contains after met ⊎ (met.reading ≡ Faulty)
+    by_first met (inl same) = inr (sym (ap (λ (m : Met). m.reading) same))
+    by_first met (inr later) = inl later
+
+    by_case : (met : Met) → Contains left met ⊎ (met.reading ≡ Faulty) → Contains after met ⊎ (met.reading ≡ Faulty)
+    by_case met (inr faulty) = inr faulty
+    by_case met (inl there) = by_first met (first_or first met after (subst (λ (l : List Met). Contains l met) is there))
+
+-- a reference that is given stands
+pub one_stands : (read : List ℕ → Reading) (asked : List ℕ → Bool) (out left after : List Met) (r : Reference) → IsListing read asked out → Passed out left → left ≡ met_of r ∷ after → SomeStands read asked
+one_stands read asked out left after r listing passed is =
+    let there = passed.here (met_of r) (subst (λ (l : List Met). Contains l (met_of r)) (sym is) (Contains-append_left (met_of r ∷ []) after (met_of r) (Contains-push [] (met_of r)))) in
+    let each = (listing.each r.name (met_of r).reading).0 there in
+    (r.name, _, _, each.0, each.1)
+
+-- none does where nothing is left
+pub none_stands : (read : List ℕ → Reading) (asked : List ℕ → Bool) (out left : List Met) → IsListing read asked out → Passed out left → left ≡ [] → SomeStands read asked → ⊥
+none_stands read asked out left listing passed none (name, points, peeled, so, reads) =
+    by_case (passed.gone (record { name = name; reading = Stands points peeled }) ((listing.each name (Stands points peeled)).1 (so, reads, λ e. cc)))
+  where
+    by_case : Contains left (record { name = name; reading = Stands points peeled }) ⊎ (Stands points peeled ≡ Faulty) → ⊥
+    by_case (inl there) = none_in (record { name = name; reading = Stands points peeled }) (subst (λ (l : List Met). Contains l (record { name = name; reading = Stands points peeled })) none there)
+    by_case (inr same) = cc
+
+-- ---- the whole answer
+module _ (b : Base) (tree : Tree) (branch : List ℕ) where
+  never : (IsPristine b tree branch → ⊥) → IsTrue false ↔ IsPristine b tree branch
+  never isnt = (λ so. let z : ⊥ = cc in absurd z, λ is. absurd (isnt is))
+
+  none_packed : (text : Option (List ℕ)) → is_some text ≡ false → text ≡ None
+  none_packed None h = refl
+  none_packed (Some text) h = let z : ⊥ = cc in absurd z
+
+  pub by_loose : (points : Points) (headed packed used : Bool) → head_in b tree ≡ Stands points None → IsTrue headed ↔ (points ≡ ToName branch) → headed ≡ true → packed ≡ is_some (packed_text_in b tree) → packed ≡ false
+      → IsTrue used ↔ SomeStands (reading_among b tree []) (is_below_refs []) → IsTrue (not used) ↔ IsPristine b tree branch
+  by_loose points headed packed true is told so records none some = never (λ p. p.alone (some.0 refl))
+  by_loose points headed packed false is told so records none some = (
+    λ _. record {
+      head = is ∙ ap (λ (q : Points). Stands q None) (told.0 so);
+      unpacked = none_packed (packed_text_in b tree) (sym records ∙ none);
+      alone = λ there. let z : false ≡ true = some.1 there in let y : ⊥ = cc in y;
+    },
+    λ _. refl,
+  )

@@ -1,0 +1,102 @@
+//! The logs of references.
+
+ghost use Rattle.std.specs.Prelude.{◌≡◌, is_some, length, IfErr, IfOk, IfSome, option_map};
+ghost use Rattle.gix_ref_file.specs.Tree.{node_at, bytes_of};
+ghost use Rattle.gix_ref_name.specs.Names.{name_of};
+ghost use Rattle.gix_ref_format.specs.LogForward.{lines_of};
+ghost use Rattle.gix_ref_format.specs.LogReverse.{stand_of};
+ghost use Rattle.gix_ref_store.specs.Logs.{ReadsForward, ReadsBackward, MayTell};
+ghost use Rattle.gix_ref_store.specs.Places.{log_place};
+ghost use Rattle.gix_ref_store.specs.Stores.{base_of};
+
+use crate::reference::Reference;
+use crate::store::file::Store;
+use crate::store::file::log::{Error, LogFile};
+use gix_ref_file::Files;
+use gix_ref_format::log::iter::{Forward, Reverse};
+use gix_ref_name::FullNameRef;
+use std::alloc::Global;
+
+// How many bytes of a log are read at once from its end.
+const BUFFER_SIZE: usize = 4096;
+
+/// The log of a reference, and a buffer to read it with from either end.
+#[derive(Drop)]
+pub struct Platform<'s, 'n, F: Files> {
+    pub(crate) store: &'s Store<F>,
+    pub(crate) name: FullNameRef<'n>,
+    pub(crate) buffer: Vec<u8>,
+}
+
+impl<'s, F: Files> Platform<'s, '_, F> {
+    /// The lines from the beginning, as `Store::reflog_iter` has them.
+    pub fn all(&mut self, alloc: Global) -> Result<Option<Forward<'_>>, Error>
+        ensures lines { F.is_honest self.old.store.now.files → IfOk result (λ found. ReadsForward (bytes_of (node_at (F.history self.old.store.now.files).tree (log_place (base_of self.old.store.now) (name_of self.old.name)))) (option_map lines_of found)) }
+        ensures failed { IfErr result (MayTell F.reading_may_fail) }
+    {
+        self.store.reflog_iter(alloc, self.name, &mut self.buffer)
+    }
+
+    /// The lines from the end, as `Store::reflog_iter_rev` has them with a buffer of 4,096 bytes.
+    pub fn rev(&mut self, alloc: Global) -> Result<Option<Reverse<'_, LogFile<'s, F>>>, Error>
+        ensures lines { F.is_honest self.old.store.now.files → IfOk result (λ found. ReadsBackward (bytes_of (node_at (F.history self.old.store.now.files).tree (log_place (base_of self.old.store.now) (name_of self.old.name)))) (option_map stand_of found)) }
+        ensures begun { IfOk result (λ found. IfSome found (λ reader. (reader.given ≡ 0) × (length reader.buffer.now ≡ 4096))) }
+        ensures failed { IfErr result (MayTell F.reading_may_fail) }
+    {
+        self.buffer.clear();
+        self.buffer.resize(BUFFER_SIZE, 0)?;
+        self.store
+            .reflog_iter_rev(alloc, self.name, self.buffer.as_mut_slice())
+    }
+}
+
+impl Reference {
+    /// Whether the reference has a log.
+    pub fn log_exists<F: Files>(&self, alloc: Global, store: &Store<F>) -> Result<bool, Error>
+        ensures exists { F.is_honest store.now.files → IfOk result (λ found. found ≡ is_some (bytes_of (node_at (F.history store.now.files).tree (log_place (base_of store.now) self.now.name)))) }
+        ensures failed { IfErr result (MayTell F.reading_may_fail) }
+    {
+        store.reflog_exists(alloc, self.name.as_ref())
+    }
+
+    /// The reference's log, to be read from either end.
+    pub fn logs<'s, F: Files>(&self, alloc: Global, store: &'s Store<F>) -> Platform<'s, '_, F>
+        ensures store { result.store.now ≡ store.now }
+        ensures name { name_of result.name ≡ self.now.name }
+    {
+        Platform {
+            store,
+            name: self.name.as_ref(),
+            buffer: Vec::new(alloc),
+        }
+    }
+
+    /// Reads the reference's log from its beginning, as `Store::reflog_iter` does; `None` where it has none.
+    pub fn log_iter<'b, F: Files>(
+        &self,
+        alloc: Global,
+        store: &Store<F>,
+        buffer: &'b mut Vec<u8>,
+    ) -> Result<Option<Forward<'b>>, Error>
+        ensures lines { F.is_honest store.now.files → IfOk result (λ found. ReadsForward (bytes_of (node_at (F.history store.now.files).tree (log_place (base_of store.now) self.now.name))) (option_map lines_of found)) }
+        ensures failed { IfErr result (MayTell F.reading_may_fail) }
+    {
+        store.reflog_iter(alloc, self.name.as_ref(), buffer)
+    }
+
+    /// Reads the reference's log from its end, as `Store::reflog_iter_rev` does; `None` where it has none. An empty buffer is
+    /// `NoBuffer`.
+    pub fn log_iter_rev<'s, 'b, F: Files>(
+        &self,
+        alloc: Global,
+        store: &'s Store<F>,
+        buffer: &'b mut [u8],
+    ) -> Result<Option<Reverse<'b, LogFile<'s, F>>>, Error>
+        ensures lines { F.is_honest store.now.files → IfOk result (λ found. ReadsBackward (bytes_of (node_at (F.history store.now.files).tree (log_place (base_of store.now) self.now.name))) (option_map stand_of found)) }
+        ensures file { F.is_honest store.now.files → IfOk result (λ found. IfSome found (λ reader. (reader.log.files.now ≡ store.now.files) × (reader.log.path.items ≡ log_place (base_of store.now) self.now.name))) }
+        ensures begun { IfOk result (λ found. IfSome found (λ reader. (reader.given ≡ 0) × (length reader.buffer.now ≡ length buffer.old))) }
+        ensures failed { IfErr result (MayTell F.reading_may_fail) }
+    {
+        store.reflog_iter_rev(alloc, self.name.as_ref(), buffer)
+    }
+}
