@@ -19,7 +19,12 @@ pub mod compose {
 
 /// Following references to objects.
 pub mod peel {
-    /// Why no object is reached.
+    /// Why no object stands behind names and tags.
+    pub mod to_id {
+        pub use gix_ref_store::store::file::peel::Error;
+    }
+
+    /// Why no object is reached over names.
     pub mod to_object {
         pub use gix_ref_store::store::file::follow::Error;
     }
@@ -55,6 +60,7 @@ pub mod file {
             pub use gix_ref_format::log::iter::{
                 FileAt, Forward, IoError, ReadAt, Reverse, forward, reverse,
             };
+            pub use gix_ref_store::store::file::LogPlatform as Platform;
 
             /// Why a line isn't given.
             pub mod decode {
@@ -123,6 +129,11 @@ pub mod store {
     }
 
     pub use gix_ref_store::WriteReflog;
+}
+
+/// Edits of references.
+pub mod transaction {
+    pub use gix_ref_edit::{Change, LogChange, PreviousValue, RefEdit, RefLog};
 }
 
 pub use gix_ref_file::{FileError, Files, Fuse, MemoryFiles, Place};

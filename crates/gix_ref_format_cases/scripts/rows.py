@@ -110,8 +110,13 @@ for data in [packed, bare, backwards, b"# pack-refs with: peeled fully-peeled \n
         hit = completed(word)
         answer = "{} {} {}".format(*hit) if hit else "none"
         add(f"find {word} {data.hex()}", answer)
+        add(f"must {word} {data.hex()}", answer if hit else "not found")
         if word.startswith("refs/"):
             add(f"whole {word} {data.hex()}", answer)
+    # in git's order, whatever order the file has
+    add("all " + data.hex(), shown)
+    for front in ["refs/", "refs/heads/", "refs/heads/a", "refs/heads/a/", "refs/heads/a.", "refs/tags/v", "refs/z", "x", "refs/heads/b/c", "refs/remotes/origin/"]:
+        add(f"begin {front} {data.hex()}", "".join(f"{t} {n} {o}; " for t, n, o in told if n.startswith(front)))
 
 # ---- names of which a worktree has its own, though a record be there (gitrepository-layout, git-worktree)
 

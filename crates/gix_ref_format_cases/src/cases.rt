@@ -2,7 +2,9 @@
 
 use gix_hash::Kind;
 use gix_ref_format::loose;
-use gix_ref_format::packed::{Buffer, Header, Iter, Peeled, Reference, buffer, iter};
+use gix_ref_format::packed::{
+    Buffer, FindError, Header, Iter, Peeled, Records, Reference, buffer, iter,
+};
 use gix_ref_name::{FullName, FullNameRef, PartialNameRef};
 use std::alloc::{AllocError, Global};
 
@@ -115,6 +117,41 @@ fn found(alloc: Global, word: &[u8], bytes: &[u8]) -> Result<String, AllocError>
     }
 }
 
+// A word that must stand.
+fn must_stand(alloc: Global, word: &[u8], bytes: &[u8]) -> Result<String, AllocError> {
+    let Ok(buffer) = Buffer::from_bytes(alloc, bytes.to_vec(alloc)?, Kind::Sha1) else {
+        return format!(in alloc; "not opened");
+    };
+    let Ok(name) = PartialNameRef::new(word) else {
+        return format!(in alloc; "no name");
+    };
+    match buffer.find(alloc, name) {
+        Ok(record) => record_text(alloc, record),
+        Err(FindError::NotFound) => format!(in alloc; "not found"),
+        Err(FindError::Memory) => format!(in alloc; "memory"),
+    }
+}
+
+// The records of a file in order: all, or those whose names begin so.
+fn listed(alloc: Global, prefix: Option<&[u8]>, bytes: &[u8]) -> Result<String, AllocError> {
+    let Ok(buffer) = Buffer::from_bytes(alloc, bytes.to_vec(alloc)?, Kind::Sha1) else {
+        return format!(in alloc; "not opened");
+    };
+    match prefix {
+        Some(prefix) => all_of(alloc, buffer.iter_prefixed(prefix)),
+        None => all_of(alloc, buffer.iter()),
+    }
+}
+
+fn all_of(alloc: Global, records: Records<'_>) -> Result<String, AllocError> {
+    let mut text = String::new(alloc);
+    for record in records {
+        text.push_str(record_text(alloc, record)?.as_str())?;
+        text.push_str("; ")?;
+    }
+    Ok(text)
+}
+
 // A full name looked up in a file.
 fn found_whole(alloc: Global, word: &[u8], bytes: &[u8]) -> Result<String, AllocError> {
     let Ok(buffer) = Buffer::from_bytes(alloc, bytes.to_vec(alloc)?, Kind::Sha1) else {
@@ -152,6 +189,7 @@ fn answer_one(alloc: Global, operation: &str, digits: &str) -> Result<String, Al
         "header" => header(alloc, bytes),
         "items" => items(alloc, bytes),
         "open" => opened(alloc, bytes),
+        "all" => listed(alloc, None, bytes),
         _ => format!(in alloc; "no operation: {operation}"),
     }
 }
@@ -168,6 +206,8 @@ fn answer_two(
     match operation {
         "find" => found(alloc, word.as_bytes(), bytes.as_slice()),
         "whole" => found_whole(alloc, word.as_bytes(), bytes.as_slice()),
+        "must" => must_stand(alloc, word.as_bytes(), bytes.as_slice()),
+        "begin" => listed(alloc, Some(word.as_bytes()), bytes.as_slice()),
         _ => format!(in alloc; "no operation: {operation}"),
     }
 }
