@@ -110,6 +110,15 @@ module _ (slots : Slots) (bound : ℕ) (ok : IsForest slots bound) where
         let x = get_or items k d in
         slot_known x (slots i x.name) refl (sym (e x.name) ∙ once x (Contains-get_or items k d lt))
 
+    pub all_stand : (items : List Item) → HasEntries ids (slots i) items → ((x : Item) → Contains items x → named x.name items ≡ Some x) → All (λ item. (j : ℕ) × (s : Slot) × LeadsTo slots path j [] × (slots j item.name ≡ Some s)) items
+    all_stand items e once k d lt =
+        let x = get_or items k d in
+        by_slot x (slots i x.name) refl (sym (e x.name) ∙ once x (Contains-get_or items k d lt))
+      where
+        by_slot : (x : Item) (o : Option Slot) → slots i x.name ≡ o → through o (written_item ids x.name) ≡ Some x → (j : ℕ) × (s : Slot) × LeadsTo slots path j [] × (slots j x.name ≡ Some s)
+        by_slot x None at e = absurd (cc e)
+        by_slot x (Some s) at e = (i, s, (way ++ base, w, leads), at)
+
     pub none_null : (items : List Item) → HasEntries ids (slots i) items → ((x : Item) → Contains items x → named x.name items ≡ Some x) → All (λ item. is_null item.id ≡ false) items
     none_null items e once k d lt =
         let x = get_or items k d in

@@ -25,7 +25,7 @@ use Rattle.gix_object_editor.specs.Below.{IsAnswered, IsDone, IsOneFrom, IsHande
 use Rattle.gix_object_editor.specs.Editor.{IsChanged}
 use Rattle.gix_object_editor.specs.Marks.{marks_of, changed_in, slot_if, slots_if, due, due_in}
 use Rattle.gix_object_editor.proofs.Due.{due_forest, due_row, due_files, way_due, due_changed}
-use Rattle.gix_object_editor.proofs.HandedOrder.{not_above, each_more, entries_kept, all_known, none_null}
+use Rattle.gix_object_editor.proofs.HandedOrder.{not_above, each_more, entries_kept, all_known, all_stand, none_null}
 use Rattle.gix_object_editor.proofs.Slots.{node_at}
 use Rattle.gix_object_editor.proofs.WrittenFiles.{tree_files, files_below, no_entry}
 use Rattle.gix_object_editor.proofs.WrittenEntries.{once_named}
@@ -88,6 +88,7 @@ module _ (slots : Slots) (base : Path) (bound : ℕ) (ok : IsForest slots bound)
           once = All-weaker (IsOneFrom slots bound ids (suc i)) (λ earlier. behind earlier.path path ≡ None)
               (λ earlier one. let up : i < one.0 = omega (arith, one.1) in not_above slots bound ok earlier.path path one.0 i one.3 to up) handed so.ones;
           known = known;
+          stand = all_stand slots bound ok ids handed i base done way path w leads items tree.entries (once_named items tree.once);
           no_null = none_null slots bound ok ids handed i base done way path w leads items tree.entries (once_named items tree.once);
           no_empty = λ trees has. All-weaker (IsKnown slots handed path) (λ (item : Item). trees item.id ≡ Some [] → StandsUnopened slots path item) (filled trees has) items known;
           well_formed = tree.well_formed;

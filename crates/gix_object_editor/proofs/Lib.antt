@@ -3,6 +3,7 @@ pub mod Filled
 pub mod Ladder
 pub mod Loaded
 pub mod Marked
+pub mod Kept
 pub mod Due
 pub mod Opening
 pub mod Paths

@@ -96,29 +96,6 @@ module _ {E : Type 0} (item_of : E → Item) where
       ap (named (item_of e).name) (sym (take-map item_of i entries)) ∙ ap (λ x. named x.name (take i (map item_of entries))) (sym at) ∙ none_before (map item_of entries) i (item_of e) whole.once more in
       subst (λ p. StandsFor (Some s) p) none stands
 
-  pub name_isnt_one : (entries : List E) (i : ℕ) (e : E) → i < length entries → e ≡ get_or entries i e → (((item_of e).name ≢ []) × Lacks 47 (item_of e).name → ⊥) → IsWellFormed (map item_of entries) → ⊥
-  name_isnt_one entries i e lt is bad whole =
-      let more : i < length (map item_of entries) = omega (arith, length-of entries) in
-      let at : get_or (map item_of entries) i (item_of e) ≡ item_of e = get_or-map item_of entries i e (item_of e) lt ∙ ap item_of (sym is) in
-      let good = subst (λ x. (x.name ≢ []) × Lacks 47 x.name) at ((whole.names i (item_of e) more).some, (whole.names i (item_of e) more).within_folder) in
-      bad good
-
-  pub isnt_behind : (entries : List E) (k i : ℕ) (a b : E) → i ≡ suc k → i < length entries → a ≡ get_or entries k a → b ≡ get_or entries i b
-      → is_lt (name_cmp (item_of a).name (is_tree (item_of a)) (item_of b).name (is_tree (item_of b))) ≡ false → IsWellFormed (map item_of entries) → ⊥
-  isnt_behind entries k i a b next lt is_a is_b bad whole =
-      let below : k < length entries = omega arith in
-      let here : suc k < length entries = omega arith in
-      let more : suc k < length (map item_of entries) = omega (arith, length-of entries) in
-      let first : get_or (map item_of entries) k (item_of a) ≡ item_of a = get_or-map item_of entries k a (item_of a) below ∙ ap item_of (sym is_a) in
-      let second : get_or (map item_of entries) (suc k) (item_of a) ≡ item_of b =
-      get_or-map item_of entries (suc k) b (item_of a) here ∙ ap (λ n. item_of (get_or entries n b)) (sym next) ∙ ap item_of (sym is_b) in
-      let good : name_cmp (item_of a).name (is_tree (item_of a)) (item_of b).name (is_tree (item_of b)) ≡ Less =
-      ap (λ x. name_cmp x.name (is_tree x) (item_of b).name (is_tree (item_of b))) (sym first)
-      ∙ ap (λ y. name_cmp (get_or (map item_of entries) k (item_of a)).name (is_tree (get_or (map item_of entries) k (item_of a))) y.name (is_tree y)) (sym second)
-      ∙ whole.ordered k (suc k) (item_of a) (omega arith) more in
-      let yes : is_lt (name_cmp (item_of a).name (is_tree (item_of a)) (item_of b).name (is_tree (item_of b))) ≡ true = ap is_lt good in
-      cc
-
   -- a name that no well-formed tree has twice
   pub absent_before : (entries : List E) (i : ℕ) (e : E) (o : Option Slot) → i < length entries → e ≡ get_or entries i e
       → StandsFor o (named (item_of e).name (map item_of (take i entries))) → IsWellFormed (map item_of entries) → o ≡ None
@@ -129,6 +106,14 @@ pub fresh_of : (o : Option Slot) (p : Option Item) → StandsFor o p → child_o
 fresh_of None p h = refl
 fresh_of (Some s) None h = absurd h
 fresh_of (Some s) (Some x) h = ap (λ c. child_or c (λ k. Some k) None) h.1
+
+-- what stands in a node is an entry of the tree
+pub entries_stand : (slots : Bytes → Option Slot) (items : List Item) → ((m : Bytes) → StandsFor (slots m) (named m items)) → (m : Bytes) (s : Slot) → slots m ≡ Some s → (item : Item) × (named m items ≡ Some item) × (leaf_in s ≡ leaf_of item)
+entries_stand slots items stands m s is = by_item (named m items) refl (subst (λ o. StandsFor o (named m items)) is (stands m))
+  where
+    by_item : (p : Option Item) → named m items ≡ p → StandsFor (Some s) p → (item : Item) × (named m items ≡ Some item) × (leaf_in s ≡ leaf_of item)
+    by_item None e h = absurd h
+    by_item (Some item) e h = (item, e, h.0)
 
 pub not_null : (id : Id) (b : Bool) → (IsTrue b ↔ (id ≡ null_id id.kind)) → b ≡ false → is_null id ≡ false
 not_null id b says isnt = elim (by_test (is_null id)) [

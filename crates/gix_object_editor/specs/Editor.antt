@@ -12,6 +12,7 @@ use Rattle.gix_object_editor.specs.declared.tree.editor.error.Error.TheVariants.
 use Rattle.gix_object_editor.specs.Files.{Bytes, Path, Leaf, FileMap, Trees, NamesAreFull}
 use Rattle.gix_object_editor.specs.Nodes.{slots_of, files_of_node, AreFilled, LeadsTo}
 use Rattle.gix_object_editor.specs.Marks.{marks_of, AreAsRead}
+use Rattle.gix_object_editor.specs.Entries.{Property, EachHas}
 use Rattle.gix_object_editor.specs.Refusals.{OpeningFault}
 
 -- the files of the edited root, over a table of trees
@@ -25,6 +26,10 @@ IsChanged editor path = (j : ℕ) × LeadsTo (slots_of editor.nodes.items) path 
 -- each opened tree that no edit changed has the files that the table has of its entry
 abbrev pub IsAsRead : {S : Type 0} → Trees → Editor S → Type 0
 IsAsRead trees editor = AreAsRead trees (slots_of editor.nodes.items) (marks_of editor.nodes.items)
+
+-- each entry of the editor's opened trees has the property, also where a tree was opened for it
+abbrev pub EachEntryHas : {S : Type 0} → Property → Editor S → Type 0
+EachEntryHas has editor = EachHas has (slots_of editor.nodes.items)
 
 -- what stands at the second path lies in the tree at the first
 abbrev pub IsAbove : Path → Path → Type 0

@@ -5,6 +5,7 @@ pub mod Refusals
 pub mod Editor
 pub mod Writing
 pub mod Written
+pub mod Entries
 pub mod Below
 pub mod Lending
 pub mod Cursor

@@ -36,14 +36,6 @@ OpeningFault honest may_fail table id (CannotRemoveNonLeaf filename) = ⊥
 OpeningFault honest may_fail table id (MalformedTree oid) = TreeIsMalformed honest table id (id_of oid)
 OpeningFault honest may_fail table id Memory = ⊤
 
--- the same of a tree's entries alone
-abbrev pub BuildingFault : Id → List Item → Error → Type 0
-BuildingFault id items EmptyPathComponent = ⊥
-BuildingFault id items (FindExistingObject error) = ⊥
-BuildingFault id items (CannotRemoveNonLeaf filename) = ⊥
-BuildingFault id items (MalformedTree oid) = (id_of oid ≡ id) × ¬ IsWellFormed items
-BuildingFault id items Memory = ⊤
-
 -- why a name's folder is refused as a file: its tree isn't opened, or a file stands below it, where no entry names a tree without
 -- files
 abbrev pub FolderFault : Type 0 → Type 0 → Table → Slots → ℕ → Bytes → Error → Type 0

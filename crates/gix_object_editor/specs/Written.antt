@@ -58,6 +58,8 @@ pub record IsHandedOut (slots : Slots) (before : List HandedOut) (tree : HandedO
   -- neither it nor a tree that it lies in was handed out before
   pub once : All (λ earlier. behind earlier.path tree.path ≡ None) before
   pub known : All (IsKnown slots before tree.path) tree.items
+  -- each entry's name is that of one in the opened tree
+  pub stand : All (λ item. (j : ℕ) × (s : Slot) × LeadsTo slots tree.path j [] × (slots j item.name ≡ Some s)) tree.items
   pub no_null : All (λ item. is_null item.id ≡ false) tree.items
   -- an entry that names the empty tree stood so
   pub no_empty : (trees : Trees) → HasHandedOut before trees → All (λ item. trees item.id ≡ Some [] → StandsUnopened slots tree.path item) tree.items

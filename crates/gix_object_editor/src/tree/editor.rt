@@ -5,7 +5,8 @@ ghost use Rattle.std.specs.Borrow.{sem};
 ghost use Rattle.gix_object_entries.specs.Entry.{item_of, own_item};
 ghost use Rattle.gix_object_editor.specs.Files.{Path, Trees, HasStored, SameFiles, NamesAreFull, HasNoneBelow, removed, put, files_of_tree};
 ghost use Rattle.gix_object_editor.specs.Nodes.{slots_of, entry_at};
-ghost use Rattle.gix_object_editor.specs.Editor.{files_of, names_of, leaf_of_kind, LeadsThrough, LeadsInto, EditFault, LeafFault, IsFilled, IsFolder, IsChanged, IsAsRead, IsAbove};
+ghost use Rattle.gix_object_editor.specs.Editor.{files_of, names_of, leaf_of_kind, LeadsThrough, LeadsInto, EditFault, LeafFault, IsFilled, IsFolder, IsChanged, IsAsRead, IsAbove, EachEntryHas};
+ghost use Rattle.gix_object_editor.specs.Entries.{Property, PassesDown, MayStand, ItemsHave};
 ghost use Rattle.gix_object_entries.specs.WellFormed.{IsWellFormed};
 
 mod cursor;
@@ -43,6 +44,7 @@ impl<S: Find> Editor<S> {
         requires { IsWellFormed (map own_item root.now.entries.items) }
         ensures files { IfOk result (λ editor. (trees : Trees) → SameFiles (files_of trees editor) (files_of_tree trees (map own_item root.now.entries.items))) }
         ensures store { IfOk result (λ editor. editor.store ≡ store) }
+        ensures each { IfOk result (λ editor. (has : Property) → ItemsHave has (map own_item root.now.entries.items) → EachEntryHas has editor) }
         ensures as_read { IfOk result (λ editor. (trees : Trees) → IsAsRead trees editor) }
         ensures unchanged { IfOk result (λ editor. (tree : Path) → IsChanged editor tree → ⊥) }
         ensures uncounted { IfOk result (λ editor. editor.lookups ≡ 0) }
@@ -59,6 +61,7 @@ impl<S: Find> Editor<S> {
     pub fn set_root(&mut self, alloc: Global, root: &Tree) -> Result<(), AllocError>
         requires { IsWellFormed (map own_item root.now.entries.items) }
         ensures files { OnOk result ((trees : Trees) → SameFiles (files_of trees self.new) (files_of_tree trees (map own_item root.now.entries.items))) }
+        ensures each { OnOk result ((has : Property) → ItemsHave has (map own_item root.now.entries.items) → EachEntryHas has self.new) }
         ensures as_read { OnOk result ((trees : Trees) → IsAsRead trees self.new) }
         ensures still { OnOk result ((tree : Path) → IsChanged self.new tree → ⊥) }
         ensures uncounted { OnOk result (self.new.lookups ≡ 0) }
@@ -105,6 +108,7 @@ impl<S: Find> Editor<S> {
         ensures named { OnOk result (NamesAreFull (names_of path.now)) }
         ensures refused { IfErr result (EditFault (S.is_honest self.old.store) (S.may_fail self.old.store) (S.table self.old.store) (names_of path.now)
             (LeadsThrough (λ trees. files_of trees self.new) (names_of path.now))) }
+        ensures each { S.is_honest self.old.store → (has : Property) → PassesDown (S.table self.old.store) has → EachEntryHas has self.old → EachEntryHas has self.new }
         ensures as_read { S.is_honest self.old.store → (trees : Trees) → HasStored (S.table self.old.store) trees → IsAsRead trees self.old → IsAsRead trees self.new }
         ensures changed { (tree : Path) → IsChanged self.new tree → IsChanged self.old tree ⊎ IsAbove tree (names_of path.now) }
         ensures still { OnErr result ((tree : Path) → IsChanged self.new tree → IsChanged self.old tree) }
@@ -128,6 +132,7 @@ impl<S: Find> Editor<S> {
         ensures named { OnOk result (NamesAreFull (names_of path.now)) }
         ensures refused { IfErr result (LeafFault (S.is_honest self.old.store) (S.may_fail self.old.store) (S.table self.old.store) (names_of path.now)
             (LeadsInto (λ trees. files_of trees self.new) (names_of path.now)) (IsFolder (λ trees. IsFilled trees self.new) (λ trees. files_of trees self.new) (names_of path.now))) }
+        ensures each { S.is_honest self.old.store → (has : Property) → PassesDown (S.table self.old.store) has → EachEntryHas has self.old → EachEntryHas has self.new }
         ensures as_read { S.is_honest self.old.store → (trees : Trees) → HasStored (S.table self.old.store) trees → IsAsRead trees self.old → IsAsRead trees self.new }
         ensures changed { (tree : Path) → IsChanged self.new tree → IsChanged self.old tree ⊎ IsAbove tree (names_of path.now) }
         ensures still { OnErr result ((tree : Path) → IsChanged self.new tree → IsChanged self.old tree) }
@@ -155,6 +160,8 @@ impl<S: Find> Editor<S> {
         ensures named { OnOk result (NamesAreFull (names_of path.now)) }
         ensures refused { IfErr result (EditFault (S.is_honest self.old.store) (S.may_fail self.old.store) (S.table self.old.store) (names_of path.now)
             (LeadsThrough (λ trees. files_of trees self.new) (names_of path.now))) }
+        ensures each { S.is_honest self.old.store → (has : Property) → PassesDown (S.table self.old.store) has → MayStand has (names_of path.now) (leaf_of_kind kind id)
+            → EachEntryHas has self.old → EachEntryHas has self.new }
         ensures as_read { S.is_honest self.old.store → (trees : Trees) → HasStored (S.table self.old.store) trees → IsAsRead trees self.old → IsAsRead trees self.new }
         ensures changed { (tree : Path) → IsChanged self.new tree → IsChanged self.old tree ⊎ IsAbove tree (names_of path.now) }
         ensures still { OnErr result ((tree : Path) → IsChanged self.new tree → IsChanged self.old tree) }

@@ -6,7 +6,8 @@ ghost use Rattle.gix_hash.specs.Id.{id_of};
 ghost use Rattle.gix_object_entries.specs.Entry.{item_of};
 ghost use Rattle.gix_object_editor.specs.Files.{Path, Trees, HasStored, SameFiles, NamesAreFull, HasNoneBelow, removed, put, cleared};
 ghost use Rattle.gix_object_editor.specs.Nodes.{slots_of, entry_at};
-ghost use Rattle.gix_object_editor.specs.Editor.{files_of, names_of, leaf_of_kind, LeadsThrough, LeadsInto, EditFault, LeafFault, IsFilled, IsFolder, IsChanged, IsAsRead, IsAbove, Begins};
+ghost use Rattle.gix_object_editor.specs.Editor.{files_of, names_of, leaf_of_kind, LeadsThrough, LeadsInto, EditFault, LeafFault, IsFilled, IsFolder, IsChanged, IsAsRead, IsAbove, Begins, EachEntryHas};
+ghost use Rattle.gix_object_editor.specs.Entries.{Property, PassesDown, MayStand};
 ghost use Rattle.gix_object_editor.specs.Marks.{due_in};
 ghost use Rattle.gix_object_editor.specs.Written.{WriteFault, Writes};
 ghost use Rattle.gix_object_editor.specs.Cursor.{StandsAt, IsLeft, LendsOrLeaves};
@@ -82,6 +83,7 @@ impl<'c, S: Find> Cursor<'c, S> {
         ensures named { OnOk result (NamesAreFull (names_of path.now)) }
         ensures refused { (base : Path) → StandsAt self.old base → IfErr result (EditFault (S.is_honest self.old.editor.now.store) (S.may_fail self.old.editor.now.store) (S.table self.old.editor.now.store) (names_of path.now)
             (LeadsThrough (λ trees. files_of trees self.new.editor.now) (base ++ names_of path.now))) }
+        ensures each { S.is_honest self.old.editor.now.store → (has : Property) → PassesDown (S.table self.old.editor.now.store) has → EachEntryHas has self.old.editor.now → EachEntryHas has self.new.editor.now }
         ensures as_read { S.is_honest self.old.editor.now.store → (trees : Trees) → HasStored (S.table self.old.editor.now.store) trees
             → IsAsRead trees self.old.editor.now → IsAsRead trees self.new.editor.now }
         ensures changed { (base : Path) → StandsAt self.old base → (tree : Path) → IsChanged self.new.editor.now tree
@@ -107,6 +109,7 @@ impl<'c, S: Find> Cursor<'c, S> {
         ensures refused { (base : Path) → StandsAt self.old base → IfErr result (LeafFault (S.is_honest self.old.editor.now.store) (S.may_fail self.old.editor.now.store) (S.table self.old.editor.now.store) (names_of path.now)
             (LeadsInto (λ trees. files_of trees self.new.editor.now) (base ++ names_of path.now))
             (IsFolder (λ trees. IsFilled trees self.new.editor.now) (λ trees. files_of trees self.new.editor.now) (base ++ names_of path.now))) }
+        ensures each { S.is_honest self.old.editor.now.store → (has : Property) → PassesDown (S.table self.old.editor.now.store) has → EachEntryHas has self.old.editor.now → EachEntryHas has self.new.editor.now }
         ensures as_read { S.is_honest self.old.editor.now.store → (trees : Trees) → HasStored (S.table self.old.editor.now.store) trees
             → IsAsRead trees self.old.editor.now → IsAsRead trees self.new.editor.now }
         ensures changed { (base : Path) → StandsAt self.old base → (tree : Path) → IsChanged self.new.editor.now tree
@@ -135,6 +138,8 @@ impl<'c, S: Find> Cursor<'c, S> {
         ensures named { OnOk result (NamesAreFull (names_of path.now)) }
         ensures refused { (base : Path) → StandsAt self.old base → IfErr result (EditFault (S.is_honest self.old.editor.now.store) (S.may_fail self.old.editor.now.store) (S.table self.old.editor.now.store) (names_of path.now)
             (LeadsThrough (λ trees. files_of trees self.new.editor.now) (base ++ names_of path.now))) }
+        ensures each { S.is_honest self.old.editor.now.store → (has : Property) → PassesDown (S.table self.old.editor.now.store) has → MayStand has (names_of path.now) (leaf_of_kind kind id)
+            → EachEntryHas has self.old.editor.now → EachEntryHas has self.new.editor.now }
         ensures as_read { S.is_honest self.old.editor.now.store → (trees : Trees) → HasStored (S.table self.old.editor.now.store) trees
             → IsAsRead trees self.old.editor.now → IsAsRead trees self.new.editor.now }
         ensures changed { (base : Path) → StandsAt self.old base → (tree : Path) → IsChanged self.new.editor.now tree

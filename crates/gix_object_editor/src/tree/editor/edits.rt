@@ -3,7 +3,8 @@
 ghost use Rattle.std.specs.Prelude.{◌≡◌, ◌<◌, ◌≤◌, ◌+◌, ◌⊎◌, length, IfErr, OnOk, OnErr, IfOk, []};
 ghost use Rattle.gix_object_editor.specs.Files.{Path, Trees, HasStored, SameFiles, NamesAreFull, HasNoneBelow, removed, put, cleared};
 ghost use Rattle.gix_object_editor.specs.Nodes.{slots_of, Way, onto, LeadsTo};
-ghost use Rattle.gix_object_editor.specs.Editor.{files_of, names_of, leaf_of_kind, LeadsThrough, LeadsInto, EditFault, LeafFault, IsFilled, IsFolder, IsChanged, IsAsRead, IsAbove, Begins};
+ghost use Rattle.gix_object_editor.specs.Editor.{files_of, names_of, leaf_of_kind, LeadsThrough, LeadsInto, EditFault, LeafFault, IsFilled, IsFolder, IsChanged, IsAsRead, IsAbove, Begins, EachEntryHas};
+ghost use Rattle.gix_object_editor.specs.Entries.{Property, PassesDown, MayStand};
 ghost use Rattle.gix_object_editor.specs.declared.tree.editor.error.Error.TheVariants.{EmptyPathComponent};
 
 use crate::tree::editor::filled::refuse_folder;
@@ -36,6 +37,7 @@ impl<S: Find> Editor<S> {
         ensures refused { (way : Path) → Way (slots_of self.old.nodes.items) way from.0 → IfErr result (EditFault (S.is_honest self.old.store) (S.may_fail self.old.store) (S.table self.old.store) (names_of path.now)
             (LeadsThrough (λ trees. files_of trees self.new) (onto way (names_of path.now)))) }
         ensures counted { self.new.lookups ≤ self.old.lookups + length path.now }
+        ensures each { S.is_honest self.old.store → (has : Property) → PassesDown (S.table self.old.store) has → EachEntryHas has self.old → EachEntryHas has self.new }
         ensures as_read { S.is_honest self.old.store → (trees : Trees) → HasStored (S.table self.old.store) trees → IsAsRead trees self.old → IsAsRead trees self.new }
         ensures changed { (way : Path) → Way (slots_of self.old.nodes.items) way from.0 → (tree : Path) → IsChanged self.new tree
             → IsChanged self.old tree ⊎ IsAbove tree (onto way (names_of path.now)) }
@@ -77,6 +79,7 @@ impl<S: Find> Editor<S> {
         ensures refused { (way : Path) → Way (slots_of self.old.nodes.items) way from.0 → IfErr result (LeafFault (S.is_honest self.old.store) (S.may_fail self.old.store) (S.table self.old.store) (names_of path.now)
             (LeadsInto (λ trees. files_of trees self.new) (onto way (names_of path.now))) (IsFolder (λ trees. IsFilled trees self.new) (λ trees. files_of trees self.new) (onto way (names_of path.now)))) }
         ensures counted { self.new.lookups ≤ self.old.lookups + length path.now }
+        ensures each { S.is_honest self.old.store → (has : Property) → PassesDown (S.table self.old.store) has → EachEntryHas has self.old → EachEntryHas has self.new }
         ensures as_read { S.is_honest self.old.store → (trees : Trees) → HasStored (S.table self.old.store) trees → IsAsRead trees self.old → IsAsRead trees self.new }
         ensures changed { (way : Path) → Way (slots_of self.old.nodes.items) way from.0 → (tree : Path) → IsChanged self.new tree
             → IsChanged self.old tree ⊎ IsAbove tree (onto way (names_of path.now)) }
@@ -126,6 +129,8 @@ impl<S: Find> Editor<S> {
         ensures refused { (way : Path) → Way (slots_of self.old.nodes.items) way from.0 → IfErr result (EditFault (S.is_honest self.old.store) (S.may_fail self.old.store) (S.table self.old.store) (names_of path.now)
             (LeadsThrough (λ trees. files_of trees self.new) (onto way (names_of path.now)))) }
         ensures counted { self.new.lookups ≤ self.old.lookups + length path.now }
+        ensures each { S.is_honest self.old.store → (has : Property) → PassesDown (S.table self.old.store) has → MayStand has (names_of path.now) (leaf_of_kind kind id)
+            → EachEntryHas has self.old → EachEntryHas has self.new }
         ensures as_read { S.is_honest self.old.store → (trees : Trees) → HasStored (S.table self.old.store) trees → IsAsRead trees self.old → IsAsRead trees self.new }
         ensures changed { (way : Path) → Way (slots_of self.old.nodes.items) way from.0 → (tree : Path) → IsChanged self.new tree
             → IsChanged self.old tree ⊎ IsAbove tree (onto way (names_of path.now)) }

@@ -2,6 +2,7 @@
 
 ghost use Rattle.std.specs.Prelude.{◌≡◌, ◌<◌, ◌≤◌, ◌+◌, ◌∷◌, length, IsTrue, IsFalse, IfErr, OnOk, None, false};
 ghost use Rattle.gix_object_editor.specs.Files.{Bytes, Path, Trees, HasStored};
+ghost use Rattle.gix_object_editor.specs.Entries.{Property, EachHas, PassesDown};
 ghost use Rattle.gix_object_editor.specs.Marks.{marks_of, AreMarksKept, AreAsRead};
 ghost use Rattle.gix_object_editor.specs.Nodes.{slots_of, files_of_node, IsForest, AreFilled, HasFileBelow, IsOpened, IsFolderAt};
 ghost use Rattle.gix_object_editor.specs.Refusals.{FolderFault};
@@ -28,6 +29,7 @@ pub(crate) fn refuse_folder<S: Find>(
     ensures marks { AreMarksKept false (slots_of nodes.old.items) (slots_of nodes.new.items) (marks_of nodes.old.items) (marks_of nodes.new.items) (length nodes.old.items) (length nodes.new.items) }
     ensures as_read { S.is_honest store.now → (trees : Trees) → HasStored (S.table store.now) trees
         → AreAsRead trees (slots_of nodes.old.items) (marks_of nodes.old.items) → AreAsRead trees (slots_of nodes.new.items) (marks_of nodes.new.items) }
+    ensures each { S.is_honest store.now → (has : Property) → PassesDown (S.table store.now) has → EachHas has (slots_of nodes.old.items) → EachHas has (slots_of nodes.new.items) }
     ensures plain { OnOk result (IsFolderAt (slots_of nodes.new.items) at.0 name.now None) }
     ensures counted { lookups.new ≤ lookups.old + 1 }
     ensures refused { IfErr result (FolderFault (S.is_honest store.now) (S.may_fail store.now) (S.table store.now) (slots_of nodes.new.items) at.0 name.now) }

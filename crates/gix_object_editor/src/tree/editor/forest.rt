@@ -4,6 +4,7 @@ ghost use Rattle.std.specs.Prelude.{◌≡◌, ◌<◌, ◌≤◌, ◌+◌, ℕ,
 ghost use Rattle.gix_hash.specs.Id.{Id, id_of};
 ghost use Rattle.gix_object_editor.specs.Files.{Bytes, Path, Trees, HasStored};
 ghost use Rattle.gix_object_editor.specs.Nodes.{slot_in, slots_of, child_of, IsForest, IsOpened, IsFolderAt, IsUnopened, IsStoppedAt, Way, onto, LeadsTo};
+ghost use Rattle.gix_object_editor.specs.Entries.{Property, EachHas, PassesDown};
 ghost use Rattle.gix_object_editor.specs.Marks.{marks_of, mark_below, AreMarksKept, AreAsRead};
 ghost use Rattle.gix_object_editor.specs.Refusals.{OpeningFault};
 ghost use Rattle.gix_object_editor.specs.declared.tree.editor.node.Slot.{Slot};
@@ -66,6 +67,7 @@ pub(crate) fn open<S: Find>(
     ensures marks { AreMarksKept false (slots_of nodes.old.items) (slots_of nodes.new.items) (marks_of nodes.old.items) (marks_of nodes.new.items) (length nodes.old.items) (length nodes.new.items) }
     ensures as_read { S.is_honest store.now → (trees : Trees) → HasStored (S.table store.now) trees
         → AreAsRead trees (slots_of nodes.old.items) (marks_of nodes.old.items) → AreAsRead trees (slots_of nodes.new.items) (marks_of nodes.new.items) }
+    ensures each { S.is_honest store.now → (has : Property) → PassesDown (S.table store.now) has → EachHas has (slots_of nodes.old.items) → EachHas has (slots_of nodes.new.items) }
     ensures found { IfOk result (IsFolderAt (slots_of nodes.new.items) at.0 name.now) }
     ensures counted { lookups.new ≤ lookups.old + 1 }
     ensures refused { IfErr result (λ error. (s : Slot) × (slots_of nodes.new.items at.0 name.now ≡ Some s) × IsUnopened s
@@ -102,6 +104,7 @@ pub(crate) fn walk<S: Find>(
     ensures marks { AreMarksKept false (slots_of nodes.old.items) (slots_of nodes.new.items) (marks_of nodes.old.items) (marks_of nodes.new.items) (length nodes.old.items) (length nodes.new.items) }
     ensures as_read { S.is_honest store.now → (trees : Trees) → HasStored (S.table store.now) trees
         → AreAsRead trees (slots_of nodes.old.items) (marks_of nodes.old.items) → AreAsRead trees (slots_of nodes.new.items) (marks_of nodes.new.items) }
+    ensures each { S.is_honest store.now → (has : Property) → PassesDown (S.table store.now) has → EachHas has (slots_of nodes.old.items) → EachHas has (slots_of nodes.new.items) }
     ensures within { IfOk result (λ end. (end.0.0 < length nodes.new.items) × (end.1 < length path.now)) }
     ensures below { IfOk result (λ end. from.0 ≤ end.0.0) }
     ensures leads { IfOk result (λ end. (way : Path) → Way (slots_of nodes.old.items) way from.0
@@ -140,6 +143,7 @@ pub(crate) fn folder_below<S: Find>(
     ensures marks { AreMarksKept false (slots_of nodes.old.items) (slots_of nodes.new.items) (marks_of nodes.old.items) (marks_of nodes.new.items) (length nodes.old.items) (length nodes.new.items) }
     ensures as_read { S.is_honest store.now → (trees : Trees) → HasStored (S.table store.now) trees
         → AreAsRead trees (slots_of nodes.old.items) (marks_of nodes.old.items) → AreAsRead trees (slots_of nodes.new.items) (marks_of nodes.new.items) }
+    ensures each { S.is_honest store.now → (has : Property) → PassesDown (S.table store.now) has → EachHas has (slots_of nodes.old.items) → EachHas has (slots_of nodes.new.items) }
     ensures found { IfOk result (IsFolderAt (slots_of nodes.new.items) at.0 (slice_index_or (map (λ n. n.now) names.now) 0 [])) }
     ensures last { IfOk result (λ found. IsSome found → length names.now ≡ 1) }
     ensures counted { lookups.new ≤ lookups.old + 1 }

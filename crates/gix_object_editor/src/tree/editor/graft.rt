@@ -1,8 +1,11 @@
 //! Putting an entry below an opened tree, in folders that are made for it.
 
-ghost use Rattle.std.specs.Prelude.{◌≡◌, ◌≢◌, ◌<◌, ◌≤◌, ◌+◌, ◌++◌, ◌∷◌, ℕ, length, map, slice_index_or, IfOk, OnOk, OnErr, Some, None, [], true};
-ghost use Rattle.gix_object_entries.specs.Mode.{is_tree_value};
+ghost use Rattle.std.specs.Prelude.{◌≡◌, ◌≢◌, ◌<◌, ◌≤◌, ◌+◌, ◌++◌, ◌∷◌, ◌⊎◌, ℕ, length, map, slice_index_or, IfOk, OnOk, OnErr, Some, None, [], true};
+ghost use Rattle.std.specs.List.{Contains};
+ghost use Rattle.gix_hash.specs.Id.{id_of};
+ghost use Rattle.gix_object_editor.specs.declared.tree.editor.node.Slot.{Slot};
 ghost use Rattle.gix_object_editor.specs.Files.{Bytes, Path, Trees, SameFiles, put, cleared};
+ghost use Rattle.gix_object_editor.specs.Entries.{Property, EachHas, MayStand, made_leaf};
 ghost use Rattle.gix_object_editor.specs.Marks.{mark_of, marks_of, mark_below, rung_parent, AreMarksKept, AreOnPath};
 ghost use Rattle.gix_object_editor.specs.Nodes.{slot_in, slots_of, child_of, leaf_in, files_of_node, Way, onto, IsForest, IsFolderAt, IsRung, IsPutIn, LeadsTo};
 
@@ -34,6 +37,7 @@ pub(crate) fn graft(
     ensures within { IfOk result (λ end. end.0 < length nodes.new.items) }
     ensures others { (i : ℕ) (m : Bytes) → i < length nodes.old.items → (i ≡ at.0 → m ≡ slice_index_or (map (λ n. n.now) names.now) 0 [] → ⊥) → slots_of nodes.new.items i m ≡ slots_of nodes.old.items i m }
     ensures err { OnErr result ((i : ℕ) (m : Bytes) → slots_of nodes.new.items i m ≡ slots_of nodes.old.items i m) }
+    ensures each { (has : Property) → MayStand has (map (λ n. n.now) names.now) (leaf_in slot) → EachHas has (slots_of nodes.old.items) → EachHas has (slots_of nodes.new.items) }
     ensures marks { AreMarksKept true (slots_of nodes.old.items) (slots_of nodes.new.items) (marks_of nodes.old.items) (marks_of nodes.new.items) (length nodes.old.items) (length nodes.new.items) }
     ensures last { IfOk result (λ end. 1 < length names.now → (end.0 + 1 ≡ length nodes.new.items) × (length nodes.old.items ≤ end.0)) }
     ensures made { OnOk result ((way : Path) → Way (slots_of nodes.old.items) way at.0
@@ -115,6 +119,7 @@ fn hang(
     ensures within { IfOk result (λ end. end.0 < length nodes.new.items) }
     ensures others { (i : ℕ) (m : Bytes) → i < length nodes.old.items → (i ≡ at.0 → m ≡ slice_index_or (map (λ n. n.now) names.now) 0 [] → ⊥) → slots_of nodes.new.items i m ≡ slots_of nodes.old.items i m }
     ensures err { OnErr result ((i : ℕ) (m : Bytes) → i < length nodes.old.items → slots_of nodes.new.items i m ≡ slots_of nodes.old.items i m) }
+    ensures each { OnOk result ((has : Property) → MayStand has (map (λ n. n.now) names.now) (leaf_in slot) → EachHas has (slots_of nodes.old.items) → EachHas has (slots_of nodes.new.items)) }
     ensures marks { OnOk result (AreMarksKept true (slots_of nodes.old.items) (slots_of nodes.new.items) (marks_of nodes.old.items) (marks_of nodes.new.items) (length nodes.old.items) (length nodes.new.items)) }
     ensures front { (i : ℕ) → i < length nodes.old.items → marks_of nodes.new.items i ≡ marks_of nodes.old.items i }
     ensures last { IfOk result (λ end. (end.0 + 1 ≡ length nodes.new.items) × (length nodes.old.items ≤ end.0)) }
@@ -148,6 +153,8 @@ fn push_ladder(
     ensures rungs { OnOk result ((k : ℕ) → k < length names.now → IsRung (slots_of nodes.new.items) (length nodes.old.items) (map (λ n. n.now) names.now) slot k) }
     ensures len { OnOk result (length nodes.new.items ≡ length nodes.old.items + length names.now) }
     ensures longer { length nodes.old.items ≤ length nodes.new.items }
+    ensures leaves { (i : ℕ) (m : Bytes) (s : Slot) → length nodes.old.items ≤ i → slots_of nodes.new.items i m ≡ Some s
+        → Contains (map (λ n. n.now) names.now) m × ((leaf_in s ≡ leaf_in slot) ⊎ (leaf_in s ≡ made_leaf (id_of slot.oid).kind)) }
     ensures marks { (i : ℕ) → i < length nodes.old.items → marks_of nodes.new.items i ≡ marks_of nodes.old.items i }
     ensures changed { OnOk result ((k : ℕ) → k < length names.now → marks_of nodes.new.items (length nodes.old.items + k) ≡ mark_below (rung_parent at.0 (length nodes.old.items) k) true) }
 {
@@ -179,7 +186,8 @@ fn lone(alloc: Global, above: NodeId, name: &[u8], slot: Slot) -> Result<Node, A
 
 // The slot of an opened tree that has no id yet, of the hash function of the other id.
 fn folder(like: ObjectId, child: NodeId) -> Slot
-    ensures { result.child ≡ Some child }
+    ensures linked { result.child ≡ Some child }
+    ensures leaf { leaf_in result ≡ made_leaf (id_of like).kind }
 {
     Slot {
         mode: EntryMode::from(EntryKind::Tree),

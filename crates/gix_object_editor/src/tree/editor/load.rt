@@ -1,34 +1,38 @@
 //! Opening stored trees.
 
-ghost use Rattle.std.specs.Prelude.{◌≡◌, ◌≢◌, ◌<◌, ◌↔◌, [], length, map, None, IfOk, IfErr, IsTrue, IsFalse};
+ghost use Rattle.std.specs.Prelude.{◌≡◌, map, None, IfOk, IfErr};
 ghost use Rattle.gix_hash.specs.Id.{id_of};
 ghost use Rattle.gix_object_lines.specs.declared.kind.Kind.TheVariants as kinds;
-ghost use Rattle.gix_object_lines.specs.Bytes.{Lacks};
-ghost use Rattle.gix_object_entries.specs.Entry.{Item, item_of};
+ghost use Rattle.gix_object_entries.specs.Entry.{item_of};
 ghost use Rattle.gix_object_entries.specs.WellFormed.{IsWellFormed};
 ghost use Rattle.gix_object_find.specs.Existing.{Stands};
 ghost use Rattle.gix_object_editor.specs.Files.{Bytes, Trees, HasStored, named};
 ghost use Rattle.gix_object_editor.specs.Nodes.{slot_in, StandsFor, OpensTree, IsReadTree, child_of};
-ghost use Rattle.gix_object_editor.specs.Refusals.{TreeIsUnread, BuildingFault, OpeningFault};
+ghost use Rattle.gix_object_editor.specs.Entries.{HoldsTree};
+ghost use Rattle.gix_object_editor.specs.Refusals.{TreeIsUnread, OpeningFault};
 
 use crate::tree::editor::Error;
 use crate::tree::editor::node::{Node, Slot};
 use gix_hash::ObjectId;
-use gix_object_entries::tree::{EntryRef, TreeRef, name_order};
+use gix_object_entries::tree::{EntryRef, TreeRef};
 use gix_object_find::Find;
 use gix_object_find::find::existing_object;
 use gix_object_lines::Kind;
-use std::alloc::Global;
+use std::alloc::{AllocError, Global};
 
 /// The stored tree of this id, opened.
 pub(crate) fn load<S: Find>(store: &S, alloc: Global, oid: ObjectId) -> Result<Node, Error>
     ensures opened { S.is_honest store.now → IfOk result (OpensTree (S.table store.now) (id_of oid)) }
+    ensures holds { S.is_honest store.now → IfOk result (λ node. HoldsTree (S.table store.now) (id_of oid) (slot_in node)) }
     ensures fresh { IfOk result (λ node. (m : Bytes) → child_of (slot_in node m) ≡ None) }
     ensures refused { IfErr result (OpeningFault (S.is_honest store.now) (S.may_fail store.now) (S.table store.now) (id_of oid)) }
 {
     let mut buffer = Vec::new(alloc);
     let tree = read_tree(store, alloc, oid, &mut buffer)?;
-    node_of(alloc, oid, tree.entries.as_slice())
+    if !tree.is_well_formed() {
+        return Err(Error::MalformedTree { oid });
+    }
+    Ok(node_of(alloc, tree.entries.as_slice())?)
 }
 
 // The entries of the stored tree of this id.
@@ -71,52 +75,18 @@ fn content_of<'a, S: Find>(
 }
 
 // The node of a well-formed tree of these entries.
-fn node_of(alloc: Global, oid: ObjectId, entries: &[EntryRef<'_>]) -> Result<Node, Error>
-    ensures opened { IfOk result (λ node. (m : Bytes) → StandsFor (slot_in node m) (named m (map item_of entries.now))) }
-    ensures refused { IfErr result (BuildingFault (id_of oid) (map item_of entries.now)) }
+fn node_of(alloc: Global, entries: &[EntryRef<'_>]) -> Result<Node, AllocError>
+    requires { IsWellFormed (map item_of entries.now) }
+    ensures { IfOk result (λ node. (m : Bytes) → StandsFor (slot_in node m) (named m (map item_of entries.now))) }
 {
     let mut node = Node::empty(alloc);
     for (i, entry) in entries.iter().enumerate() {
-        if !is_in_place(entries, i) {
-            return Err(Error::MalformedTree { oid });
-        }
         let slot = Slot {
             mode: entry.mode,
             oid: ObjectId::from(entry.oid),
             child: None,
         };
-        if node.put(alloc, entry.filename.as_bytes(), slot)?.is_some() {
-            return Err(Error::MalformedTree { oid });
-        }
+        node.put(alloc, entry.filename.as_bytes(), slot)?;
     }
     Ok(node)
-}
-
-// Whether an entry has a name, and the one before it comes first in Git's order.
-fn is_in_place(entries: &[EntryRef<'_>], i: usize) -> bool
-    requires { i < length entries.now }
-    ensures { IsFalse result → IsWellFormed (map item_of entries.now) → ⊥ }
-{
-    let entry = entries[i];
-    if !is_name(entry.filename.as_bytes()) {
-        return false;
-    }
-    if i == 0 {
-        return true;
-    }
-    let before = entries[i - 1];
-    name_order(
-        before.filename.as_bytes(),
-        before.mode.is_tree(),
-        entry.filename.as_bytes(),
-        entry.mode.is_tree(),
-    )
-    .is_lt()
-}
-
-// Whether an entry may have this name.
-fn is_name(name: &[u8]) -> bool
-    ensures { IsTrue result ↔ ((name.now ≢ []) × Lacks 47 name.now) }
-{
-    !name.is_empty() && !name.contains(&b'/')
 }

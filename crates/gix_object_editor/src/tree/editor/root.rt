@@ -4,6 +4,7 @@ ghost use Rattle.std.specs.Prelude.{◌≡◌, ℕ, [], length, map, IfOk, None,
 ghost use Rattle.gix_object_entries.specs.Entry.{own_item};
 ghost use Rattle.gix_object_editor.specs.Files.{Bytes, Path, Trees, named, files_of_tree};
 ghost use Rattle.gix_object_editor.specs.Nodes.{slot_in, slots_of, child_of, files_of_node, StandsFor, IsForest};
+ghost use Rattle.gix_object_editor.specs.Entries.{Property, EachHas, ItemsHave};
 ghost use Rattle.gix_object_editor.specs.Marks.{marks_of, AreMarked};
 ghost use Rattle.gix_object_entries.specs.WellFormed.{IsWellFormed};
 
@@ -18,6 +19,7 @@ pub(crate) fn opened_root(alloc: Global, root: &Tree) -> Result<Vec<Node>, Alloc
     ensures marked { IfOk result (λ nodes. AreMarked (slots_of nodes.items) (marks_of nodes.items) (length nodes.items)) }
     ensures unchanged { IfOk result (λ nodes. (i : ℕ) → (marks_of nodes.items i).changed ≡ false) }
     ensures closed { IfOk result (λ nodes. (i : ℕ) (m : Bytes) → child_of (slots_of nodes.items i m) ≡ None) }
+    ensures each { IfOk result (λ nodes. (has : Property) → ItemsHave has (map own_item root.now.entries.items) → EachHas has (slots_of nodes.items)) }
     ensures files { IfOk result (λ nodes. (trees : Trees) (q : Path) → files_of_node trees (slots_of nodes.items) 0 q ≡ files_of_tree trees (map own_item root.now.entries.items) q) }
 {
     let mut node = node_of(alloc, root)?;

@@ -9,6 +9,7 @@ use Rattle.gix_object_editor.specs.Nodes.{slots_of, slot_in, leaf_in, child_of, 
 use Rattle.gix_object_editor.proofs.Loaded.{not_null, no_child}
 use Rattle.gix_object_editor.proofs.Opening.{opened_one, as_function}
 use Rattle.gix_object_editor.specs.Marks.{marks_of}
+use Rattle.gix_object_editor.proofs.Kept.{opened_each}
 use Rattle.gix_object_editor.proofs.Marked.{marks_one, read_one, read_same}
 use Rattle.gix_object_editor.proofs.Slots.{none_past}
 use Rattle.gix_object_editor.proofs.tree.editor.forest.open.Goals as goal
@@ -95,3 +96,21 @@ returns-in_err-attach-clause-as_read g c = λ honest trees has read.
     let old = c.args.nodes.now.items in
     let new = c.attach.new.nodes.items in
     read_same trees (slots_of old) (slots_of new) (marks_of old) (marks_of new) (length old) c.requires.forest (as_function (slots_of new) (slots_of old) c.in_err-attach.ensures.err) c.attach.ensures.marks read
+
+pub returns-clause-each : goal.returns-clause-each
+returns-clause-each g c = λ honest has down each.
+    let old = c.args.nodes.now.items in
+    let new = c.attach.new.nodes.items in
+    let s : Slot = c.in-Some.slot in
+    let t : Slot = record { mode = s.mode; oid = s.oid; child = Some c.in_ok-attach.field-0 } in
+    let ok : is_ok c.attach.result ≡ true = search rules in
+    let next : length new ≡ suc (length old) = search rules in
+    let stood : slots_of old c.args.at.0 c.args.name.now ≡ Some s = ap (λ ns. slots_of ns c.args.at.0 c.args.name.now) (sym c.as_slice.ensures.value) ∙ sym c.slot_at.ensures ∙ c.in-Some.is in
+    let closed : s.child ≡ None = no_child s.child (sym c.is_some.ensures ∙ c.if-is_some.false) in
+    let at : (m : Bytes) → slots_of new (length old) m ≡ slot_in c.in_ok-tree.tree m = c.in_ok-attach.ensures.behind in
+    let tree_mode : is_tree_value (leaf_in s).mode.value ≡ true = search rules in
+    opened_each (slots_of old) (slots_of new) (length old) c.args.at.0 c.args.name.now s t has _ each down stood tree_mode (not_null (id_of s.oid) c.is_null.result c.is_null.ensures c.if-is_null.false)
+    c.in_ok-attach.ensures.here refl c.in_ok-attach.ensures.others (slot_in c.in_ok-tree.tree) at (c.in_ok-tree.ensures.holds honest) (λ i m lt. let le : length new ≤ i = omega arith in none_past new i m le)
+
+pub returns-in_err-attach-clause-each : goal.returns-in_err-attach-clause-each
+returns-in_err-attach-clause-each g c = λ honest has down each i m s is. each i m s (sym (c.in_err-attach.ensures.err i m) ∙ is)

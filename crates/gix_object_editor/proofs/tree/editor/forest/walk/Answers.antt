@@ -29,6 +29,7 @@ names-preserved g c =
       marks = marks_then false (slots_of c.args.nodes.now.items) (slots_of old) (slots_of new) (marks_of c.args.nodes.now.items) (marks_of old) (marks_of new) (length c.args.nodes.now.items) (length old) (length new)
           c.names.invariant.opened.longer c.in_ok-child.ensures.opened.longer c.names.invariant.marks c.in_ok-child.ensures.marks;
       as_read = λ h trees has read. c.in_ok-child.ensures.as_read h trees has (c.names.invariant.as_read h trees has read);
+      each = λ h has down was. c.in_ok-child.ensures.each h has down (c.names.invariant.each h has down was);
       leads = λ way w. leads_on (slots_of old) (slots_of new) (onto way (names c.args.path.now)) c.args.path.now c.names.at.0 c.names.depth _ c.in-Some.child.0 lt c.in_ok-child.ensures.opened.links found (c.names.invariant.leads way w);
       counted = let n = c.in_ok-child.ensures.counted in let m = c.names.invariant.counted in omega arith;
     }
@@ -41,6 +42,7 @@ names-init g c = record {
   opened = opened_none _ _ (slots_of c.args.nodes.now.items) (length c.args.nodes.now.items) c.requires.forest;
   marks = marks_none false (slots_of c.args.nodes.now.items) (marks_of c.args.nodes.now.items) (length c.args.nodes.now.items) c.requires.forest;
   as_read = λ h trees has read. read;
+  each = λ h has down was. was;
   leads = λ way w. (way, w, refl);
   counted = omega arith;
 }
@@ -67,3 +69,9 @@ returns-in_err-child-clause-refused g c =
       },
       told.3,
     )
+
+pub returns-in_err-child-clause-each : goal.returns-in_err-child-clause-each
+returns-in_err-child-clause-each g c = λ honest has down each. c.in_err-child.ensures.each honest has down (c.names.invariant.each honest has down each)
+
+pub returns-in_default-clause-each : goal.returns-in_default-clause-each
+returns-in_default-clause-each g c = λ honest has down each. c.in_ok-child.ensures.each honest has down (c.names.invariant.each honest has down each)

@@ -1,5 +1,6 @@
 use Rattle.std.proofs.Common.{length, ◌-◌, ◌<◌, ◌≤◌, ◌+◌, map, drop, false}
 use Rattle.gix_object_editor.specs.Files.{Path, Trees, HasStored}
+use Rattle.gix_object_editor.specs.Entries.{Property, EachHas, PassesDown}
 use Rattle.gix_object_editor.specs.Marks.{marks_of, AreMarksKept, AreAsRead}
 use Rattle.gix_object_editor.specs.Nodes.{slots_of, IsOpened, Way, onto, LeadsTo}
 use Rattle.gix_object_editor.proofs.tree.editor.forest.walk.Given as goal
@@ -14,6 +15,7 @@ invariant-names g l = record {
   marks : AreMarksKept false (slots_of l.initial.nodes.items) (slots_of l.nodes.items) (marks_of l.initial.nodes.items) (marks_of l.nodes.items) (length l.initial.nodes.items) (length l.nodes.items);
   as_read : g.S.Lookup.is_honest l.store → (trees : Trees) → HasStored (g.S.Lookup.table l.store) trees
       → AreAsRead trees (slots_of l.initial.nodes.items) (marks_of l.initial.nodes.items) → AreAsRead trees (slots_of l.nodes.items) (marks_of l.nodes.items);
+  each : g.S.Lookup.is_honest l.store → (has : Property) → PassesDown (g.S.Lookup.table l.store) has → EachHas has (slots_of l.initial.nodes.items) → EachHas has (slots_of l.nodes.items);
   leads : (way : Path) → Way (slots_of l.initial.nodes.items) way l.fn.from.0 → LeadsTo (slots_of l.nodes.items) (onto way (map (λ n. n.now) l.path)) l.at.0 (map (λ n. n.now) (drop l.depth l.path));
   counted : l.lookups ≤ l.initial.lookups + l.depth;
 }

@@ -4,12 +4,15 @@ use Rattle.std.proofs.lemmas.Result.{err_from_is_err_and}
 use Rattle.std.proofs.lemmas.List.{get_or-map, length-take}
 use Rattle.gix_object_editor.specs.declared.tree.editor.node.Node.{Node}
 use Rattle.gix_object_editor.specs.Files.{Bytes}
-use Rattle.gix_object_editor.specs.Nodes.{slots_of, files_of_node, child_of, onto, IsForest, IsPutIn}
+use Rattle.gix_object_editor.specs.Nodes.{slots_of, leaf_in, files_of_node, child_of, onto, IsForest, IsPutIn}
 use Rattle.gix_object_editor.proofs.Slots.{back, all_slots, cut_back}
 use Rattle.gix_object_editor.proofs.Opening.{fewer}
 use Rattle.gix_object_editor.proofs.Ladder.{put_forest, put_files, put_end, put_marks}
 use Rattle.gix_object_editor.specs.Marks.{marks_of, AreMarksKept, AreOnPath}
 use Rattle.gix_object_editor.proofs.Changes.{none_on_path}
+use Rattle.gix_object_editor.specs.Entries.{EachHas}
+use Rattle.gix_object_editor.proofs.Walked.{names_length}
+use Rattle.gix_object_editor.proofs.Kept.{first_fits, put_each}
 use Rattle.gix_object_editor.proofs.Marked.{marks_same, marks_taken}
 use Rattle.gix_object_editor.proofs.tree.editor.graft.graft.Goals as goal
 
@@ -141,3 +144,28 @@ returns-in-Err-clause-marks c =
     (λ i lt.
     let less : i < c.len-before.result = omega (arith, front, lt) in
     ap (λ (ns : List Node). marks_of ns i) c.truncate.ensures.items ∙ marks_taken c.hang.new.nodes.items c.len-before.result i less ∙ c.hang.ensures.front i lt)
+
+pub returns-in_err-put_at-clause-each : goal.returns-in_err-put_at-clause-each
+returns-in_err-put_at-clause-each c = λ has fit each.
+    let old = c.args.nodes.now.items in
+    let new = c.put_at.new.nodes in
+    let n : c.args.nodes.now.len ≡ length new = omega (arith, c.put_at.auto.nodes, c.as_mut_slice.ensures.len) in
+    let same : (i : ℕ) (m : Bytes) → slots_of new i m ≡ slots_of old i m = λ i m.
+    all_slots c.as_mut_slice.result.now new c.args.at.0 _ c.in_err-put_at.ensures.err c.in_err-put_at.ensures.others i m
+    ∙ ap (λ ns. slots_of ns i m) c.as_mut_slice.ensures.value in
+    subst (λ (ns : List Node). EachHas has (slots_of ns)) (sym (back c.args.nodes.now.len new _ n)) (λ i m s is. each i m s (sym (same i m) ∙ is))
+
+pub returns-then-names-eq1-clause-each : goal.returns-then-names-eq1-clause-each
+returns-then-names-eq1-clause-each c = λ has fit each.
+    let old = c.args.nodes.now.items in
+    let new = c.put_at.new.nodes in
+    let path = c.args.names.now in
+    let n : c.args.nodes.now.len ≡ length new = omega (arith, c.put_at.auto.nodes, c.as_mut_slice.ensures.len) in
+    let some : 0 < length path = omega arith in
+    let fits = first_fits has (map (λ x. x.now) path) (leaf_in c.args.slot) _ fit (omega (arith, names_length path, some)) (get_or-map (λ (x : Bor (List ℕ)). x.now) path 0 _ [] some) in
+    subst (λ (ns : List Node). EachHas has (slots_of ns)) (sym (back c.args.nodes.now.len new _ n))
+    (put_each (slots_of old) (slots_of new) c.args.at.0 _ c.args.slot has c.in_ok-put_at.ensures.here fits.0
+    (λ i m off. c.in_ok-put_at.ensures.others i m off ∙ ap (λ ns. slots_of ns i m) c.as_mut_slice.ensures.value) each)
+
+pub returns-in-Err-clause-each : goal.returns-in-Err-clause-each
+returns-in-Err-clause-each c = λ has fit each i m s is. each i m s (sym (returns-in-Err-clause-err c i m) ∙ is)

@@ -3,10 +3,14 @@ use Rattle.std.specs.Borrow.{Bor}
 use Rattle.std.proofs.lemmas.Result.{err_from_is_err_and}
 use Rattle.std.proofs.lemmas.List.{get_or-map, length-drop, take_all}
 use Rattle.gix_object_editor.specs.declared.tree.editor.node.Node.{Node}
-use Rattle.gix_object_editor.specs.Nodes.{slots_of, files_of_node, child_or, onto, IsForest, IsPutIn}
+use Rattle.gix_object_editor.specs.Nodes.{slots_of, leaf_in, files_of_node, child_or, onto, IsForest, IsPutIn}
 use Rattle.gix_object_editor.proofs.Slots.{back, all_slots}
 use Rattle.gix_object_editor.proofs.Ladder.{hung_forest, hung_files, hung_end, hung_marks, hung_ways}
 use Rattle.gix_object_editor.specs.Marks.{marks_of, AreMarksKept, AreOnPath}
+use Rattle.std.specs.List.{Contains}
+use Rattle.gix_object_editor.specs.Entries.{EachHas}
+use Rattle.gix_object_editor.proofs.Walked.{names_length}
+use Rattle.gix_object_editor.proofs.Kept.{hung_each, in_tail}
 use Rattle.gix_object_editor.proofs.tree.editor.graft.hang.Goals as goal
 
 pub returns-clause-forest : goal.returns-clause-forest
@@ -24,7 +28,7 @@ returns-clause-forest c =
     subst (λ (ns : List Node). IsForest (slots_of ns) (length ns)) (sym (back c.push_ladder.new.nodes.len new _ n))
     (hung_forest old mid new c.requires.forest path tail c.requires.named (take_all (length path - 1) (drop 1 path) less) c.args.slot _ c.requires.unopened c.in_ok-push_ladder.ensures.front
     c.in_ok-push_ladder.ensures.rungs len same_len c.args.at.0 _ (get_or-map (λ (x : Bor (List ℕ)). x.now) path 0 _ [] some) c.requires.within c.in_ok-put_at.ensures.here
-    (ap (λ o. child_or o (λ d. Some d) None) c.folder.ensures ∙ ap (λ k. Some k) (search rules))
+    (ap (λ o. child_or o (λ d. Some d) None) c.folder.ensures.linked ∙ ap (λ k. Some k) (search rules))
     (λ i m off. c.in_ok-put_at.ensures.others i m off ∙ ap (λ ns. slots_of ns i m) c.as_mut_slice.ensures.value))
 
 pub returns-clause-put : goal.returns-clause-put
@@ -42,7 +46,7 @@ returns-clause-put c = λ trees way reached q.
     ap (λ (ns : List Node). files_of_node trees (slots_of ns) 0 q) (back c.push_ladder.new.nodes.len new _ n)
     ∙ hung_files old mid new c.requires.forest path tail c.requires.named (take_all (length path - 1) (drop 1 path) less) c.args.slot _ c.requires.unopened c.in_ok-push_ladder.ensures.front
     c.in_ok-push_ladder.ensures.rungs len same_len c.args.at.0 _ (get_or-map (λ (x : Bor (List ℕ)). x.now) path 0 _ [] some) c.requires.within c.in_ok-put_at.ensures.here
-    (ap (λ o. child_or o (λ d. Some d) None) c.folder.ensures ∙ ap (λ k. Some k) (search rules))
+    (ap (λ o. child_or o (λ d. Some d) None) c.folder.ensures.linked ∙ ap (λ k. Some k) (search rules))
     (λ i m off. c.in_ok-put_at.ensures.others i m off ∙ ap (λ ns. slots_of ns i m) c.as_mut_slice.ensures.value) c.requires.plain trees way reached q
 
 pub returns-in_err-put_at-clause-others : goal.returns-in_err-put_at-clause-others
@@ -81,7 +85,7 @@ returns-clause-end c = λ way reached.
     subst (λ (ns : List Node). IsPutIn (slots_of ns) (onto way (map (λ x. x.now) path)) (c.len-2.result - 1)) (sym (back c.push_ladder.new.nodes.len new _ n))
     (hung_end old mid new c.requires.forest path tail c.requires.named (take_all (length path - 1) (drop 1 path) less) c.args.slot _ c.requires.unopened c.in_ok-push_ladder.ensures.front
     c.in_ok-push_ladder.ensures.rungs len same_len c.args.at.0 _ (get_or-map (λ (x : Bor (List ℕ)). x.now) path 0 _ [] some) c.requires.within c.in_ok-put_at.ensures.here
-    (ap (λ o. child_or o (λ d. Some d) None) c.folder.ensures ∙ ap (λ k. Some k) (search rules))
+    (ap (λ o. child_or o (λ d. Some d) None) c.folder.ensures.linked ∙ ap (λ k. Some k) (search rules))
     (λ i m off. c.in_ok-put_at.ensures.others i m off ∙ ap (λ ns. slots_of ns i m) c.as_mut_slice.ensures.value) (c.len-2.result - 1) end way reached)
 
 pub returns-clause-marks : goal.returns-clause-marks
@@ -100,7 +104,7 @@ returns-clause-marks c =
     subst (λ (ns : List Node). AreMarksKept true (slots_of old) (slots_of ns) (marks_of old) (marks_of ns) (length old) (length ns)) (sym (back c.push_ladder.new.nodes.len new _ n))
     (hung_marks old mid new c.requires.forest path tail c.requires.named (take_all (length path - 1) (drop 1 path) less) c.args.slot _ c.requires.unopened c.in_ok-push_ladder.ensures.front
     c.in_ok-push_ladder.ensures.rungs len same_len c.args.at.0 _ (get_or-map (λ (x : Bor (List ℕ)). x.now) path 0 _ [] some) c.requires.within c.in_ok-put_at.ensures.here
-    (ap (λ o. child_or o (λ d. Some d) None) c.folder.ensures ∙ ap (λ k. Some k) (search rules))
+    (ap (λ o. child_or o (λ d. Some d) None) c.folder.ensures.linked ∙ ap (λ k. Some k) (search rules))
     (λ i m off. c.in_ok-put_at.ensures.others i m off ∙ ap (λ ns. slots_of ns i m) c.as_mut_slice.ensures.value)
     (marks_of old) (marks_of new) (λ i lt. same i ∙ c.in_ok-push_ladder.ensures.marks i lt) (λ k lt. same (length old + k) ∙ c.in_ok-push_ladder.ensures.changed k lt))
 
@@ -119,7 +123,7 @@ returns-clause-made c = λ way reached.
     subst (λ (ns : List Node). AreOnPath (slots_of ns) (onto way (map (λ x. x.now) path)) (length old) (length ns)) (sym (back c.push_ladder.new.nodes.len new _ n))
     (hung_ways old mid new c.requires.forest path tail c.requires.named (take_all (length path - 1) (drop 1 path) less) c.args.slot _ c.requires.unopened c.in_ok-push_ladder.ensures.front
     c.in_ok-push_ladder.ensures.rungs len same_len c.args.at.0 _ (get_or-map (λ (x : Bor (List ℕ)). x.now) path 0 _ [] some) c.requires.within c.in_ok-put_at.ensures.here
-    (ap (λ o. child_or o (λ d. Some d) None) c.folder.ensures ∙ ap (λ k. Some k) (search rules))
+    (ap (λ o. child_or o (λ d. Some d) None) c.folder.ensures.linked ∙ ap (λ k. Some k) (search rules))
     (λ i m off. c.in_ok-put_at.ensures.others i m off ∙ ap (λ ns. slots_of ns i m) c.as_mut_slice.ensures.value) way reached)
 
 pub returns-clause-last : goal.returns-clause-last
@@ -153,3 +157,22 @@ returns-in_err-put_at-clause-front c = λ i lt.
     let n : c.push_ladder.new.nodes.len ≡ length new = omega (arith, c.put_at.auto.nodes, c.as_mut_slice.ensures.len) in
     ap (λ (ns : List Node). marks_of ns i) (back c.push_ladder.new.nodes.len new _ n)
     ∙ c.put_at.ensures.marks i ∙ ap (λ ns. marks_of ns i) c.as_mut_slice.ensures.value ∙ c.in_ok-push_ladder.ensures.marks i lt
+
+pub returns-clause-each : goal.returns-clause-each
+returns-clause-each c = λ has fit each.
+    let old = c.args.nodes.now.items in
+    let mid = c.push_ladder.new.nodes.items in
+    let new = c.put_at.new.nodes in
+    let path = c.args.names.now in
+    let n : c.push_ladder.new.nodes.len ≡ length new = omega (arith, c.put_at.auto.nodes, c.as_mut_slice.ensures.len) in
+    let tail : List (Bor (List ℕ)) = take (length path - 1) (drop 1 path) in
+    let less : length (drop 1 path) ≤ length path - 1 = omega (arith, length-drop 1 path) in
+    let len : length mid ≡ length old + length tail = c.in_ok-push_ladder.ensures.len in
+    let same_len : length new ≡ length mid = omega (arith, c.push_ladder.new.nodes.ok.0) in
+    let some : 0 < length path = omega arith in
+    let tail_is : tail ≡ drop 1 path = take_all (length path - 1) (drop 1 path) less in
+    subst (λ (ns : List Node). EachHas has (slots_of ns)) (sym (back c.push_ladder.new.nodes.len new _ n))
+    (hung_each (slots_of old) (slots_of mid) (slots_of new) (length old) c.args.at.0 _ _ (map (λ x. x.now) path) (map (λ x. x.now) tail) (leaf_in c.args.slot) has c.in_ok-push_ladder.ensures.front c.in_ok-push_ladder.ensures.leaves
+    (λ m h. in_tail path m (subst (λ (xs : List (Bor (List ℕ))). Contains (map (λ x. x.now) xs) m) tail_is h))
+    c.in_ok-put_at.ensures.here c.folder.ensures.leaf (λ i m off. c.in_ok-put_at.ensures.others i m off ∙ ap (λ ns. slots_of ns i m) c.as_mut_slice.ensures.value) fit
+    (omega (arith, names_length path, some)) (get_or-map (λ (x : Bor (List ℕ)). x.now) path 0 _ [] some) each)

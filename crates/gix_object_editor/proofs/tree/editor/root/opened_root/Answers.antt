@@ -5,6 +5,8 @@ use Rattle.gix_object_editor.specs.declared.tree.editor.node.Node.{Node}
 use Rattle.gix_object_editor.specs.Files.{named}
 use Rattle.gix_object_editor.specs.Nodes.{slots_of, slot_in, child_of, files_of_node, StandsFor, IsForest}
 use Rattle.gix_object_editor.specs.Marks.{Mark, marks_of, AreMarked}
+use Rattle.gix_object_editor.specs.Entries.{EachHas}
+use Rattle.gix_object_editor.proofs.Kept.{one_each}
 use Rattle.gix_object_editor.proofs.Marked.{one_closed, one_unchanged, one_marked}
 use Rattle.gix_object_editor.proofs.Loaded.{fresh_of, one_tree, tree_files}
 use Rattle.gix_object_editor.proofs.Slots.{none_past}
@@ -51,3 +53,13 @@ returns-clause-marked c =
     c.push.ensures.items ∙ ap (λ b. if b then c.new-nodes.result.items ++ node ∷ [] else c.new-nodes.result.items) ok ∙ ap (λ (xs : List Node). xs ++ node ∷ []) c.new-nodes.ensures.items in
     subst (λ (ns : List Node). AreMarked (slots_of ns) (marks_of ns) (length ns)) (sym pushed)
     (one_marked node (λ k. ap child_of (c.place.ensures.slots k) ∙ fresh_of (slot_in c.in_ok-node.node k) _ (c.in_ok-node.ensures k)))
+
+pub returns-clause-each : goal.returns-clause-each
+returns-clause-each c = λ has items.
+    let node = c.place.new.self in
+    let ok : is_ok c.push.result ≡ true = search rules in
+    let pushed : c.push.new.self.items ≡ node ∷ [] =
+    c.push.ensures.items ∙ ap (λ b. if b then c.new-nodes.result.items ++ node ∷ [] else c.new-nodes.result.items) ok ∙ ap (λ (xs : List Node). xs ++ node ∷ []) c.new-nodes.ensures.items in
+    subst (λ (ns : List Node). EachHas has (slots_of ns)) (sym pushed)
+    (one_each node (map own_item c.args.root.now.entries.items) has
+    (λ m. subst (λ o. StandsFor o (named m (map own_item c.args.root.now.entries.items))) (sym (c.place.ensures.slots m)) (c.in_ok-node.ensures m)) items)

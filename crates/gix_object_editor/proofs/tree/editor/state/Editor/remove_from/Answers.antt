@@ -3,11 +3,13 @@ use Rattle.std.proofs.lemmas.Result.{err_from_is_err_and}
 use Rattle.gix_object_editor.specs.declared.tree.editor.state.Editor.{Editor}
 use Rattle.gix_object_editor.specs.Editor.{files_of, names_of, LeadsThrough}
 use Rattle.gix_object_editor.specs.Nodes.{slots_of, files_of_node, child_of, onto, Way, LeadsTo, IsForest}
-use Rattle.gix_object_editor.specs.Editor.{IsChanged, IsAsRead, IsAbove}
+use Rattle.gix_object_editor.specs.Editor.{IsChanged, IsAsRead, IsAbove, EachEntryHas}
 use Rattle.gix_object_editor.specs.Files.{Bytes}
 use Rattle.gix_object_editor.specs.Marks.{marks_of, AreMarked, AreAsRead, IsMarkedFor}
 use Rattle.gix_object_editor.proofs.Marked.{opened_marked}
 use Rattle.gix_object_editor.proofs.Changes.{opened_changed, cut_as_read, cut_changed}
+use Rattle.gix_object_editor.specs.Entries.{EachHas}
+use Rattle.gix_object_editor.proofs.Kept.{cut_each}
 use Rattle.gix_object_editor.proofs.Slots.{back}
 use Rattle.gix_object_editor.proofs.Edits.{two_names, removes_at, removes_none, less_forest, stopped_tree, edit_fault}
 use Rattle.gix_object_editor.proofs.Walked.{names, last_name}
@@ -147,4 +149,18 @@ returns-clause-changed g c = λ way w tree.
       | else-depth-path t ↦
           subst (λ (e : Editor _). IsChanged e tree → IsChanged c.args.self.now tree ⊎ IsAbove tree (onto way (names_of c.args.path.now))) (sym t.self-is)
           (λ is. inl (opened_changed (slots_of old) (slots_of mid) (marks_of old) (marks_of mid) (length old) (length mid) forest c.in_ok-at.ensures.marks tree is.0 is.1 is.2))
+    ]
+
+pub returns-clause-each : goal.returns-clause-each
+returns-clause-each g c = λ honest has down each.
+    let mid = c.walk.new.nodes.items in
+    let start = c.in_ok-at.ensures.each honest has down each in
+    elim c.if-depth-path.branch [
+      | then-depth-path t ↦
+          let new = t.cut.new.nodes in
+          let n : c.walk.new.nodes.len ≡ length new = omega (arith, t.cut.auto.nodes, t.as_mut_slice.ensures.len) in
+          subst (λ (e : Editor _). EachEntryHas has e) (sym t.self-is)
+          (subst (λ ns. EachHas has (slots_of ns)) (sym (back c.walk.new.nodes.len new _ n))
+          (cut_each (slots_of mid) (slots_of new) c.in_ok-at.at.0 _ has t.cut.ensures.here (λ i m off. t.cut.ensures.others i m off ∙ ap (λ ns. slots_of ns i m) t.as_mut_slice.ensures.value) start))
+      | else-depth-path t ↦ subst (λ (e : Editor _). EachEntryHas has e) (sym t.self-is) start
     ]

@@ -4,11 +4,13 @@ use Rattle.std.proofs.lemmas.Result.{err_from_is_err_and}
 use Rattle.gix_object_editor.specs.declared.tree.editor.state.Editor.{Editor}
 use Rattle.gix_object_editor.specs.Editor.{files_of, names_of, LeadsInto, IsFolder}
 use Rattle.gix_object_editor.specs.Nodes.{slots_of, files_of_node, child_of, onto, Way, LeadsTo, AreFilled, IsForest}
-use Rattle.gix_object_editor.specs.Editor.{IsChanged, IsAsRead, IsAbove}
+use Rattle.gix_object_editor.specs.Editor.{IsChanged, IsAsRead, IsAbove, EachEntryHas}
 use Rattle.gix_object_editor.specs.Files.{Bytes}
 use Rattle.gix_object_editor.specs.Marks.{marks_of, AreMarked, AreAsRead, IsMarkedFor}
 use Rattle.gix_object_editor.proofs.Marked.{opened_marked, marks_then}
 use Rattle.gix_object_editor.proofs.Changes.{opened_changed, cut_as_read, cut_changed}
+use Rattle.gix_object_editor.specs.Entries.{EachHas}
+use Rattle.gix_object_editor.proofs.Kept.{cut_each}
 use Rattle.gix_object_editor.proofs.Slots.{back}
 use Rattle.gix_object_editor.proofs.Opening.{opened_then}
 use Rattle.gix_object_editor.proofs.Edits.{two_names, removes_at, removes_none, none_below_path, less_forest, stopped_tree, leads_into, leaf_fault, folder_fault, last_split}
@@ -219,4 +221,22 @@ returns-clause-changed g c = λ way w tree.
       | else-depth-path t ↦
           subst (λ (e : Editor _). IsChanged e tree → IsChanged c.args.self.now tree ⊎ IsAbove tree (onto way (names_of c.args.path.now))) (sym t.self-is)
           (λ is. inl (opened_changed (slots_of old) (slots_of walked) (marks_of old) (marks_of walked) (length old) (length walked) c.in_ok-at.ensures.opened.forest c.in_ok-at.ensures.marks tree is.0 is.1 is.2))
+    ]
+
+pub returns-in_err-refuse_folder-clause-each : goal.returns-in_err-refuse_folder-clause-each
+returns-in_err-refuse_folder-clause-each g c = λ honest has down each. c.in_err-refuse_folder.ensures.each honest has down (c.in_ok-at.ensures.each honest has down each)
+
+pub returns-clause-each : goal.returns-clause-each
+returns-clause-each g c = λ honest has down each.
+    let start = c.in_ok-at.ensures.each honest has down each in
+    elim c.if-depth-path.branch [
+      | then-depth-path+in_ok-refuse_folder t ↦
+          let mid = t.refuse_folder.new.nodes.items in
+          let new = t.cut.new.nodes in
+          let n : t.refuse_folder.new.nodes.len ≡ length new = omega (arith, t.cut.auto.nodes, t.as_mut_slice.ensures.len) in
+          subst (λ (e : Editor _). EachEntryHas has e) (sym t.self-is)
+          (subst (λ ns. EachHas has (slots_of ns)) (sym (back t.refuse_folder.new.nodes.len new _ n))
+          (cut_each (slots_of mid) (slots_of new) c.in_ok-at.at.0 _ has t.cut.ensures.here (λ i m off. t.cut.ensures.others i m off ∙ ap (λ ns. slots_of ns i m) t.as_mut_slice.ensures.value)
+          (t.in_ok-refuse_folder.ensures.each honest has down start)))
+      | else-depth-path t ↦ subst (λ (e : Editor _). EachEntryHas has e) (sym t.self-is) start
     ]

@@ -7,6 +7,9 @@ use Rattle.gix_object_editor.specs.declared.tree.editor.node.Node.{Node}
 use Rattle.gix_object_editor.specs.Editor.{IsChanged, IsAbove}
 use Rattle.gix_object_editor.specs.Marks.{marks_of, AreMarked, AreMarkedBut, AreMarkedUp, AreAsRead, AreOnPath}
 use Rattle.gix_object_editor.proofs.Opening.{as_function}
+use Rattle.std.specs.Borrow.{Bor}
+use Rattle.gix_object_editor.specs.Entries.{EachHas, MayStand}
+use Rattle.gix_object_editor.proofs.Kept.{may_drop}
 use Rattle.gix_object_editor.proofs.Slots.{back}
 use Rattle.gix_object_editor.proofs.Marked.{opened_marked, grafted_marked, failed_marked, read_same}
 use Rattle.gix_object_editor.proofs.Changes.{opened_changed, failed_changed, graft_as_read, graft_changed, some_left}
@@ -191,3 +194,27 @@ returns-clause-changed g c = λ way w tree.
     (λ is. graft_changed (slots_of old) (slots_of mid) (slots_of gr) (slots_of fin) (marks_of old) (marks_of mid) (marks_of gr) (marks_of fin) (length old) (length mid) (length gr)
     c.in_ok-at.ensures.opened.forest c.graft.ensures.forest c.in_ok-at.ensures.marks c.graft.ensures.marks at _ c.in_ok-graft.ensures.others same_slots up
     (onto way (names path)) made leads.0 (names left) down (some_left left some) leads.2 tree is.0 is.1 is.2)
+
+pub returns-in_err-graft-clause-each : goal.returns-in_err-graft-clause-each
+returns-in_err-graft-clause-each g c = λ honest has down fit each i m s is. c.in_ok-at.ensures.each honest has down each i m s (sym (c.in_err-graft.ensures.err i m) ∙ is)
+
+pub returns-clause-each : goal.returns-clause-each
+returns-clause-each g c = λ honest has down fit each.
+    let path = c.args.path.now in
+    let i = c.in_ok-at.depth in
+    let cut : take (length path - i) (drop i path) ≡ drop i path = rest_is path i in
+    let gr = c.graft.new.nodes.items in
+    let fin = c.mark_changed.new.nodes in
+    let n : c.graft.new.nodes.len ≡ length fin = omega (arith, c.mark_changed.auto.nodes, c.as_mut_slice.ensures.len) in
+    let whole = back c.graft.new.nodes.len fin _ n in
+    let same_slots : slots_of fin ≡ slots_of gr = as_function (slots_of fin) (slots_of gr) (λ i m. c.mark_changed.ensures.slots i m ∙ ap (λ (ns : List Node). slots_of ns i m) c.as_mut_slice.ensures.value) in
+    let leaf : Leaf = record { mode = mode_of c.from.result; id = id_of c.args.id } in
+    let same : leaf ≡ leaf_of_kind c.args.kind c.args.id =
+    ap (λ (v : ℕ). let l : Leaf = record { mode = record { value = v; padded = c.from.result.padded }; id = id_of c.args.id } in l) c.from.ensures.0
+    ∙ ap (λ (b : Bool). let l : Leaf = record { mode = record { value = kind_value c.args.kind; padded = b }; id = id_of c.args.id } in l) c.from.ensures.1 in
+    let left : MayStand has (names (take (length path - i) (drop i path))) leaf = subst (λ (xs : List (Bor (List ℕ))). MayStand has (names xs) leaf) (sym cut) (subst (MayStand has (names (drop i path))) (sym same) (may_drop has path i (leaf_of_kind c.args.kind c.args.id) fit)) in
+    subst (λ (ns : List Node). EachHas has (slots_of ns)) (sym whole)
+    (subst (EachHas has) (sym same_slots) (c.graft.ensures.each has left (c.in_ok-at.ensures.each honest has down each)))
+
+pub returns-in_err-at-clause-each : goal.returns-in_err-at-clause-each
+returns-in_err-at-clause-each g c = λ honest has down fit each. c.in_err-at.ensures.each honest has down each
