@@ -21,4 +21,6 @@ mod names;
 #[cfg(test)]
 mod objects;
 #[cfg(test)]
+mod puts;
+#[cfg(test)]
 mod trees;
