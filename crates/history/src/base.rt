@@ -184,12 +184,7 @@ impl<F: Files> Repository<F> {
     }
 
     /// Tests that the name stands, or may come to stand beside the others.
-    fn test_place(
-        &self,
-        alloc: Global,
-        name: &[u8],
-        held: Option<ObjectId>,
-    ) -> Result<(), Stopped>
+    fn test_place(&self, alloc: Global, name: &[u8], held: Option<ObjectId>) -> Result<(), Stopped>
         ensures { (r : plain.Repository) (order : orders.CommitCommand)
             → Serves F.is_honest F.history self.now r
             → name.now ≡ branch_or_name r order.name → IsTrue (is_name name.now)

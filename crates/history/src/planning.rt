@@ -148,7 +148,11 @@ impl<F: Files> Repository<F> {
             → AskedCommit F.is_honest F.history self.now command r order
             → Plans F.reading_may_fail r order result }
     {
-        let Base { name, held, parents } = self.base(alloc, &command)?;
+        let Base {
+            name,
+            held,
+            parents,
+        } = self.base(alloc, &command)?;
         let times = read_times(&command)?;
         let mut tree = self.files_before(alloc, &parents)?;
         let mut objects = self.edit(alloc, &mut tree, command.edits)?;

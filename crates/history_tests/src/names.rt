@@ -27,7 +27,10 @@ const REFUSED: [(&[u8], &[u8]); 12] = [
     (b"commit m at nosuch\n", b"refused BadName\n"),
     (b"commit refs/heads/a..b at nosuch\n", b"refused BadName\n"),
     (b"commit refs/heads/\xff new\n", b"refused BadName\n"),
-    (b"commit refs/bisect/m at nosuch\n", b"refused PrivateName\n"),
+    (
+        b"commit refs/bisect/m at nosuch\n",
+        b"refused PrivateName\n",
+    ),
     (
         b"commit refs/heads/m at HEAD\nparent nosuch\n",
         b"refused UnknownWord\n",
@@ -37,10 +40,7 @@ const REFUSED: [(&[u8], &[u8]); 12] = [
         b"refused UnbornHead\n",
     ),
     (b"commit refs/heads/m/x at m\n", b"refused NoSuchName\n"),
-    (
-        b"commit refs/heads/m new\nparent m\n",
-        b"refused Taken\n",
-    ),
+    (b"commit refs/heads/m new\nparent m\n", b"refused Taken\n"),
     (
         b"commit refs/heads/m at s\nparent m\n",
         b"refused NotExpected\n",
@@ -49,7 +49,10 @@ const REFUSED: [(&[u8], &[u8]); 12] = [
         b"commit refs/heads/m/x any\nparent s\nparent s\n",
         b"refused Collides\n",
     ),
-    (b"commit refs/heads any\nput file 1 0\n/\n\n", b"refused Collides\n"),
+    (
+        b"commit refs/heads any\nput file 1 0\n/\n\n",
+        b"refused Collides\n",
+    ),
     (
         b"commit refs/heads/m any\nparent m\nput file 1 0\n/\n\n",
         b"refused DuplicateParent\n",
@@ -61,7 +64,14 @@ fn refused_names(rt: HostRuntime) -> Result<(), AllocError> {
     let alloc = rt.alloc();
     for kind in KINDS {
         let mut repository = fresh(&rt, alloc, kind);
-        assert!(rt; replies(alloc, &mut repository, TWO_BRANCHES, TWO_BRANCHES_MADE.of(kind)));
+        assert!(rt;
+            replies(
+                alloc,
+                &mut repository,
+                TWO_BRANCHES,
+                TWO_BRANCHES_MADE.of(kind)
+            )
+        );
         for (line, wanted) in REFUSED {
             let input = joined(alloc, &[line, SIGNED])?;
             assert!(rt; replies(alloc, &mut repository, &input, wanted));
@@ -75,7 +85,14 @@ fn refused_names(rt: HostRuntime) -> Result<(), AllocError> {
         assert!(rt; replies(alloc, &mut repository, &input, b"refused TooManyParents\n"));
         // Nothing came of them: the two names stand where they stood, and no other does.
         let shown = b"show refs/heads/t\nfiles m\n";
-        assert!(rt; replies(alloc, &mut repository, shown, b"refused UnknownWord\nok files 0\n"));
+        assert!(rt;
+            replies(
+                alloc,
+                &mut repository,
+                shown,
+                b"refused UnknownWord\nok files 0\n"
+            )
+        );
     }
     Ok(())
 }

@@ -163,11 +163,10 @@ returns g c = λ r order asked.
     let placed = c.in_ok-test_place.ensures r order h (c.deref-5.ensures.value ∙ named.1.named) (ap is_name c.deref-5.ensures.value ∙ named.1.formed) held_at in
     let parents_are = parents_told r order h.stage.offered w c.in_ok-held.held c.in_ok-words.words.items c.in_ok-parents.parents.items held_at readings
     (c.in_ok-parents.ensures ∙ ap (λ words. option_to_list c.in_ok-held.held ++ filter_map commit_in words) c.deref-6.ensures.value) in
-    let parents_is = parents_so r order h.stage.offered w c.in_ok-parents.parents.items parents_are ∙ ap (λ ids. parents_cause (map id_of ids)) (sym c.deref-7.ensures.value) in
-    (
+    let parents_is = parents_so r order h.stage.offered w c.in_ok-parents.parents.items parents_are ∙ ap (λ ids. parents_cause (map id_of ids)) (sym c.deref-7.ensures.value) in (
       none_joined MayFail r order name_form_causes (word_causes ++ (held_causes ++ (place_causes ++ parent_causes))) named.0
-      (none_joined MayFail r order word_causes (held_causes ++ (place_causes ++ parent_causes)) (words_are ∙ c.in_ok-test_words.ensures)
-      (none_joined MayFail r order held_causes (place_causes ++ parent_causes) (held_is ∙ c.in_ok-test.ensures)
-      (none_joined MayFail r order place_causes parent_causes placed.0 (parents_is ∙ c.in_ok-test_parents.ensures)))),
+          (none_joined MayFail r order word_causes (held_causes ++ (place_causes ++ parent_causes)) (words_are ∙ c.in_ok-test_words.ensures)
+          (none_joined MayFail r order held_causes (place_causes ++ parent_causes) (held_is ∙ c.in_ok-test.ensures)
+          (none_joined MayFail r order place_causes parent_causes placed.0 (parents_is ∙ c.in_ok-test_parents.ensures)))),
       record { name = named.1.named; held = held_at; parents = parents_are },
     )
