@@ -85,7 +85,8 @@ impl<F: Files> Objects<F> {
     /// Puts a content as an object of this kind, and answers its id. Where the object stands already no file is changed.
     ///
     /// The content must be in written form: of a tree in Git's order, each name once, with the modes of files, programs, links and
-    /// folders that aren't empty; of a commit or a tag with whole actors, ids in lower case and nothing further, the tag of a commit.
+    /// folders that aren't empty; of a commit or a tag with whole actors, ids in lower case and nothing further, the tag of a commit,
+    /// within the limits that commands have for parents, names, titles and messages.
     /// All that it names must be stored: the tree of a commit and its parents, the blobs and trees of a tree, the commit of a tag.
     /// Else the error says why, and what it leaves.
     pub fn store(
