@@ -9,6 +9,14 @@ pub mod commit {
         pub use gix_traverse_commit::simple::{CommitTimeOrder, Error, HiddenGraphError, Sorting};
     }
 
+    /// Laws over the definitions alone: which lists answer a walk, and that all orders list one set.
+    pub mod laws {
+        pub use gix_traverse_commit::laws::{
+            breadth_is_one, orders_list_one_set, topological_is_one,
+        };
+        pub use gix_traverse_topo::laws::lists_one_set;
+    }
+
     /// Walks in which each commit comes after all its children.
     pub mod topo {
         pub use gix_traverse_topo::{Builder, Error, Sorting};

@@ -19,3 +19,4 @@ mod Chosen
 mod Cutoff
 mod ByTime
 mod Times
+mod Pending

@@ -1,8 +1,8 @@
 -- Why a commit's time isn't read, and what it is then.
-use Rattle.std.proofs.Common.{◌≡◌, ℕ, List, refl, sym, ap, ◌∙◌, subst, Option, Some, None, Result, Ok, Err, ℤ, pos}
+use Rattle.std.proofs.Common.{◌≡◌, ℕ, List, refl, sym, ap, ◌∙◌, subst, Option, Some, None, Result, Ok, Err, ℤ, pos, take, Bool, true, false}
 use Rattle.std.specs.Prelude.{unwrap_or, ◌≢◌, Contains}
 use Rattle.std.specs.Result.{result_ok}
-use Rattle.gix_hash.specs.Id.{id_of}
+use Rattle.gix_hash.specs.Id.{Id, id_of}
 use Rattle.gix_hash.specs.declared.object_id.ObjectId.{ObjectId}
 use Rattle.gix_object_commit.specs.ReadingOn.{TellsNone, committer_told}
 use Rattle.gix_object_commit.specs.Tokens.{Place, start}
@@ -15,13 +15,19 @@ use Rattle.gix_object_lines.specs.declared.decode.Error as decode
 use Rattle.gix_object_lines.specs.declared.kind.Kind as object
 use Rattle.gix_object_lines.specs.declared.kind.Kind.TheVariants as kinds
 use Rattle.gix_traverse_commit.specs.Commits.{Commits}
-use Rattle.gix_traverse_commit.specs.Fetching.{TimeFault, find_error}
+use Rattle.gix_traverse_commit.specs.Fetching.{TimeFault, TimeIsTold, find_error}
 use Rattle.gix_traverse_commit.specs.Rows.{Holds}
-use Rattle.gix_traverse_commit.specs.Simply.{TipFault, error_of}
+use Rattle.gix_traverse_commit.specs.Simply.{IsFirstUnread, TipFault, error_of}
 use Rattle.gix_traverse_commit.specs.Told.{AreTold, IsNoCommit}
 use Rattle.gix_traverse_commit.specs.declared.fetch.FetchError.{FetchError}
 use Rattle.gix_traverse_commit.specs.declared.fetch.FetchError.TheVariants as fault
+use Rattle.gix_traverse_commit.specs.declared.nodes.Node.{Node}
 use Rattle.gix_traverse_commit.specs.declared.rows.Row.{Row}
+use Rattle.gix_traverse_commit.specs.declared.simple.faults.Error.{Error}
+use Rattle.gix_traverse_commit.specs.declared.simple.faults.Error.TheVariants as simple
+use Rattle.gix_traverse_commit.specs.Nodes.{is_met}
+use Rattle.gix_traverse_commit.specs.Order.{At}
+use Rattle.gix_traverse_commit.proofs.Lists.{at_from_contains, at_from_take, contains_from_at}
 
 pub time_fault : (honest may_fail : Type 0) (rows : List Row) (table : Table) (id : ObjectId) (e : existing_iter.Error) → (¬ Holds rows id) → KindFault honest may_fail table (id_of id) kinds.Commit e → TimeFault honest may_fail rows table id (find_error e)
 time_fault honest may_fail rows table id (iter_case.Find lookup.Memory) h k = tt
@@ -52,7 +58,36 @@ time_read r v n is h = rw is at h
 pub time_untold : (honest may_fail : Type 0) (rows : List Row) (table : Table) (id : ObjectId) (content : List ℕ) (here : Place) (e : decode.Error) → (¬ Holds rows id) → (honest → Stands table (id_of id) kinds.Commit content) → here ≡ start (id_of id).kind content → TellsNone committer_told here e → TimeFault honest may_fail rows table id (fault.ObjectDecode e)
 time_untold honest may_fail rows table id content here e h s is t = (h, λ q. (content, s q, subst (λ (p : Place). TellsNone committer_told p e) is t))
 
-pub tip_fault : (honest may_fail : Type 0) (rows : List Row) (table : Table) (tips : List ObjectId) (id : ObjectId) (e : FetchError) → Contains tips id → TimeFault honest may_fail rows table id e → TipFault honest may_fail rows table tips (error_of e)
-tip_fault honest may_fail rows table tips id (fault.Find error) c h = (id, c, h)
-tip_fault honest may_fail rows table tips id (fault.ObjectDecode error) c h = (id, c, h)
-tip_fault honest may_fail rows table tips id fault.Memory c h = tt
+pub tip_fault : (honest may_fail : Type 0) (rows : List Row) (table : Table) (tips : List ObjectId) (wanted : ObjectId → Type 0) (id : ObjectId) (place : ℕ) (e : FetchError) → At tips place id → wanted id → (honest → (x : ObjectId) → Contains (take place tips) x → wanted x → TimeIsTold rows table x) → TimeFault honest may_fail rows table id e → TipFault honest may_fail rows table tips wanted (error_of e)
+tip_fault honest may_fail rows table tips wanted id place (fault.Find error) a w before h = record { id = id; place = place; at = a; is_wanted = w; cause = h; before = before }
+tip_fault honest may_fail rows table tips wanted id place (fault.ObjectDecode error) a w before h = record { id = id; place = place; at = a; is_wanted = w; cause = h; before = before }
+tip_fault honest may_fail rows table tips wanted id place fault.Memory a w before h = tt
+
+-- those of the tips are wanted that are wanted otherwise
+module _ (honest may_fail : Type 0) (rows : List Row) (table : Table) (tips : List ObjectId) (wanted wanted' : ObjectId → Type 0) (to : (x : ObjectId) → Contains tips x → wanted x → wanted' x) (from : (x : ObjectId) → Contains tips x → wanted' x → wanted x) where
+  first_unread : (e : FetchError) → IsFirstUnread honest may_fail rows table tips wanted e → IsFirstUnread honest may_fail rows table tips wanted' e
+  first_unread e f = record {
+    id = f.id;
+    place = f.place;
+    at = f.at;
+    is_wanted = to f.id (contains_from_at tips f.place f.id f.at) f.is_wanted;
+    cause = f.cause;
+    before = λ h x c w. f.before h x c (from x (taken f.place x c) w);
+  }
+    where
+      taken : (n : ℕ) (x : ObjectId) → Contains (take n tips) x → Contains tips x
+      taken n x c = let (k, a) = at_from_contains (take n tips) x c in contains_from_at tips k x (at_from_take tips n k x a).1
+
+  pub tip_fault_more : (e : Error) → TipFault honest may_fail rows table tips wanted e → TipFault honest may_fail rows table tips wanted' e
+  tip_fault_more (simple.Find error) f = first_unread (fault.Find error) f
+  tip_fault_more (simple.ObjectDecode error) f = first_unread (fault.ObjectDecode error) f
+  tip_fault_more (simple.HiddenGraph error) f = f
+  tip_fault_more simple.Memory f = tt
+
+-- no predicate refuses what isn't met
+pub met_or_accepted : (accepts : Id → Bool) (nodes : List Node) (x : ObjectId) → (is_met nodes x ≡ true → accepts (id_of x) ≡ false) → accepts (id_of x) ≡ true → is_met nodes x ≡ false
+met_or_accepted accepts nodes x refused e = go (is_met nodes x) refl
+  where
+    go : (b : Bool) → is_met nodes x ≡ b → is_met nodes x ≡ false
+    go false m = m
+    go true m = let f = refused m in let z : ⊥ = cc in absurd z

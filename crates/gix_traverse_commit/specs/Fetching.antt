@@ -1,5 +1,5 @@
 -- What is read of a commit, and why it isn't.
-use Rattle.std.specs.Prelude.{ℕ, ◌≡◌, ◌⊎◌, List, [], ◌∷◌, Contains, Option, Some, None, Err, ⊤}
+use Rattle.std.specs.Prelude.{ℕ, ℤ, ◌≡◌, ◌⊎◌, ◌+◌, ◌-◌, ◌^◌, min, List, [], ◌∷◌, Contains, Option, Some, None, Err, ⊤}
 use Rattle.gix_hash.specs.Id.{Id, id_of}
 use Rattle.gix_hash.specs.declared.object_id.ObjectId.{ObjectId}
 use Rattle.gix_object_commit.specs.ReadingOn.{TellsFirst, TellsNone, committer_told, parent_told}
@@ -12,7 +12,7 @@ use Rattle.gix_object_find.specs.declared.find.existing_iter.Error.TheVariants a
 use Rattle.gix_object_lines.specs.declared.decode.Error as decode
 use Rattle.gix_object_lines.specs.declared.kind.Kind.TheVariants as kinds
 use Rattle.gix_traverse_commit.specs.Rows.{Holds}
-use Rattle.gix_traverse_commit.specs.Told.{TellsFront, TellsParents}
+use Rattle.gix_traverse_commit.specs.Told.{TellsFront, TellsParents, TellsSeconds}
 use Rattle.gix_traverse_commit.specs.declared.fetch.FetchError.{FetchError}
 use Rattle.gix_traverse_commit.specs.declared.fetch.FetchError.TheVariants as fault
 use Rattle.gix_traverse_commit.specs.declared.parents.Parents.{Parents}
@@ -58,3 +58,11 @@ TimeFault honest may_fail rows table id (fault.Find error) = (¬ Holds rows id) 
 TimeFault honest may_fail rows table id (fault.ObjectDecode error) =
     (¬ Holds rows id) × (honest → (content : List ℕ) × Stands table (id_of id) kinds.Commit content × TellsNone committer_told (start (id_of id).kind content) error)
 TimeFault honest may_fail rows table id fault.Memory = ⊤
+
+-- a row or an object tells the commit's time
+abbrev pub TimeIsTold : List Row → Table → ObjectId → Type 0
+TimeIsTold rows table id = Holds rows id ⊎ ((content : List ℕ) × (seconds : ℤ) × Stands table (id_of id) kinds.Commit content × TellsSeconds (start (id_of id).kind content) seconds)
+
+-- the count of lookups after one more, which stays at its greatest value
+abbrev pub one_more : ℕ → ℕ
+one_more count = min (count + 1) (2 ^ 64 - 1)

@@ -1,23 +1,25 @@
 -- Where a walk stands, and what it gives.
-use Rattle.std.specs.Prelude.{◌≡◌, ◌⊎◌, ◌↔◌, ◌<◌, ◌≤◌, ◌+◌, ℕ, IfOk, IfErr, IfSome, IfNone, IsNone, OnErr, Bool, true, false, not, ◌&&◌, List, [], ◌∷◌, ◌++◌, length, Option, None, Some, ℤ, Result, Contains, ⊤}
+use Rattle.std.specs.Prelude.{◌≡◌, ◌⊎◌, ◌↔◌, ◌<◌, ◌≤◌, ◌+◌, ℕ, IfOk, IfErr, IfSome, IfNone, IsNone, OnErr, Bool, true, false, not, ◌&&◌, List, [], ◌∷◌, ◌++◌, length, Option, None, Some, ℤ, Result, Contains, take, ⊤}
 use Rattle.gix_hash.specs.Id.{Id, id_of}
+use Rattle.gix_hash.specs.declared.kind.Kind as hash
 use Rattle.gix_hash.specs.declared.object_id.ObjectId.{ObjectId}
 use Rattle.gix_object_find.specs.Existing as object
 use Rattle.gix_object_find.specs.Table.{Table}
 use Rattle.gix_object_lines.specs.declared.kind.Kind.TheVariants as kinds
 use Rattle.gix_traverse_commit.specs.Commits.{Commit, Commits, WalkRequest, asked_parents}
-use Rattle.gix_traverse_commit.specs.Fetching.{FetchFault, TimeFault, HasRowsGeneration}
+use Rattle.gix_traverse_commit.specs.Fetching.{FetchFault, TimeFault, TimeIsTold, HasRowsGeneration, one_more}
 use Rattle.gix_traverse_commit.specs.Keeping.{Kept, KeptAll}
 use Rattle.gix_traverse_commit.specs.Nodes.{is_asked, is_hidden, is_met}
 use Rattle.gix_traverse_commit.specs.Painting.{IsUnpainted, ReachedFrom, StopsPainting}
 use Rattle.gix_traverse_commit.specs.Rows.{AllHeld, Holds}
 use Rattle.gix_traverse_commit.specs.Told.{AreTold, rows_of}
 use Rattle.gix_traverse_commit.specs.Standing.{Reads}
-use Rattle.gix_traverse_commit.specs.Order.{IsOpen}
+use Rattle.gix_traverse_commit.specs.Order.{At, IsOpen}
 use Rattle.gix_traverse_commit.specs.Sorting.{ComesFirst, InOrder, IsNextIn, cutoff_in, timing_of}
 use Rattle.gix_traverse_commit.specs.Timely.{AllRowed, IsChosenSoFar, IsMetSoFar, keep_since, waiting}
 use Rattle.gix_traverse_commit.specs.declared.fetch.FetchError.{FetchError}
 use Rattle.gix_traverse_commit.specs.declared.fetch.FetchError.TheVariants as fetch
+use Rattle.gix_traverse_commit.specs.declared.fetch.Source.{Source}
 use Rattle.gix_traverse_commit.specs.declared.info.Info.{Info}
 use Rattle.gix_traverse_commit.specs.declared.nodes.Node.{Node}
 use Rattle.gix_traverse_commit.specs.declared.parents.Parents.{Parents}
@@ -28,6 +30,34 @@ use Rattle.gix_traverse_commit.specs.declared.simple.faults.HiddenGraphError.The
 use Rattle.gix_traverse_commit.specs.declared.simple.Simple.{Simple}
 use Rattle.gix_traverse_commit.specs.declared.simple.sorting.Sorting.{Sorting}
 use Rattle.gix_traverse_commit.specs.declared.simple.sorting.Timing.{Timing}
+
+-- ---- what a clause says of a walk
+
+-- where it reads commits from, and how many objects it asked for so far
+abbrev pub source_of : {F P : Type 0} → Simple F P → Source F
+source_of walk = walk.source
+
+-- the objects
+abbrev pub objects_of : {F P : Type 0} → Simple F P → F
+objects_of walk = walk.source.objects
+
+-- the rows that answer before them, where there are any
+abbrev pub graph_of : {F P : Type 0} → Simple F P → Option (List Row)
+graph_of walk = walk.source.rows
+
+-- how many objects it asked for so far
+abbrev pub lookups_of : {F P : Type 0} → Simple F P → ℕ
+lookups_of walk = walk.source.lookups
+
+-- the content of the commit that was given last, where its object told it
+abbrev pub content_of : {F P : Type 0} → Simple F P → List ℕ
+content_of walk = walk.source.buffer.items
+
+-- the hash function of that commit's id
+abbrev pub kind_of : {F P : Type 0} → Simple F P → hash.Kind
+kind_of walk = walk.kind
+
+-- ---- what it is asked for
 
 -- what a walk is asked for
 pub record Asked : Type 0 where
@@ -212,12 +242,33 @@ SimpleFault Turn honest may_fail rows table hidden fault.Memory = ⊤
 abbrev pub IsTurn : Commits ObjectId → Asked → List ObjectId → ObjectId → Type 0
 IsTurn g a listed id = IsNextIn (timing a) g (request_in (timing a) a) listed id
 
+-- the first of the wanted tips whose time isn't read, for this cause
+pub record IsFirstUnread (honest may_fail : Type 0) (rows : List Row) (table : Table) (tips : List ObjectId) (wanted : ObjectId → Type 0) (error : FetchError) : Type 0 where
+  pub id : ObjectId
+  pub place : ℕ
+  pub at : At tips place id
+  pub is_wanted : wanted id
+  pub cause : TimeFault honest may_fail rows table id error
+  pub before : honest → (x : ObjectId) → Contains (take place tips) x → wanted x → TimeIsTold rows table x
+
 -- why the time of one of these tips isn't read
-abbrev pub TipFault : Type 0 → Type 0 → List Row → Table → List ObjectId → Error → Type 0
-TipFault honest may_fail rows table tips (fault.Find error) = (id : ObjectId) × Contains tips id × TimeFault honest may_fail rows table id (fetch.Find error)
-TipFault honest may_fail rows table tips (fault.ObjectDecode error) = (id : ObjectId) × Contains tips id × TimeFault honest may_fail rows table id (fetch.ObjectDecode error)
-TipFault honest may_fail rows table tips (fault.HiddenGraph error) = ⊥
-TipFault honest may_fail rows table tips fault.Memory = ⊤
+abbrev pub TipFault : Type 0 → Type 0 → List Row → Table → List ObjectId → (ObjectId → Type 0) → Error → Type 0
+TipFault honest may_fail rows table tips wanted (fault.Find error) = IsFirstUnread honest may_fail rows table tips wanted (fetch.Find error)
+TipFault honest may_fail rows table tips wanted (fault.ObjectDecode error) = IsFirstUnread honest may_fail rows table tips wanted (fetch.ObjectDecode error)
+TipFault honest may_fail rows table tips wanted (fault.HiddenGraph error) = ⊥
+TipFault honest may_fail rows table tips wanted fault.Memory = ⊤
+
+-- the commit isn't met
+abbrev pub IsUnmet : List Node → ObjectId → Type 0
+IsUnmet nodes x = is_met nodes x ≡ false
+
+-- of the tips before this place the times are told
+abbrev pub IsReadBefore : Type 0 → List Row → Table → List Node → List ObjectId → ℕ → Type 0
+IsReadBefore honest rows table nodes tips place = honest → (x : ObjectId) → Contains (take place tips) x → IsUnmet nodes x → TimeIsTold rows table x
+
+-- the predicate accepts the commit
+abbrev pub IsAccepted : Asked → ObjectId → Type 0
+IsAccepted a x = a.accepts (id_of x) ≡ true
 
 -- all that the walk begins from, hides and has queued has rows
 pub record InRows {F P : Type 0} (walk : Simple F P) : Type 0 where
@@ -230,6 +281,17 @@ pub record InRows {F P : Type 0} (walk : Simple F P) : Type 0 where
 pub record IsContentOf (honest : Type 0) (rows : List Row) (table : Table) (id : ObjectId) (content : List ℕ) : Type 0 where
   pub rowed : Holds rows id → content ≡ []
   pub stored : honest → ¬ Holds rows id → object.Stands table (id_of id) kinds.Commit content
+
+-- one object was asked for where the commit has no row, and none where it has one
+pub record CountsOne (rows : List Row) (id : ObjectId) (before after : ℕ) : Type 0 where
+  pub stored : (¬ Holds rows id) → after ≡ one_more before
+  pub rowed : Holds rows id → after ≡ before
+
+-- at least one was asked for where the commit has no row, and up to so many more; none where it has one
+pub record CountsUpTo (rows : List Row) (id : ObjectId) (more before after : ℕ) : Type 0 where
+  pub stored : (¬ Holds rows id) → one_more before ≤ after
+  pub rowed : Holds rows id → after ≡ before
+  pub most : after ≤ before + 1 + more
 
 -- what the next commit is, after this list
 pub record IsNext {F P : Type 0} (accepts : P → Id → Bool) (ids : List Id) (g : Commits ObjectId) (a : Asked) (listed : List ObjectId) (rows : List Row) (info : Info) (after : Simple F P) : Type 0 where
@@ -251,5 +313,6 @@ pub record GivesNext {F P : Type 0} (accepts : P → Id → Bool) (honest may_fa
   pub ended : IsOver before → IsNone item
   pub content : IfSome item (λ answer. IfOk answer (λ info. IsContentOf honest (rows_of before.source.rows) table info.id after.source.buffer.items × (after.kind ≡ (id_of info.id).kind)))
   pub counted : before.begun ≡ true → timing_of before.parents before.sorting ≡ None → after.source.lookups ≤ before.source.lookups + 1
-  pub counted_by_time : before.begun ≡ true → IfSome item (λ answer. IfOk answer (λ info. after.source.lookups ≤ before.source.lookups + 1 + length info.parent_ids.items))
+  pub counted_one : before.begun ≡ true → timing_of before.parents before.sorting ≡ None → IfSome item (λ answer. IfOk answer (λ info. CountsOne (rows_of before.source.rows) info.id before.source.lookups after.source.lookups))
+  pub counted_by_time : before.begun ≡ true → IfSome item (λ answer. IfOk answer (λ info. CountsUpTo (rows_of before.source.rows) info.id (length info.parent_ids.items) before.source.lookups after.source.lookups))
   pub rowed : InRows before → IfSome item (λ answer. IfOk answer (λ _. InRows after × (after.source.lookups ≡ before.source.lookups)))

@@ -1,5 +1,5 @@
 -- The orders that a walk is asked for.
-use Rattle.std.specs.Prelude.{Bool, true, ℤ, Option, Some, None, List}
+use Rattle.std.specs.Prelude.{Bool, true, ℤ, Option, Some, None, IsSome, List}
 use Rattle.std.specs.Int.Signed.{le_z}
 use Rattle.gix_traverse_commit.specs.Commits.{Commits, WalkRequest, asked_parents, Listed}
 use Rattle.gix_traverse_commit.specs.Order.{NewestFirst, OldestFirst}
@@ -19,6 +19,10 @@ timing_of First sorting = None
 timing_of All BreadthFirst = None
 timing_of All (ByCommitTime order) = Some (record { order = order; since = None })
 timing_of All (ByCommitTimeCutoff order seconds) = Some (record { order = order; since = Some seconds })
+
+-- an order by time
+abbrev pub IsByTime : Sorting → Type 0
+IsByTime sorting = IsSome (timing_of All sorting)
 
 -- the cutoff, where there is one
 abbrev pub cutoff_in : Option Timing → Option ℤ

@@ -7,7 +7,7 @@ ghost use Rattle.gix_object_commit.specs.Tokens.{place_of};
 ghost use Rattle.gix_object_find.specs.Existing.{KindFault, Stands};
 ghost use Rattle.gix_object_lines.specs.declared.kind.Kind.TheVariants as kinds;
 ghost use Rattle.gix_traverse_commit.specs.Commits.{Commits, asked_parents, asked};
-ghost use Rattle.gix_traverse_commit.specs.Fetching.{ReadsParents, HasRowsGeneration, ParentsFault, FetchFault, TimeFault, find_error};
+ghost use Rattle.gix_traverse_commit.specs.Fetching.{ReadsParents, HasRowsGeneration, ParentsFault, FetchFault, TimeFault, TimeIsTold, find_error, one_more};
 ghost use Rattle.gix_traverse_commit.specs.Rows.{AllHeld, Holds};
 ghost use Rattle.gix_traverse_commit.specs.Told.{AreTold, rows_of};
 ghost use Rattle.gix_traverse_commit.specs.declared.fetch.FetchError.TheVariants.{ObjectDecode, Memory};
@@ -177,6 +177,7 @@ impl<F: Find> Source<F> {
         ensures closed { Holds (rows_of self.old.rows) id.now
             → IfOk result (λ commit. AllHeld (rows_of self.old.rows) commit.parents.items) }
         ensures counted { self.new.lookups ≤ self.old.lookups + 1 }
+        ensures asked { (¬ Holds (rows_of self.old.rows) id.now) → self.new.lookups ≡ one_more self.old.lookups }
         ensures content { F.is_honest self.old.objects → ¬ Holds (rows_of self.old.rows) id.now
             → OnOk result (Stands (F.table self.old.objects) (id_of id.now) kinds.Commit self.new.buffer.items) }
         ensures refused { IfErr result (FetchFault (F.is_honest self.old.objects) (F.may_fail self.old.objects)
@@ -208,11 +209,14 @@ impl<F: Find> Source<F> {
         ensures time { F.is_honest self.old.objects → (g : Commits ObjectId)
             → AreTold (rows_of self.old.rows) (F.table self.old.objects) g
             → IfOk result (λ seconds. seconds ≡ (g id.now).time) }
+        ensures told { F.is_honest self.old.objects
+            → IfOk result (λ _. TimeIsTold (rows_of self.old.rows) (F.table self.old.objects) id.now) }
         ensures none { F.is_honest self.old.objects → ¬ F.may_fail self.old.objects → (g : Commits ObjectId)
             → AreTold (rows_of self.old.rows) (F.table self.old.objects) g
             → IfErr result (λ error. error ≢ Memory → (g id.now).time ≡ pos 0) }
         ensures rowed { Holds (rows_of self.old.rows) id.now → IsOk result × (self.new.lookups ≡ self.old.lookups) }
         ensures counted { self.new.lookups ≤ self.old.lookups + 1 }
+        ensures rising { self.old.lookups ≤ self.new.lookups }
         ensures refused { IfErr result (TimeFault (F.is_honest self.old.objects) (F.may_fail self.old.objects)
             (rows_of self.old.rows) (F.table self.old.objects) id.now) }
     {

@@ -1,13 +1,15 @@
 //! A walk over commits, each once.
 
-ghost use Rattle.std.specs.Prelude.{◌≡◌, ◌≤◌, ◌<◌, ◌+◌, List, [], ◌∷◌, ◌++◌, length, IfOk, IfErr, IfSome, IfNone, IsNone, IsOk, OnOk, None, true, false};
+ghost use Rattle.std.specs.Prelude.{◌≡◌, ◌↔◌, ◌≤◌, ◌<◌, ◌+◌, List, Contains, [], ◌∷◌, ◌++◌, length, IfOk, IfErr, IfSome, IfNone, IsNone, IsOk, OnOk, None, true, false};
 ghost use Rattle.gix_hash.specs.Id.{Id, id_of};
 ghost use Rattle.gix_hash.specs.declared.object_id.ObjectId.{ObjectId};
 ghost use Rattle.gix_object_commit.specs.Tokens.{place_of, start};
 ghost use Rattle.gix_traverse_commit.specs.Commits.{Commits, asked_parents};
+ghost use Rattle.gix_traverse_commit.specs.Fetching.{TimeIsTold};
 ghost use Rattle.gix_traverse_commit.specs.Rows.{AllHeld, Holds};
-ghost use Rattle.gix_traverse_commit.specs.Simply.{Answers, Asked, IsMade, IsPaintedFor, IsUnderWay, IsAtTurn, IsOver, IsKnown, IsInfo, IsTurn, IsSure, IsContentOf, InRows, Stands, StopsFetch, TipFault, SimpleFault, GivesNext};
-ghost use Rattle.gix_traverse_commit.specs.Sorting.{timing_of};
+ghost use Rattle.gix_traverse_commit.specs.Simply.{Answers, Asked, CountsOne, CountsUpTo, IsAccepted, IsMade, IsPaintedFor, IsUnderWay, IsAtTurn, IsOver, IsKnown, IsInfo, IsTurn, IsSure, IsContentOf, IsUnmet, InRows, Stands, StopsFetch, TipFault, SimpleFault, GivesNext, source_of, objects_of, graph_of, lookups_of, content_of, kind_of};
+ghost use Rattle.gix_traverse_commit.specs.Sorting.{IsByTime, timing_of};
+ghost use Rattle.gix_traverse_commit.specs.Timely.{waiting};
 ghost use Rattle.gix_traverse_commit.specs.Told.{AreTold, rows_of};
 ghost use Rattle.gix_traverse_commit.specs.declared.parents.Parents.TheVariants.{All as AllParents};
 ghost use Rattle.gix_traverse_commit.specs.declared.simple.sorting.Sorting.TheVariants.{BreadthFirst};
@@ -65,9 +67,9 @@ impl<F: Find + Drop> Simple<F, All> {
     /// A walk from these tips along all parents, which reads commits from these objects. It is `Memory` where there is no
     /// memory for the walk.
     pub fn new(tips: Vec<ObjectId>, find: F) -> Result<Simple<F, All>, Error>
-        ensures objects { IfOk result (λ walk. walk.source.objects ≡ find) }
-        ensures rows { IfOk result (λ walk. walk.source.rows ≡ None) }
-        ensures lookups { IfOk result (λ walk. walk.source.lookups ≡ 0) }
+        ensures objects { IfOk result (λ walk. objects_of walk ≡ find) }
+        ensures rows { IfOk result (λ walk. graph_of walk ≡ None) }
+        ensures lookups { IfOk result (λ walk. lookups_of walk ≡ 0) }
         ensures made { IfOk result (IsMade (λ _ _. true) (record {
           tips = tips.items;
           hidden = [];
@@ -85,9 +87,9 @@ impl<F: Find + Drop, P: Accept + Drop> Simple<F, P> {
     /// A walk that gives only commits that the predicate accepts, and goes past none that it refuses. The predicate is asked
     /// once of each commit that the walk meets, and of the tips at once.
     pub fn filtered(tips: Vec<ObjectId>, find: F, mut predicate: P) -> Result<Simple<F, P>, Error>
-        ensures objects { IfOk result (λ walk. walk.source.objects ≡ find) }
-        ensures rows { IfOk result (λ walk. walk.source.rows ≡ None) }
-        ensures lookups { IfOk result (λ walk. walk.source.lookups ≡ 0) }
+        ensures objects { IfOk result (λ walk. objects_of walk ≡ find) }
+        ensures rows { IfOk result (λ walk. graph_of walk ≡ None) }
+        ensures lookups { IfOk result (λ walk. lookups_of walk ≡ 0) }
         ensures made { IfOk result (IsMade P.accepts (record {
           tips = tips.items;
           hidden = [];
@@ -120,57 +122,68 @@ impl<F: Find + Drop, P: Accept + Drop> Simple<F, P> {
         })
     }
 
-    /// The same walk in this order; the last call before the first commit decides. An order by time asks for the time of each tip
-    /// that the predicate accepts: it is `Find` where a tip isn't found, `ObjectDecode` where it tells no committer, and `Memory`
-    /// where there is no memory.
+    /// The same walk in this order; the last call before the first commit decides. An order by time reads the time of each tip that
+    /// the predicate accepts, in their order. Of the first that isn't read the error tells why: it is `Find` where it isn't found,
+    /// `ObjectDecode` where it tells no committer, and `Memory` where there is no memory; no walk is left then.
+    ///
+    /// After the first commit this begins the rest anew, as each builder call but `commit_graph` does: from what is queued, in the
+    /// order in which it was queued, past no other commit that was met. A walk that is over stays over.
     pub fn sorting(mut self, sorting: Sorting) -> Result<Simple<F, P>, Error>
-        ensures objects { IfOk result (λ walk. walk.source.objects ≡ self.source.objects) }
-        ensures rows { IfOk result (λ walk. walk.source.rows ≡ self.source.rows) }
+        ensures objects { IfOk result (λ walk. objects_of walk ≡ objects_of self) }
+        ensures rows { IfOk result (λ walk. graph_of walk ≡ graph_of self) }
         ensures made { (a : Asked) → IsMade P.accepts a self
             → IfOk result (IsMade P.accepts (record a { sorting = sorting })) }
-        ensures counted { IfOk result (λ walk. self.begun ≡ false
-            → walk.source.lookups ≤ self.source.lookups + length self.tips.items) }
-        ensures rowed { IfOk result (λ walk. self.begun ≡ false
-            → AllHeld (rows_of self.source.rows) self.tips.items → walk.source.lookups ≡ self.source.lookups) }
-        ensures refused { IfErr result (λ error. self.begun ≡ false → TipFault (F.is_honest self.source.objects)
-            (F.may_fail self.source.objects) (rows_of self.source.rows) (F.table self.source.objects)
-            self.tips.items error) }
+        ensures counted { (a : Asked) → IsMade P.accepts a self
+            → IfOk result (λ walk. lookups_of walk ≤ lookups_of self + length a.tips) }
+        ensures rowed { (a : Asked) → IsMade P.accepts a self → AllHeld (rows_of (graph_of self)) a.tips
+            → IfOk result (λ walk. lookups_of walk ≡ lookups_of self) }
+        ensures told { F.is_honest (objects_of self) → IsByTime sorting → (a : Asked) → IsMade P.accepts a self
+            → OnOk result ((x : ObjectId) → Contains a.tips x → IsAccepted a x
+            → TimeIsTold (rows_of (graph_of self)) (F.table (objects_of self)) x) }
+        ensures refused { (a : Asked) → IsMade P.accepts a self → IfErr result (TipFault
+            (F.is_honest (objects_of self)) (F.may_fail (objects_of self)) (rows_of (graph_of self))
+            (F.table (objects_of self)) a.tips (IsAccepted a)) }
+        ensures over { IsOver self → IfOk result IsOver }
     {
-        self.anew()?;
+        self.turn();
+        self.gather()?;
         self.read_tips(sorting)?;
         self.sorting = sorting;
         Ok(self)
     }
 
-    /// The same walk along these parents.
+    /// The same walk along these parents. After the first commit this begins the rest anew.
     pub fn parents(mut self, parents: Parents) -> Simple<F, P>
-        ensures source { result.source ≡ self.source }
+        ensures source { source_of result ≡ source_of self }
         ensures made { (a : Asked) → IsMade P.accepts a self → IsMade P.accepts (record a { parents = parents }) result }
+        ensures over { IsOver self → IsOver result }
     {
+        self.turn();
         self.parents = parents;
         self
     }
 
-    /// The same walk without these commits and all that they reach, in place of those that were hidden before.
+    /// The same walk without these commits and all that they reach, in place of those that were hidden before. It is never refused.
+    /// After the first commit this begins the rest anew.
     pub fn hide(mut self, tips: Vec<ObjectId>) -> Result<Simple<F, P>, Error>
-        ensures source { IfOk result (λ walk. walk.source ≡ self.source) }
+        ensures source { IfOk result (λ walk. source_of walk ≡ source_of self) }
         ensures made { (a : Asked) → IsMade P.accepts a self
             → IfOk result (IsMade P.accepts (record a { hidden = tips.items })) }
-        ensures refused { IfErr result (λ error. error ≡ Memory) }
+        ensures over { IsOver self → IfOk result IsOver }
+        ensures whole { IsOk result }
     {
-        if self.begun {
-            self.begin_anew()?;
-        }
+        self.turn();
         self.hidden = tips;
         Ok(self)
     }
 
     /// The same walk with these rows, which answer before the objects do.
     pub fn commit_graph(mut self, rows: Option<Graph>) -> Simple<F, P>
-        ensures objects { result.source.objects ≡ self.source.objects }
-        ensures rows { result.source.rows ≡ rows }
-        ensures lookups { result.source.lookups ≡ self.source.lookups }
+        ensures objects { objects_of result ≡ objects_of self }
+        ensures rows { graph_of result ≡ rows }
+        ensures lookups { lookups_of result ≡ lookups_of self }
         ensures made { (a : Asked) → IsMade P.accepts a self → IsMade P.accepts a result }
+        ensures over { IsOver self → IsOver result }
     {
         self.source.rows = rows;
         self
@@ -178,36 +191,44 @@ impl<F: Find + Drop, P: Accept + Drop> Simple<F, P> {
 
     /// How many objects the walk asked for so far.
     pub fn lookups(&self) -> usize
-        ensures { result ≡ self.now.source.lookups }
+        ensures { result ≡ lookups_of self.now }
     {
         self.source.lookups
     }
 
     /// The content of the commit that was given last, where its object told it; else nothing.
     pub fn commit_data(&self) -> &[u8]
-        ensures { result.now ≡ self.now.source.buffer.items }
+        ensures { result.now ≡ content_of self.now }
     {
         self.source.buffer.as_slice()
     }
 
     /// A reader of the parts of the commit that was given last, where its object told it; else of nothing.
     pub fn commit_iter(&self) -> CommitRefIter<'_>
-        ensures { place_of result ≡ start self.now.kind self.now.source.buffer.items }
+        ensures { place_of result ≡ start (kind_of self.now) (content_of self.now) }
     {
         CommitRefIter::from_bytes(self.commit_data(), self.kind)
     }
 }
 
 impl<F: Find + Drop, P: Accept + Drop> Simple<F, P> {
-    // Begins anew where the walk has begun.
-    fn anew(&mut self) -> Result<(), AllocError>
+    // Lets the rest of a walk that has begun begin anew from what is queued.
+    fn turn(&mut self)
         ensures source { self.new.source ≡ self.old.source }
         ensures same { self.old.begun ≡ false → self.new ≡ self.old }
+        ensures over { IsOver self.old → IsOver self.new }
     {
         if self.begun {
-            return self.begin_anew();
+            self.tips.clear();
+            self.begun = self.is_idle();
         }
-        Ok(())
+    }
+
+    // Whether nothing is queued.
+    fn is_idle(&self) -> bool
+        ensures { (result ≡ true) ↔ ((self.now.queue.items ≡ []) × (waiting self.now.waiting ≡ [])) }
+    {
+        self.queue.is_empty() && self.waiting.is_empty()
     }
 
     // Reads the times of the tips, but of those that the predicate refused, where the order goes by time.
@@ -218,9 +239,13 @@ impl<F: Find + Drop, P: Accept + Drop> Simple<F, P> {
         ensures counted { self.new.source.lookups ≤ self.old.source.lookups + length self.old.tips.items }
         ensures rowed { AllHeld (rows_of self.old.source.rows) self.old.tips.items
             → self.new.source.lookups ≡ self.old.source.lookups }
+        ensures told { F.is_honest self.old.source.objects → IsByTime sorting → OnOk result ((x : ObjectId)
+            → Contains self.old.tips.items x → IsUnmet self.old.nodes x
+            → TimeIsTold (rows_of self.old.source.rows) (F.table self.old.source.objects) x) }
         ensures refused { IfErr result (TipFault (F.is_honest self.old.source.objects)
             (F.may_fail self.old.source.objects) (rows_of self.old.source.rows)
-            (F.table self.old.source.objects) self.old.tips.items) }
+            (F.table self.old.source.objects) self.old.tips.items (IsUnmet self.old.nodes)) }
+        ensures over { IsOver self.old → IsOver self.new }
     {
         if time_order(Parents::All, sorting).is_none() {
             return Ok(());
@@ -228,17 +253,20 @@ impl<F: Find + Drop, P: Accept + Drop> Simple<F, P> {
         read_times(&mut self.source, &self.nodes, self.tips.as_slice())
     }
 
-    // Makes the rest a walk from what is queued, in its order, without anything hidden.
-    fn begin_anew(&mut self) -> Result<(), AllocError>
-        ensures { self.new.source ≡ self.old.source }
+    // Makes tips of what is queued, in its order, and takes the hidden marks away. A walk that has not begun has nothing queued.
+    fn gather(&mut self) -> Result<(), AllocError>
+        ensures source { self.new.source ≡ self.old.source }
+        ensures same { self.old.queue.items ≡ [] → waiting self.old.waiting ≡ [] → (self.new ≡ self.old) × IsOk result }
+        ensures rowed { InRows self.old → OnOk result (InRows self.new) }
     {
+        if self.is_idle() {
+            return Ok(());
+        }
         let alloc: Global = *self.tips.allocator();
         unpaint(alloc, &mut self.nodes)?;
         let waiting = self.waiting.take_all(alloc)?;
         queue_all(&mut self.queue, waiting.as_slice())?;
-        self.tips = take_all(alloc, &mut self.nodes, &mut self.queue)?;
-        self.begun = false;
-        Ok(())
+        take_all(&mut self.tips, &mut self.nodes, &mut self.queue)
     }
 
     // Queues the tips of a walk whose hidden commits are painted.
@@ -269,7 +297,7 @@ impl<F: Find + Drop, P: Accept + Drop> Simple<F, P> {
         Ok(())
     }
 
-    // Paints what is hidden, and queues the tips.
+    // Paints what is hidden, and queues the tips: where the walk was begun before, what was queued then.
     fn begin(&mut self) -> Result<(), Error>
         ensures objects { self.new.source.objects ≡ self.old.source.objects }
         ensures rows { self.new.source.rows ≡ self.old.source.rows }
@@ -283,6 +311,7 @@ impl<F: Find + Drop, P: Accept + Drop> Simple<F, P> {
             (F.is_honest self.old.source.objects) (F.may_fail self.old.source.objects)
             (rows_of self.old.source.rows) (F.table self.old.source.objects) a.hidden) }
     {
+        self.gather()?;
         if let Err(error) = paint(&mut self.source, &mut self.nodes, self.hidden.as_slice()) {
             return Err(of_painting(error));
         }
@@ -365,6 +394,9 @@ impl<F: Find + Drop, P: Accept + Drop> Simple<F, P> {
         ensures in_breadth { timing_of self.old.parents self.old.sorting ≡ None
             → self.new.source.lookups ≡ self.old.source.lookups }
         ensures counted { self.new.source.lookups ≤ self.old.source.lookups + length parents.now }
+        ensures rising { self.old.source.lookups ≤ self.new.source.lookups }
+        ensures still { AllHeld (rows_of self.old.source.rows) parents.now
+            → OnOk result (self.new.source.lookups ≡ self.old.source.lookups) }
         ensures refused { IfErr result (λ error. error ≡ Memory) }
     {
         let Some(timing) = time_order(self.parents, self.sorting) else {
@@ -407,8 +439,11 @@ impl<F: Find + Drop, P: Accept + Drop> Simple<F, P> {
             × (self.new.kind ≡ (id_of id).kind)) }
         ensures in_breadth { timing_of self.old.parents self.old.sorting ≡ None
             → self.new.source.lookups ≤ self.old.source.lookups + 1 }
-        ensures counted { IfOk result (λ info. self.new.source.lookups
-            ≤ self.old.source.lookups + 1 + length info.parent_ids.items) }
+        ensures one { timing_of self.old.parents self.old.sorting ≡ None
+            → OnOk result (CountsOne (rows_of self.old.source.rows) id self.old.source.lookups
+            self.new.source.lookups) }
+        ensures counted { IfOk result (λ info. CountsUpTo (rows_of self.old.source.rows) id
+            (length info.parent_ids.items) self.old.source.lookups self.new.source.lookups) }
         ensures rowed { InRows self.old → Holds (rows_of self.old.source.rows) id → OnOk result (InRows self.new
             × (self.new.source.lookups ≡ self.old.source.lookups)) }
         ensures refused { IfErr result (StopsFetch (F.is_honest self.old.source.objects)

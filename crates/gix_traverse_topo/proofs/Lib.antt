@@ -13,3 +13,4 @@ pub mod Stepping
 pub mod Updates
 pub mod Turning
 pub mod Giving
+pub mod Lookups

@@ -5,7 +5,10 @@ use Rattle.gix_hash.specs.declared.object_id.ObjectId.{ObjectId}
 use Rattle.gix_traverse_commit.specs.Commits.{Commits}
 use Rattle.gix_traverse_commit.specs.declared.info.Info.{Info}
 use Rattle.gix_traverse_commit.specs.declared.rows.Row.{Row}
-use Rattle.gix_traverse_topo.specs.Standing.{Answers, IsInfo, IsTurn, NoneReachesItself, Stands, all_accepted, topo_request}
+use Rattle.gix_object_find.specs.Table.{Table}
+use Rattle.gix_traverse_commit.specs.Told.{rows_of}
+use Rattle.gix_traverse_topo.specs.Asking.{Asked}
+use Rattle.gix_traverse_topo.specs.Standing.{Answers, Begins, IsInfo, IsTurn, NoneReachesItself, Stands, all_accepted, topo_request}
 use Rattle.gix_traverse_topo.specs.Waiting.{waiting}
 use Rattle.gix_traverse_topo.specs.declared.error.Error.{Error}
 use Rattle.gix_traverse_topo.specs.declared.error.Error.TheVariants.{Memory}
@@ -15,6 +18,10 @@ use Rattle.gix_traverse_topo.specs.declared.iter.Topo.{Topo}
 -- the ids that the walk's predicate accepts
 abbrev pub accepted_by : {P : Type 0} → (P → Id → Bool) → Topo P → ObjectId → Bool
 accepted_by accepts walk = λ x. accepts walk.predicate (id_of x)
+
+-- it stands before its first commit, as it was asked for
+abbrev pub BeginsAs : {F P : Type 0} → (P → Id → Bool) → Type 0 → Type 0 → Table → Asked F P → Topo P → Type 0
+BeginsAs accepts honest may_fail table a walk = Begins honest may_fail a.sorting (rows_of a.graph) table a.tips a.ends a.parents (λ x. accepts a.predicate (id_of x)) walk.known walk.ready
 
 -- it has given these, of what these tips reach and these ends don't
 abbrev pub HasGiven : {P : Type 0} → (P → Id → Bool) → Topo P → Sorting → List Row → (ObjectId → Option Error) → Commits ObjectId → List ObjectId → List ObjectId → List ObjectId → Type 0

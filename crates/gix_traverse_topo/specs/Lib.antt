@@ -7,3 +7,4 @@ pub mod Waiting
 pub mod Exploring
 pub mod Standing
 pub mod Giving
+pub mod Asking

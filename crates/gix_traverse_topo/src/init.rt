@@ -1,13 +1,14 @@
 //! What a walk is asked for.
 
 ghost use Rattle.std.specs.Prelude.{◌≡◌, ◌+◌, ◌≤◌, ◌++◌, [], length, IfOk, IfErr, IfSome, IfNone, None};
-ghost use Rattle.gix_hash.specs.Id.{id_of};
-ghost use Rattle.gix_traverse_commit.specs.Rows.{AllHeld};
+ghost use Rattle.gix_hash.specs.declared.object_id.ObjectId.{ObjectId};
+ghost use Rattle.gix_traverse_commit.specs.Rows.{AllHeld, Holds};
 ghost use Rattle.gix_traverse_commit.specs.Told.{rows_of};
 ghost use Rattle.gix_traverse_commit.specs.declared.parents.Parents.TheVariants.{All as AllParents};
+ghost use Rattle.gix_traverse_topo.specs.Asking.{asked_of, commits_of, lookups_of, parents_of, predicate_of};
 ghost use Rattle.gix_traverse_topo.specs.Exploring.{IsPainted, IsExplored};
 ghost use Rattle.gix_traverse_topo.specs.Faults.{IsBuildFault};
-ghost use Rattle.gix_traverse_topo.specs.Standing.{Begins};
+ghost use Rattle.gix_traverse_topo.specs.Giving.{BeginsAs};
 ghost use Rattle.gix_traverse_topo.specs.declared.error.Error.TheVariants.{Memory};
 ghost use Rattle.gix_traverse_topo.specs.declared.init.Sorting.TheVariants.{DateOrder};
 
@@ -53,12 +54,12 @@ fn with_more(mut ids: Vec<ObjectId>, more: &[ObjectId]) -> Result<Vec<ObjectId>,
 impl<F: Find + Drop> Builder<F, All> {
     /// A walk over the objects of this store, without tips or ends, by date and along all parents.
     pub fn new(alloc: Global, find: F) -> Builder<F, All>
-        ensures objects { result.find ≡ find }
-        ensures tips { result.tips.items ≡ [] }
-        ensures ends { result.ends.items ≡ [] }
-        ensures sorting { result.sorting ≡ DateOrder }
-        ensures parents { result.parents ≡ AllParents }
-        ensures rows { result.rows ≡ None }
+        ensures objects { (asked_of result).objects ≡ find }
+        ensures tips { (asked_of result).tips ≡ [] }
+        ensures ends { (asked_of result).ends ≡ [] }
+        ensures sorting { (asked_of result).sorting ≡ DateOrder }
+        ensures parents { (asked_of result).parents ≡ AllParents }
+        ensures graph { (asked_of result).graph ≡ None }
     {
         Builder {
             find,
@@ -78,13 +79,13 @@ impl<F: Find + Drop> Builder<F, All> {
         tips: &[ObjectId],
         ends: Option<&[ObjectId]>,
     ) -> Result<Builder<F, All>, Error>
-        ensures objects { IfOk result (λ builder. builder.find ≡ find) }
-        ensures tips { IfOk result (λ builder. builder.tips.items ≡ tips.now) }
-        ensures ends { IfSome ends.entry (λ ids. IfOk result (λ builder. builder.ends.items ≡ ids.now)) }
-        ensures no_ends { IfNone ends.entry (IfOk result (λ builder. builder.ends.items ≡ [])) }
-        ensures sorting { IfOk result (λ builder. builder.sorting ≡ DateOrder) }
-        ensures parents { IfOk result (λ builder. builder.parents ≡ AllParents) }
-        ensures rows { IfOk result (λ builder. builder.rows ≡ None) }
+        ensures objects { IfOk result (λ builder. (asked_of builder).objects ≡ find) }
+        ensures tips { IfOk result (λ builder. (asked_of builder).tips ≡ tips.now) }
+        ensures ends { IfSome ends.entry (λ ids. IfOk result (λ builder. (asked_of builder).ends ≡ ids.now)) }
+        ensures no_ends { IfNone ends.entry (IfOk result (λ builder. (asked_of builder).ends ≡ [])) }
+        ensures sorting { IfOk result (λ builder. (asked_of builder).sorting ≡ DateOrder) }
+        ensures parents { IfOk result (λ builder. (asked_of builder).parents ≡ AllParents) }
+        ensures graph { IfOk result (λ builder. (asked_of builder).graph ≡ None) }
         ensures refused { IfErr result (λ error. error ≡ Memory) }
     {
         let builder = Builder::new(alloc, find).with_tips(tips)?;
@@ -98,13 +99,13 @@ impl<F: Find + Drop> Builder<F, All> {
 impl<F: Find + Drop, P: Accept + Drop> Builder<F, P> {
     /// The same walk, which gives the commits alone that the predicate accepts. It goes through the others all the same.
     pub fn with_predicate<Q: Accept + Drop>(self, predicate: Q) -> Builder<F, Q>
-        ensures predicate { result.predicate ≡ predicate }
-        ensures objects { result.find ≡ self.find }
-        ensures tips { result.tips ≡ self.tips }
-        ensures ends { result.ends ≡ self.ends }
-        ensures sorting { result.sorting ≡ self.sorting }
-        ensures parents { result.parents ≡ self.parents }
-        ensures rows { result.rows ≡ self.rows }
+        ensures predicate { (asked_of result).predicate ≡ predicate }
+        ensures objects { (asked_of result).objects ≡ (asked_of self).objects }
+        ensures tips { (asked_of result).tips ≡ (asked_of self).tips }
+        ensures ends { (asked_of result).ends ≡ (asked_of self).ends }
+        ensures sorting { (asked_of result).sorting ≡ (asked_of self).sorting }
+        ensures parents { (asked_of result).parents ≡ (asked_of self).parents }
+        ensures graph { (asked_of result).graph ≡ (asked_of self).graph }
     {
         Builder {
             find: self.find,
@@ -119,13 +120,8 @@ impl<F: Find + Drop, P: Accept + Drop> Builder<F, P> {
 
     /// The same walk with further tips. It is an error where there is no memory for them.
     pub fn with_tips(self, tips: &[ObjectId]) -> Result<Builder<F, P>, Error>
-        ensures tips { IfOk result (λ builder. builder.tips.items ≡ self.tips.items ++ tips.now) }
-        ensures ends { IfOk result (λ builder. builder.ends ≡ self.ends) }
-        ensures sorting { IfOk result (λ builder. builder.sorting ≡ self.sorting) }
-        ensures parents { IfOk result (λ builder. builder.parents ≡ self.parents) }
-        ensures objects { IfOk result (λ builder. builder.find ≡ self.find) }
-        ensures predicate { IfOk result (λ builder. builder.predicate ≡ self.predicate) }
-        ensures rows { IfOk result (λ builder. builder.rows ≡ self.rows) }
+        ensures asked { IfOk result (λ builder. asked_of builder
+            ≡ record (asked_of self) { tips = (asked_of self).tips ++ tips.now }) }
         ensures refused { IfErr result (λ error. error ≡ Memory) }
     {
         Ok(Builder {
@@ -136,13 +132,8 @@ impl<F: Find + Drop, P: Accept + Drop> Builder<F, P> {
 
     /// The same walk with further ends. It is an error where there is no memory for them.
     pub fn with_ends(self, ends: &[ObjectId]) -> Result<Builder<F, P>, Error>
-        ensures ends { IfOk result (λ builder. builder.ends.items ≡ self.ends.items ++ ends.now) }
-        ensures tips { IfOk result (λ builder. builder.tips ≡ self.tips) }
-        ensures sorting { IfOk result (λ builder. builder.sorting ≡ self.sorting) }
-        ensures parents { IfOk result (λ builder. builder.parents ≡ self.parents) }
-        ensures objects { IfOk result (λ builder. builder.find ≡ self.find) }
-        ensures predicate { IfOk result (λ builder. builder.predicate ≡ self.predicate) }
-        ensures rows { IfOk result (λ builder. builder.rows ≡ self.rows) }
+        ensures asked { IfOk result (λ builder. asked_of builder
+            ≡ record (asked_of self) { ends = (asked_of self).ends ++ ends.now }) }
         ensures refused { IfErr result (λ error. error ≡ Memory) }
     {
         Ok(Builder {
@@ -153,39 +144,21 @@ impl<F: Find + Drop, P: Accept + Drop> Builder<F, P> {
 
     /// The same walk in this order.
     pub fn sorting(self, sorting: Sorting) -> Builder<F, P>
-        ensures sorting { result.sorting ≡ sorting }
-        ensures tips { result.tips ≡ self.tips }
-        ensures ends { result.ends ≡ self.ends }
-        ensures parents { result.parents ≡ self.parents }
-        ensures objects { result.find ≡ self.find }
-        ensures predicate { result.predicate ≡ self.predicate }
-        ensures rows { result.rows ≡ self.rows }
+        ensures { asked_of result ≡ record (asked_of self) { sorting = sorting } }
     {
         Builder { sorting, ..self }
     }
 
     /// The same walk along these parents.
     pub fn parents(self, parents: Parents) -> Builder<F, P>
-        ensures parents { result.parents ≡ parents }
-        ensures tips { result.tips ≡ self.tips }
-        ensures ends { result.ends ≡ self.ends }
-        ensures sorting { result.sorting ≡ self.sorting }
-        ensures objects { result.find ≡ self.find }
-        ensures predicate { result.predicate ≡ self.predicate }
-        ensures rows { result.rows ≡ self.rows }
+        ensures { asked_of result ≡ record (asked_of self) { parents = parents } }
     {
         Builder { parents, ..self }
     }
 
     /// The same walk, which takes commits from these rows where they have one.
     pub fn with_commit_graph(self, rows: Option<Graph>) -> Builder<F, P>
-        ensures rows { result.rows ≡ rows }
-        ensures tips { result.tips ≡ self.tips }
-        ensures ends { result.ends ≡ self.ends }
-        ensures sorting { result.sorting ≡ self.sorting }
-        ensures parents { result.parents ≡ self.parents }
-        ensures objects { result.find ≡ self.find }
-        ensures predicate { result.predicate ≡ self.predicate }
+        ensures { asked_of result ≡ record (asked_of self) { graph = rows } }
     {
         Builder { rows, ..self }
     }
@@ -193,16 +166,17 @@ impl<F: Find + Drop, P: Accept + Drop> Builder<F, P> {
     /// The walk, which has read all its commits. It is an error where there is no memory, and where a commit that the ends
     /// reach isn't read.
     pub fn build(self) -> Result<Topo<P>, Error>
-        ensures predicate { IfOk result (λ walk. walk.predicate ≡ self.predicate) }
-        ensures parents { IfOk result (λ walk. walk.parents ≡ self.parents) }
-        ensures begins { IfOk result (λ walk. Begins (F.is_honest self.find) (F.may_fail self.find) self.sorting
-            (rows_of self.rows) (F.table self.find) self.tips.items self.ends.items self.parents
-            (λ x. P.accepts self.predicate (id_of x)) walk.known walk.ready) }
-        ensures counted { IfOk result (λ walk. walk.lookups ≤ length walk.known.ids.keys) }
-        ensures rowed { AllHeld (rows_of self.rows) self.tips.items → AllHeld (rows_of self.rows) self.ends.items
-            → IfOk result (λ walk. walk.lookups ≡ 0) }
-        ensures refused { IfErr result (IsBuildFault (F.is_honest self.find) (F.may_fail self.find)
-            (rows_of self.rows) (F.table self.find) self.ends.items) }
+        ensures predicate { IfOk result (λ walk. predicate_of walk ≡ (asked_of self).predicate) }
+        ensures parents { IfOk result (λ walk. parents_of walk ≡ (asked_of self).parents) }
+        ensures begins { IfOk result (BeginsAs P.accepts (F.is_honest (asked_of self).objects)
+            (F.may_fail (asked_of self).objects) (F.table (asked_of self).objects) (asked_of self)) }
+        ensures counted { IfOk result (λ walk. lookups_of walk ≤ length (commits_of walk)) }
+        ensures each { (asked_of self).graph ≡ None → IfOk result (λ walk. lookups_of walk ≡ length (commits_of walk)) }
+        ensures rowed { AllHeld (rows_of (asked_of self).graph) (asked_of self).tips
+            → AllHeld (rows_of (asked_of self).graph) (asked_of self).ends → IfOk result (λ walk. lookups_of walk ≡ 0) }
+        ensures refused { IfErr result (IsBuildFault (F.is_honest (asked_of self).objects)
+            (F.may_fail (asked_of self).objects) (rows_of (asked_of self).graph) (F.table (asked_of self).objects)
+            (asked_of self).ends) }
     {
         let alloc: Global = *self.tips.allocator();
         let mut source = Source {
@@ -242,6 +216,8 @@ fn explore_ends<F: Find>(
     ensures counted { IfOk result (λ known. source.new.lookups ≤ source.old.lookups + length known.ids.keys) }
     ensures rowed { AllHeld (rows_of source.old.rows) ends.now → IfOk result (λ known.
         AllHeld (rows_of source.old.rows) known.ids.keys × (source.new.lookups ≡ source.old.lookups)) }
+    ensures each { ((x : ObjectId) → ¬ Holds (rows_of source.old.rows) x) → source.old.lookups ≡ 0
+        → IfOk result (λ known. source.new.lookups ≡ length known.ids.keys) }
     ensures refused { IfErr result (IsBuildFault (F.is_honest source.old.objects) (F.may_fail source.old.objects)
         (rows_of source.old.rows) (F.table source.old.objects) ends.now) }
 {
@@ -269,6 +245,8 @@ fn explore<F: Find>(
     ensures counted { IfOk result (λ known. source.new.lookups ≤ source.old.lookups + length known.ids.keys) }
     ensures rowed { AllHeld (rows_of source.old.rows) tips.now → AllHeld (rows_of source.old.rows) ends.now
         → IfOk result (λ _. source.new.lookups ≡ source.old.lookups) }
+    ensures each { ((x : ObjectId) → ¬ Holds (rows_of source.old.rows) x) → source.old.lookups ≡ 0
+        → IfOk result (λ known. source.new.lookups ≡ length known.ids.keys) }
     ensures refused { IfErr result (IsBuildFault (F.is_honest source.old.objects) (F.may_fail source.old.objects)
         (rows_of source.old.rows) (F.table source.old.objects) ends.now) }
 {

@@ -7,6 +7,7 @@ ghost use Rattle.gix_traverse_commit.specs.Order.{At};
 ghost use Rattle.gix_traverse_commit.specs.declared.rows.Row.{Row};
 ghost use Rattle.gix_traverse_topo.specs.declared.init.Sorting.{Sorting};
 ghost use Rattle.gix_traverse_topo.specs.Nodes.{readings, counts, IsOnce};
+ghost use Rattle.gix_traverse_topo.specs.Asking.{lookups_of};
 ghost use Rattle.gix_traverse_topo.specs.Giving.{GivesNext};
 ghost use Rattle.gix_traverse_topo.specs.Standing.{Answers, CountsOff, Gives, GoesOff, IsInfo, IsTurn, IsTurnOf, NoneReachesItself, NotCounted, RowOff, Standing, Stands, Steps, all_accepted, topo_request, weight};
 ghost use Rattle.gix_traverse_topo.specs.Waiting.{waiting};
@@ -117,7 +118,7 @@ fn accepted<P: Accept>(predicate: &mut P, info: Info) -> Option<Info>
 impl<P: Accept + Drop> Topo<P> {
     /// How many objects the walk asked for.
     pub fn lookups(&self) -> usize
-        ensures { result ≡ self.now.lookups }
+        ensures { result ≡ lookups_of self.now }
     {
         self.lookups
     }

@@ -3,6 +3,7 @@
 ghost use Rattle.std.specs.Prelude.{◌≡◌, ◌+◌, ◌^◌, ◌<◌, ◌≤◌, ◌==◌, ◌⊎◌, ℕ, List, [], ◌++◌, length, OnOk, IfOk, IfErr, IfSome, IfNone, Some, None, slice_get, slice_set};
 ghost use Rattle.gix_hash.specs.declared.object_id.ObjectId.{ObjectId};
 ghost use Rattle.gix_traverse_commit.specs.Commits.{Commits, asked, asked_parents};
+ghost use Rattle.gix_traverse_commit.specs.Fetching.{one_more};
 ghost use Rattle.gix_traverse_commit.specs.Numbered.{same_id};
 ghost use Rattle.gix_traverse_commit.specs.Order.{At};
 ghost use Rattle.gix_traverse_commit.specs.Reading.{Read};
@@ -103,6 +104,7 @@ fn read<F: Find>(source: &mut Source<F>, id: &ObjectId) -> Result<Reading, Error
         (rows_of source.old.rows) (F.table source.old.objects) id.now) }
     ensures counted { source.new.lookups ≤ source.old.lookups + 1 }
     ensures rowed { Holds (rows_of source.old.rows) id.now → source.new.lookups ≡ source.old.lookups }
+    ensures asked { (¬ Holds (rows_of source.old.rows) id.now) → source.new.lookups ≡ one_more source.old.lookups }
     ensures closed { Holds (rows_of source.old.rows) id.now
         → IfOk result (λ reading. AllHeld (rows_of source.old.rows) reading.parents.items) }
     ensures refused { IfErr result (λ error. error ≡ Memory) }
@@ -197,6 +199,8 @@ impl Known {
             (rows_of source.old.rows) (F.table source.old.objects) along id.now
             self.old.ids.keys self.old.nodes.items self.new.ids.keys self.new.nodes.items) }
         ensures counted { source.new.lookups ≤ source.old.lookups + 1 }
+        ensures asked { (¬ Holds (rows_of source.old.rows) id.now)
+            → source.new.lookups ≡ one_more source.old.lookups }
         ensures rowed { Holds (rows_of source.old.rows) id.now → AllHeld (rows_of source.old.rows) self.old.ids.keys
             → OnOk result (AllHeld (rows_of source.old.rows) self.new.ids.keys
             × (source.new.lookups ≡ source.old.lookups)) }
@@ -224,6 +228,9 @@ impl Known {
         ensures all { OnOk result (length self.new.ids.keys ≤ length self.new.nodes.items) }
         ensures counted { OnOk result (source.new.lookups + length self.old.nodes.items
             ≤ source.old.lookups + length self.new.nodes.items) }
+        ensures each { OnOk result (((x : ObjectId) → ¬ Holds (rows_of source.old.rows) x)
+            → source.old.lookups ≤ length self.old.nodes.items
+            → source.new.lookups + length self.old.nodes.items ≡ source.old.lookups + length self.new.nodes.items) }
         ensures rowed { OnOk result (AllHeld (rows_of source.old.rows) self.old.ids.keys
             → AllHeld (rows_of source.old.rows) tips.now → AllHeld (rows_of source.old.rows) self.new.ids.keys
             × (source.new.lookups ≡ source.old.lookups)) }

@@ -1,5 +1,7 @@
 //! Beginning anew from what is queued.
 
+ghost use Rattle.std.specs.Prelude.{◌≡◌, [], ◌++◌, OnOk};
+
 use crate::nodes::{Marks, Nodes};
 use crate::simple::meet::pop;
 use gix_hash::ObjectId;
@@ -25,13 +27,15 @@ pub fn unpaint(alloc: Global, nodes: &mut Nodes) -> Result<(), AllocError> {
     Ok(())
 }
 
-/// Takes what is queued, in its order, so that it may be met again.
+/// Makes tips of what is queued, in its order, so that it may be met again.
 pub fn take_all(
-    alloc: Global,
+    tips: &mut Vec<ObjectId>,
     nodes: &mut Nodes,
     queue: &mut VecDeque<ObjectId>,
-) -> Result<Vec<ObjectId>, AllocError> {
-    let mut ids = Vec::new(alloc);
+) -> Result<(), AllocError>
+    ensures tips { OnOk result (tips.new.items ≡ tips.old.items ++ queue.old.items) }
+    ensures emptied { OnOk result (queue.new.items ≡ []) }
+{
     'queued: while let Some(id) = pop(queue) {
         let marks = nodes.marks(&id);
         nodes.mark(
@@ -42,14 +46,16 @@ pub fn take_all(
                 hidden: marks.hidden,
             },
         )?;
-        ids.push(id)?;
+        tips.push(id)?;
     }
-    Ok(ids)
+    Ok(())
 }
 
 /// Queues all of these commits.
-pub fn queue_all(queue: &mut VecDeque<ObjectId>, ids: &[ObjectId]) -> Result<(), AllocError> {
-    for id in ids {
+pub fn queue_all(queue: &mut VecDeque<ObjectId>, ids: &[ObjectId]) -> Result<(), AllocError>
+    ensures { OnOk result (queue.new.items ≡ queue.old.items ++ ids.now) }
+{
+    'ids: for id in ids {
         queue.push_back(*id)?;
     }
     Ok(())

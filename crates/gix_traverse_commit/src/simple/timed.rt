@@ -1,14 +1,15 @@
 //! Meeting commits in a walk by time: tips and parents, each once.
 
-ghost use Rattle.std.specs.Prelude.{◌≡◌, ◌⊎◌, ◌≤◌, ◌+◌, ◌&&◌, not, List, Bool, true, length, if◌then◌else◌, [], false, Contains, IfOk, IfErr, OnOk};
+ghost use Rattle.std.specs.Prelude.{◌≡◌, ◌⊎◌, ℕ, ◌≤◌, ◌+◌, ◌&&◌, not, List, Bool, true, length, if◌then◌else◌, [], false, Contains, IfOk, IfErr, OnOk};
 ghost use Rattle.gix_hash.specs.Id.{Id, id_of};
 ghost use Rattle.gix_hash.specs.declared.object_id.ObjectId.{ObjectId};
 ghost use Rattle.gix_traverse_commit.specs.Commits.{Commits};
+ghost use Rattle.gix_traverse_commit.specs.Fetching.{TimeIsTold};
 ghost use Rattle.gix_traverse_commit.specs.Nodes.{is_met, is_hidden};
 ghost use Rattle.gix_traverse_commit.specs.Numbered.{same_id};
-ghost use Rattle.gix_traverse_commit.specs.Order.{IsOpen};
+ghost use Rattle.gix_traverse_commit.specs.Order.{At, IsOpen};
 ghost use Rattle.gix_traverse_commit.specs.Rows.{AllHeld, Holds};
-ghost use Rattle.gix_traverse_commit.specs.Simply.{TipFault};
+ghost use Rattle.gix_traverse_commit.specs.Simply.{IsReadBefore, IsUnmet, TipFault};
 ghost use Rattle.gix_traverse_commit.specs.Sorting.{in_time};
 ghost use Rattle.gix_traverse_commit.specs.Timely.{AllRowed, IsMetSoFar, Joins, keep_since, turn_of, waiting as waiting_turns};
 ghost use Rattle.gix_traverse_commit.specs.Told.{AreTold, rows_of};
@@ -29,6 +30,7 @@ fn seconds_or_zero<F: Find>(source: &mut Source<F>, id: &ObjectId) -> Result<i64
     ensures objects { source.new.objects ≡ source.old.objects }
     ensures rows { source.new.rows ≡ source.old.rows }
     ensures counted { source.new.lookups ≤ source.old.lookups + 1 }
+    ensures rising { source.old.lookups ≤ source.new.lookups }
     ensures rowed { Holds (rows_of source.old.rows) id.now → source.new.lookups ≡ source.old.lookups }
     ensures time { F.is_honest source.old.objects → ¬ F.may_fail source.old.objects → (g : Commits ObjectId)
         → AreTold (rows_of source.old.rows) (F.table source.old.objects) g
@@ -48,9 +50,12 @@ fn read_time<F: Find>(source: &mut Source<F>, nodes: &Nodes, tip: &ObjectId) -> 
     ensures rows { source.new.rows ≡ source.old.rows }
     ensures counted { source.new.lookups ≤ source.old.lookups + 1 }
     ensures rowed { Holds (rows_of source.old.rows) tip.now → source.new.lookups ≡ source.old.lookups }
-    ensures refused { IfErr result (λ error. (tips : List ObjectId) → Contains tips tip.now
-        → TipFault (F.is_honest source.old.objects) (F.may_fail source.old.objects)
-        (rows_of source.old.rows) (F.table source.old.objects) tips error) }
+    ensures told { F.is_honest source.old.objects → OnOk result (IsUnmet nodes.now tip.now
+        → TimeIsTold (rows_of source.old.rows) (F.table source.old.objects) tip.now) }
+    ensures refused { IfErr result (λ error. (tips : List ObjectId) (place : ℕ) → At tips place tip.now
+        → IsReadBefore (F.is_honest source.old.objects) (rows_of source.old.rows) (F.table source.old.objects)
+        nodes.now tips place → TipFault (F.is_honest source.old.objects) (F.may_fail source.old.objects)
+        (rows_of source.old.rows) (F.table source.old.objects) tips (IsUnmet nodes.now) error) }
 {
     if nodes.marks(tip).met {
         return Ok(());
@@ -69,8 +74,10 @@ pub fn read_times<F: Find>(
     ensures rows { source.new.rows ≡ source.old.rows }
     ensures counted { source.new.lookups ≤ source.old.lookups + length tips.now }
     ensures rowed { AllHeld (rows_of source.old.rows) tips.now → source.new.lookups ≡ source.old.lookups }
+    ensures told { F.is_honest source.old.objects → OnOk result ((x : ObjectId) → Contains tips.now x
+        → IsUnmet nodes.now x → TimeIsTold (rows_of source.old.rows) (F.table source.old.objects) x) }
     ensures refused { IfErr result (TipFault (F.is_honest source.old.objects) (F.may_fail source.old.objects)
-        (rows_of source.old.rows) (F.table source.old.objects) tips.now) }
+        (rows_of source.old.rows) (F.table source.old.objects) tips.now (IsUnmet nodes.now)) }
 {
     'tips: for tip in tips {
         read_time(source, nodes, tip)?;
@@ -89,6 +96,7 @@ fn wait<F: Find>(
     ensures objects { source.new.objects ≡ source.old.objects }
     ensures rows { source.new.rows ≡ source.old.rows }
     ensures counted { source.new.lookups ≤ source.old.lookups + 1 }
+    ensures rising { source.old.lookups ≤ source.new.lookups }
     ensures rowed { Holds (rows_of source.old.rows) id → (source.new.lookups ≡ source.old.lookups)
         × OnOk result (AllRowed (rows_of source.old.rows) (waiting_turns waiting.old)
         → AllRowed (rows_of source.old.rows) (waiting_turns waiting.new)) }
@@ -178,6 +186,7 @@ fn await_parent<F: Find, P: Accept>(
     ensures objects { source.new.objects ≡ source.old.objects }
     ensures rows { source.new.rows ≡ source.old.rows }
     ensures counted { source.new.lookups ≤ source.old.lookups + 1 }
+    ensures rising { source.old.lookups ≤ source.new.lookups }
     ensures accepts { P.accepts predicate.new ≡ P.accepts predicate.old }
     ensures met { OnOk result ((q : ObjectId) → is_met nodes.new q
         ≡ (if same_id id q then true else is_met nodes.old q)) }
@@ -214,6 +223,7 @@ pub fn await_parents<F: Find, P: Accept>(
     ensures objects { source.new.objects ≡ source.old.objects }
     ensures rows { source.new.rows ≡ source.old.rows }
     ensures counted { source.new.lookups ≤ source.old.lookups + length parents.now }
+    ensures rising { source.old.lookups ≤ source.new.lookups }
     ensures accepts { P.accepts predicate.new ≡ P.accepts predicate.old }
     ensures hidden { OnOk result ((q : ObjectId) → is_hidden nodes.new q ≡ is_hidden nodes.old q) }
     ensures rowed { AllHeld (rows_of source.old.rows) parents.now → OnOk result ((source.new.lookups ≡ source.old.lookups)

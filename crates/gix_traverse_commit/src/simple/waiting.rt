@@ -1,7 +1,8 @@
 //! The commits that wait in a walk by time, in the order of their times.
 
-ghost use Rattle.std.specs.Prelude.{◌≡◌, [], IfSome, IfNone, OnOk, true};
-ghost use Rattle.gix_traverse_commit.specs.Timely.{IsTaken, Joins, waiting};
+ghost use Rattle.std.specs.Prelude.{◌≡◌, ◌↔◌, ℕ, [], map, Contains, IfSome, IfNone, IfOk, OnOk, true};
+ghost use Rattle.gix_traverse_commit.specs.Timely.{IsTaken, Joins, Waits, waiting};
+ghost use Rattle.gix_hash.specs.declared.object_id.ObjectId.{ObjectId};
 
 use crate::simple::sorting::CommitTimeOrder;
 use gix_hash::ObjectId;
@@ -62,6 +63,13 @@ impl Waiting {
         }
     }
 
+    /// Whether none waits.
+    pub fn is_empty(&self) -> bool
+        ensures { (result ≡ true) ↔ (waiting self.now ≡ []) }
+    {
+        self.turns.is_empty()
+    }
+
     /// None waits any more.
     pub fn clear(&mut self)
         ensures { waiting self.new ≡ [] }
@@ -71,17 +79,25 @@ impl Waiting {
 
     /// Takes all that wait, in the order in which they were queued.
     pub fn take_all(&mut self, alloc: Global) -> Result<Vec<ObjectId>, AllocError>
-        ensures { OnOk result (waiting self.new ≡ []) }
+        ensures emptied { OnOk result (waiting self.new ≡ []) }
+        ensures waited { IfOk result (λ ids. (x : ObjectId) → Contains ids.items x → Waits (waiting self.old) x) }
     {
         let mut places: Vec<(usize, ObjectId)> = Vec::new(alloc);
         'turns: while let Some((turn, place)) = self.turns.pop_first() {
             places.push((place, turn.id))?;
         }
         places.sort()?;
-        let mut ids = Vec::new(alloc);
-        for (_, id) in &places {
-            ids.push(*id)?;
-        }
-        Ok(ids)
+        ids_of(alloc, places.as_slice())
     }
+}
+
+// The ids, without their places.
+fn ids_of(alloc: Global, places: &[(usize, ObjectId)]) -> Result<Vec<ObjectId>, AllocError>
+    ensures { IfOk result (λ ids. ids.items ≡ map (λ (p : ℕ × ObjectId). p.1) places.now) }
+{
+    let mut ids = Vec::new(alloc);
+    'places: for place in places {
+        ids.push(place.1)?;
+    }
+    Ok(ids)
 }

@@ -1,6 +1,9 @@
-use Rattle.std.proofs.Common.{◌≡◌, List, [], inr, length, refl, subst, arith}
+use Rattle.std.proofs.Common.{◌≡◌, List, [], inr, length, refl, ap, sym, subst, arith}
 use Rattle.gix_hash.specs.declared.object_id.ObjectId.{ObjectId}
+use Rattle.gix_traverse_commit.specs.Rows.{AllHeld}
 use Rattle.gix_traverse_commit.specs.Told.{rows_of}
+use Rattle.gix_traverse_commit.specs.declared.rows.Row.{Row}
+use Rattle.gix_traverse_commit.proofs.Lists.{at_from_contains, none_at_nil}
 use Rattle.gix_traverse_commit.specs.declared.parents.Parents.TheVariants.{All}
 use Rattle.gix_traverse_topo.specs.Walking.{Walking}
 use Rattle.gix_traverse_topo.specs.declared.known.Node.{Node}
@@ -41,3 +44,23 @@ returns-in-None-clause-counted g c =
     let w : Walking honest may_fail rows table All c.args.ends.now [] [] keys nodes = subst (λ (ks : List ObjectId). Walking honest may_fail rows table All c.args.ends.now ks [] keys nodes) c.new-known.ensures.ids (subst (λ (ns : List Node). Walking honest may_fail rows table All c.args.ends.now c.new-known.result.ids.keys ns keys nodes) c.new-known.ensures.nodes c.in_ok-walk.ensures.walking) in
     let many : length nodes ≡ length keys = as_many honest may_fail rows table c.args.ends.now keys nodes w c.in_ok-walk.ensures.all in
     omega (arith, c.in_ok-walk.ensures.counted, many)
+
+pub returns-in-None-clause-each : goal.returns-in-None-clause-each
+returns-in-None-clause-each g c = λ bare zero.
+    let honest = g.F.Lookup.is_honest c.args.source.now.objects in
+    let may_fail = g.F.Lookup.may_fail c.args.source.now.objects in
+    let rows = rows_of c.args.source.now.rows in
+    let table = g.F.Lookup.table c.args.source.now.objects in
+    let keys : List ObjectId = c.walk.new.self.ids.keys in
+    let nodes : List Node = c.walk.new.self.nodes.items in
+    let w : Walking honest may_fail rows table All c.args.ends.now [] [] keys nodes = subst (λ (ks : List ObjectId). Walking honest may_fail rows table All c.args.ends.now ks [] keys nodes) c.new-known.ensures.ids (subst (λ (ns : List Node). Walking honest may_fail rows table All c.args.ends.now c.new-known.result.ids.keys ns keys nodes) c.new-known.ensures.nodes c.in_ok-walk.ensures.walking) in
+    let many : length nodes ≡ length keys = as_many honest may_fail rows table c.args.ends.now keys nodes w c.in_ok-walk.ensures.all in
+    let none : length c.new-known.result.nodes.items ≡ 0 = ap length c.new-known.ensures.nodes in
+    let each = c.in_ok-walk.ensures.each bare (omega (arith, zero)) in
+    omega (arith, each, zero, none, many)
+
+none_held : (rows : List Row) → AllHeld rows []
+none_held rows x c = let (k, a) = at_from_contains [] x c in absurd (none_at_nil k x a)
+
+pub returns-in-None-clause-rowed : goal.returns-in-None-clause-rowed
+returns-in-None-clause-rowed g c = λ held. c.in_ok-walk.ensures.rowed (subst (AllHeld (rows_of c.args.source.now.rows)) (sym c.new-known.ensures.ids) (none_held (rows_of c.args.source.now.rows))) held

@@ -1,11 +1,11 @@
 use Rattle.std.proofs.lemmas.Result.{err_from_is_err_and}
-use Rattle.std.proofs.Common.{rules, ◌≡◌, ◌∙◌, ap, refl, subst, List, ℕ, Option}
+use Rattle.std.proofs.Common.{rules, inr, ◌≡◌, ◌∙◌, ap, refl, subst, List, ℕ, Option}
 use Rattle.gix_hash.specs.Id.{id_of}
 use Rattle.gix_hash.specs.declared.kind.Kind as hash
 use Rattle.gix_object_commit.specs.Tokens.{Place, place_of, start}
 use Rattle.std.specs.Result.{result_ok}
 use Rattle.gix_traverse_commit.specs.Rows.{Holds}
-use Rattle.gix_traverse_commit.specs.Told.{rows_of}
+use Rattle.gix_traverse_commit.specs.Told.{TellsSeconds, rows_of}
 use Rattle.gix_traverse_commit.specs.declared.rows.Row.{Row}
 use Rattle.gix_traverse_commit.proofs.Told.{object_time}
 use Rattle.gix_traverse_commit.proofs.Times.{time_fault, time_zero, zero_unread, time_read, time_untold}
@@ -37,3 +37,8 @@ returns-in-Err-clause-none g c = λ honest sure commits told n.
     let read = object_time (rows_of c.args.self.now.rows) (g.F.Lookup.table c.args.self.now.objects) commits told c.args.id.now c.load.new.buffer.items (place_of c.from_bytes-reader.result) c.seconds.result (result_ok c.seconds.result)
     (subst (λ (o : Option (List Row)). Holds (rows_of o) c.args.id.now → ⊥) c.as_ref.ensures.value c.in_default.ensures.none) (c.in_ok-load.ensures.stood honest) (begun (place_of c.from_bytes-reader.result) c.kind.result (id_of c.args.id.now).kind c.as_slice.result.now c.load.new.buffer.items c.from_bytes-reader.ensures c.kind.ensures c.as_slice.ensures.value) c.seconds.ensures.told c.seconds.ensures.every refl in
     zero_unread c.seconds.result c.in-Err.error (commits c.args.id.now).time c.in-Err.is read
+
+pub returns-in-Ok-clause-told : goal.returns-in-Ok-clause-told
+returns-in-Ok-clause-told g c = λ honest.
+    let here = begun (place_of c.from_bytes-reader.result) c.kind.result (id_of c.args.id.now).kind c.as_slice.result.now c.load.new.buffer.items c.from_bytes-reader.ensures c.kind.ensures c.as_slice.ensures.value in
+    inr (c.load.new.buffer.items, c.in-Ok.seconds, c.in_ok-load.ensures.stood honest, subst (λ (p : Place). TellsSeconds p c.in-Ok.seconds) here c.in-Ok.ensures.told)

@@ -1,19 +1,28 @@
-use Rattle.std.proofs.Common.{◌≡◌, sym, ◌∙◌, refl, subst, List, Option}
+use Rattle.std.proofs.Common.{◌≡◌, sym, ◌∙◌, ap, refl, subst, List, Option}
 use Rattle.std.specs.Prelude.{OnOk, ◌↔◌}
 use Rattle.gix_hash.specs.declared.object_id.ObjectId.{ObjectId}
-use Rattle.gix_traverse_commit.specs.Painting.{Paints}
+use Rattle.gix_traverse_commit.specs.Painting.{PaintFault, Paints}
 use Rattle.gix_traverse_commit.specs.Rows.{AllHeld}
-use Rattle.gix_traverse_commit.specs.Simply.{IsSure}
+use Rattle.gix_traverse_commit.specs.Simply.{IsMade, IsSure, SimpleFault, hidden_error}
 use Rattle.gix_traverse_commit.specs.Timely.{AllRowed, waiting}
 use Rattle.gix_traverse_commit.specs.Told.{AreTold, rows_of}
+use Rattle.gix_object_find.specs.Table.{Table}
+use Rattle.gix_traverse_commit.specs.declared.fetch.FetchError.{FetchError}
+use Rattle.gix_traverse_commit.specs.declared.fetch.FetchError.TheVariants as fault
 use Rattle.gix_traverse_commit.specs.declared.rows.Row.{Row}
+use Rattle.gix_traverse_commit.specs.declared.simple.faults.Error.{Error}
 use Rattle.gix_traverse_commit.proofs.simple.Simple.begin.Goals as goal
 
 pub returns-clause-going : goal.returns-clause-going
-returns-clause-going g c = λ honest commits told ids a sure m.
+returns-clause-going g c = λ honest0 commits told0 ids a sure0 m0.
+    let still : c.gather.new.self ≡ c.args.self.now = (c.gather.ensures.same m0.empty m0.none_waits).0 in
+    let m : IsMade g.P.Accept.accepts a c.gather.new.self = subst (IsMade g.P.Accept.accepts a) (sym still) m0 in
+    let honest = subst (λ walk. g.F.Lookup.is_honest walk.source.objects) (sym still) honest0 in
+    let sure = subst (λ walk. IsSure (g.F.Lookup.may_fail walk.source.objects) a) (sym still) sure0 in
+    let told = subst (λ walk. AreTold (rows_of walk.source.rows) (g.F.Lookup.table walk.source.objects) commits) (sym still) told0 in
     let hidden : c.as_slice.result.now ≡ a.hidden = c.as_slice.ensures.value ∙ m.hidden in
     let honest' = subst (λ (o : g.row.F.Denot). g.F.Lookup.is_honest o) (sym c.paint.ensures.objects) honest in
-    let told' = subst (λ (o : g.row.F.Denot). AreTold (rows_of c.paint.new.source.rows) (g.F.Lookup.table o) commits) (sym c.paint.ensures.objects) (subst (λ (r : Option (List Row)). AreTold (rows_of r) (g.F.Lookup.table c.args.self.now.source.objects) commits) (sym c.paint.ensures.rows) told) in
+    let told' = subst (λ (o : g.row.F.Denot). AreTold (rows_of c.paint.new.source.rows) (g.F.Lookup.table o) commits) (sym c.paint.ensures.objects) (subst (λ (r : Option (List Row)). AreTold (rows_of r) (g.F.Lookup.table c.gather.new.self.source.objects) commits) (sym c.paint.ensures.rows) told) in
     c.in_ok-line_up.ensures.going honest' commits told' ids a (subst (λ (o : g.row.F.Denot). IsSure (g.F.Lookup.may_fail o) a) (sym c.paint.ensures.objects) sure) (record {
       tips = m.tips;
       parents = m.parents;
@@ -27,11 +36,31 @@ returns-clause-going g c = λ honest commits told ids a sure m.
     })
 
 pub returns-clause-rowed : goal.returns-clause-rowed
-returns-clause-rowed g c = λ r.
+returns-clause-rowed g c = λ r0.
+    let r = c.in_ok-gather.ensures.rowed r0 in
     let step = c.in_ok-line_up.ensures.rowed (record {
-      tips = subst (λ (o : Option (List Row)). AllHeld (rows_of o) c.args.self.now.tips.items) (sym c.paint.ensures.rows) r.tips;
-      hidden = subst (λ (o : Option (List Row)). AllHeld (rows_of o) c.args.self.now.hidden.items) (sym c.paint.ensures.rows) r.hidden;
-      queue = subst (λ (o : Option (List Row)). AllHeld (rows_of o) c.args.self.now.queue.items) (sym c.paint.ensures.rows) r.queue;
-      waiting_rows = subst (λ (o : Option (List Row)). AllRowed (rows_of o) (waiting c.args.self.now.waiting)) (sym c.paint.ensures.rows) r.waiting_rows;
+      tips = subst (λ (o : Option (List Row)). AllHeld (rows_of o) c.gather.new.self.tips.items) (sym c.paint.ensures.rows) r.tips;
+      hidden = subst (λ (o : Option (List Row)). AllHeld (rows_of o) c.gather.new.self.hidden.items) (sym c.paint.ensures.rows) r.hidden;
+      queue = subst (λ (o : Option (List Row)). AllHeld (rows_of o) c.gather.new.self.queue.items) (sym c.paint.ensures.rows) r.queue;
+      waiting_rows = subst (λ (o : Option (List Row)). AllRowed (rows_of o) (waiting c.gather.new.self.waiting)) (sym c.paint.ensures.rows) r.waiting_rows;
     }) in
-    (step.0, step.1 ∙ c.in_default.ensures.rowed (subst (λ (xs : List ObjectId). AllHeld (rows_of c.args.self.now.source.rows) xs) (sym c.as_slice.ensures.value) r.hidden))
+    (step.0, step.1 ∙ c.in_default.ensures.rowed (subst (λ (xs : List ObjectId). AllHeld (rows_of c.gather.new.self.source.rows) xs) (sym c.as_slice.ensures.value) r.hidden) ∙ ap (λ s. s.lookups) c.gather.ensures.source)
+
+of_hidden : (honest may_fail : Type 0) (rows : List Row) (table : Table) (hidden : List ObjectId) (error : FetchError) → PaintFault honest may_fail rows table hidden error → SimpleFault (λ _. ⊥) honest may_fail rows table hidden (hidden_error error)
+of_hidden honest may_fail rows table hidden (fault.Find error) h = h
+of_hidden honest may_fail rows table hidden (fault.ObjectDecode error) h = h
+of_hidden honest may_fail rows table hidden fault.Memory h = tt
+
+pub returns-in-Err-clause-refused : goal.returns-in-Err-clause-refused
+returns-in-Err-clause-refused g c = λ a m.
+    let still : c.gather.new.self ≡ c.args.self.now = (c.gather.ensures.same m.empty m.none_waits).0 in
+    let w : IsMade g.P.Accept.accepts a c.gather.new.self = subst (IsMade g.P.Accept.accepts a) (sym still) m in
+    let honest = g.F.Lookup.is_honest c.args.self.now.source.objects in
+    let may_fail = g.F.Lookup.may_fail c.args.self.now.source.objects in
+    let rows = rows_of c.args.self.now.source.rows in
+    let table = g.F.Lookup.table c.args.self.now.source.objects in
+    let error : FetchError = c.in-Err.error in
+    let here = subst (λ walk. PaintFault (g.F.Lookup.is_honest walk.source.objects) (g.F.Lookup.may_fail walk.source.objects) (rows_of walk.source.rows) (g.F.Lookup.table walk.source.objects) c.as_slice.result.now error) still (c.in-Err.ensures.refused w.asked.unpainted) in
+    let hidden : c.as_slice.result.now ≡ a.hidden = c.as_slice.ensures.value ∙ w.hidden in
+    let of_tips = subst (λ (hs : List ObjectId). PaintFault honest may_fail rows table hs error) hidden here in
+    subst (λ (e : Error). SimpleFault (λ _. ⊥) honest may_fail rows table a.hidden e) (sym c.of_painting.ensures) (of_hidden honest may_fail rows table a.hidden error of_tips)

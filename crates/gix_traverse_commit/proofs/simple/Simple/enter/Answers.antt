@@ -1,4 +1,4 @@
-use Rattle.std.proofs.Common.{rules, ◌≡◌, sym, ◌∙◌, ap, refl, subst, inl, inr, arith, List, [], ◌∷◌, ◌++◌, length, Option, Some, None, Bool, true, false}
+use Rattle.std.proofs.Common.{rules, ℕ, ◌≤◌, ◌≡◌, sym, ◌∙◌, ap, refl, subst, inl, inr, arith, List, [], ◌∷◌, ◌++◌, length, Option, Some, None, Bool, true, false}
 use Rattle.std.specs.Prelude.{Contains, not, ◌&&◌, OnOk}
 use Rattle.gix_hash.specs.Id.{Id, id_of}
 use Rattle.gix_hash.specs.declared.object_id.ObjectId.{ObjectId}
@@ -49,3 +49,16 @@ returns-clause-rowed g c = λ r held.
       waiting_rows = subst (λ (o : Option (List Row)). AllRowed (rows_of o) (waiting c.args.self.now.waiting)) (sym c.fetch.ensures.rows) r.waiting_rows;
     }) (subst (λ (o : Option (List Row)). AllHeld (rows_of o) c.as_slice.result.now) (sym c.fetch.ensures.rows) (subst (λ (xs : List ObjectId). AllHeld (rows_of c.args.self.now.source.rows) xs) (sym c.as_slice.ensures) (c.in_ok-commit.ensures.closed held))) in
     (record { tips = step.0.tips; hidden = step.0.hidden; queue = step.0.queue; waiting_rows = step.0.waiting_rows }, step.1 ∙ (c.in_ok-commit.ensures.rowed held).0)
+
+pub returns-clause-one : goal.returns-clause-one
+returns-clause-one g c = λ b. record {
+  stored = λ n. c.meet_all.ensures.in_breadth b ∙ c.fetch.ensures.asked n;
+  rowed = λ h. c.meet_all.ensures.in_breadth b ∙ (c.fetch.ensures.rowed h).0;
+}
+
+pub returns-clause-counted : goal.returns-clause-counted
+returns-clause-counted g c = record {
+  stored = λ n. subst (λ (m : ℕ). m ≤ c.meet_all.new.self.source.lookups) (c.fetch.ensures.asked n) c.meet_all.ensures.rising;
+  rowed = λ held. c.in_ok-meet_all.ensures.still (subst (λ (o : Option (List Row)). AllHeld (rows_of o) c.as_slice.result.now) (sym c.fetch.ensures.rows) (subst (λ (xs : List ObjectId). AllHeld (rows_of c.args.self.now.source.rows) xs) (sym c.as_slice.ensures) (c.in_ok-commit.ensures.closed held))) ∙ (c.fetch.ensures.rowed held).0;
+  most = (let long = ap length c.as_slice.ensures in omega (arith, c.meet_all.ensures.counted, c.fetch.ensures.counted, long));
+}

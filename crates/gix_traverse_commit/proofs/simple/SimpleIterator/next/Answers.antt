@@ -1,8 +1,8 @@
-use Rattle.std.proofs.Common.{◌≡◌, ◌∙◌, sym, refl, ap, subst, arith, List, [], ◌∷◌, ◌++◌, Option, None, true, false}
+use Rattle.std.proofs.Common.{◌≡◌, ◌∙◌, sym, refl, ap, subst, arith, ℕ, length, List, [], ◌∷◌, ◌++◌, Option, None, true, false}
 use Rattle.std.specs.Prelude.{Contains}
 use Rattle.gix_hash.specs.Id.{id_of}
 use Rattle.gix_hash.specs.declared.object_id.ObjectId.{ObjectId}
-use Rattle.gix_traverse_commit.specs.Simply.{IsAtTurn, IsContentOf, IsInfo, IsOver, IsKnown, IsSure, IsTurn, IsUnderWay, StopsFetch}
+use Rattle.gix_traverse_commit.specs.Simply.{CountsOne, CountsUpTo, IsAtTurn, IsContentOf, IsInfo, IsOver, IsKnown, IsSure, IsTurn, IsUnderWay, StopsFetch}
 use Rattle.gix_traverse_commit.specs.Rows.{Holds}
 use Rattle.gix_traverse_commit.specs.Sorting.{timing_of}
 use Rattle.gix_traverse_commit.specs.Told.{AreTold, rows_of}
@@ -27,6 +27,7 @@ returns-in-Err-clause-steps g c = record {
   ended = λ o. absurd (no_way (c.in-Err.ensures.begun o.begun));
   content = tt;
   counted = λ b n. absurd (no_way (c.in-Err.ensures.begun b));
+  counted_one = λ b n. tt;
   counted_by_time = λ b. tt;
   rowed = λ r. tt;
 }
@@ -42,6 +43,7 @@ returns-in_err-id-clause-steps g c = rw c.from_residual.ensures (record {
   ended = λ o. refl;
   content = tt;
   counted = (λ b n. let s = c.in_default.ensures.same b in let f = c.take.ensures.source in let e : c.take.new.self.source.lookups ≡ c.args.self.now.source.lookups = cc in omega arith);
+  counted_one = λ b n. tt;
   counted_by_time = λ b. tt;
   rowed = λ r. tt;
 })
@@ -80,7 +82,16 @@ returns-in-Ok-clause-steps g c =
       counted = (λ b n. let s = c.in_default.ensures.same b in let f = c.take.ensures.source in let e : c.take.new.self.source.lookups ≡ c.args.self.now.source.lookups = cc in
           let m : timing_of c.take.new.self.parents c.take.new.self.sorting ≡ None = (let p = c.take.ensures.order.0 in let q = c.take.ensures.order.1 in ap (λ (x : Parents). timing_of x c.take.new.self.sorting) p ∙ (ap (λ (x : Sorting). timing_of c.ready.new.self.parents x) q ∙ (ap (λ walk. timing_of walk.parents walk.sorting) s ∙ n))) in
           omega (arith, c.enter.ensures.in_breadth m));
-      counted_by_time = (λ b. let s = c.in_default.ensures.same b in let f = c.take.ensures.source in let e : c.take.new.self.source.lookups ≡ c.args.self.now.source.lookups = cc in omega (arith, c.in-Ok.ensures.counted));
+      counted_one = (λ b n. let s = c.in_default.ensures.same b in let f = c.take.ensures.source in let e : c.take.new.self.source.lookups ≡ c.args.self.now.source.lookups = cc in
+          let m : timing_of c.take.new.self.parents c.take.new.self.sorting ≡ None = (let p = c.take.ensures.order.0 in let q = c.take.ensures.order.1 in ap (λ (x : Parents). timing_of x c.take.new.self.sorting) p ∙ (ap (λ (x : Sorting). timing_of c.ready.new.self.parents x) q ∙ (ap (λ walk. timing_of walk.parents walk.sorting) s ∙ n))) in
+          subst (λ (x : ObjectId). CountsOne rows x c.args.self.now.source.lookups c.enter.new.self.source.lookups) (sym c.in-Ok.ensures.id)
+          (subst (λ (n : ℕ). CountsOne rows id n c.enter.new.self.source.lookups) e
+          (subst (λ (r : Option (List Row)). CountsOne (rows_of r) id c.take.new.self.source.lookups c.enter.new.self.source.lookups) same_rows (c.in-Ok.ensures.one m))));
+      counted_by_time = (λ b. let s = c.in_default.ensures.same b in let f = c.take.ensures.source in let e : c.take.new.self.source.lookups ≡ c.args.self.now.source.lookups = cc in
+          let more : ℕ = length c.in-Ok.info.parent_ids.items in
+          subst (λ (x : ObjectId). CountsUpTo rows x more c.args.self.now.source.lookups c.enter.new.self.source.lookups) (sym c.in-Ok.ensures.id)
+          (subst (λ (n : ℕ). CountsUpTo rows id more n c.enter.new.self.source.lookups) e
+          (subst (λ (r : Option (List Row)). CountsUpTo (rows_of r) id more c.take.new.self.source.lookups c.enter.new.self.source.lookups) same_rows c.in-Ok.ensures.counted)));
       rowed = (λ r.
           let (r', e) = c.in_default.ensures.rowed r in
           let (r2, held) = c.in_ok-id.ensures.rowed r' in
@@ -112,6 +123,7 @@ returns-in-Err-enter-clause-steps g c =
       counted = (λ b n. let s = c.in_default.ensures.same b in let f = c.take.ensures.source in let e : c.take.new.self.source.lookups ≡ c.args.self.now.source.lookups = cc in
           let m : timing_of c.take.new.self.parents c.take.new.self.sorting ≡ None = (let p = c.take.ensures.order.0 in let q = c.take.ensures.order.1 in ap (λ (x : Parents). timing_of x c.take.new.self.sorting) p ∙ (ap (λ (x : Sorting). timing_of c.ready.new.self.parents x) q ∙ (ap (λ walk. timing_of walk.parents walk.sorting) s ∙ n))) in
           omega (arith, c.enter.ensures.in_breadth m, c.stop-in-Err-enter.ensures.lookups));
+      counted_one = λ b n. tt;
       counted_by_time = λ b. tt;
       rowed = λ r. tt;
     }

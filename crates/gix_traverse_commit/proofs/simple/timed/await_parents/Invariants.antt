@@ -16,6 +16,7 @@ invariant-parents g l = record {
   accepts : g.P.Accept.accepts l.predicate ≡ g.P.Accept.accepts l.fn.predicate;
   hidden : (q : ObjectId) → is_hidden l.nodes q ≡ is_hidden l.fn.nodes q;
   counted : l.source.lookups ≤ l.fn.source.lookups + l.parent-index;
+  rising : l.fn.source.lookups ≤ l.source.lookups;
   same : AllHeld (rows_of l.fn.source.rows) l.parents → l.source.lookups ≡ l.fn.source.lookups;
   rowed : AllHeld (rows_of l.fn.source.rows) l.parents → AllRowed (rows_of l.fn.source.rows) (waiting l.fn.waiting) → AllRowed (rows_of l.fn.source.rows) (waiting l.waiting);
   walked : g.F.Lookup.is_honest l.fn.source.objects → (¬ g.F.Lookup.may_fail l.fn.source.objects) → (h : Commits ObjectId) → AreTold (rows_of l.fn.source.rows) (g.F.Lookup.table l.fn.source.objects) h

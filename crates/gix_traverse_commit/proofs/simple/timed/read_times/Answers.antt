@@ -1,11 +1,15 @@
-use Rattle.std.proofs.Common.{◌≡◌, ◌∙◌, refl, subst, arith, List, [], get_or, Option}
+use Rattle.std.proofs.Common.{◌≡◌, ◌∙◌, refl, sym, subst, arith, inl, inr, ℕ, List, [], get_or, take, Option}
 use Rattle.std.specs.Prelude.{Contains}
 use Rattle.std.proofs.lemmas.Option.{slice_get-get_or}
 use Rattle.std.proofs.lemmas.Result.{err_from_is_err_and}
 use Rattle.gix_hash.specs.declared.object_id.ObjectId.{ObjectId}
 use Rattle.gix_hash.specs.declared.object_id.ObjectId.TheVariants.{Sha1}
 use Rattle.gix_traverse_commit.specs.Rows.{Holds}
-use Rattle.gix_traverse_commit.specs.Simply.{TipFault}
+use Rattle.gix_traverse_commit.specs.Simply.{IsReadBefore, IsUnmet, TipFault}
+use Rattle.gix_traverse_commit.specs.Fetching.{TimeIsTold}
+use Rattle.gix_traverse_commit.proofs.Chosen.{take_all}
+use Rattle.gix_traverse_commit.proofs.Simply.{in_push, take_push}
+use Rattle.gix_traverse_commit.proofs.Timely.{in_nil}
 use Rattle.gix_traverse_commit.specs.Told.{rows_of}
 use Rattle.gix_traverse_commit.specs.declared.rows.Row.{Row}
 use Rattle.gix_traverse_commit.proofs.Lists.{contains_from_at}
@@ -25,10 +29,23 @@ returns-in_err-read_time-clause-refused g c =
     let id : ObjectId = get_or ids c.tips.tip-index (Sha1 []) in
     let here = slice_get-get_or ids c.tips.tip-index (Sha1 []) c.tips-test.true in
     let p = err_from_is_err_and c.from_residual.result c.from_residual.ensures.1 in
-    let fault = c.in_err-read_time.ensures.refused ids (contains_from_at ids c.tips.tip-index id here) in
-    let moved = subst (λ (o : g.row.F.Denot). TipFault (g.F.Lookup.is_honest o) (g.F.Lookup.may_fail o) (rows_of c.tips.source.rows) (g.F.Lookup.table o) ids c.in_err-read_time.field-0.0) c.tips.invariant.objects fault in
-    let there = subst (λ (r : Option (List Row)). TipFault (g.F.Lookup.is_honest c.args.source.now.objects) (g.F.Lookup.may_fail c.args.source.now.objects) (rows_of r) (g.F.Lookup.table c.args.source.now.objects) ids c.in_err-read_time.field-0.0) c.tips.invariant.rows moved in
+    let inv = c.tips.invariant in
+    let rows = rows_of c.args.source.now.rows in
+    let read = subst (λ (r : Option (List Row)). IsReadBefore (g.F.Lookup.is_honest c.tips.source.objects) (rows_of r) (g.F.Lookup.table c.tips.source.objects) c.args.nodes.now ids c.tips.tip-index) (sym inv.rows)
+    (subst (λ (o : g.row.F.Denot). IsReadBefore (g.F.Lookup.is_honest o) rows (g.F.Lookup.table o) c.args.nodes.now ids c.tips.tip-index) (sym inv.objects) inv.told) in
+    let fault = c.in_err-read_time.ensures.refused ids c.tips.tip-index here read in
+    let moved = subst (λ (o : g.row.F.Denot). TipFault (g.F.Lookup.is_honest o) (g.F.Lookup.may_fail o) (rows_of c.tips.source.rows) (g.F.Lookup.table o) ids (IsUnmet c.args.nodes.now) c.in_err-read_time.field-0.0) c.tips.invariant.objects fault in
+    let there = subst (λ (r : Option (List Row)). TipFault (g.F.Lookup.is_honest c.args.source.now.objects) (g.F.Lookup.may_fail c.args.source.now.objects) (rows_of r) (g.F.Lookup.table c.args.source.now.objects) ids (IsUnmet c.args.nodes.now) c.in_err-read_time.field-0.0) c.tips.invariant.rows moved in
     rw (p.1, p.2) there
+
+pub tips-init : goal.tips-init
+tips-init g c = record {
+  objects = refl;
+  rows = refl;
+  counted = omega arith;
+  rowed = λ all. refl;
+  told = λ honest x k unmet. absurd (in_nil x k);
+}
 
 pub tips-preserved : goal.tips-preserved
 tips-preserved g c =
@@ -41,4 +58,16 @@ tips-preserved g c =
       rows = c.read_time.ensures.rows ∙ c.tips.invariant.rows;
       counted = omega (arith, c.read_time.ensures.counted, c.tips.invariant.counted);
       rowed = λ all. rowed (all id (contains_from_at ids c.tips.tip-index id here)) ∙ c.tips.invariant.rowed all;
+      told = (λ honest x k unmet.
+          let now = subst (λ (o : g.row.F.Denot). IsUnmet c.args.nodes.now id → TimeIsTold (rows_of c.args.source.now.rows) (g.F.Lookup.table o) id) c.tips.invariant.objects
+          (subst (λ (r : Option (List Row)). IsUnmet c.args.nodes.now id → TimeIsTold (rows_of r) (g.F.Lookup.table c.tips.source.objects) id) c.tips.invariant.rows
+          (c.in_ok-read_time.ensures.told (subst (λ (o : g.row.F.Denot). g.F.Lookup.is_honest o) (sym c.tips.invariant.objects) honest))) in
+          elim (in_push (take c.tips.tip-index ids) id x (subst (λ (zs : List ObjectId). Contains zs x) (take_push ids c.tips.tip-index id here) k)) [
+            | inl before ↦ c.tips.invariant.told honest x before unmet
+            | inr e ↦ subst (λ (z : ObjectId). TimeIsTold (rows_of c.args.source.now.rows) (g.F.Lookup.table c.args.source.now.objects) z) (sym e) (now (subst (IsUnmet c.args.nodes.now) e unmet))
+          ]);
     }
+
+pub returns-clause-told : goal.returns-clause-told
+returns-clause-told g c = λ honest x k unmet.
+    c.tips.invariant.told honest x (subst (λ (zs : List ObjectId). Contains zs x) (sym (take_all c.args.tips.now c.tips.tip-index c.tips-test.false)) k) unmet

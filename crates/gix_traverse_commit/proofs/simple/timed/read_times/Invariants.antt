@@ -1,5 +1,6 @@
 use Rattle.std.proofs.Common.{◌≡◌, ◌+◌, ◌≤◌}
 use Rattle.gix_traverse_commit.specs.Rows.{AllHeld}
+use Rattle.gix_traverse_commit.specs.Simply.{IsReadBefore}
 use Rattle.gix_traverse_commit.specs.Told.{rows_of}
 use Rattle.gix_traverse_commit.proofs.simple.timed.read_times.Given as goal
 
@@ -9,4 +10,5 @@ invariant-tips g l = record {
   rows : l.source.rows ≡ l.fn.source.rows;
   counted : l.source.lookups ≤ l.fn.source.lookups + l.tip-index;
   rowed : AllHeld (rows_of l.fn.source.rows) l.tips → l.source.lookups ≡ l.fn.source.lookups;
+  told : IsReadBefore (g.F.Lookup.is_honest l.fn.source.objects) (rows_of l.fn.source.rows) (g.F.Lookup.table l.fn.source.objects) l.nodes l.tips l.tip-index;
 }

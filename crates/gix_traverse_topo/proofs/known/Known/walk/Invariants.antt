@@ -1,5 +1,7 @@
 use Rattle.std.proofs.Common.{◌≡◌, ◌+◌, ◌-◌, ◌^◌, ◌≤◌, length}
-use Rattle.gix_traverse_commit.specs.Rows.{AllHeld}
+use Rattle.gix_traverse_commit.specs.Rows.{AllHeld, Holds}
+use Rattle.gix_traverse_topo.proofs.Lookups.{IsCountedFrom}
+use Rattle.gix_hash.specs.declared.object_id.ObjectId.{ObjectId}
 use Rattle.gix_traverse_commit.specs.Told.{rows_of}
 use Rattle.gix_traverse_topo.specs.Walking.{Walking}
 use Rattle.gix_traverse_topo.proofs.known.Known.walk.Given as goal
@@ -11,6 +13,7 @@ invariant-walk g l = record {
   rows : l.source.rows ≡ l.fn.source.rows;
   walking : Walking (g.F.Lookup.is_honest l.fn.source.objects) (g.F.Lookup.may_fail l.fn.source.objects) (rows_of l.fn.source.rows) (g.F.Lookup.table l.fn.source.objects) l.along l.fn.tips l.fn.self.ids.keys l.fn.self.nodes.items l.self.ids.keys l.self.nodes.items;
   rowed : AllHeld (rows_of l.fn.source.rows) l.fn.self.ids.keys → AllHeld (rows_of l.fn.source.rows) l.fn.tips → AllHeld (rows_of l.fn.source.rows) l.self.ids.keys × (l.source.lookups ≡ l.fn.source.lookups);
+  each : ((x : ObjectId) → ¬ Holds (rows_of l.fn.source.rows) x) → IsCountedFrom l.fn.source.lookups (length l.fn.self.nodes.items) l.source.lookups (length l.self.nodes.items);
   counted : l.source.lookups + length l.fn.self.nodes.items ≤ l.fn.source.lookups + length l.self.nodes.items;
 }
 
