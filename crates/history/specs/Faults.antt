@@ -4,8 +4,8 @@ use Rattle.gix_ref_file.specs.declared.files.FileError.{FileError}
 use Rattle.gix_ref_file.specs.declared.files.FileError.TheVariants as file
 use Rattle.history_model.specs.declared.Fault.{Fault}
 use Rattle.history_model.specs.declared.Fault.TheVariants.{Memory, File, IdTaken}
-use Rattle.history_store.specs.declared.objects.PutError.{PutError}
-use Rattle.history_store.specs.declared.objects.PutError.TheVariants as put
+use Rattle.history_store.specs.declared.objects.PutMadeError.{PutMadeError}
+use Rattle.history_store.specs.declared.objects.PutMadeError.TheVariants as put
 use Rattle.history.specs.declared.stopped.Stopped.{Stopped}
 use Rattle.history.specs.declared.stopped.Stopped.TheVariants as stopped
 
@@ -13,7 +13,7 @@ abbrev pub file_fault : FileError → Fault
 file_fault file.Failed = File
 file_fault file.Memory = Memory
 
-abbrev pub put_fault : PutError → Fault
+abbrev pub put_fault : PutMadeError → Fault
 put_fault (put.IdTaken id) = IdTaken
 put_fault put.File = File
 put_fault put.Memory = Memory

@@ -10,6 +10,8 @@ mod limits;
 #[cfg(test)]
 mod names;
 #[cfg(test)]
+mod object_store;
+#[cfg(test)]
 mod opening;
 #[cfg(test)]
 mod refusals;
