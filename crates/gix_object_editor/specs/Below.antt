@@ -9,8 +9,8 @@ use Rattle.gix_object_entries.specs.Entry.{Item}
 use Rattle.gix_object_entries.specs.declared.tree.owned.Tree.{Tree}
 use Rattle.gix_object_editor.specs.declared.tree.editor.write.error.Error.{Error}
 use Rattle.gix_object_editor.specs.declared.tree.editor.write.error.Error.TheVariants.{Out, Memory}
-use Rattle.gix_object_editor.specs.Files.{Path}
-use Rattle.gix_object_editor.specs.Nodes.{Slots, LeadsTo}
+use Rattle.gix_object_editor.specs.Files.{Path, Begins}
+use Rattle.gix_object_editor.specs.Nodes.{Slots, onto, LeadsTo}
 use Rattle.gix_object_editor.specs.Writing.{Ids, IsReached, HasEntries}
 use Rattle.gix_object_editor.specs.Written.{HandedOut, EachBehind, IsHandedOut}
 
@@ -36,6 +36,7 @@ pub record IsHandedOutFrom (slots : Slots) (base : Path) (bound : ℕ) (ids : Id
   pub in_order : EachBehind (IsHandedOut slots) [] handed
   pub some : All (λ tree. tree.items ≢ []) handed
   pub ones : All (IsOneFrom slots bound ids at) handed
+  pub below : All (λ tree. Begins (onto base []) tree.path) handed
   pub done : (j : ℕ) → at ≤ j → j < bound → IsReached slots base j → IsDone slots ids handed j
 
 module _ {F E : Type 0} (calls : Mut F (Bor Tree × Unit {0}) (Result ObjectId E)) where
@@ -43,5 +44,5 @@ module _ {F E : Type 0} (calls : Mut F (Bor Tree × Unit {0}) (Result ObjectId E
   abbrev pub Answered : F → Tree → Result (Option ObjectId) (Error E) → F → Type 0
   Answered before tree (Ok None) after = (tree.entries.items ≡ []) × (before ≡ after)
   Answered before tree (Ok (Some oid)) after = (tree.entries.items ≢ []) × CalledAt calls before tree (Ok oid) after
-  Answered before tree (Err (Out error)) after = CalledAt calls before tree (Err error) after
+  Answered before tree (Err (Out error)) after = (tree.entries.items ≢ []) × CalledAt calls before tree (Err error) after
   Answered before tree (Err Memory) after = ⊥

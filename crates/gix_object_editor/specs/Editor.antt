@@ -11,9 +11,10 @@ use Rattle.gix_object_editor.specs.declared.tree.editor.error.Error.{Error}
 use Rattle.gix_object_editor.specs.declared.tree.editor.error.Error.TheVariants.{EmptyPathComponent, FindExistingObject, CannotRemoveNonLeaf, MalformedTree, Memory}
 use Rattle.gix_object_editor.specs.Files.{Bytes, Path, Leaf, FileMap, Trees, NamesAreFull}
 use Rattle.gix_object_editor.specs.Nodes.{slots_of, files_of_node, AreFilled, LeadsTo}
-use Rattle.gix_object_editor.specs.Marks.{marks_of, AreAsRead}
+use Rattle.gix_object_editor.specs.Marks.{marks_of, IsChangedIn, AreAsRead}
 use Rattle.gix_object_editor.specs.Entries.{Property, EachHas}
 use Rattle.gix_object_editor.specs.Refusals.{OpeningFault}
+use Rattle.gix_object_editor.specs.Asked.{unopened_into}
 
 -- the files of the edited root, over a table of trees
 abbrev pub files_of : {S : Type 0} → Trees → Editor S → FileMap
@@ -21,7 +22,7 @@ files_of trees editor = files_of_node trees (slots_of editor.nodes.items) 0
 
 -- the tree at the path was opened, and an edit changed it, or one that lies in it
 abbrev pub IsChanged : {S : Type 0} → Editor S → Path → Type 0
-IsChanged editor path = (j : ℕ) × LeadsTo (slots_of editor.nodes.items) path j [] × ((marks_of editor.nodes.items j).changed ≡ true)
+IsChanged editor path = IsChangedIn editor.nodes.items path
 
 -- each opened tree that no edit changed has the files that the table has of its entry
 abbrev pub IsAsRead : {S : Type 0} → Trees → Editor S → Type 0
@@ -31,13 +32,20 @@ IsAsRead trees editor = AreAsRead trees (slots_of editor.nodes.items) (marks_of 
 abbrev pub EachEntryHas : {S : Type 0} → Property → Editor S → Type 0
 EachEntryHas has editor = EachHas has (slots_of editor.nodes.items)
 
+-- the trees that aren't opened into which a path leads, over a table of trees
+abbrev pub asked_by : {S : Type 0} → Editor S → Path → Trees → List Id
+asked_by editor path trees = unopened_into trees (slots_of editor.nodes.items) 0 path
+
+abbrev pub IsNonLeaf : Error → Type 0
+IsNonLeaf EmptyPathComponent = ⊥
+IsNonLeaf (FindExistingObject error) = ⊥
+IsNonLeaf (CannotRemoveNonLeaf filename) = ⊤
+IsNonLeaf (MalformedTree oid) = ⊥
+IsNonLeaf Memory = ⊥
+
 -- what stands at the second path lies in the tree at the first
 abbrev pub IsAbove : Path → Path → Type 0
 IsAbove tree path = (rest : Path) × (rest ≢ []) × (tree ++ rest ≡ path)
-
--- the first path begins the second
-abbrev pub Begins : Path → Path → Type 0
-Begins tree path = (rest : Path) × (tree ++ rest ≡ path)
 
 abbrev pub names_of : List (Bor (List ℕ)) → Path
 names_of path = map (λ name. name.now) path

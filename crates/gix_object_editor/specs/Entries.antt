@@ -38,6 +38,10 @@ made_leaf kind = record { mode = folder_mode; id = null_id kind }
 abbrev pub MayStand : Property → Path → Leaf → Type 0
 MayStand has names leaf = All (λ name. (has name leaf ≡ true) × (has name (made_leaf leaf.id.kind) ≡ true)) names
 
+-- folders may be made at these names, with the null id of this hash function
+abbrev pub MayStandMade : Property → Kind → Path → Type 0
+MayStandMade has kind names = All (λ name. has name (made_leaf kind) ≡ true) names
+
 -- the entries are those of the well-formed tree that is stored under the id
 abbrev pub HoldsTree : Table → Id → (Bytes → Option Slot) → Type 0
 HoldsTree table id slots =

@@ -30,6 +30,10 @@ FileMap = Path → Option Leaf
 abbrev pub Trees : Type 0
 Trees = Id → Option (List Item)
 
+-- the table without trees: over it an entry that isn't null is a file, unless a tree was opened for it
+abbrev pub no_trees : Trees
+no_trees id = None
+
 -- the table of trees has each stored tree
 abbrev pub HasStored : stored.Table → Trees → Type 0
 HasStored table trees =
@@ -103,12 +107,20 @@ put trees p leaf files q = put_at trees leaf (behind p q) (if is_some (behind q 
 abbrev pub cleared : Path → FileMap → FileMap
 cleared p files q = if is_some (behind q p) then None else files q
 
+-- the first path begins the second
+abbrev pub Begins : Path → Path → Type 0
+Begins front path = (rest : Path) × (front ++ rest ≡ path)
+
 abbrev pub SameFiles : FileMap → FileMap → Type 0
 SameFiles a b = (q : Path) → a q ≡ b q
 
 -- no file stands below the path
 abbrev pub HasNoneBelow : Path → FileMap → Type 0
 HasNoneBelow p files = (name : Bytes) (rest : Path) → files (p ++ name ∷ rest) ≡ None
+
+-- a file stands below the path
+abbrev pub HasSomeBelow : Path → FileMap → Type 0
+HasSomeBelow p files = (name : Bytes) × (rest : Path) × (file : Leaf) × (files (p ++ name ∷ rest) ≡ Some file)
 
 -- a path has a name, and none of its names is empty
 abbrev pub NamesAreFull : Path → Type 0

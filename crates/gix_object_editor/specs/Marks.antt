@@ -26,6 +26,10 @@ marks_of [] i = mark_below 0 false
 marks_of (node ∷ nodes) zero = mark_of node
 marks_of (node ∷ nodes) (suc i) = marks_of nodes i
 
+-- the tree at the path was opened, and an edit changed it, or one that lies in it
+abbrev pub IsChangedIn : List Node → Path → Type 0
+IsChangedIn nodes path = (j : ℕ) × LeadsTo (slots_of nodes) path j [] × ((marks_of nodes j).changed ≡ true)
+
 -- the way leads through the tree
 abbrev pub IsOnWay : Slots → Path → ℕ → Type 0
 IsOnWay slots way j = (below : Path) × (front : Path) × (way ≡ below ++ front) × Way slots front j

@@ -118,6 +118,10 @@ pub record IsUnopened (s : Slot) : Type 0 where
   pub is_tree : is_tree_value s.mode.value ≡ true
   pub isnt_null : is_null (id_of s.oid) ≡ false
 
+-- this entry stands there, and no tree was opened for it
+abbrev pub IsEntry : Option Slot → Leaf → Type 0
+IsEntry o leaf = (s : Slot) × (o ≡ Some s) × (leaf_in s ≡ leaf) × (s.child ≡ None)
+
 -- the path leads through the unopened tree of this id, and on
 pub record IsStoppedAt (slots : Slots) (path : Path) (id : Id) : Type 0 where
   pub at : ℕ

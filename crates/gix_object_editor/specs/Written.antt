@@ -12,10 +12,11 @@ use Rattle.gix_object_editor.specs.declared.tree.editor.node.Slot.{Slot}
 use Rattle.gix_object_editor.specs.declared.tree.editor.state.Editor.{Editor}
 use Rattle.gix_object_editor.specs.declared.tree.editor.write.error.Error.{Error}
 use Rattle.gix_object_editor.specs.declared.tree.editor.write.error.Error.TheVariants.{Out, Memory}
-use Rattle.gix_object_editor.specs.Files.{Bytes, Path, FileMap, Trees, SameFiles, is_null, leaf_of, named, through, behind, files_of_tree}
+use Rattle.gix_object_editor.specs.declared.tree.editor.node.Node.{Node}
+use Rattle.gix_object_editor.specs.Files.{Bytes, Path, FileMap, Trees, SameFiles, Begins, is_null, leaf_of, named, through, behind, files_of_tree}
 use Rattle.gix_object_editor.specs.Nodes.{Slots, leaf_in, files_of_node, LeadsTo}
 use Rattle.gix_object_editor.specs.Editor.{files_of, IsChanged, IsAsRead}
-use Rattle.gix_object_editor.specs.Marks.{due_in}
+use Rattle.gix_object_editor.specs.Marks.{due_in, IsChangedIn}
 use Rattle.gix_object_editor.specs.Writing.{folder_mode}
 
 -- a tree that was handed out: the folder that it is, its entries, and the id that was answered
@@ -70,9 +71,15 @@ pub record IsHandedOut (slots : Slots) (before : List HandedOut) (tree : HandedO
   -- it has the files below its path
   pub files : (trees : Trees) → HasHandedOut before trees → (q : Path) → files_of_tree trees tree.items q ≡ files_of_node trees slots 0 (tree.path ++ q)
 
+-- the tree is the one at this path, or lies in it: then an edit changed it, and it has entries
+pub record IsDueAt (nodes : List Node) (path : Path) (tree : HandedOut) : Type 0 where
+  pub below : Begins path tree.path
+  pub changed : (tree.path ≡ path) ⊎ ((tree.items ≢ []) × IsChangedIn nodes tree.path)
+
 -- what is handed out of an editor for the id of the tree at a path, which has this number
 pub record IsWritten {S : Type 0} (editor : Editor S) (from : ℕ) (path : Path) (handed : List HandedOut) (id : Id) : Type 0 where
   pub in_order : EachBehind (IsHandedOut (due_in editor.nodes.items from)) [] handed
+  pub due : All (IsDueAt editor.nodes.items path) handed
   -- this tree comes last; each other was changed by an edit, and isn't empty
   pub last : (below : List HandedOut) × (items : List Item) × (handed ≡ below ++ record { path = path; items = items; id = id } ∷ [])
       × All (λ tree. (tree.items ≢ []) × IsChanged editor tree.path) below
@@ -90,18 +97,26 @@ module _ {F E : Type 0} (calls : Mut F (Bor Tree × Unit {0}) (Result ObjectId E
   abbrev pub Writes : {S : Type 0} → Editor S → ℕ → Path → F → Id → F → Type 0
   Writes editor from path out id after = (handed : List HandedOut) × FoldsTo HandsOut out handed after × IsWritten editor from path handed id
 
-  -- trees of these slots are handed out, one after another
-  pub record HandsOutSome (slots : Slots) (out : F) (handed : List HandedOut) (after : F) : Type 0 where
+  -- trees at the path or below it, which are due from this number down, are handed out one after another
+  pub record HandsOutSome (nodes : List Node) (from : ℕ) (path : Path) (out : F) (handed : List HandedOut) (after : F) : Type 0 where
     pub calls_made : FoldsTo HandsOut out handed after
-    pub in_order : EachBehind (IsHandedOut slots) [] handed
+    pub in_order : EachBehind (IsHandedOut (due_in nodes from)) [] handed
+    pub due : All (IsDueAt nodes path) handed
 
   -- one more is handed out behind them, and the call answers this error
-  pub record FailsBehind (slots : Slots) (handed : List HandedOut) (before : F) (error : E) (after : F) : Type 0 where
+  pub record FailsBehind (nodes : List Node) (from : ℕ) (path : Path) (handed : List HandedOut) (before : F) (error : E) (after : F) : Type 0 where
     pub shown : Tree
     pub called : CalledAt calls before shown (Err error) after
-    pub next : (path : Path) × ((id : Id) → IsHandedOut slots handed (record { path = path; items = map own_item shown.entries.items; id = id }))
+    pub at : Path
+    pub next : (id : Id) → IsHandedOut (due_in nodes from) handed (record { path = at; items = map own_item shown.entries.items; id = id })
+    pub due : (id : Id) → IsDueAt nodes path (record { path = at; items = map own_item shown.entries.items; id = id })
 
   -- why no id is answered, and what was handed out by then
-  abbrev pub WriteFault : Slots → F → Error E → F → Type 0
-  WriteFault slots out (Out error) after = (handed : List HandedOut) × (before : F) × HandsOutSome slots out handed before × FailsBehind slots handed before error after
-  WriteFault slots out Memory after = (handed : List HandedOut) × HandsOutSome slots out handed after
+  abbrev pub StopsWriting : List Node → ℕ → Path → F → Error E → F → Type 0
+  StopsWriting nodes from path out (Out error) after =
+      (handed : List HandedOut) × (before : F) × HandsOutSome nodes from path out handed before × FailsBehind nodes from path handed before error after
+  StopsWriting nodes from path out Memory after = (handed : List HandedOut) × HandsOutSome nodes from path out handed after
+
+  -- the same of the tree at a path of an editor, which has this number
+  abbrev pub WriteFault : {S : Type 0} → Editor S → ℕ → Path → F → Error E → F → Type 0
+  WriteFault editor from path out error after = StopsWriting editor.nodes.items from path out error after

@@ -1,11 +1,13 @@
 //! Edits of a tree and the trees below it.
 
-ghost use Rattle.std.specs.Prelude.{◌≡◌, ◌≤◌, ◌+◌, ◌⊎◌, length, map, option_map, IfOk, IfErr, OnOk, OnErr, IsFalse, IsTrue};
+ghost use Rattle.std.specs.Prelude.{◌≡◌, ◌≤◌, ◌+◌, ◌⊎◌, length, map, option_map, IfOk, IfErr, OnOk, OnErr, IsFalse, IsTrue, Some};
 ghost use Rattle.std.specs.Borrow.{sem};
 ghost use Rattle.gix_object_entries.specs.Entry.{item_of, own_item};
-ghost use Rattle.gix_object_editor.specs.Files.{Path, Trees, HasStored, SameFiles, NamesAreFull, HasNoneBelow, removed, put, files_of_tree};
+ghost use Rattle.gix_object_editor.specs.Files.{Path, Trees, HasStored, SameFiles, NamesAreFull, HasNoneBelow, HasSomeBelow, no_trees, removed, put, files_of_tree};
 ghost use Rattle.gix_object_editor.specs.Nodes.{slots_of, entry_at};
-ghost use Rattle.gix_object_editor.specs.Editor.{files_of, names_of, leaf_of_kind, LeadsThrough, LeadsInto, EditFault, LeafFault, IsFilled, IsFolder, IsChanged, IsAsRead, IsAbove, EachEntryHas};
+ghost use Rattle.gix_object_editor.specs.Editor.{files_of, names_of, leaf_of_kind, LeadsThrough, LeadsInto, EditFault, LeafFault, IsFilled, IsFolder, IsChanged, IsAsRead, IsAbove, EachEntryHas, IsNonLeaf, asked_by};
+ghost use Rattle.gix_object_editor.specs.Asked.{front_of, Asks};
+ghost use Rattle.gix_object_editor.specs.declared.tree.editor.error.Error.TheVariants.{EmptyPathComponent};
 ghost use Rattle.gix_object_editor.specs.Entries.{Property, PassesDown, MayStand, ItemsHave};
 ghost use Rattle.gix_object_entries.specs.WellFormed.{IsWellFormed};
 
@@ -112,7 +114,10 @@ impl<S: Find> Editor<S> {
         ensures as_read { S.is_honest self.old.store → (trees : Trees) → HasStored (S.table self.old.store) trees → IsAsRead trees self.old → IsAsRead trees self.new }
         ensures changed { (tree : Path) → IsChanged self.new tree → IsChanged self.old tree ⊎ IsAbove tree (names_of path.now) }
         ensures still { OnErr result ((tree : Path) → IsChanged self.new tree → IsChanged self.old tree) }
+        ensures full { IfErr result (λ error. (error ≡ EmptyPathComponent) ⊎ NamesAreFull (names_of path.now)) }
         ensures counted { self.new.lookups ≤ self.old.lookups + length path.now }
+        ensures asked { Asks (S.is_honest self.old.store) (S.may_fail self.old.store) (S.table self.old.store)
+            (asked_by self.old (front_of (names_of path.now))) self.old.lookups self.new.lookups result }
         ensures store { self.new.store ≡ self.old.store }
     {
         self.remove_from(alloc, NodeId(0), path)
@@ -136,7 +141,11 @@ impl<S: Find> Editor<S> {
         ensures as_read { S.is_honest self.old.store → (trees : Trees) → HasStored (S.table self.old.store) trees → IsAsRead trees self.old → IsAsRead trees self.new }
         ensures changed { (tree : Path) → IsChanged self.new tree → IsChanged self.old tree ⊎ IsAbove tree (names_of path.now) }
         ensures still { OnErr result ((tree : Path) → IsChanged self.new tree → IsChanged self.old tree) }
+        ensures full { IfErr result (λ error. (error ≡ EmptyPathComponent) ⊎ NamesAreFull (names_of path.now)) }
+        ensures folder { IfErr result (λ error. IsNonLeaf error → HasSomeBelow (names_of path.now) (files_of no_trees self.new)) }
         ensures counted { self.new.lookups ≤ self.old.lookups + length path.now }
+        ensures asked { Asks (S.is_honest self.old.store) (S.may_fail self.old.store) (S.table self.old.store)
+            (asked_by self.old (names_of path.now)) self.old.lookups self.new.lookups result }
         ensures store { self.new.store ≡ self.old.store }
     {
         self.remove_leaf_from(alloc, NodeId(0), path)
@@ -164,8 +173,14 @@ impl<S: Find> Editor<S> {
             → EachEntryHas has self.old → EachEntryHas has self.new }
         ensures as_read { S.is_honest self.old.store → (trees : Trees) → HasStored (S.table self.old.store) trees → IsAsRead trees self.old → IsAsRead trees self.new }
         ensures changed { (tree : Path) → IsChanged self.new tree → IsChanged self.old tree ⊎ IsAbove tree (names_of path.now) }
+        ensures same { S.is_honest self.old.store → (trees : Trees) → HasStored (S.table self.old.store) trees
+            → files_of trees self.old (names_of path.now) ≡ Some (leaf_of_kind kind id)
+            → OnOk result ((tree : Path) → IsChanged self.new tree → IsChanged self.old tree) }
         ensures still { OnErr result ((tree : Path) → IsChanged self.new tree → IsChanged self.old tree) }
+        ensures full { IfErr result (λ error. (error ≡ EmptyPathComponent) ⊎ NamesAreFull (names_of path.now)) }
         ensures counted { self.new.lookups ≤ self.old.lookups + length path.now }
+        ensures asked { Asks (S.is_honest self.old.store) (S.may_fail self.old.store) (S.table self.old.store)
+            (asked_by self.old (front_of (names_of path.now))) self.old.lookups self.new.lookups result }
         ensures store { self.new.store ≡ self.old.store }
     {
         self.upsert_from(alloc, NodeId(0), path, kind, id)

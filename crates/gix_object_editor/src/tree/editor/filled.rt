@@ -1,11 +1,12 @@
 //! Folders with files.
 
-ghost use Rattle.std.specs.Prelude.{◌≡◌, ◌<◌, ◌≤◌, ◌+◌, ◌∷◌, length, IsTrue, IsFalse, IfErr, OnOk, None, false};
+ghost use Rattle.std.specs.Prelude.{◌≡◌, ◌<◌, ◌≤◌, ◌+◌, ◌∷◌, [], length, IsTrue, IsFalse, IfErr, OnOk, None, false};
 ghost use Rattle.gix_object_editor.specs.Files.{Bytes, Path, Trees, HasStored};
 ghost use Rattle.gix_object_editor.specs.Entries.{Property, EachHas, PassesDown};
 ghost use Rattle.gix_object_editor.specs.Marks.{marks_of, AreMarksKept, AreAsRead};
 ghost use Rattle.gix_object_editor.specs.Nodes.{slots_of, files_of_node, IsForest, AreFilled, HasFileBelow, IsOpened, IsFolderAt};
 ghost use Rattle.gix_object_editor.specs.Refusals.{FolderFault};
+ghost use Rattle.gix_object_editor.specs.Asked.{unopened_into, Asks};
 
 use crate::tree::editor::Error;
 use crate::tree::editor::forest::open;
@@ -32,6 +33,8 @@ pub(crate) fn refuse_folder<S: Find>(
     ensures each { S.is_honest store.now → (has : Property) → PassesDown (S.table store.now) has → EachHas has (slots_of nodes.old.items) → EachHas has (slots_of nodes.new.items) }
     ensures plain { OnOk result (IsFolderAt (slots_of nodes.new.items) at.0 name.now None) }
     ensures counted { lookups.new ≤ lookups.old + 1 }
+    ensures asked { Asks (S.is_honest store.now) (S.may_fail store.now) (S.table store.now)
+        (λ trees. unopened_into trees (slots_of nodes.old.items) at.0 (name.now ∷ [])) lookups.old lookups.new result }
     ensures refused { IfErr result (FolderFault (S.is_honest store.now) (S.may_fail store.now) (S.table store.now) (slots_of nodes.new.items) at.0 name.now) }
 {
     let Some(folder) = open(store, nodes, lookups, alloc, at, name)? else {

@@ -1,12 +1,13 @@
 //! Walking down opened trees, and opening more of them.
 
-ghost use Rattle.std.specs.Prelude.{◌≡◌, ◌<◌, ◌≤◌, ◌+◌, ℕ, length, map, drop, slice_index_or, if◌then◌else◌, is_ok, IfOk, IfErr, OnOk, OnErr, IsSome, Some, None, [], false};
+ghost use Rattle.std.specs.Prelude.{◌≡◌, ◌<◌, ◌≤◌, ◌+◌, ◌∷◌, ◌++◌, ℕ, length, map, drop, slice_index_or, if◌then◌else◌, is_ok, IfOk, IfErr, OnOk, OnErr, IsSome, Some, None, [], false};
 ghost use Rattle.gix_hash.specs.Id.{Id, id_of};
 ghost use Rattle.gix_object_editor.specs.Files.{Bytes, Path, Trees, HasStored};
 ghost use Rattle.gix_object_editor.specs.Nodes.{slot_in, slots_of, child_of, IsForest, IsOpened, IsFolderAt, IsUnopened, IsStoppedAt, Way, onto, LeadsTo};
 ghost use Rattle.gix_object_editor.specs.Entries.{Property, EachHas, PassesDown};
 ghost use Rattle.gix_object_editor.specs.Marks.{marks_of, mark_below, AreMarksKept, AreAsRead};
 ghost use Rattle.gix_object_editor.specs.Refusals.{OpeningFault};
+ghost use Rattle.gix_object_editor.specs.Asked.{front_of, found_into, unopened_into, AsksUpTo, AsksAll, StopsAt};
 ghost use Rattle.gix_object_editor.specs.declared.tree.editor.node.Slot.{Slot};
 
 use crate::tree::editor::Error;
@@ -70,6 +71,12 @@ pub(crate) fn open<S: Find>(
     ensures each { S.is_honest store.now → (has : Property) → PassesDown (S.table store.now) has → EachHas has (slots_of nodes.old.items) → EachHas has (slots_of nodes.new.items) }
     ensures found { IfOk result (IsFolderAt (slots_of nodes.new.items) at.0 name.now) }
     ensures counted { lookups.new ≤ lookups.old + 1 }
+    ensures asked { S.is_honest store.now → IfOk result (λ found. (trees : Trees) → HasStored (S.table store.now) trees → (rest : Path)
+        → AsksUpTo (S.table store.now) (unopened_into trees (slots_of nodes.old.items) at.0 (name.now ∷ rest))
+        (found_into trees (slots_of nodes.new.items) found rest) lookups.old lookups.new) }
+    ensures stops { S.is_honest store.now → IfErr result (λ error. (trees : Trees) → HasStored (S.table store.now) trees → (rest : Path)
+        → StopsAt (S.is_honest store.now) (S.may_fail store.now) (S.table store.now)
+        (unopened_into trees (slots_of nodes.old.items) at.0 (name.now ∷ rest)) lookups.old lookups.new error) }
     ensures refused { IfErr result (λ error. (s : Slot) × (slots_of nodes.new.items at.0 name.now ≡ Some s) × IsUnopened s
         × OpeningFault (S.is_honest store.now) (S.may_fail store.now) (S.table store.now) (id_of s.oid) error) }
 {
@@ -111,6 +118,16 @@ pub(crate) fn walk<S: Find>(
         → LeadsTo (slots_of nodes.new.items) (onto way (map (λ n. n.now) path.now)) end.0.0 (map (λ n. n.now) (drop end.1 path.now))) }
     ensures stopped { IfOk result (λ end. end.1 + 1 < length path.now → IsFolderAt (slots_of nodes.new.items) end.0.0 (slice_index_or (map (λ n. n.now) path.now) end.1 []) None) }
     ensures counted { lookups.new + 1 ≤ lookups.old + length path.now }
+    ensures asked { S.is_honest store.now → IfOk result (λ end. (trees : Trees) → HasStored (S.table store.now) trees → (more : Path)
+        → end.1 + 1 ≡ length path.now → AsksUpTo (S.table store.now)
+        (unopened_into trees (slots_of nodes.old.items) from.0 (front_of (map (λ n. n.now) path.now) ++ more))
+        (unopened_into trees (slots_of nodes.new.items) end.0.0 more) lookups.old lookups.new) }
+    ensures asked_all { S.is_honest store.now → IfOk result (λ end. (trees : Trees) → HasStored (S.table store.now) trees → (more : Path)
+        → end.1 + 1 < length path.now → AsksAll (S.table store.now)
+        (unopened_into trees (slots_of nodes.old.items) from.0 (front_of (map (λ n. n.now) path.now) ++ more)) lookups.old lookups.new) }
+    ensures stops { S.is_honest store.now → IfErr result (λ error. (trees : Trees) → HasStored (S.table store.now) trees → (more : Path)
+        → StopsAt (S.is_honest store.now) (S.may_fail store.now) (S.table store.now)
+        (unopened_into trees (slots_of nodes.old.items) from.0 (front_of (map (λ n. n.now) path.now) ++ more)) lookups.old lookups.new error) }
     ensures refused { IfErr result (λ error. (id : Id) × ((way : Path) → Way (slots_of nodes.old.items) way from.0 → IsStoppedAt (slots_of nodes.new.items) (onto way (map (λ n. n.now) path.now)) id)
         × OpeningFault (S.is_honest store.now) (S.may_fail store.now) (S.table store.now) id error) }
 {
@@ -147,6 +164,13 @@ pub(crate) fn folder_below<S: Find>(
     ensures found { IfOk result (IsFolderAt (slots_of nodes.new.items) at.0 (slice_index_or (map (λ n. n.now) names.now) 0 [])) }
     ensures last { IfOk result (λ found. IsSome found → length names.now ≡ 1) }
     ensures counted { lookups.new ≤ lookups.old + 1 }
+    ensures unasked { 1 < length names.now → lookups.new ≡ lookups.old }
+    ensures asked { S.is_honest store.now → OnOk result ((trees : Trees) → HasStored (S.table store.now) trees → length names.now ≡ 1
+        → AsksAll (S.table store.now) (unopened_into trees (slots_of nodes.old.items) at.0 (slice_index_or (map (λ n. n.now) names.now) 0 [] ∷ []))
+        lookups.old lookups.new) }
+    ensures stops { S.is_honest store.now → IfErr result (λ error. (trees : Trees) → HasStored (S.table store.now) trees
+        → StopsAt (S.is_honest store.now) (S.may_fail store.now) (S.table store.now)
+        (unopened_into trees (slots_of nodes.old.items) at.0 (slice_index_or (map (λ n. n.now) names.now) 0 [] ∷ [])) lookups.old lookups.new error) }
     ensures refused { IfErr result (λ error. (s : Slot) × (slots_of nodes.new.items at.0 (slice_index_or (map (λ n. n.now) names.now) 0 []) ≡ Some s) × IsUnopened s
         × OpeningFault (S.is_honest store.now) (S.may_fail store.now) (S.table store.now) (id_of s.oid) error) }
     ensures alone { OnErr result (length names.now ≡ 1) }

@@ -1,11 +1,12 @@
 //! Putting an entry below an opened tree, in folders that are made for it.
 
 ghost use Rattle.std.specs.Prelude.{◌≡◌, ◌≢◌, ◌<◌, ◌≤◌, ◌+◌, ◌++◌, ◌∷◌, ◌⊎◌, ℕ, length, map, slice_index_or, IfOk, OnOk, OnErr, Some, None, [], true};
-ghost use Rattle.std.specs.List.{Contains};
+ghost use Rattle.std.specs.List.{All, Contains};
 ghost use Rattle.gix_hash.specs.Id.{id_of};
 ghost use Rattle.gix_object_editor.specs.declared.tree.editor.node.Slot.{Slot};
 ghost use Rattle.gix_object_editor.specs.Files.{Bytes, Path, Trees, SameFiles, put, cleared};
-ghost use Rattle.gix_object_editor.specs.Entries.{Property, EachHas, MayStand, made_leaf};
+ghost use Rattle.gix_object_editor.specs.Asked.{front_of};
+ghost use Rattle.gix_object_editor.specs.Entries.{Property, EachHas, MayStand, MayStandMade, made_leaf};
 ghost use Rattle.gix_object_editor.specs.Marks.{mark_of, marks_of, mark_below, rung_parent, AreMarksKept, AreOnPath};
 ghost use Rattle.gix_object_editor.specs.Nodes.{slot_in, slots_of, child_of, leaf_in, files_of_node, Way, onto, IsForest, IsFolderAt, IsRung, IsPutIn, LeadsTo};
 
@@ -40,6 +41,8 @@ pub(crate) fn graft(
     ensures each { (has : Property) → MayStand has (map (λ n. n.now) names.now) (leaf_in slot) → EachHas has (slots_of nodes.old.items) → EachHas has (slots_of nodes.new.items) }
     ensures marks { AreMarksKept true (slots_of nodes.old.items) (slots_of nodes.new.items) (marks_of nodes.old.items) (marks_of nodes.new.items) (length nodes.old.items) (length nodes.new.items) }
     ensures last { IfOk result (λ end. 1 < length names.now → (end.0 + 1 ≡ length nodes.new.items) × (length nodes.old.items ≤ end.0)) }
+    ensures rungs { IfOk result (λ end. (i : ℕ) (m : Bytes) (s : Slot) → length nodes.old.items ≤ i
+        → slots_of nodes.new.items i m ≡ Some s → (i ≡ end.0) ⊎ Contains (front_of (map (λ n. n.now) names.now)) m) }
     ensures made { OnOk result ((way : Path) → Way (slots_of nodes.old.items) way at.0
         → AreOnPath (slots_of nodes.new.items) (onto way (map (λ n. n.now) names.now)) (length nodes.old.items) (length nodes.new.items)) }
 {
@@ -70,8 +73,11 @@ pub(crate) fn make_folders(
     requires within { at.0 < length nodes.old.items }
     requires named { 0 < length names.now }
     requires plain { IsFolderAt (slots_of nodes.old.items) at.0 (slice_index_or (map (λ n. n.now) names.now) 0 []) None }
+    requires full { All (λ name. name ≢ []) (map (λ n. n.now) names.now) }
     ensures forest { IsForest (slots_of nodes.new.items) (length nodes.new.items) }
     ensures longer { length nodes.old.items ≤ length nodes.new.items }
+    ensures each { OnOk result ((has : Property) → MayStandMade has hash (map (λ n. n.now) names.now)
+        → EachHas has (slots_of nodes.old.items) → EachHas has (slots_of nodes.new.items)) }
     ensures cleared { OnOk result ((trees : Trees) (way : Path) → Way (slots_of nodes.old.items) way at.0
         → SameFiles (files_of_node trees (slots_of nodes.new.items) 0) (cleared (onto way (map (λ n. n.now) names.now)) (files_of_node trees (slots_of nodes.old.items) 0))) }
     ensures leads { IfOk result (λ end. (way : Path) → Way (slots_of nodes.old.items) way at.0
@@ -123,6 +129,8 @@ fn hang(
     ensures marks { OnOk result (AreMarksKept true (slots_of nodes.old.items) (slots_of nodes.new.items) (marks_of nodes.old.items) (marks_of nodes.new.items) (length nodes.old.items) (length nodes.new.items)) }
     ensures front { (i : ℕ) → i < length nodes.old.items → marks_of nodes.new.items i ≡ marks_of nodes.old.items i }
     ensures last { IfOk result (λ end. (end.0 + 1 ≡ length nodes.new.items) × (length nodes.old.items ≤ end.0)) }
+    ensures rungs { IfOk result (λ end. (i : ℕ) (m : Bytes) (s : Slot) → length nodes.old.items ≤ i
+        → slots_of nodes.new.items i m ≡ Some s → (i ≡ end.0) ⊎ Contains (front_of (map (λ n. n.now) names.now)) m) }
     ensures made { OnOk result ((way : Path) → Way (slots_of nodes.old.items) way at.0
         → AreOnPath (slots_of nodes.new.items) (onto way (map (λ n. n.now) names.now)) (length nodes.old.items) (length nodes.new.items)) }
 {

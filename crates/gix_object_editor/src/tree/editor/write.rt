@@ -4,7 +4,6 @@ ghost use Rattle.std.specs.Prelude.{◌<◌, [], length, IfOk, IfErr};
 ghost use Rattle.gix_hash.specs.Id.{id_of};
 ghost use Rattle.gix_object_editor.specs.Files.{Path};
 ghost use Rattle.gix_object_editor.specs.Nodes.{slots_of, Way, onto};
-ghost use Rattle.gix_object_editor.specs.Marks.{due_in};
 ghost use Rattle.gix_object_editor.specs.Written.{WriteFault, Writes};
 
 mod below;
@@ -36,8 +35,7 @@ impl<S> Editor<S> {
     ) -> Result<ObjectId, Error<E>>
         requires { F.IsAlwaysCallable out.old }
         ensures written { IfOk result (λ root. Writes F.FnMut self.now 0 [] out.old (id_of root) out.new) }
-        ensures refused { IfErr result (λ error.
-            WriteFault F.FnMut (due_in self.now.nodes.items 0) out.old error out.new) }
+        ensures refused { IfErr result (λ error. WriteFault F.FnMut self.now 0 [] out.old error out.new) }
         ensures callable { F.IsAlwaysCallable out.new }
     {
         self.write_from(alloc, NodeId(0), out)
@@ -55,8 +53,7 @@ impl<S> Editor<S> {
         ensures written { (base : Path) → Way (slots_of self.now.nodes.items) base from.0
             → IfOk result (λ id. Writes F.FnMut self.now from.0 (onto base []) out.old (id_of id) out.new) }
         ensures refused { (base : Path) → Way (slots_of self.now.nodes.items) base from.0
-            → IfErr result (λ error.
-            WriteFault F.FnMut (due_in self.now.nodes.items from.0) out.old error out.new) }
+            → IfErr result (λ error. WriteFault F.FnMut self.now from.0 (onto base []) out.old error out.new) }
         ensures callable { F.IsAlwaysCallable out.new }
     {
         let nodes = self.nodes.as_slice();
