@@ -34,13 +34,15 @@ ids_from (Some a) ids = ids a
 abbrev pub trees_into : Trees → Path → Leaf → List Id
 trees_into trees [] leaf = if leads_on leaf then leaf.id ∷ [] else []
 trees_into trees (name ∷ rest) leaf =
-    if leads_on leaf then leaf.id ∷ ids_from (through (trees leaf.id) (named name)) (λ item. trees_into trees rest (leaf_of item)) else []
+    if leads_on leaf then leaf.id ∷ ids_from (through (trees leaf.id) (named name))
+    (λ item. trees_into trees rest (leaf_of item)) else []
 
 -- the trees that aren't opened into which names lead from a slot
 abbrev pub slot_into : Trees → Slots → Path → Slot → List Id
 slot_into trees slots [] s = child_or s.child (λ c. []) (trees_into trees [] (leaf_in s))
 slot_into trees slots (name ∷ rest) s =
-    child_or s.child (λ c. ids_from (slots c name) (slot_into trees slots rest)) (trees_into trees (name ∷ rest) (leaf_in s))
+    child_or s.child (λ c. ids_from (slots c name) (slot_into trees slots rest))
+    (trees_into trees (name ∷ rest) (leaf_in s))
 
 -- the trees that aren't opened into which names lead from an opened tree
 abbrev pub unopened_into : Trees → Slots → ℕ → Path → List Id
@@ -56,7 +58,8 @@ found_into trees slots (Some folder) names = unopened_into trees slots folder.0 
 
 -- a well-formed tree stands under the id
 abbrev pub IsStoredTree : Table → Id → Type 0
-IsStoredTree table id = (content : List ℕ) × (items : List Item) × Stands table id kinds.Tree content × SpellsTree id.kind content items × IsWellFormed items
+IsStoredTree table id = (content : List ℕ) × (items : List Item)
+    × Stands table id kinds.Tree content × SpellsTree id.kind content items × IsWellFormed items
 
 -- so many lookups were counted, as far as a count of 64 bits tells
 abbrev pub CountsUp : ℕ → ℕ → ℕ → Type 0
@@ -92,13 +95,18 @@ pub record AsksSome (ids : List Id) (was now : ℕ) : Type 0 where
 abbrev pub StopsAt : Type 0 → Type 0 → Table → List Id → ℕ → ℕ → Error → Type 0
 StopsAt honest may_fail table ids was now EmptyPathComponent = now ≡ was
 StopsAt honest may_fail table ids was now (FindExistingObject error) =
-    (id : Id) × AsksFor table ids was now id × OpeningFault honest may_fail table id (FindExistingObject error)
+    (id : Id) × AsksFor table ids was now id
+    × OpeningFault honest may_fail table id (FindExistingObject error)
 StopsAt honest may_fail table ids was now (CannotRemoveNonLeaf filename) = AsksAll table ids was now
 StopsAt honest may_fail table ids was now (MalformedTree oid) =
-    (id : Id) × AsksFor table ids was now id × OpeningFault honest may_fail table id (MalformedTree oid)
+    (id : Id) × AsksFor table ids was now id
+    × OpeningFault honest may_fail table id (MalformedTree oid)
 StopsAt honest may_fail table ids was now Memory = AsksSome ids was now
 
 -- over the stored trees all of these were asked for, or the edit stopped at one
-abbrev pub Asks : {X : Type 0} → Type 0 → Type 0 → Table → (Trees → List Id) → ℕ → ℕ → Result X Error → Type 0
-Asks honest may_fail table ids was now (Ok x) = honest → (trees : Trees) → HasStored table trees → AsksAll table (ids trees) was now
-Asks honest may_fail table ids was now (Err error) = honest → (trees : Trees) → HasStored table trees → StopsAt honest may_fail table (ids trees) was now error
+abbrev pub Asks : {X : Type 0} → Type 0 → Type 0 → Table → (Trees → List Id) → ℕ → ℕ
+    → Result X Error → Type 0
+Asks honest may_fail table ids was now (Ok x) = honest → (trees : Trees) → HasStored table trees
+    → AsksAll table (ids trees) was now
+Asks honest may_fail table ids was now (Err error) = honest → (trees : Trees)
+    → HasStored table trees → StopsAt honest may_fail table (ids trees) was now error

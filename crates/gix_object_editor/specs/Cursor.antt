@@ -17,11 +17,15 @@ abbrev pub StandsAt : {S : Type 0} → Cursor S → Path → Type 0
 StandsAt cursor path = LeadsTo (slots_of cursor.editor.now.nodes.items) path cursor.at.0 []
 
 -- what an editor is left as where no cursor is given, and why
-pub record IsLeft {S : Type 0} (honest may_fail : Type 0) (table : Table) (path : Path) (old left : Editor S) (error : Error) : Type 0 where
-  pub files : honest → (trees : Trees) → HasStored table trees → SameFiles (files_of trees left) (files_of trees old)
-  pub as_read : honest → (trees : Trees) → HasStored table trees → IsAsRead trees old → IsAsRead trees left
+pub record IsLeft {S : Type 0} (honest may_fail : Type 0) (table : Table) (path : Path)
+    (old left : Editor S) (error : Error) : Type 0 where
+  pub files : honest → (trees : Trees) → HasStored table trees
+      → SameFiles (files_of trees left) (files_of trees old)
+  pub as_read : honest → (trees : Trees) → HasStored table trees → IsAsRead trees old
+      → IsAsRead trees left
   pub still : (tree : Path) → IsChanged left tree → IsChanged old tree
-  pub fault : EditFault honest may_fail table path (LeadsInto (λ trees. files_of trees left) path) error
+  pub fault : EditFault honest may_fail table path
+      (LeadsInto (λ trees. files_of trees left) path) error
   pub full : (error ≡ EmptyPathComponent) ⊎ NamesAreFull path
   pub asked : honest → (trees : Trees) → HasStored table trees
       → StopsAt honest may_fail table (asked_by old path trees) old.lookups left.lookups error
@@ -30,5 +34,7 @@ pub record IsLeft {S : Type 0} (honest may_fail : Type 0) (table : Table) (path 
 
 module _ (S : RattleType) where
   -- the editor is lent to the cursor, or it is left so
-  abbrev pub LendsOrLeaves : {E : Type 0} → MutBor (Editor S.Denot) → Result (Cursor S.Denot) E → (Editor S.Denot → Type 0) → Fml
-  LendsOrLeaves editor result Left = RestsIfErr (the_row S) editor (λ cursor. cursor.editor.ghost_name) result Left
+  abbrev pub LendsOrLeaves : {E : Type 0} → MutBor (Editor S.Denot) → Result (Cursor S.Denot) E
+      → (Editor S.Denot → Type 0) → Fml
+  LendsOrLeaves editor result Left = RestsIfErr (the_row S) editor
+      (λ cursor. cursor.editor.ghost_name) result Left

@@ -17,7 +17,8 @@ pub(crate) fn entry_from<'a>(
 ) -> Option<EntryRef<'a>>
     requires forest { IsForest (slots_of nodes.now) (length nodes.now) }
     requires within { from.0 < length nodes.now }
-    ensures { option_map item_of result ≡ entry_at (slots_of nodes.now) from.0 (map (λ n. n.now) path.now) }
+    ensures { option_map item_of result ≡ entry_at (slots_of nodes.now) from.0
+        (map (λ n. n.now) path.now) }
 {
     if path.is_empty() {
         return None;
@@ -36,9 +37,11 @@ pub(crate) fn stands_already(nodes: &[Node], at: NodeId, names: &[&[u8]], slot: 
     requires within { at.0 < length nodes.now }
     requires named { 0 < length names.now }
     ensures so { IsTrue result → (length names.now ≡ 1)
-        × IsEntry (slots_of nodes.now at.0 (slice_index_or (map (λ n. n.now) names.now) 0 [])) (leaf_in slot) }
+        × IsEntry (slots_of nodes.now at.0 (slice_index_or (map (λ n. n.now) names.now) 0 []))
+        (leaf_in slot) }
     ensures otherwise { IsFalse result → length names.now ≡ 1
-        → IsEntry (slots_of nodes.now at.0 (slice_index_or (map (λ n. n.now) names.now) 0 [])) (leaf_in slot) → ⊥ }
+        → IsEntry (slots_of nodes.now at.0 (slice_index_or (map (λ n. n.now) names.now) 0 []))
+        (leaf_in slot) → ⊥ }
 {
     if names.len() > 1 {
         return false;

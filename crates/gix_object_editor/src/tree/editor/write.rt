@@ -34,8 +34,10 @@ impl<S> Editor<S> {
         out: &mut F,
     ) -> Result<ObjectId, Error<E>>
         requires { F.IsAlwaysCallable out.old }
-        ensures written { IfOk result (λ root. Writes F.FnMut self.now 0 [] out.old (id_of root) out.new) }
-        ensures refused { IfErr result (λ error. WriteFault F.FnMut self.now 0 [] out.old error out.new) }
+        ensures written { IfOk result (λ root. Writes F.FnMut self.now 0 [] out.old
+            (id_of root) out.new) }
+        ensures refused { IfErr result
+            (λ error. WriteFault F.FnMut self.now 0 [] out.old error out.new) }
         ensures callable { F.IsAlwaysCallable out.new }
     {
         self.write_from(alloc, NodeId(0), out)
@@ -51,9 +53,11 @@ impl<S> Editor<S> {
         requires callable { F.IsAlwaysCallable out.old }
         requires within { from.0 < length self.now.nodes.items }
         ensures written { (base : Path) → Way (slots_of self.now.nodes.items) base from.0
-            → IfOk result (λ id. Writes F.FnMut self.now from.0 (onto base []) out.old (id_of id) out.new) }
+            → IfOk result (λ id. Writes F.FnMut self.now from.0 (onto base []) out.old
+            (id_of id) out.new) }
         ensures refused { (base : Path) → Way (slots_of self.now.nodes.items) base from.0
-            → IfErr result (λ error. WriteFault F.FnMut self.now from.0 (onto base []) out.old error out.new) }
+            → IfErr result (λ error. WriteFault F.FnMut self.now from.0
+            (onto base []) out.old error out.new) }
         ensures callable { F.IsAlwaysCallable out.new }
     {
         let nodes = self.nodes.as_slice();

@@ -29,11 +29,14 @@ pub(crate) fn write_below<E, F: FnMut(&Tree) -> Result<ObjectId, E>>(
     requires forest { IsForest (slots_of nodes.now) (length nodes.now) }
     requires within { from.0 < length nodes.now }
     ensures written { (base : Path) → Way (due_in nodes.now from.0) base from.0
-        → IfOk result (λ ids. (handed : List HandedOut) × FoldsTo (HandsOut F.FnMut) out.old handed out.new
-        × IsHandedOutFrom (due_in nodes.now from.0) base (length nodes.now) (ids_of ids.items) handed (from.0 + 1)) }
+        → IfOk result (λ ids. (handed : List HandedOut)
+        × FoldsTo (HandsOut F.FnMut) out.old handed out.new
+        × IsHandedOutFrom (due_in nodes.now from.0) base (length nodes.now)
+        (ids_of ids.items) handed (from.0 + 1)) }
     ensures len { IfOk result (λ ids. length ids.items ≡ length nodes.now) }
     ensures refused { (base : Path) → Way (due_in nodes.now from.0) base from.0
-        → IfErr result (λ error. StopsWriting F.FnMut nodes.now from.0 (onto base []) out.old error out.new) }
+        → IfErr result (λ error. StopsWriting F.FnMut nodes.now from.0
+        (onto base []) out.old error out.new) }
     ensures callable { F.IsAlwaysCallable out.new }
 {
     let reached = reached(nodes, from, alloc)?;

@@ -72,11 +72,14 @@ returns-in_err-tree-clause-refused g c = λ base way.
     let p = err_from_is_err_and c.from_residual-in_err-tree.result c.from_residual-in_err-tree.ensures.1 in
     let so = c.in_ok-ids.ensures.written base back in
     let handed = subst (λ ns. IsHandedOutFrom (due_in ns from) base (length ns) (ids_of c.in_ok-ids.ids.items) so.0 (from + 1)) same so.2 in
-    rw (p.1, p.2) (so.0, record {
-      calls_made = so.1;
-      in_order = handed.in_order;
-      due = due_all editor.nodes.items from base (ids_of c.in_ok-ids.ids.items) so.0 (from + 1) (omega arith) handed;
-    })
+    rw (p.1, p.2) (
+      so.0,
+      record {
+        calls_made = so.1;
+        in_order = handed.in_order;
+        due = due_all editor.nodes.items from base (ids_of c.in_ok-ids.ids.items) so.0 (from + 1) (omega arith) handed;
+      },
+    )
 
 pub returns-clause-refused : goal.returns-clause-refused
 returns-clause-refused g c = λ base way.

@@ -70,11 +70,14 @@ pub returns-in_err-tree-clause-refused : goal.returns-in_err-tree-clause-refused
 returns-in_err-tree-clause-refused g c = λ base w.
     let p = err_from_is_err_and c.from_residual-in_err-tree.result c.from_residual-in_err-tree.ensures.1 in
     let so = c.nodes.invariant.written base w in
-    rw (p.1, p.2) (so.0, record {
-      calls_made = so.1;
-      in_order = so.2.in_order;
-      due = due_all c.args.nodes.now c.args.from.0 base (ids_of c.nodes.ids.items) so.0 c.nodes.at (omega (arith, c.nodes.invariant.some)) so.2;
-    })
+    rw (p.1, p.2) (
+      so.0,
+      record {
+        calls_made = so.1;
+        in_order = so.2.in_order;
+        due = due_all c.args.nodes.now c.args.from.0 base (ids_of c.nodes.ids.items) so.0 c.nodes.at (omega (arith, c.nodes.invariant.some)) so.2;
+      },
+    )
 
 pub nodes-preserved-then-index : goal.nodes-preserved-then-index
 nodes-preserved-then-index g c =
