@@ -124,9 +124,9 @@ module _ {F E : Type 0} (calls : Mut F (Bor Tree × Unit {0}) (Result ObjectId E
     pub called : CalledAt calls before shown (Err error) after
     pub at : Path
     pub next : (id : Id) → IsHandedOut (due_in nodes from) handed
-    (record { path = at; items = map own_item shown.entries.items; id = id })
+        (record { path = at; items = map own_item shown.entries.items; id = id })
     pub due : (id : Id) → IsDueAt nodes path
-    (record { path = at; items = map own_item shown.entries.items; id = id })
+        (record { path = at; items = map own_item shown.entries.items; id = id })
 
   -- why no id is answered, and what was handed out by then
   abbrev pub StopsWriting : List Node → ℕ → Path → F → Error E → F → Type 0
