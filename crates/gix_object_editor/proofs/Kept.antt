@@ -1,12 +1,12 @@
 -- Properties of entries, after a tree was opened and after an edit.
-use Rattle.std.proofs.Common.{ℕ, zero, suc, ◌≡◌, ◌≢◌, ◌<◌, ◌≤◌, ◌+◌, ◌-◌, ◌++◌, if◌then◌else◌, Bool, true, false, List, [], ◌∷◌, Option, Some, None, refl, sym, ap, subst, ◌∙◌, ◌⊎◌, inl, inr, arith, length, get_or, drop}
+use Rattle.std.proofs.Common.{ℕ, zero, suc, ◌≡◌, ◌≢◌, ◌<◌, ◌≤◌, ◌+◌, ◌-◌, ◌++◌, if◌then◌else◌, true, false, List, [], ◌∷◌, Option, Some, None, refl, sym, ap, subst, ◌∙◌, ◌⊎◌, inl, inr, arith, length, get_or, drop}
 use Rattle.std.specs.Prelude.{bytes_eq}
 use Rattle.std.specs.List.{All, Contains}
 use Rattle.std.specs.Borrow.{Bor}
 use Rattle.gix_object_editor.proofs.Walked.{names}
 use Rattle.std.proofs.lemmas.Bool.{cases_eq, cases_lt, cases_order}
 use Rattle.std.proofs.lemmas.List.Elements.{All-contains, All-push, All-weaker}
-use Rattle.gix_hash.specs.Id.{Id, id_of}
+use Rattle.gix_hash.specs.Id.{id_of}
 use Rattle.gix_hash.specs.declared.kind.Kind.{Kind}
 use Rattle.gix_object_entries.specs.Entry.{Item}
 use Rattle.gix_object_entries.specs.Mode.{is_tree_value}

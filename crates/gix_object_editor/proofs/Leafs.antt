@@ -1,7 +1,7 @@
 -- A folder that isn't removed as a file.
-use Rattle.std.proofs.Common.{ℕ, ◌≡◌, ◌⊎◌, inl, inr, Bool, true, false, Some, None, [], ◌∷◌, refl, ap, sym, ◌∙◌, if◌then◌else◌}
+use Rattle.std.proofs.Common.{◌≡◌, Bool, true, false, Some, None, [], refl, ap, ◌∙◌, if◌then◌else◌}
 use Rattle.std.specs.Prelude.{Result, Ok, Err, IfErr}
-use Rattle.gix_hash.specs.Id.{Id, id_of}
+use Rattle.gix_hash.specs.Id.{Id}
 use Rattle.gix_object_entries.specs.Mode.{is_tree_value}
 use Rattle.gix_object_find.specs.Table.{Table}
 use Rattle.gix_object_editor.specs.declared.tree.editor.error.Error.{Error}
@@ -9,7 +9,7 @@ use Rattle.gix_object_editor.specs.declared.tree.editor.error.Error.TheVariants.
 use Rattle.gix_object_editor.specs.declared.tree.editor.state.Editor.{Editor}
 use Rattle.gix_object_editor.specs.Editor.{files_of, LeafFault, IsFilled, IsFolder, IsNonLeaf}
 use Rattle.gix_object_editor.specs.Nodes.{leaf_in}
-use Rattle.gix_object_editor.specs.Files.{Path, Leaf, Trees, HasFile, HasSomeBelow, no_trees, is_null, unless_tree, tree_under, files_of_entry}
+use Rattle.gix_object_editor.specs.Files.{Path, Leaf, HasSomeBelow, no_trees, is_null, unless_tree, tree_under, files_of_entry}
 
 -- over the table without trees an entry that isn't null is a file
 entry_is_file : (leaf : Leaf) → is_null leaf.id ≡ false → files_of_entry no_trees [] leaf ≡ Some leaf

@@ -1,7 +1,7 @@
 -- Which stored trees an edit asks for: those that its path leads into and that aren't opened, one below the other.
 use Rattle.std.specs.Prelude.{ℕ, suc, ◌≡◌, ◌<◌, ◌+◌, ◌^◌, ◌&&◌, not, Bool, List, [], ◌∷◌, ◌++◌, length, Option, Some, None, Result, Ok, Err, if◌then◌else◌}
 use Rattle.std.specs.List.{All}
-use Rattle.gix_hash.specs.Id.{Id, id_of}
+use Rattle.gix_hash.specs.Id.{Id}
 use Rattle.gix_object_lines.specs.declared.kind.Kind.TheVariants as kinds
 use Rattle.gix_object_entries.specs.Entry.{Item, SpellsTree}
 use Rattle.gix_object_entries.specs.Mode.{is_tree_value}
@@ -12,7 +12,7 @@ use Rattle.gix_object_editor.specs.declared.tree.editor.error.Error.{Error}
 use Rattle.gix_object_editor.specs.declared.tree.editor.error.Error.TheVariants.{EmptyPathComponent, FindExistingObject, CannotRemoveNonLeaf, MalformedTree, Memory}
 use Rattle.gix_object_editor.specs.declared.tree.editor.node.NodeId.{NodeId}
 use Rattle.gix_object_editor.specs.declared.tree.editor.node.Slot.{Slot}
-use Rattle.gix_object_editor.specs.Files.{Bytes, Path, Leaf, Trees, HasStored, is_null, leaf_of, named, through}
+use Rattle.gix_object_editor.specs.Files.{Path, Leaf, Trees, HasStored, is_null, leaf_of, named, through}
 use Rattle.gix_object_editor.specs.Nodes.{Slots, leaf_in, child_or}
 use Rattle.gix_object_editor.specs.Refusals.{OpeningFault}
 

@@ -1,5 +1,5 @@
 -- An editor as its files.
-use Rattle.std.specs.Prelude.{ℕ, ◌≡◌, ◌≢◌, true, false, List, [], ◌∷◌, ◌++◌, map, Option, Some, None, Result, OnOk, OnErr, IsTrue, ⊤}
+use Rattle.std.specs.Prelude.{ℕ, ◌≡◌, ◌≢◌, false, List, [], ◌∷◌, ◌++◌, map, Option, Some, None, Result, OnOk, OnErr, IsTrue, ⊤}
 use Rattle.std.specs.Borrow.{Bor}
 use Rattle.gix_hash.specs.Id.{Id, id_of}
 use Rattle.gix_hash.specs.declared.object_id.ObjectId.{ObjectId}
@@ -10,7 +10,7 @@ use Rattle.gix_object_editor.specs.declared.tree.editor.state.Editor.{Editor}
 use Rattle.gix_object_editor.specs.declared.tree.editor.error.Error.{Error}
 use Rattle.gix_object_editor.specs.declared.tree.editor.error.Error.TheVariants.{EmptyPathComponent, FindExistingObject, CannotRemoveNonLeaf, MalformedTree, Memory}
 use Rattle.gix_object_editor.specs.Files.{Bytes, Path, Leaf, FileMap, Trees, HasStored, NamesAreFull}
-use Rattle.gix_object_editor.specs.Nodes.{slots_of, files_of_node, AreFilled, LeadsTo}
+use Rattle.gix_object_editor.specs.Nodes.{slots_of, files_of_node, AreFilled}
 use Rattle.gix_object_editor.specs.Marks.{marks_of, IsChangedIn, AreAsRead}
 use Rattle.gix_object_editor.specs.Entries.{Property, EachHas}
 use Rattle.gix_object_editor.specs.Refusals.{OpeningFault}

@@ -11,7 +11,7 @@ use Rattle.gix_object_editor.specs.Marks.{marks_of, AreMarked, AreMarkedBut, Are
 use Rattle.gix_object_editor.proofs.Slots.{back}
 use Rattle.gix_object_editor.proofs.Paths.{onto-append}
 use Rattle.gix_object_editor.proofs.Ways.{way_above}
-use Rattle.gix_object_editor.proofs.Marked.{opened_marked, grafted_marked, failed_marked, read_same, marks_then}
+use Rattle.gix_object_editor.proofs.Marked.{opened_marked, grafted_marked, read_same, marks_then}
 use Rattle.gix_object_editor.proofs.Changes.{opened_changed, failed_changed, graft_as_read, graft_changed, one_more_left, begins}
 use Rattle.gix_object_editor.proofs.Opening.{opened_then, as_function}
 use Rattle.gix_object_editor.proofs.Edits.{rest_is, first_left, stopped_tree, end_tree, leads_into, edit_fault}

@@ -1,4 +1,4 @@
-use Rattle.std.proofs.Common.{ℕ, ◌⊎◌, inl, inr, true, false, drop, [], ◌≡◌, ◌∙◌, ◌<◌, ◌+◌, ap, sym, subst, arith, length}
+use Rattle.std.proofs.Common.{ℕ, ◌⊎◌, inl, true, false, drop, [], ◌≡◌, ◌∙◌, ◌<◌, ◌+◌, ap, sym, subst, arith, length}
 use Rattle.std.proofs.lemmas.Result.{err_from_is_err_and}
 use Rattle.gix_object_editor.specs.declared.tree.editor.state.Editor.{Editor}
 use Rattle.gix_object_editor.specs.Editor.{files_of, names_of, LeadsThrough}

@@ -1,4 +1,4 @@
-use Rattle.std.proofs.Common.{refl, rules, ◌⊎◌, inl, inr, true, false, ℕ, List, ◌≡◌, ◌∙◌, ◌<◌, ◌+◌, [], ◌∷◌, ap, sym, subst, arith, length, drop, get_or}
+use Rattle.std.proofs.Common.{refl, ◌⊎◌, inl, true, false, ℕ, List, ◌≡◌, ◌∙◌, ◌<◌, ◌+◌, [], ◌∷◌, ap, sym, subst, arith, length, drop, get_or}
 use Rattle.std.specs.Borrow.{Bor}
 use Rattle.std.proofs.lemmas.Result.{err_from_is_err_and}
 use Rattle.gix_object_editor.specs.declared.tree.editor.state.Editor.{Editor}

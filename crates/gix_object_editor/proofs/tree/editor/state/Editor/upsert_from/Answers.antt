@@ -1,4 +1,4 @@
-use Rattle.std.proofs.Common.{refl, Some, List, ◌⊎◌, inl, inr, true, false, ℕ, Bool, ◌≡◌, ◌∙◌, ◌<◌, ◌+◌, ◌-◌, ap, sym, subst, arith, length, drop, take, None, get_or, []}
+use Rattle.std.proofs.Common.{refl, Some, List, ◌⊎◌, inl, true, false, ℕ, Bool, ◌≡◌, ◌∙◌, ◌<◌, ◌+◌, ◌-◌, ap, sym, subst, arith, length, drop, take, None, get_or, []}
 use Rattle.std.proofs.lemmas.List.{length-drop}
 use Rattle.gix_hash.specs.Id.{id_of}
 use Rattle.gix_object_entries.specs.Mode.{kind_value}
@@ -11,7 +11,7 @@ use Rattle.std.specs.Borrow.{Bor}
 use Rattle.gix_object_editor.specs.Entries.{EachHas, MayStand}
 use Rattle.gix_object_editor.proofs.Kept.{may_drop}
 use Rattle.gix_object_editor.proofs.Slots.{back}
-use Rattle.gix_object_editor.proofs.Marked.{opened_marked, grafted_marked, failed_marked, read_same}
+use Rattle.gix_object_editor.proofs.Marked.{opened_marked, grafted_marked, read_same}
 use Rattle.gix_object_editor.proofs.Changes.{opened_changed, failed_changed, graft_as_read, graft_changed, some_left}
 use Rattle.gix_object_editor.specs.Files.{Leaf, put}
 use Rattle.std.proofs.lemmas.Result.{err_from_is_err_and}
