@@ -7,7 +7,7 @@ ghost use Rattle.gix_object_commit.specs.Tokens.{place_of, start};
 ghost use Rattle.gix_traverse_commit.specs.Commits.{Commits, asked_parents};
 ghost use Rattle.gix_traverse_commit.specs.Fetching.{TimeIsTold};
 ghost use Rattle.gix_traverse_commit.specs.Rows.{AllHeld, Holds};
-ghost use Rattle.gix_traverse_commit.specs.Simply.{Answers, Asked, CountsOne, CountsUpTo, IsAccepted, IsMade, IsPaintedFor, IsUnderWay, IsAtTurn, IsOver, IsKnown, IsInfo, IsTurn, IsSure, IsContentOf, IsUnmet, InRows, Stands, StopsFetch, TipFault, SimpleFault, GivesNext, source_of, objects_of, graph_of, lookups_of, content_of, kind_of};
+ghost use Rattle.gix_traverse_commit.specs.Simply.{Answers, Asked, CountsOne, CountsUpTo, HasAhead, IsAccepted, IsMade, IsNew, IsPaintedFor, IsUnderWay, IsAtTurn, IsOver, IsKnown, IsInfo, IsTurn, IsSure, IsContentOf, IsUnmet, InRows, Stands, StopsFetch, TipFault, SimpleFault, GivesNext, source_of, objects_of, graph_of, lookups_of, content_of, kind_of};
 ghost use Rattle.gix_traverse_commit.specs.Sorting.{IsByTime, timing_of};
 ghost use Rattle.gix_traverse_commit.specs.Timely.{waiting};
 ghost use Rattle.gix_traverse_commit.specs.Told.{AreTold, rows_of};
@@ -70,6 +70,7 @@ impl<F: Find + Drop> Simple<F, All> {
         ensures objects { IfOk result (λ walk. objects_of walk ≡ find) }
         ensures rows { IfOk result (λ walk. graph_of walk ≡ None) }
         ensures lookups { IfOk result (λ walk. lookups_of walk ≡ 0) }
+        ensures content { IfOk result (λ walk. content_of walk ≡ []) }
         ensures made { IfOk result (IsMade (λ _ _. true) (record {
           tips = tips.items;
           hidden = [];
@@ -90,6 +91,7 @@ impl<F: Find + Drop, P: Accept + Drop> Simple<F, P> {
         ensures objects { IfOk result (λ walk. objects_of walk ≡ find) }
         ensures rows { IfOk result (λ walk. graph_of walk ≡ None) }
         ensures lookups { IfOk result (λ walk. lookups_of walk ≡ 0) }
+        ensures content { IfOk result (λ walk. content_of walk ≡ []) }
         ensures made { IfOk result (IsMade P.accepts (record {
           tips = tips.items;
           hidden = [];
@@ -126,21 +128,22 @@ impl<F: Find + Drop, P: Accept + Drop> Simple<F, P> {
     /// the predicate accepts, in their order. Of the first that isn't read the error tells why: it is `Find` where it isn't found,
     /// `ObjectDecode` where it tells no committer, and `Memory` where there is no memory; no walk is left then.
     ///
-    /// After the first commit this begins the rest anew, as each builder call but `commit_graph` does: from what is queued, in the
-    /// order in which it was queued, past no other commit that was met. A walk that is over stays over.
+    /// After the first commit this begins the rest anew, as each builder call but `commit_graph` does: a walk whose tips are what is
+    /// queued, in the order in which that was queued, and which goes to no other commit that was met. A walk that is over stays over.
     pub fn sorting(mut self, sorting: Sorting) -> Result<Simple<F, P>, Error>
         ensures objects { IfOk result (λ walk. objects_of walk ≡ objects_of self) }
         ensures rows { IfOk result (λ walk. graph_of walk ≡ graph_of self) }
-        ensures made { (a : Asked) → IsMade P.accepts a self
+        ensures content { content_of self ≡ [] → IfOk result (λ walk. content_of walk ≡ []) }
+        ensures made { (a : Asked) → HasAhead P.accepts a self
             → IfOk result (IsMade P.accepts (record a { sorting = sorting })) }
-        ensures counted { (a : Asked) → IsMade P.accepts a self
+        ensures counted { (a : Asked) → HasAhead P.accepts a self
             → IfOk result (λ walk. lookups_of walk ≤ lookups_of self + length a.tips) }
-        ensures rowed { (a : Asked) → IsMade P.accepts a self → AllHeld (rows_of (graph_of self)) a.tips
+        ensures rowed { (a : Asked) → HasAhead P.accepts a self → AllHeld (rows_of (graph_of self)) a.tips
             → IfOk result (λ walk. lookups_of walk ≡ lookups_of self) }
-        ensures told { F.is_honest (objects_of self) → IsByTime sorting → (a : Asked) → IsMade P.accepts a self
+        ensures told { F.is_honest (objects_of self) → IsByTime sorting → (a : Asked) → HasAhead P.accepts a self
             → OnOk result ((x : ObjectId) → Contains a.tips x → IsAccepted a x
             → TimeIsTold (rows_of (graph_of self)) (F.table (objects_of self)) x) }
-        ensures refused { (a : Asked) → IsMade P.accepts a self → IfErr result (TipFault
+        ensures refused { (a : Asked) → HasAhead P.accepts a self → IfErr result (TipFault
             (F.is_honest (objects_of self)) (F.may_fail (objects_of self)) (rows_of (graph_of self))
             (F.table (objects_of self)) a.tips (IsAccepted a)) }
         ensures over { IsOver self → IfOk result IsOver }
@@ -155,7 +158,7 @@ impl<F: Find + Drop, P: Accept + Drop> Simple<F, P> {
     /// The same walk along these parents. After the first commit this begins the rest anew.
     pub fn parents(mut self, parents: Parents) -> Simple<F, P>
         ensures source { source_of result ≡ source_of self }
-        ensures made { (a : Asked) → IsMade P.accepts a self → IsMade P.accepts (record a { parents = parents }) result }
+        ensures made { (a : Asked) → HasAhead P.accepts a self → IsMade P.accepts (record a { parents = parents }) result }
         ensures over { IsOver self → IsOver result }
     {
         self.turn();
@@ -167,7 +170,7 @@ impl<F: Find + Drop, P: Accept + Drop> Simple<F, P> {
     /// After the first commit this begins the rest anew.
     pub fn hide(mut self, tips: Vec<ObjectId>) -> Result<Simple<F, P>, Error>
         ensures source { IfOk result (λ walk. source_of walk ≡ source_of self) }
-        ensures made { (a : Asked) → IsMade P.accepts a self
+        ensures made { (a : Asked) → HasAhead P.accepts a self
             → IfOk result (IsMade P.accepts (record a { hidden = tips.items })) }
         ensures over { IsOver self → IfOk result IsOver }
         ensures whole { IsOk result }
@@ -182,7 +185,11 @@ impl<F: Find + Drop, P: Accept + Drop> Simple<F, P> {
         ensures objects { objects_of result ≡ objects_of self }
         ensures rows { graph_of result ≡ rows }
         ensures lookups { lookups_of result ≡ lookups_of self }
+        ensures content { content_of result ≡ content_of self }
         ensures made { (a : Asked) → IsMade P.accepts a self → IsMade P.accepts a result }
+        ensures going { (ids : List Id) (g : Commits ObjectId) (a : Asked) (listed : List ObjectId)
+            → ((x : ObjectId) → Contains listed x → IsKnown (rows_of rows) ids x)
+            → IsUnderWay P.accepts ids g a listed self → IsUnderWay P.accepts ids g a listed result }
         ensures over { IsOver self → IsOver result }
     {
         self.source.rows = rows;
@@ -196,14 +203,15 @@ impl<F: Find + Drop, P: Accept + Drop> Simple<F, P> {
         self.source.lookups
     }
 
-    /// The content of the commit that was given last, where its object told it; else nothing.
+    /// The content of the commit that the last call of `next` gave, where its object told it; else nothing: also before the first
+    /// commit and after the last.
     pub fn commit_data(&self) -> &[u8]
         ensures { result.now ≡ content_of self.now }
     {
         self.source.buffer.as_slice()
     }
 
-    /// A reader of the parts of the commit that was given last, where its object told it; else of nothing.
+    /// A reader of the parts of the commit that the last call of `next` gave, where its object told it; else of nothing.
     pub fn commit_iter(&self) -> CommitRefIter<'_>
         ensures { place_of result ≡ start (kind_of self.now) (content_of self.now) }
     {
@@ -216,6 +224,7 @@ impl<F: Find + Drop, P: Accept + Drop> Simple<F, P> {
     fn turn(&mut self)
         ensures source { self.new.source ≡ self.old.source }
         ensures same { self.old.begun ≡ false → self.new ≡ self.old }
+        ensures ahead { (a : Asked) → HasAhead P.accepts a self.old → IsMade P.accepts a self.new }
         ensures over { IsOver self.old → IsOver self.new }
     {
         if self.begun {
@@ -235,10 +244,11 @@ impl<F: Find + Drop, P: Accept + Drop> Simple<F, P> {
     fn read_tips(&mut self, sorting: Sorting) -> Result<(), Error>
         ensures objects { self.new.source.objects ≡ self.old.source.objects }
         ensures rows { self.new.source.rows ≡ self.old.source.rows }
-        ensures made { (a : Asked) → IsMade P.accepts a self.old → IsMade P.accepts a self.new }
+        ensures made { (a : Asked) → IsNew P.accepts a self.old → IsNew P.accepts a self.new }
         ensures counted { self.new.source.lookups ≤ self.old.source.lookups + length self.old.tips.items }
         ensures rowed { AllHeld (rows_of self.old.source.rows) self.old.tips.items
             → self.new.source.lookups ≡ self.old.source.lookups }
+        ensures content { content_of self.old ≡ [] → OnOk result (content_of self.new ≡ []) }
         ensures told { F.is_honest self.old.source.objects → IsByTime sorting → OnOk result ((x : ObjectId)
             → Contains self.old.tips.items x → IsUnmet self.old.nodes x
             → TimeIsTold (rows_of self.old.source.rows) (F.table self.old.source.objects) x) }
@@ -257,6 +267,7 @@ impl<F: Find + Drop, P: Accept + Drop> Simple<F, P> {
     fn gather(&mut self) -> Result<(), AllocError>
         ensures source { self.new.source ≡ self.old.source }
         ensures same { self.old.queue.items ≡ [] → waiting self.old.waiting ≡ [] → (self.new ≡ self.old) × IsOk result }
+        ensures made { (a : Asked) → IsMade P.accepts a self.old → OnOk result (IsNew P.accepts a self.new) }
         ensures rowed { InRows self.old → OnOk result (InRows self.new) }
     {
         if self.is_idle() {
@@ -349,6 +360,7 @@ impl<F: Find + Drop, P: Accept + Drop> Simple<F, P> {
         ensures objects { self.new.source.objects ≡ self.old.source.objects }
         ensures rows { self.new.source.rows ≡ self.old.source.rows }
         ensures lookups { self.new.source.lookups ≡ self.old.source.lookups }
+        ensures emptied { content_of self.new ≡ [] }
         ensures over { IsOver self.new }
     {
         self.begun = true;
@@ -479,7 +491,10 @@ impl<F: Find + Drop, P: Accept + Drop> Iterator for Simple<F, P> {
             self.stop();
             return Some(Err(error));
         }
-        let id = self.take()?;
+        let Some(id) = self.take() else {
+            self.stop();
+            return None;
+        };
         match self.enter(id) {
             Ok(info) => Some(Ok(info)),
             Err(error) => {
