@@ -99,8 +99,8 @@ module _ {F P : Type 0} (accepts : P → Id → Bool) (ids : List Id) (g : Commi
   -- the same with a source that has the same rows
   pub at_source : (walk : Simple F P) (source : Source F) → source.rows ≡ walk.source.rows → IsAtTurn accepts ids g a listed id walk → IsAtTurn accepts ids g a listed id (record walk { source = source })
   at_source walk source e t = elim t [
-    | inl w ↦ inl (record { begun = w.begun; parents = w.parents; sorting = w.sorting; in_breadth = w.in_breadth; accepts_same = w.accepts_same; hides = w.hides; hidden = w.hidden; painted = w.painted; known = moved w.known; walked = w.walked; reads = w.reads })
-    | inr w ↦ inr (record { begun = w.begun; parents = w.parents; sorting = w.sorting; by_time = w.by_time; is_by_time = w.is_by_time; accepts_same = w.accepts_same; hides = w.hides; hidden = w.hidden; painted = w.painted; known = moved w.known; met = w.met; chosen = w.chosen })
+    | inl w ↦ inl (record { begun = w.begun; hidden_same = w.hidden_same; parents = w.parents; sorting = w.sorting; in_breadth = w.in_breadth; none_waits = w.none_waits; accepts_as = w.accepts_as; hides = w.hides; hidden = w.hidden; painted = w.painted; known = moved w.known; walked = w.walked; reads = w.reads })
+    | inr w ↦ inr (record { begun = w.begun; hidden_same = w.hidden_same; parents = w.parents; sorting = w.sorting; by_time = w.by_time; is_by_time = w.is_by_time; empty = w.empty; accepts_as = w.accepts_as; hides = w.hides; hidden = w.hidden; painted = w.painted; known = moved w.known; met = w.met; chosen = w.chosen })
   ]
     where
       moved : ((x : ObjectId) → Contains listed x → IsKnown (rows_of walk.source.rows) ids x) → (x : ObjectId) → Contains listed x → IsKnown (rows_of source.rows) ids x
@@ -118,8 +118,8 @@ module _ {F P : Type 0} (accepts : P → Id → Bool) (ids : List Id) (g : Commi
 -- the same with a source that has the same rows
 pub under_source : {F P : Type 0} (accepts : P → Id → Bool) (ids : List Id) (g : Commits ObjectId) (a : Asked) (listed : List ObjectId) (walk : Simple F P) (source : Source F) (kind : Kind) → source.rows ≡ walk.source.rows → IsUnderWay accepts ids g a listed walk → IsUnderWay accepts ids g a listed (record walk { source = source; kind = kind })
 under_source accepts ids g a listed walk source kind e t = elim t [
-  | inl w ↦ inl (record { begun = w.begun; parents = w.parents; sorting = w.sorting; in_breadth = w.in_breadth; accepts_same = w.accepts_same; hides = w.hides; hidden = w.hidden; painted = w.painted; known = moved w.known; walked = w.walked })
-  | inr w ↦ inr (record { begun = w.begun; parents = w.parents; sorting = w.sorting; by_time = w.by_time; is_by_time = w.is_by_time; accepts_same = w.accepts_same; hides = w.hides; hidden = w.hidden; painted = w.painted; known = moved w.known; met = w.met; chosen = w.chosen })
+  | inl w ↦ inl (record { begun = w.begun; hidden_same = w.hidden_same; parents = w.parents; sorting = w.sorting; in_breadth = w.in_breadth; none_waits = w.none_waits; accepts_as = w.accepts_as; hides = w.hides; hidden = w.hidden; painted = w.painted; known = moved w.known; walked = w.walked })
+  | inr w ↦ inr (record { begun = w.begun; hidden_same = w.hidden_same; parents = w.parents; sorting = w.sorting; by_time = w.by_time; is_by_time = w.is_by_time; empty = w.empty; accepts_as = w.accepts_as; hides = w.hides; hidden = w.hidden; painted = w.painted; known = moved w.known; met = w.met; chosen = w.chosen })
 ]
   where
     moved : ((x : ObjectId) → Contains listed x → IsKnown (rows_of walk.source.rows) ids x) → (x : ObjectId) → Contains listed x → IsKnown (rows_of source.rows) ids x

@@ -14,7 +14,7 @@ use Rattle.gix_traverse_commit.specs.Painting.{IsUnpainted, ReachedFrom, StopsPa
 use Rattle.gix_traverse_commit.specs.Rows.{AllHeld, Holds}
 use Rattle.gix_traverse_commit.specs.Told.{AreTold, rows_of}
 use Rattle.gix_traverse_commit.specs.Standing.{Reads}
-use Rattle.gix_traverse_commit.specs.Order.{At, IsOpen}
+use Rattle.gix_traverse_commit.specs.Order.{At, IsListOf, IsOpen}
 use Rattle.gix_traverse_commit.specs.Sorting.{ComesFirst, InOrder, IsNextIn, cutoff_in, timing_of}
 use Rattle.gix_traverse_commit.specs.Timely.{AllRowed, IsChosenSoFar, IsMetSoFar, keep_since, queued_by, waiting}
 use Rattle.gix_traverse_commit.specs.declared.fetch.FetchError.{FetchError}
@@ -354,13 +354,35 @@ pub record CountsOne (rows : List Row) (id : ObjectId) (before after : ℕ) : Ty
   pub stored : (¬ Holds rows id) → after ≡ one_more before
   pub rowed : Holds rows id → after ≡ before
 
+-- one after the other was asked for, but those that have rows
+abbrev pub CountsAll : List Row → List ObjectId → ℕ → ℕ → Type 0
+CountsAll rows [] before after = after ≡ before
+CountsAll rows (x ∷ xs) before after = (mid : ℕ) × CountsOne rows x before mid × CountsAll rows xs mid after
+
+-- a walk begins: all that is hidden was asked for, each commit once, and by time the tips, for their times
+pub record CountsBeginning (honest : Type 0) (rows : List Row) (table : Table) (a : Asked) (before after : ℕ) : Type 0 where
+  pub painted : List ObjectId
+  pub behind : ℕ
+  pub each : CountsAll rows painted before behind
+  pub is_list : honest → (g : Commits ObjectId) → AreTold rows table g → IsListOf (ReachedFrom g a.hidden) painted
+  pub in_breadth : timing a ≡ None → after ≡ behind
+  pub least : behind ≤ after
+  pub most : after ≤ behind + length a.tips
+
 -- at least one was asked for where the commit has no row, and up to so many more; none where it has one
 pub record CountsUpTo (rows : List Row) (id : ObjectId) (more before after : ℕ) : Type 0 where
   pub stored : (¬ Holds rows id) → one_more before ≤ after
   pub rowed : Holds rows id → after ≡ before
   pub most : after ≤ before + 1 + more
 
--- one object was asked for where a commit wasn't read, and up to so many where memory was wanting
+-- the same, and the first commit is read
+pub record CountsFirst (honest : Type 0) (rows : List Row) (table : Table) (a : Asked) (info : Info) (before after : ℕ) : Type 0 where
+  pub begun : ℕ
+  pub beginning : CountsBeginning honest rows table a before begun
+  pub one : timing a ≡ None → CountsOne rows info.id begun after
+  pub more : CountsUpTo rows info.id (length info.parent_ids.items) begun after
+
+-- one object was asked for where a commit isn't read; where memory is wanting none that was counted is lost
 abbrev pub CountsFault : ℕ → ℕ → Error → Type 0
 CountsFault before after (fault.Find error) = after ≡ one_more before
 CountsFault before after (fault.ObjectDecode error) = after ≡ one_more before
@@ -395,3 +417,5 @@ pub record GivesNext {F P : Type 0} (accepts : P → Id → Bool) (honest may_fa
   pub counted_end : before.begun ≡ true → IfNone item (after.source.lookups ≡ before.source.lookups)
   pub counted_fault : before.begun ≡ true → IfSome item (λ answer. IfErr answer (CountsFault before.source.lookups after.source.lookups))
   pub rowed_end : InRows before → IfNone item (after.source.lookups ≡ before.source.lookups)
+  pub first : (a : Asked) → IsMade accepts a before → IfSome item (λ answer. IfOk answer (λ info. CountsFirst honest (rows_of before.source.rows) table a info before.source.lookups after.source.lookups))
+  pub first_end : (a : Asked) → IsMade accepts a before → IfNone item (CountsBeginning honest (rows_of before.source.rows) table a before.source.lookups after.source.lookups)

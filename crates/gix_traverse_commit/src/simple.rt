@@ -7,7 +7,7 @@ ghost use Rattle.gix_object_commit.specs.Tokens.{place_of, start};
 ghost use Rattle.gix_traverse_commit.specs.Commits.{Commits, asked_parents};
 ghost use Rattle.gix_traverse_commit.specs.Fetching.{TimeIsTold};
 ghost use Rattle.gix_traverse_commit.specs.Rows.{AllHeld, Holds};
-ghost use Rattle.gix_traverse_commit.specs.Simply.{Answers, Asked, CountsOne, CountsUpTo, HasAhead, IsAccepted, IsMade, IsNew, IsPaintedFor, IsUnderWay, IsAtTurn, IsOver, IsKnown, IsInfo, IsTurn, IsSure, IsContentOf, IsUnmet, InRows, Stands, StopsFetch, TipFault, SimpleFault, GivesNext, source_of, objects_of, graph_of, lookups_of, content_of, kind_of};
+ghost use Rattle.gix_traverse_commit.specs.Simply.{Answers, Asked, CountsBeginning, CountsFault, CountsOne, CountsUpTo, HasAhead, IsAccepted, IsMade, IsNew, IsPaintedFor, IsUnderWay, IsAtTurn, IsOver, IsKnown, IsInfo, IsTurn, IsSure, IsContentOf, IsUnmet, InRows, Stands, StopsFetch, TipFault, SimpleFault, GivesNext, source_of, objects_of, graph_of, lookups_of, content_of, kind_of};
 ghost use Rattle.gix_traverse_commit.specs.Sorting.{IsByTime, timing_of};
 ghost use Rattle.gix_traverse_commit.specs.Timely.{waiting};
 ghost use Rattle.gix_traverse_commit.specs.Told.{AreTold, rows_of};
@@ -227,10 +227,11 @@ impl<F: Find + Drop, P: Accept + Drop> Simple<F, P> {
         ensures ahead { (a : Asked) → HasAhead P.accepts a self.old → IsMade P.accepts a self.new }
         ensures over { IsOver self.old → IsOver self.new }
     {
-        if self.begun {
-            self.tips.clear();
-            self.begun = self.is_idle();
+        if !self.begun {
+            return;
         }
+        self.tips.clear();
+        self.begun = self.is_idle();
     }
 
     // Whether nothing is queued.
@@ -268,6 +269,7 @@ impl<F: Find + Drop, P: Accept + Drop> Simple<F, P> {
         ensures source { self.new.source ≡ self.old.source }
         ensures same { self.old.queue.items ≡ [] → waiting self.old.waiting ≡ [] → (self.new ≡ self.old) × IsOk result }
         ensures made { (a : Asked) → IsMade P.accepts a self.old → OnOk result (IsNew P.accepts a self.new) }
+        ensures order { (self.new.parents ≡ self.old.parents) × (self.new.sorting ≡ self.old.sorting) }
         ensures rowed { InRows self.old → OnOk result (InRows self.new) }
     {
         if self.is_idle() {
@@ -277,7 +279,8 @@ impl<F: Find + Drop, P: Accept + Drop> Simple<F, P> {
         unpaint(alloc, &mut self.nodes)?;
         let waiting = self.waiting.take_all(alloc)?;
         queue_all(&mut self.queue, waiting.as_slice())?;
-        take_all(&mut self.tips, &mut self.nodes, &mut self.queue)
+        take_all(&mut self.tips, &mut self.nodes, &mut self.queue)?;
+        Ok(())
     }
 
     // Queues the tips of a walk whose hidden commits are painted.
@@ -290,6 +293,11 @@ impl<F: Find + Drop, P: Accept + Drop> Simple<F, P> {
             → OnOk result (IsUnderWay P.accepts ids g a [] self.new) }
         ensures rowed { InRows self.old → OnOk result (InRows self.new
             × (self.new.source.lookups ≡ self.old.source.lookups)) }
+        ensures in_breadth { timing_of self.old.parents self.old.sorting ≡ None
+            → self.new.source.lookups ≡ self.old.source.lookups }
+        ensures rising { self.old.source.lookups ≤ self.new.source.lookups }
+        ensures counted { self.new.source.lookups ≤ self.old.source.lookups + length self.old.tips.items }
+        ensures order { (self.new.parents ≡ self.old.parents) × (self.new.sorting ≡ self.old.sorting) }
         ensures refused { IfErr result (λ error. error ≡ Memory) }
     {
         let Some(timing) = time_order(self.parents, self.sorting) else {
@@ -318,6 +326,10 @@ impl<F: Find + Drop, P: Accept + Drop> Simple<F, P> {
             → OnOk result (IsUnderWay P.accepts ids g a [] self.new) }
         ensures rowed { OnOk result (InRows self.old → InRows self.new
             × (self.new.source.lookups ≡ self.old.source.lookups)) }
+        ensures counted { OnOk result ((a : Asked) → IsMade P.accepts a self.old → CountsBeginning
+            (F.is_honest self.old.source.objects) (rows_of self.old.source.rows) (F.table self.old.source.objects) a
+            self.old.source.lookups self.new.source.lookups) }
+        ensures order { (self.new.parents ≡ self.old.parents) × (self.new.sorting ≡ self.old.sorting) }
         ensures refused { (a : Asked) → IsMade P.accepts a self.old → IfErr result (SimpleFault (λ _. ⊥)
             (F.is_honest self.old.source.objects) (F.may_fail self.old.source.objects)
             (rows_of self.old.source.rows) (F.table self.old.source.objects) a.hidden) }
@@ -343,6 +355,10 @@ impl<F: Find + Drop, P: Accept + Drop> Simple<F, P> {
         ensures begun { self.old.begun ≡ true → IsOk result }
         ensures rowed { OnOk result (InRows self.old → InRows self.new
             × (self.new.source.lookups ≡ self.old.source.lookups)) }
+        ensures counted { OnOk result ((a : Asked) → IsMade P.accepts a self.old → CountsBeginning
+            (F.is_honest self.old.source.objects) (rows_of self.old.source.rows) (F.table self.old.source.objects) a
+            self.old.source.lookups self.new.source.lookups) }
+        ensures order { (self.new.parents ≡ self.old.parents) × (self.new.sorting ≡ self.old.sorting) }
         ensures refused { (g : Commits ObjectId) (ids : List Id) (a : Asked) (listed : List ObjectId)
             → Stands P.accepts ids g a listed self.old
             → IfErr result (SimpleFault (λ _. ⊥)
@@ -458,6 +474,7 @@ impl<F: Find + Drop, P: Accept + Drop> Simple<F, P> {
             (length info.parent_ids.items) self.old.source.lookups self.new.source.lookups) }
         ensures rowed { InRows self.old → Holds (rows_of self.old.source.rows) id → OnOk result (InRows self.new
             × (self.new.source.lookups ≡ self.old.source.lookups)) }
+        ensures failed { IfErr result (CountsFault self.old.source.lookups self.new.source.lookups) }
         ensures refused { IfErr result (StopsFetch (F.is_honest self.old.source.objects)
             (F.may_fail self.old.source.objects) (rows_of self.old.source.rows)
             (F.table self.old.source.objects) id) }

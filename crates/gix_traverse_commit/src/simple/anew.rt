@@ -19,16 +19,14 @@ pub fn unpaint(alloc: Global, nodes: &mut Nodes) -> Result<(), AllocError>
     let ids = nodes.ids(alloc)?;
     'ids: for id in &ids {
         let marks = nodes.marks(id);
-        if marks.hidden {
-            nodes.mark(
-                *id,
-                Marks {
-                    asked: marks.asked,
-                    met: marks.met,
-                    hidden: false,
-                },
-            )?;
-        }
+        nodes.mark(
+            *id,
+            Marks {
+                asked: marks.asked,
+                met: marks.met,
+                hidden: false,
+            },
+        )?;
     }
     Ok(())
 }

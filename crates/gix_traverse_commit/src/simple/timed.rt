@@ -123,6 +123,8 @@ fn await_tip<F: Find>(
 ) -> Result<(), Error>
     ensures objects { source.new.objects ≡ source.old.objects }
     ensures rows { source.new.rows ≡ source.old.rows }
+    ensures counted { source.new.lookups ≤ source.old.lookups + 1 }
+    ensures rising { source.old.lookups ≤ source.new.lookups }
     ensures met { OnOk result ((q : ObjectId) → is_met nodes.new q
         ≡ (if same_id id q then true else is_met nodes.old q)) }
     ensures hidden { OnOk result ((q : ObjectId) → is_hidden nodes.new q ≡ is_hidden nodes.old q) }
@@ -156,6 +158,8 @@ pub fn await_tips<F: Find>(
 ) -> Result<(), Error>
     ensures objects { source.new.objects ≡ source.old.objects }
     ensures rows { source.new.rows ≡ source.old.rows }
+    ensures counted { source.new.lookups ≤ source.old.lookups + length tips.now }
+    ensures rising { source.old.lookups ≤ source.new.lookups }
     ensures hidden { OnOk result ((q : ObjectId) → is_hidden nodes.new q ≡ is_hidden nodes.old q) }
     ensures grown { OnOk result ((q : ObjectId) → is_met nodes.old q ≡ true → is_met nodes.new q ≡ true) }
     ensures rowed { AllHeld (rows_of source.old.rows) tips.now → OnOk result ((source.new.lookups ≡ source.old.lookups)

@@ -28,7 +28,7 @@ returns-in_default-clause-turn g c = λ ids commits a listed u.
     elim u [
       | inl w ↦ (
           let r = kept_pop (asked_parents a.parents commits) a.tips (keep_of w.hides a.accepts) (is_met c.args.self.now.nodes) listed queue (listed ++ id ∷ []) queue' id w.walked c.in_ok-id.ensures.first refl in (
-            inl (record { begun = w.begun; parents = w.parents; sorting = w.sorting; in_breadth = w.in_breadth; accepts_same = w.accepts_same; hides = w.hides; hidden = w.hidden; painted = w.painted; known = w.known; walked = r.0; reads = r.1 }),
+            inl (record { begun = w.begun; hidden_same = w.hidden_same; parents = w.parents; sorting = w.sorting; in_breadth = w.in_breadth; none_waits = w.none_waits; accepts_as = w.accepts_as; hides = w.hides; hidden = w.hidden; painted = w.painted; known = w.known; walked = r.0; reads = r.1 }),
             kept_turn commits a w.hides w.painted (is_met c.args.self.now.nodes) listed queue queue' id w.walked c.in_ok-id.ensures.first w.in_breadth,
           ))
       | inr w ↦ absurd (none_some w.by_time (sym none ∙ (timing_same a c.args.self.now.parents c.args.self.now.sorting w.parents w.sorting ∙ w.is_by_time)))
@@ -73,11 +73,13 @@ returns-clause-turn g c = λ ids commits a listed u.
           let keep = keep_since w.by_time.since commits w.hides a.accepts in (
             inr (record {
               begun = w.begun;
+              hidden_same = w.hidden_same;
               parents = w.parents;
               sorting = w.sorting;
               by_time = w.by_time;
               is_by_time = w.is_by_time;
-              accepts_same = w.accepts_same;
+              empty = w.empty;
+              accepts_as = w.accepts_as;
               hides = w.hides;
               hidden = w.hidden;
               painted = w.painted;
