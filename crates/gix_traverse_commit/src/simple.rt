@@ -133,7 +133,7 @@ impl<F: Find + Drop, P: Accept + Drop> Simple<F, P> {
     pub fn sorting(mut self, sorting: Sorting) -> Result<Simple<F, P>, Error>
         ensures objects { IfOk result (λ walk. objects_of walk ≡ objects_of self) }
         ensures rows { IfOk result (λ walk. graph_of walk ≡ graph_of self) }
-        ensures content { content_of self ≡ [] → IfOk result (λ walk. content_of walk ≡ []) }
+        ensures content { IfOk result (λ walk. content_of walk ≡ content_of self) }
         ensures made { (a : Asked) → HasAhead P.accepts a self
             → IfOk result (IsMade P.accepts (record a { sorting = sorting })) }
         ensures counted { (a : Asked) → HasAhead P.accepts a self
@@ -203,15 +203,15 @@ impl<F: Find + Drop, P: Accept + Drop> Simple<F, P> {
         self.source.lookups
     }
 
-    /// The content of the commit that the last call of `next` gave, where its object told it; else nothing: also before the first
-    /// commit and after the last.
+    /// The content of the commit that was given last, where its object told it; else nothing: also before the first commit, and
+    /// after an error.
     pub fn commit_data(&self) -> &[u8]
         ensures { result.now ≡ content_of self.now }
     {
         self.source.buffer.as_slice()
     }
 
-    /// A reader of the parts of the commit that the last call of `next` gave, where its object told it; else of nothing.
+    /// A reader of the parts of the commit that was given last, where its object told it; else of nothing.
     pub fn commit_iter(&self) -> CommitRefIter<'_>
         ensures { place_of result ≡ start (kind_of self.now) (content_of self.now) }
     {
@@ -249,7 +249,7 @@ impl<F: Find + Drop, P: Accept + Drop> Simple<F, P> {
         ensures counted { self.new.source.lookups ≤ self.old.source.lookups + length self.old.tips.items }
         ensures rowed { AllHeld (rows_of self.old.source.rows) self.old.tips.items
             → self.new.source.lookups ≡ self.old.source.lookups }
-        ensures content { content_of self.old ≡ [] → OnOk result (content_of self.new ≡ []) }
+        ensures content { OnOk result (content_of self.new ≡ content_of self.old) }
         ensures told { F.is_honest self.old.source.objects → IsByTime sorting → OnOk result ((x : ObjectId)
             → Contains self.old.tips.items x → IsUnmet self.old.nodes x
             → TimeIsTold (rows_of self.old.source.rows) (F.table self.old.source.objects) x) }
@@ -261,7 +261,11 @@ impl<F: Find + Drop, P: Accept + Drop> Simple<F, P> {
         if time_order(Parents::All, sorting).is_none() {
             return Ok(());
         }
-        read_times(&mut self.source, &self.nodes, self.tips.as_slice())
+        let alloc: Global = *self.tips.allocator();
+        let content = mem::replace(&mut self.source.buffer, Vec::new(alloc));
+        read_times(&mut self.source, &self.nodes, self.tips.as_slice())?;
+        self.source.buffer = content;
+        Ok(())
     }
 
     // Makes tips of what is queued, in its order, and takes the hidden marks away. A walk that has not begun has nothing queued.
@@ -324,6 +328,7 @@ impl<F: Find + Drop, P: Accept + Drop> Simple<F, P> {
             → AreTold (rows_of self.old.source.rows) (F.table self.old.source.objects) g → (ids : List Id) (a : Asked)
             → IsSure (F.may_fail self.old.source.objects) a → IsMade P.accepts a self.old
             → OnOk result (IsUnderWay P.accepts ids g a [] self.new) }
+        ensures content { OnOk result (content_of self.new ≡ content_of self.old) }
         ensures rowed { OnOk result (InRows self.old → InRows self.new
             × (self.new.source.lookups ≡ self.old.source.lookups)) }
         ensures counted { OnOk result ((a : Asked) → IsMade P.accepts a self.old → CountsBeginning
@@ -335,10 +340,13 @@ impl<F: Find + Drop, P: Accept + Drop> Simple<F, P> {
             (rows_of self.old.source.rows) (F.table self.old.source.objects) a.hidden) }
     {
         self.gather()?;
+        let alloc: Global = *self.tips.allocator();
+        let content = mem::replace(&mut self.source.buffer, Vec::new(alloc));
         if let Err(error) = paint(&mut self.source, &mut self.nodes, self.hidden.as_slice()) {
             return Err(of_painting(error));
         }
         self.line_up()?;
+        self.source.buffer = content;
         Ok(())
     }
 
@@ -353,6 +361,7 @@ impl<F: Find + Drop, P: Accept + Drop> Simple<F, P> {
             → OnOk result (IsUnderWay P.accepts ids g a listed self.new) }
         ensures same { self.old.begun ≡ true → OnOk result (self.new ≡ self.old) }
         ensures begun { self.old.begun ≡ true → IsOk result }
+        ensures content { OnOk result (content_of self.new ≡ content_of self.old) }
         ensures rowed { OnOk result (InRows self.old → InRows self.new
             × (self.new.source.lookups ≡ self.old.source.lookups)) }
         ensures counted { OnOk result ((a : Asked) → IsMade P.accepts a self.old → CountsBeginning
@@ -372,6 +381,16 @@ impl<F: Find + Drop, P: Accept + Drop> Simple<F, P> {
     }
 
     // Ends the walk.
+    fn finish(&mut self)
+        ensures source { self.new.source ≡ self.old.source }
+        ensures over { IsOver self.new }
+    {
+        self.begun = true;
+        self.queue.clear();
+        self.waiting.clear();
+    }
+
+    // Ends the walk after an error.
     fn stop(&mut self)
         ensures objects { self.new.source.objects ≡ self.old.source.objects }
         ensures rows { self.new.source.rows ≡ self.old.source.rows }
@@ -379,9 +398,7 @@ impl<F: Find + Drop, P: Accept + Drop> Simple<F, P> {
         ensures emptied { content_of self.new ≡ [] }
         ensures over { IsOver self.new }
     {
-        self.begun = true;
-        self.queue.clear();
-        self.waiting.clear();
+        self.finish();
         self.source.buffer.clear();
     }
 
@@ -509,7 +526,7 @@ impl<F: Find + Drop, P: Accept + Drop> Iterator for Simple<F, P> {
             return Some(Err(error));
         }
         let Some(id) = self.take() else {
-            self.stop();
+            self.finish();
             return None;
         };
         match self.enter(id) {

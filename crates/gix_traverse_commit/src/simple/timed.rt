@@ -74,7 +74,6 @@ pub fn read_times<F: Find>(
     ensures rows { source.new.rows ≡ source.old.rows }
     ensures counted { source.new.lookups ≤ source.old.lookups + length tips.now }
     ensures rowed { AllHeld (rows_of source.old.rows) tips.now → source.new.lookups ≡ source.old.lookups }
-    ensures content { OnOk result (source.new.buffer.items ≡ []) }
     ensures told { F.is_honest source.old.objects → OnOk result ((x : ObjectId) → Contains tips.now x
         → IsUnmet nodes.now x → TimeIsTold (rows_of source.old.rows) (F.table source.old.objects) x) }
     ensures refused { IfErr result (TipFault (F.is_honest source.old.objects) (F.may_fail source.old.objects)
@@ -83,7 +82,6 @@ pub fn read_times<F: Find>(
     'tips: for tip in tips {
         read_time(source, nodes, tip)?;
     }
-    source.buffer.clear();
     Ok(())
 }
 

@@ -1,4 +1,4 @@
-use Rattle.std.proofs.Common.{◌≡◌, ◌≤◌, ◌+◌, sym, ◌∙◌, ap, refl, subst, List, Option, length}
+use Rattle.std.proofs.Common.{◌≡◌, ◌≤◌, ◌+◌, sym, ◌∙◌, ap, refl, subst, List, [], Option, length}
 use Rattle.std.specs.Prelude.{OnOk, ◌↔◌}
 use Rattle.gix_hash.specs.declared.object_id.ObjectId.{ObjectId}
 use Rattle.gix_traverse_commit.specs.Painting.{PaintFault, Paints, ReachedFrom}
@@ -12,7 +12,7 @@ use Rattle.gix_traverse_commit.specs.declared.fetch.FetchError.{FetchError}
 use Rattle.gix_traverse_commit.specs.declared.fetch.FetchError.TheVariants as fault
 use Rattle.gix_traverse_commit.specs.declared.rows.Row.{Row}
 use Rattle.gix_traverse_commit.specs.declared.simple.faults.Error.{Error}
-use Rattle.gix_traverse_commit.proofs.ByTime.{timing_same}
+use Rattle.gix_traverse_commit.proofs.ByTime.{timing_same, under_source}
 use Rattle.gix_traverse_commit.proofs.Simply.{accepts_more}
 use Rattle.gix_traverse_commit.proofs.simple.Simple.begin.Goals as goal
 
@@ -26,7 +26,7 @@ returns-clause-going g c = λ honest0 commits told0 ids a sure0 m0.
     let hidden : c.as_slice.result.now ≡ a.hidden = c.as_slice.ensures.value ∙ m.hidden in
     let honest' = subst (λ (o : g.row.F.Denot). g.F.Lookup.is_honest o) (sym c.paint.ensures.objects) honest in
     let told' = subst (λ (o : g.row.F.Denot). AreTold (rows_of c.paint.new.source.rows) (g.F.Lookup.table o) commits) (sym c.paint.ensures.objects) (subst (λ (r : Option (List Row)). AreTold (rows_of r) (g.F.Lookup.table c.gather.new.self.source.objects) commits) (sym c.paint.ensures.rows) told) in
-    c.in_ok-line_up.ensures.going honest' commits told' ids a (subst (λ (o : g.row.F.Denot). IsSure (g.F.Lookup.may_fail o) a) (sym c.paint.ensures.objects) sure) (record {
+    under_source g.P.Accept.accepts ids commits a [] c.line_up.new.self (record c.line_up.new.self.source { buffer = c.replace-content.result }) c.line_up.new.self.kind refl (c.in_ok-line_up.ensures.going honest' commits told' ids a (subst (λ (o : g.row.F.Denot). IsSure (g.F.Lookup.may_fail o) a) (sym c.paint.ensures.objects) sure) (record {
       tips = m.tips;
       hidden = m.hidden;
       parents = m.parents;
@@ -37,7 +37,7 @@ returns-clause-going g c = λ honest0 commits told0 ids a sure0 m0.
       painted = subst (λ (hs : List ObjectId). Paints commits hs c.paint.new.nodes) hidden (c.in_default.ensures.painted m.asked.unpainted honest commits told);
       empty = m.empty;
       none_waits = m.none_waits;
-    })
+    }))
 
 pub returns-clause-counted : goal.returns-clause-counted
 returns-clause-counted g c = λ a m.
@@ -65,7 +65,7 @@ returns-clause-rowed g c = λ r0.
       queue = subst (λ (o : Option (List Row)). AllHeld (rows_of o) c.gather.new.self.queue.items) (sym c.paint.ensures.rows) r.queue;
       waiting_rows = subst (λ (o : Option (List Row)). AllRowed (rows_of o) (waiting c.gather.new.self.waiting)) (sym c.paint.ensures.rows) r.waiting_rows;
     }) in
-    (step.0, step.1 ∙ c.in_default.ensures.rowed (subst (λ (xs : List ObjectId). AllHeld (rows_of c.gather.new.self.source.rows) xs) (sym c.as_slice.ensures.value) r.hidden) ∙ ap (λ s. s.lookups) c.gather.ensures.source)
+    (record { tips = step.0.tips; hidden = step.0.hidden; queue = step.0.queue; waiting_rows = step.0.waiting_rows }, step.1 ∙ c.in_default.ensures.rowed (subst (λ (xs : List ObjectId). AllHeld (rows_of c.gather.new.self.source.rows) xs) (sym c.as_slice.ensures.value) r.hidden) ∙ ap (λ s. s.lookups) c.gather.ensures.source)
 
 of_hidden : (honest may_fail : Type 0) (rows : List Row) (table : Table) (hidden : List ObjectId) (error : FetchError) → PaintFault honest may_fail rows table hidden error → SimpleFault (λ _. ⊥) honest may_fail rows table hidden (hidden_error error)
 of_hidden honest may_fail rows table hidden (fault.Find error) h = h

@@ -16,7 +16,7 @@ returns-clause-made g c = λ a m.
     inl (record { begun = n.begun; tips = n.tips; hidden = n.hidden; parents = n.parents; sorting = refl; accepts_as = record { given = n.accepts_as.given; unmet = n.accepts_as.unmet }; asked = n.asked; empty = n.empty; none_waits = n.none_waits })
 
 pub returns-clause-content : goal.returns-clause-content
-returns-clause-content g c = λ e. c.in_ok-read_tips.ensures.content (ap (λ s. s.buffer.items) (c.gather.ensures.source ∙ c.turn.ensures.source) ∙ e)
+returns-clause-content g c = c.in_ok-read_tips.ensures.content ∙ ap (λ s. s.buffer.items) (c.gather.ensures.source ∙ c.turn.ensures.source)
 
 pub returns-clause-counted : goal.returns-clause-counted
 returns-clause-counted g c = λ a m.

@@ -32,7 +32,8 @@ returns-in-Err-clause-steps g c = record {
   counted_by_time = λ b. tt;
   rowed = λ r. tt;
   over = tt;
-  no_content = (tt, c.stop.ensures.emptied);
+  content_end = tt;
+  content_fault = c.stop.ensures.emptied;
   counted_end = λ b. tt;
   counted_fault = λ b. absurd (no_way (c.in-Err.ensures.begun b));
   rowed_end = λ r. tt;
@@ -42,10 +43,10 @@ returns-in-Err-clause-steps g c = record {
 
 pub returns-in_default-take-clause-steps : goal.returns-in_default-take-clause-steps
 returns-in_default-take-clause-steps g c =
-    let lookups : c.stop-in_default-take.new.self.source.lookups ≡ c.ready.new.self.source.lookups = c.stop-in_default-take.ensures.lookups ∙ ap (λ s. s.lookups) c.take.ensures.source in
+    let lookups : c.finish.new.self.source.lookups ≡ c.ready.new.self.source.lookups = ap (λ s. s.lookups) (c.finish.ensures.source ∙ c.take.ensures.source) in
     record {
-      objects = c.stop-in_default-take.ensures.objects ∙ ap (λ s. s.objects) c.take.ensures.source ∙ c.ready.ensures.objects;
-      rows = c.stop-in_default-take.ensures.rows ∙ ap (λ s. s.rows) c.take.ensures.source ∙ c.ready.ensures.rows;
+      objects = ap (λ s. s.objects) c.finish.ensures.source ∙ ap (λ s. s.objects) c.take.ensures.source ∙ c.ready.ensures.objects;
+      rows = ap (λ s. s.rows) c.finish.ensures.source ∙ ap (λ s. s.rows) c.take.ensures.source ∙ c.ready.ensures.rows;
       given = λ honest commits told a listed sure s. tt;
       end = λ honest commits told a listed sure s. c.in_default-take.ensures.end (g.F.Lookup.ids c.args.self.now.source.objects) commits a listed (c.in_default.ensures.going honest commits told (g.F.Lookup.ids c.args.self.now.source.objects) a listed sure s);
       refused = λ honest commits told a listed sure s. tt;
@@ -56,8 +57,9 @@ returns-in_default-take-clause-steps g c =
       counted_one = λ b n. tt;
       counted_by_time = λ b. tt;
       rowed = λ r. tt;
-      over = c.stop-in_default-take.ensures.over;
-      no_content = (c.stop-in_default-take.ensures.emptied, tt);
+      over = c.finish.ensures.over;
+      content_end = ap (λ s. s.buffer.items) (c.finish.ensures.source ∙ c.take.ensures.source) ∙ c.in_default.ensures.content;
+      content_fault = tt;
       counted_end = λ b. lookups ∙ ap (λ walk. walk.source.lookups) (c.in_default.ensures.same b);
       counted_fault = λ b. tt;
       rowed_end = λ r. lookups ∙ (c.in_default.ensures.rowed r).1;
@@ -115,7 +117,8 @@ returns-in-Ok-clause-steps g c =
           let (n, f) = c.in-Ok.ensures.rowed r2 (subst (λ s. Holds (rows_of s.rows) id) (sym c.take.ensures.source) held) in
           (n, f ∙ (ap (λ s. s.lookups) c.take.ensures.source ∙ e)));
       over = tt;
-      no_content = (tt, tt);
+      content_end = tt;
+      content_fault = tt;
       counted_end = λ b. tt;
       counted_fault = λ b. tt;
       rowed_end = λ r. tt;
@@ -167,7 +170,8 @@ returns-in-Err-enter-clause-steps g c =
       counted_by_time = λ b. tt;
       rowed = λ r. tt;
       over = tt;
-      no_content = (tt, c.stop-in-Err-enter.ensures.emptied);
+      content_end = tt;
+      content_fault = c.stop-in-Err-enter.ensures.emptied;
       counted_end = λ b. tt;
       counted_fault = (λ b. let s = c.in_default.ensures.same b in let f = c.take.ensures.source in let e : c.take.new.self.source.lookups ≡ c.args.self.now.source.lookups = cc in
           subst (λ (n : ℕ). CountsFault n c.stop-in-Err-enter.new.self.source.lookups error) e
