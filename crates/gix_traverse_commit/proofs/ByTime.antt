@@ -1,5 +1,5 @@
 -- Where a walk by time over rows and objects stands.
-use Rattle.std.proofs.Common.{◌≡◌, ℕ, ◌<◌, ◌+◌, ◌∙◌, ◌⊎◌, inl, inr, sym, ap, refl, subst, arith, List, [], ◌∷◌, ◌++◌, length, length-append, Bool, true, false, Some, None, Option}
+use Rattle.std.proofs.Common.{◌≡◌, ℕ, ◌<◌, ◌+◌, ◌∙◌, inl, inr, sym, ap, subst, arith, List, [], ◌∷◌, ◌++◌, length, length-append, Bool, true, Some, None, Option}
 use Rattle.std.specs.Prelude.{Contains, IsTrue, not, ◌&&◌, ◌↔◌}
 use Rattle.gix_hash.specs.Id.{Id, id_of}
 use Rattle.gix_hash.specs.declared.object_id.ObjectId.{ObjectId}
@@ -23,7 +23,7 @@ use Rattle.gix_traverse_commit.specs.declared.simple.sorting.Timing.{Timing}
 use Rattle.gix_traverse_commit.specs.declared.simple.waiting.Turn.{Turn}
 use Rattle.gix_traverse_commit.proofs.Chosen.{reached_turn, taken_next, timed_end}
 use Rattle.gix_traverse_commit.proofs.Cutoff.{in_time_too, in_time_yes}
-use Rattle.gix_traverse_commit.proofs.Listing.{listed_from_reached, listed_reached, reached_more}
+use Rattle.gix_traverse_commit.proofs.Listing.{listed_reached, reached_more}
 use Rattle.gix_traverse_commit.proofs.Painting.{known_fit}
 use Rattle.gix_traverse_commit.proofs.Simply.{and_both, and_left, and_right, fewer_known, from_not, known_push, not_from}
 

@@ -1,5 +1,5 @@
 -- How many objects were asked for.
-use Rattle.std.proofs.Common.{◌≡◌, ℕ, zero, suc, ◌+◌, ◌<◌, ◌≤◌, List, [], ◌∷◌, ◌++◌, length, take, refl, sym, ◌∙◌, ap, subst, arith, add-one}
+use Rattle.std.proofs.Common.{◌≡◌, ℕ, zero, suc, ◌+◌, ◌≤◌, List, [], ◌∷◌, ◌++◌, length, take, refl, sym, ◌∙◌, ap, subst, arith, add-one}
 use Rattle.std.specs.Prelude.{IsTrue}
 use Rattle.gix_hash.specs.declared.object_id.ObjectId.{ObjectId}
 use Rattle.gix_object_find.specs.Table.{Table}
@@ -16,7 +16,7 @@ use Rattle.gix_traverse_commit.specs.declared.fetch.FetchError.TheVariants as fe
 use Rattle.gix_traverse_commit.specs.declared.nodes.Node.{Node}
 use Rattle.gix_traverse_commit.specs.declared.rows.Row.{Row}
 use Rattle.gix_traverse_commit.proofs.Frontier.{read_all}
-use Rattle.gix_traverse_commit.proofs.Lists.{at_one, none_at_nil}
+use Rattle.gix_traverse_commit.proofs.Lists.{none_at_nil}
 
 counts_push : (rows : List Row) (xs : List ObjectId) (x : ObjectId) (a b c : ℕ) → CountsAll rows xs a b → CountsOne rows x b c → CountsAll rows (xs ++ x ∷ []) a c
 counts_push rows [] x a b c e one = (c, subst (λ (n : ℕ). CountsOne rows x n c) e one, refl)

@@ -1,5 +1,5 @@
 -- What is queued when a walk begins anew.
-use Rattle.std.proofs.Common.{◌≡◌, ◌∙◌, ℕ, zero, suc, ◌⊎◌, inl, inr, refl, ap, subst, List, [], ◌∷◌, ◌++◌, map, Result, Ok, Err, Bool, true, false, cond, Some, sym}
+use Rattle.std.proofs.Common.{◌≡◌, ◌∙◌, ℕ, zero, suc, inl, inr, refl, ap, subst, List, [], ◌∷◌, ◌++◌, map, Result, Ok, Err, Bool, true, false, cond, Some, sym}
 use Rattle.std.specs.Prelude.{Contains, IfOk, OnOk, filter, find, is_some}
 use Rattle.std.specs.BTreeMap.{get}
 use Rattle.std.proofs.lemmas.List.{map-append}

@@ -1,5 +1,5 @@
 -- What is left of a walk that begins anew.
-use Rattle.std.proofs.Common.{◌≡◌, ◌∙◌, sym, refl, subst, ap, inl, inr, List, [], ◌++◌, length, Bool, true, false}
+use Rattle.std.proofs.Common.{◌≡◌, ◌∙◌, sym, refl, subst, inl, inr, List, [], ◌++◌, length, Bool, true, false}
 use Rattle.std.specs.Prelude.{Contains, IsTrue, not, ◌&&◌}
 use Rattle.std.proofs.lemmas.List.Elements.{Contains-append_cases, Contains-append_right}
 use Rattle.gix_hash.specs.Id.{Id, id_of}
@@ -7,9 +7,9 @@ use Rattle.gix_hash.specs.declared.object_id.ObjectId.{ObjectId}
 use Rattle.gix_traverse_commit.specs.Commits.{Commits, Reached, tip, parent}
 use Rattle.gix_traverse_commit.specs.Keeping.{KeptAll}
 use Rattle.gix_traverse_commit.specs.Nodes.{is_met}
-use Rattle.gix_traverse_commit.specs.Simply.{Asked, AcceptsAs, HasMet, IsMade, IsRest, IsTurned, IsUnderWay, IsUnderWayTo, keep_of, queued_in}
+use Rattle.gix_traverse_commit.specs.Simply.{Asked, AcceptsAs, IsMade, IsRest, IsTurned, IsUnderWay, IsUnderWayTo, keep_of, queued_in}
 use Rattle.gix_traverse_commit.specs.Sorting.{in_time}
-use Rattle.gix_traverse_commit.specs.Timely.{queued_by, waiting}
+use Rattle.gix_traverse_commit.specs.Timely.{queued_by}
 use Rattle.gix_traverse_commit.specs.declared.simple.Simple.{Simple}
 use Rattle.gix_traverse_commit.proofs.Lists.{at_from_contains}
 use Rattle.gix_traverse_commit.proofs.Pending.{none_queued, queued_waits}

@@ -1,20 +1,19 @@
 -- A walk by time: which commits are met and wait, and which was chosen.
-use Rattle.std.proofs.Common.{◌≡◌, ℕ, zero, suc, ◌+◌, ◌<◌, ◌≤◌, ◌⊎◌, inl, inr, List, [], ◌∷◌, ◌++◌, length, take, refl, sym, ◌∙◌, ap, subst, arith, Bool, true, false, cond, Some, None, Option, ℤ, T}
+use Rattle.std.proofs.Common.{◌≡◌, ℕ, zero, suc, ◌+◌, ◌⊎◌, inl, inr, List, [], ◌∷◌, ◌++◌, take, refl, sym, ◌∙◌, ap, subst, Bool, true, false, cond, ℤ, T}
 use lib.Signed.{lt_z, lt_z_no, ≤ℤ_refl}
-use Rattle.std.specs.Prelude.{Contains, IsTrue, ◌↔◌, ◌&&◌, not, ◌≤ℤ◌, map}
-use Rattle.std.specs.List.{All}
+use Rattle.std.specs.Prelude.{Contains, ◌↔◌, ◌&&◌, not, ◌≤ℤ◌}
 use Rattle.std.specs.BTreeMap.{insert_entry}
 use Rattle.std.specs.BTreeMap.Range.{IsLtBy}
 use Rattle.std.specs.Map.{keys_of}
-use Rattle.std.specs.Ordering.{int_cmp, ordering_then, match_ordering}
+use Rattle.std.specs.Ordering.{int_cmp, match_ordering}
 use Rattle.std.specs.Cmp.{IsTotalOrder}
 use Rattle.std.specs.declared.cmp.Ordering.{Ordering}
 use Rattle.std.specs.declared.cmp.Ordering.TheVariants.{Less, Equal, Greater}
 use Rattle.std.proofs.lemmas.Cmp.{int_cmp_total, on_total, then_total, tied_itself}
 use Rattle.std.proofs.lemmas.List.Elements.{All-contains, Contains-append_left, Contains-push}
 use Rattle.std.proofs.lemmas.Map.Lookups.{CmpEqualImpliesEq, exact_signed}
-use Rattle.gix_hash.specs.Id.{Id, id_of}
-use Rattle.gix_hash.specs.Order.{id_cmp, id_eq}
+use Rattle.gix_hash.specs.Id.{id_of}
+use Rattle.gix_hash.specs.Order.{id_cmp}
 use Rattle.gix_hash.specs.OrderLaws.{id_total, id_tied, id_eq-same}
 use Rattle.gix_hash.specs.Packed.{object_id_of, object_id_of-id_of}
 use Rattle.gix_hash.specs.declared.object_id.ObjectId.{ObjectId}

@@ -85,8 +85,9 @@ impl<F: Find + Drop> Simple<F, All> {
 }
 
 impl<F: Find + Drop, P: Accept + Drop> Simple<F, P> {
-    /// A walk that gives only commits that the predicate accepts, and goes past none that it refuses. The predicate is asked
-    /// once of each commit that the walk meets, and of the tips at once.
+    /// A walk that gives the commits alone that the predicate accepts, and doesn't go on to the parents of one that it refuses.
+    /// The predicate is asked of each tip here, and of each other commit when the walk first meets it as a parent of one that
+    /// comes, unless it is hidden. It is `Memory` where there is no memory for the walk.
     pub fn filtered(tips: Vec<ObjectId>, find: F, mut predicate: P) -> Result<Simple<F, P>, Error>
         ensures objects { IfOk result (λ walk. objects_of walk ≡ find) }
         ensures rows { IfOk result (λ walk. graph_of walk ≡ None) }
@@ -125,8 +126,9 @@ impl<F: Find + Drop, P: Accept + Drop> Simple<F, P> {
     }
 
     /// The same walk in this order; the last call before the first commit decides. An order by time reads the time of each tip that
-    /// the predicate accepts, in their order. Of the first that isn't read the error tells why: it is `Find` where it isn't found,
-    /// `ObjectDecode` where it tells no committer, and `Memory` where there is no memory; no walk is left then.
+    /// the predicate accepts, in their order, and refuses where one of them can't be told. The error is that of the first such tip:
+    /// `Find` where no object of a commit is found under its id, `ObjectDecode` where the object tells no committer's time, and
+    /// `Memory` where there is no memory for the lookup. After an error there is no walk any more.
     ///
     /// After the first commit this begins the rest anew, as each builder call but `commit_graph` does: a walk whose tips are what is
     /// queued, in the order in which that was queued, and which goes to no other commit that was met. A walk that is over stays over.

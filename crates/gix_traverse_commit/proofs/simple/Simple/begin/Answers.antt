@@ -1,5 +1,4 @@
 use Rattle.std.proofs.Common.{◌≡◌, ◌≤◌, ◌+◌, sym, ◌∙◌, ap, refl, subst, List, [], Option, length}
-use Rattle.std.specs.Prelude.{OnOk, ◌↔◌}
 use Rattle.gix_hash.specs.declared.object_id.ObjectId.{ObjectId}
 use Rattle.gix_traverse_commit.specs.Painting.{PaintFault, Paints, ReachedFrom}
 use Rattle.gix_traverse_commit.specs.Order.{IsListOf}

@@ -1,22 +1,21 @@
-use Rattle.std.proofs.Common.{rules, ◌≡◌, ◌⊎◌, sym, ◌∙◌, ap, refl, subst, inl, inr, arith, List, [], ◌∷◌, ◌++◌, length, Option, Some, None, Bool, true, false}
-use Rattle.std.specs.Prelude.{Contains, not, ◌&&◌, OnOk}
-use Rattle.gix_hash.specs.Id.{Id, id_of}
+use Rattle.std.proofs.Common.{rules, ◌≡◌, ◌⊎◌, sym, ◌∙◌, ap, subst, inl, inr, List, [], ◌∷◌, ◌++◌, Option, Some, None, Bool}
+use Rattle.std.specs.Prelude.{Contains, not, ◌&&◌}
+use Rattle.gix_hash.specs.Id.{id_of}
 use Rattle.gix_hash.specs.declared.object_id.ObjectId.{ObjectId}
 use Rattle.gix_traverse_commit.specs.Commits.{asked_parents}
 use Rattle.gix_traverse_commit.specs.Nodes.{is_hidden, is_met}
-use Rattle.gix_traverse_commit.specs.Rows.{AllHeld, Holds}
-use Rattle.gix_traverse_commit.specs.Simply.{IsKnown, keep_of, timing}
+use Rattle.gix_traverse_commit.specs.Rows.{AllHeld}
+use Rattle.gix_traverse_commit.specs.Simply.{IsKnown, keep_of}
 use Rattle.gix_traverse_commit.specs.Sorting.{in_time, timing_of}
-use Rattle.gix_traverse_commit.specs.Timely.{AllRowed, IsMetSoFar, IsTaken, keep_since, waiting}
-use Rattle.gix_traverse_commit.specs.Told.{AreTold, rows_of}
-use Rattle.gix_traverse_commit.specs.declared.parents.Parents.{Parents}
+use Rattle.gix_traverse_commit.specs.Timely.{AllRowed, IsMetSoFar, keep_since, waiting}
+use Rattle.gix_traverse_commit.specs.Told.{rows_of}
 use Rattle.gix_traverse_commit.specs.declared.rows.Row.{Row}
 use Rattle.gix_traverse_commit.specs.declared.simple.sorting.Timing.{Timing}
-use Rattle.gix_traverse_commit.proofs.ByTime.{is_sure, none_some, one_timing, timing_same, since_end, since_turn}
+use Rattle.gix_traverse_commit.proofs.ByTime.{is_sure, none_some, one_timing, timing_same}
 use Rattle.gix_traverse_commit.specs.Order.{IsOpen}
 use Rattle.gix_traverse_commit.proofs.Chosen.{met_parents}
 use Rattle.gix_traverse_commit.proofs.Simply.{accepts_more, known_push}
-use Rattle.gix_traverse_commit.proofs.Timely.{met_kept, met_renamed}
+use Rattle.gix_traverse_commit.proofs.Timely.{met_kept}
 use Rattle.gix_traverse_commit.proofs.simple.Simple.meet_all.Goals as goal
 
 pub returns-in_default-clause-going : goal.returns-in_default-clause-going

@@ -4,7 +4,7 @@ use Rattle.std.specs.Prelude.{Contains}
 use Rattle.gix_hash.specs.declared.object_id.ObjectId.{ObjectId}
 use Rattle.gix_traverse_commit.specs.Fetching.{TimeIsTold}
 use Rattle.gix_traverse_commit.specs.Rows.{AllHeld}
-use Rattle.gix_traverse_commit.specs.Simply.{IsAccepted, IsNew, IsOver, IsUnmet, TipFault, content_of}
+use Rattle.gix_traverse_commit.specs.Simply.{IsAccepted, IsNew, IsOver, IsUnmet, TipFault}
 use Rattle.gix_traverse_commit.specs.Told.{rows_of}
 use Rattle.gix_traverse_commit.proofs.Times.{met_or_accepted, tip_fault_more}
 use Rattle.gix_traverse_commit.proofs.simple.Simple.sorting.Goals as goal

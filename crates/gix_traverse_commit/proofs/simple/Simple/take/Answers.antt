@@ -1,18 +1,14 @@
-use Rattle.std.proofs.Common.{rules, ◌≡◌, sym, ◌∙◌, ap, refl, subst, inl, inr, arith, List, [], ◌∷◌, ◌++◌, length, Option, Some, None, Bool, true, false}
-use Rattle.std.specs.Prelude.{Contains, not, ◌&&◌, OnOk}
-use Rattle.gix_hash.specs.Id.{Id, id_of}
+use Rattle.std.proofs.Common.{rules, ◌≡◌, sym, ◌∙◌, refl, subst, inl, inr, List, [], ◌∷◌, ◌++◌, Some, None}
+use Rattle.gix_hash.specs.Id.{Id}
 use Rattle.gix_hash.specs.declared.object_id.ObjectId.{ObjectId}
 use Rattle.gix_traverse_commit.specs.Commits.{Commits, asked_parents}
-use Rattle.gix_traverse_commit.specs.Nodes.{is_hidden, is_met}
-use Rattle.gix_traverse_commit.specs.Rows.{AllHeld, Holds}
-use Rattle.gix_traverse_commit.specs.Simply.{Answers, Asked, IsKnown, IsUnderWay, keep_of, timing}
-use Rattle.gix_traverse_commit.specs.Sorting.{in_time, timing_of}
-use Rattle.gix_traverse_commit.specs.Timely.{AllRowed, IsMetSoFar, IsTaken, keep_since, waiting}
-use Rattle.gix_traverse_commit.specs.Told.{AreTold, rows_of}
-use Rattle.gix_traverse_commit.specs.declared.parents.Parents.{Parents}
-use Rattle.gix_traverse_commit.specs.declared.rows.Row.{Row}
+use Rattle.gix_traverse_commit.specs.Nodes.{is_met}
+use Rattle.gix_traverse_commit.specs.Simply.{Answers, Asked, IsUnderWay, keep_of}
+use Rattle.gix_traverse_commit.specs.Sorting.{timing_of}
+use Rattle.gix_traverse_commit.specs.Timely.{IsTaken, keep_since, waiting}
+use Rattle.gix_traverse_commit.specs.Told.{rows_of}
 use Rattle.gix_traverse_commit.specs.declared.simple.sorting.Timing.{Timing}
-use Rattle.gix_traverse_commit.proofs.ByTime.{is_sure, none_some, one_timing, timing_same, since_end, since_turn}
+use Rattle.gix_traverse_commit.proofs.ByTime.{none_some, one_timing, timing_same, since_end, since_turn}
 use Rattle.gix_traverse_commit.proofs.Chosen.{taken_chosen, taken_met}
 use Rattle.gix_traverse_commit.proofs.Keeping.{kept_pop}
 use Rattle.gix_traverse_commit.proofs.Simply.{held_first, kept_breadth, kept_turn}

@@ -1,4 +1,4 @@
-use Rattle.std.proofs.Common.{◌≡◌, sym, ◌∙◌, inl, inr, false, true, Bool, refl}
+use Rattle.std.proofs.Common.{inl, inr}
 use Rattle.gix_traverse_commit.proofs.Pending.{is_false}
 use Rattle.gix_traverse_commit.proofs.Rest.{begun_to, rest_turned}
 use Rattle.gix_traverse_commit.proofs.simple.Simple.turn.Goals as goal

@@ -1,7 +1,7 @@
-use Rattle.std.proofs.Common.{◌≡◌, ◌∙◌, sym, ap, refl, subst, inl, inr, List, [], take, get_or, Option, Bool, true, false, arith, ◌≤◌, ◌+◌}
+use Rattle.std.proofs.Common.{◌≡◌, ◌∙◌, sym, refl, subst, List, [], take, get_or, Option, arith}
 use Rattle.std.specs.Prelude.{Contains, not, ◌&&◌}
 use Rattle.std.proofs.lemmas.Option.{slice_get-get_or}
-use Rattle.gix_hash.specs.Id.{Id, id_of}
+use Rattle.gix_hash.specs.Id.{id_of}
 use Rattle.gix_hash.specs.declared.object_id.ObjectId.{ObjectId}
 use Rattle.gix_hash.specs.declared.object_id.ObjectId.TheVariants.{Sha1}
 use Rattle.gix_traverse_commit.specs.Nodes.{is_hidden, is_met}
@@ -13,7 +13,7 @@ use Rattle.gix_traverse_commit.specs.declared.rows.Row.{Row}
 use Rattle.gix_traverse_commit.proofs.Chosen.{take_all}
 use Rattle.gix_traverse_commit.proofs.Keeping.{met_more, unmet_before}
 use Rattle.gix_traverse_commit.proofs.Lists.{contains_from_at}
-use Rattle.gix_traverse_commit.proofs.Timely.{in_nil, joins_same, met_renamed, next_parent, next_tip, tip_joins}
+use Rattle.gix_traverse_commit.proofs.Timely.{in_nil, joins_same, met_renamed, next_tip, tip_joins}
 use Rattle.gix_traverse_commit.proofs.simple.timed.await_tips.Goals as goal
 
 pub tips-init : goal.tips-init

@@ -1,4 +1,4 @@
-use Rattle.std.proofs.Common.{rules, ◌≡◌, ◌∙◌, ap, sym, subst, List, ℤ, true, Bool}
+use Rattle.std.proofs.Common.{rules, ◌≡◌, ◌∙◌, ap, sym, ℤ, true}
 use mir.Syntax.{w64}
 use mir.Val.{of_z, to_z}
 use Rattle.gix_hash.specs.declared.object_id.ObjectId.{ObjectId}
