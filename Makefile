@@ -2,10 +2,11 @@
 PREFIX ?= /usr/local
 PROGRAM := crates/history_program/out/history_program
 HASHING := crates/gix_hash_bench/out/gix_hash_bench
+WALKS := crates/gix_traverse_bench/out/gix_traverse_bench
 # Names a source that is newer than the program, if there is one.
 NEWER = find crates.txt crates -name out -prune -o -type f -newer $(PROGRAM) -print -quit
 
-.PHONY: test wrong-bodies demo bench faults install program hashing
+.PHONY: test wrong-bodies demo bench faults install program hashing walks
 
 # The merge gate: the documents' names, every proof from nothing, the must-fail edits, the tests and the program. docs/GATE.md says
 # how long it takes.
@@ -27,10 +28,12 @@ demo:
 	  cd crates/history_program && rt try < ../../demo/first.stream; \
 	fi
 
-# A report, no test: commits per second as the history grows, one large content, the hashing of a stream and look-ups of prefixes.
-bench: program hashing
+# A report, no test: commits per second as the history grows, one large content, the hashing of a stream, look-ups of prefixes,
+# and walks over 30,000 commits.
+bench: program hashing walks
 	bench/report $(PROGRAM)
 	bench/hashing $(HASHING)
+	bench/walks $(WALKS)
 
 # Refuses each growth of memory of the program's own run in turn; it needs a C compiler.
 faults: program
@@ -49,4 +52,10 @@ program:
 hashing:
 	@echo 'building what bench/hashing times'
 	@cd crates/gix_hash_bench && log=$$(mktemp) && \
+	if rt run < stdin > /dev/null 2> "$$log"; then rm "$$log"; else cat "$$log"; rm "$$log"; exit 1; fi
+
+# Proves, compiles and links what bench/walks times.
+walks:
+	@echo 'building what bench/walks times'
+	@cd crates/gix_traverse_bench && log=$$(mktemp) && \
 	if rt run < stdin > /dev/null 2> "$$log"; then rm "$$log"; else cat "$$log"; rm "$$log"; exit 1; fi

@@ -1,5 +1,5 @@
 -- Where a walk by time over rows and objects stands.
-use Rattle.std.proofs.Common.{◌≡◌, ℕ, ◌<◌, ◌+◌, ◌∙◌, ◌⊎◌, inl, inr, sym, ap, refl, subst, arith, List, [], ◌∷◌, ◌++◌, length, length-append, Bool, true, false, Some, None, Option}
+use Rattle.std.proofs.Common.{◌≡◌, ℕ, ◌<◌, ◌+◌, ◌∙◌, inl, inr, sym, ap, subst, arith, List, [], ◌∷◌, ◌++◌, length, length-append, Bool, true, Some, None, Option}
 use Rattle.std.specs.Prelude.{Contains, IsTrue, not, ◌&&◌, ◌↔◌}
 use Rattle.gix_hash.specs.Id.{Id, id_of}
 use Rattle.gix_hash.specs.declared.object_id.ObjectId.{ObjectId}
@@ -23,7 +23,7 @@ use Rattle.gix_traverse_commit.specs.declared.simple.sorting.Timing.{Timing}
 use Rattle.gix_traverse_commit.specs.declared.simple.waiting.Turn.{Turn}
 use Rattle.gix_traverse_commit.proofs.Chosen.{reached_turn, taken_next, timed_end}
 use Rattle.gix_traverse_commit.proofs.Cutoff.{in_time_too, in_time_yes}
-use Rattle.gix_traverse_commit.proofs.Listing.{listed_from_reached, listed_reached, reached_more}
+use Rattle.gix_traverse_commit.proofs.Listing.{listed_reached, reached_more}
 use Rattle.gix_traverse_commit.proofs.Painting.{known_fit}
 use Rattle.gix_traverse_commit.proofs.Simply.{and_both, and_left, and_right, fewer_known, from_not, known_push, not_from}
 
@@ -99,8 +99,8 @@ module _ {F P : Type 0} (accepts : P → Id → Bool) (ids : List Id) (g : Commi
   -- the same with a source that has the same rows
   pub at_source : (walk : Simple F P) (source : Source F) → source.rows ≡ walk.source.rows → IsAtTurn accepts ids g a listed id walk → IsAtTurn accepts ids g a listed id (record walk { source = source })
   at_source walk source e t = elim t [
-    | inl w ↦ inl (record { begun = w.begun; parents = w.parents; sorting = w.sorting; in_breadth = w.in_breadth; accepts_same = w.accepts_same; hides = w.hides; hidden = w.hidden; painted = w.painted; known = moved w.known; walked = w.walked; reads = w.reads })
-    | inr w ↦ inr (record { begun = w.begun; parents = w.parents; sorting = w.sorting; by_time = w.by_time; is_by_time = w.is_by_time; accepts_same = w.accepts_same; hides = w.hides; hidden = w.hidden; painted = w.painted; known = moved w.known; met = w.met; chosen = w.chosen })
+    | inl w ↦ inl (record { begun = w.begun; hidden_same = w.hidden_same; parents = w.parents; sorting = w.sorting; in_breadth = w.in_breadth; none_waits = w.none_waits; accepts_as = w.accepts_as; hides = w.hides; hidden = w.hidden; painted = w.painted; known = moved w.known; walked = w.walked; reads = w.reads })
+    | inr w ↦ inr (record { begun = w.begun; hidden_same = w.hidden_same; parents = w.parents; sorting = w.sorting; by_time = w.by_time; is_by_time = w.is_by_time; empty = w.empty; accepts_as = w.accepts_as; hides = w.hides; hidden = w.hidden; painted = w.painted; known = moved w.known; met = w.met; chosen = w.chosen })
   ]
     where
       moved : ((x : ObjectId) → Contains listed x → IsKnown (rows_of walk.source.rows) ids x) → (x : ObjectId) → Contains listed x → IsKnown (rows_of source.rows) ids x
@@ -118,8 +118,8 @@ module _ {F P : Type 0} (accepts : P → Id → Bool) (ids : List Id) (g : Commi
 -- the same with a source that has the same rows
 pub under_source : {F P : Type 0} (accepts : P → Id → Bool) (ids : List Id) (g : Commits ObjectId) (a : Asked) (listed : List ObjectId) (walk : Simple F P) (source : Source F) (kind : Kind) → source.rows ≡ walk.source.rows → IsUnderWay accepts ids g a listed walk → IsUnderWay accepts ids g a listed (record walk { source = source; kind = kind })
 under_source accepts ids g a listed walk source kind e t = elim t [
-  | inl w ↦ inl (record { begun = w.begun; parents = w.parents; sorting = w.sorting; in_breadth = w.in_breadth; accepts_same = w.accepts_same; hides = w.hides; hidden = w.hidden; painted = w.painted; known = moved w.known; walked = w.walked })
-  | inr w ↦ inr (record { begun = w.begun; parents = w.parents; sorting = w.sorting; by_time = w.by_time; is_by_time = w.is_by_time; accepts_same = w.accepts_same; hides = w.hides; hidden = w.hidden; painted = w.painted; known = moved w.known; met = w.met; chosen = w.chosen })
+  | inl w ↦ inl (record { begun = w.begun; hidden_same = w.hidden_same; parents = w.parents; sorting = w.sorting; in_breadth = w.in_breadth; none_waits = w.none_waits; accepts_as = w.accepts_as; hides = w.hides; hidden = w.hidden; painted = w.painted; known = moved w.known; walked = w.walked })
+  | inr w ↦ inr (record { begun = w.begun; hidden_same = w.hidden_same; parents = w.parents; sorting = w.sorting; by_time = w.by_time; is_by_time = w.is_by_time; empty = w.empty; accepts_as = w.accepts_as; hides = w.hides; hidden = w.hidden; painted = w.painted; known = moved w.known; met = w.met; chosen = w.chosen })
 ]
   where
     moved : ((x : ObjectId) → Contains listed x → IsKnown (rows_of walk.source.rows) ids x) → (x : ObjectId) → Contains listed x → IsKnown (rows_of source.rows) ids x

@@ -1,6 +1,6 @@
 -- A walk in breadth order that keeps some commits: a list, and what is met.
 use Rattle.std.proofs.Common.{◌≡◌, ℕ, suc, ◌+◌, ◌<◌, ◌≤◌, List, [], ◌∷◌, ◌++◌, length, refl, sym, ◌∙◌, ap, subst, arith, Bool, true, false, cond, add-one, length-append, append_assoc, append-nil, inl, inr}
-use Rattle.std.specs.Prelude.{Contains, IsTrue}
+use Rattle.std.specs.Prelude.{Contains, IsTrue, not, ◌&&◌}
 use Rattle.std.proofs.lemmas.Option.{slice_get_within}
 use Rattle.gix_hash.specs.declared.object_id.ObjectId.{ObjectId}
 use Rattle.gix_traverse_commit.specs.Order.{At, IsBreadthFirst, Named}
@@ -30,6 +30,11 @@ met_more has has' y q new h = new q ∙ go (same_id y q)
     go : (b : Bool) → cond b true (has q) ≡ true
     go true = refl
     go false = h
+
+-- the same where a hidden commit is passed by
+pub stays_met : (has has' : ObjectId → Bool) (hides : Bool) (y q : ObjectId) → ((q : ObjectId) → has' q ≡ cond hides (has q) (cond (same_id y q) true (has q))) → has q ≡ true → has' q ≡ true
+stays_met has has' true y q new h = new q ∙ h
+stays_met has has' false y q new h = met_more has has' y q new h
 
 pub unmet_before : (has has' : ObjectId → Bool) (y : ObjectId) → (has y ≡ true → has' y ≡ true) → has' y ≡ false → has y ≡ false
 unmet_before has has' y grown f = go (has y) refl
@@ -165,6 +170,32 @@ module _ (along : ObjectId → List ObjectId) (tips : List ObjectId) (keep : Obj
       stays true g k h q b = let same : queue ≡ queue' = sym (rw g at e) in subst (λ (zs : List ObjectId). At (listed ++ zs) q id) same b
       stays false g true h q b = let same : queue ++ y ∷ [] ≡ queue' = sym (rw (g, h) at e) in subst (λ (zs : List ObjectId). At (listed ++ zs) q id) same (pushed q b)
       stays false g false h q b = let same : queue ≡ queue' = sym (rw (g, h) at e) in subst (λ (zs : List ObjectId). At (listed ++ zs) q id) same b
+
+  -- a name is passed by, that isn't kept
+  kept_pass : (has has' : ObjectId → Bool) (listed queue queue' : List ObjectId) (p m : ℕ) (y : ObjectId) → Kept along tips keep has (listed ++ queue) p m → Named along tips (listed ++ queue) p m y → queue' ≡ queue → ((q : ObjectId) → has' q ≡ has q) → (has y ≡ false → keep y ≡ false) → Kept along tips keep has' (listed ++ queue') p (m + 1)
+  kept_pass has has' listed queue queue' p m y w n e new out = rw add-one (subst (λ (zs : List ObjectId). Kept along tips keep has' (listed ++ zs) p (suc m)) (sym e) (record {
+    read = read_skip along tips (λ q. IsTrue (keep q)) (listed ++ queue) p m y w.read n (here (has y) refl);
+    known = record { listed = λ q c. new q ∙ w.known.listed q c; met = λ q h k. w.known.met q (sym (new q) ∙ h) k };
+  }))
+    where
+      here : (b : Bool) → has y ≡ b → keep y ≡ true → Contains (listed ++ queue) y
+      here true f k = w.known.met y f k
+      here false f k = let g = out f in let z : ⊥ = cc in absurd z
+
+  -- one parent is met, or passed by since it is hidden
+  pub kept_step : (has has' : ObjectId → Bool) (hides accepted : Bool) (listed queue queue' : List ObjectId) (p m : ℕ) (y id : ObjectId) → Kept along tips keep has (listed ++ queue) p m × Reads (listed ++ queue) p id → At (along id) m y → Queues (has y) (not hides && accepted) queue queue' y → ((q : ObjectId) → has' q ≡ cond hides (has q) (cond (same_id y q) true (has q))) → (has y ≡ false → keep y ≡ (not hides && accepted)) → Kept along tips keep has' (listed ++ queue') p (m + 1) × Reads (listed ++ queue') p id
+  kept_step has has' false accepted listed queue queue' p m y id w a e new which = kept_parent has has' accepted listed queue queue' p m y id w a e new which
+  kept_step has has' true accepted listed queue queue' p m y id (w, r) a e new which =
+      let (q, f, b) = r in
+      let named : Named along tips (listed ++ queue) p m y = subst (λ (n : ℕ). Named along tips (listed ++ queue) n m y) (sym f) (id, b, a) in
+      let same : queue' ≡ queue = e ∙ stays (has y) in (
+        kept_pass has has' listed queue queue' p m y w named same new which,
+        (q, f, subst (λ (zs : List ObjectId). At (listed ++ zs) q id) (sym same) b),
+      )
+    where
+      stays : (b : Bool) → cond b queue queue ≡ queue
+      stays true = refl
+      stays false = refl
 
   -- all its parents are met
   pub kept_row : (has : ObjectId → Bool) (xs : List ObjectId) (p m : ℕ) (id : ObjectId) → Kept along tips keep has xs p m × Reads xs p id → length (along id) ≤ m → KeptAll along tips keep has xs p

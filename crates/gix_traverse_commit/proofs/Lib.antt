@@ -20,3 +20,5 @@ mod Cutoff
 mod ByTime
 mod Times
 mod Pending
+mod Rest
+mod Counting

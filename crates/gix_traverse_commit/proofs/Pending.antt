@@ -1,15 +1,23 @@
 -- What is queued when a walk begins anew.
-use Rattle.std.proofs.Common.{◌≡◌, ℕ, zero, suc, ◌⊎◌, inl, inr, refl, ap, subst, List, [], ◌∷◌, ◌++◌, map, Result, Ok, Err}
-use Rattle.std.specs.Prelude.{Contains, IsPermutation, IfOk, OnOk}
-use Rattle.std.proofs.lemmas.List.Elements.{Contains-append_cases}
-use Rattle.std.proofs.lemmas.List.Sorted.{Contains-permutation, IsPermutation-sym}
+use Rattle.std.proofs.Common.{◌≡◌, ◌∙◌, ℕ, zero, suc, inl, inr, refl, ap, subst, List, [], ◌∷◌, ◌++◌, map, Result, Ok, Err, Bool, true, false, cond, Some, sym}
+use Rattle.std.specs.Prelude.{Contains, IfOk, OnOk, filter, find, is_some}
+use Rattle.std.specs.BTreeMap.{get}
+use Rattle.std.proofs.lemmas.List.{map-append}
+use Rattle.std.proofs.lemmas.List.Elements.{Contains-append_cases, filter-append}
+use Rattle.std.proofs.lemmas.Map.Views.{btree_map_contains_key_iff}
 use Rattle.gix_hash.specs.declared.object_id.ObjectId.{ObjectId}
+use Rattle.gix_traverse_commit.specs.Nodes.{is_hidden, marks_in}
+use Rattle.gix_traverse_commit.specs.Numbered.{same_id}
 use Rattle.gix_traverse_commit.specs.Order.{At}
 use Rattle.gix_traverse_commit.specs.Rows.{AllHeld, Holds}
-use Rattle.gix_traverse_commit.specs.Timely.{AllRowed, Waits}
+use Rattle.gix_traverse_commit.specs.Timely.{AllRowed, Waits, queued_by, turn_cmp, waiting}
+use Rattle.gix_traverse_commit.specs.declared.nodes.Node.{Node}
 use Rattle.gix_traverse_commit.specs.declared.rows.Row.{Row}
 use Rattle.gix_traverse_commit.specs.declared.simple.waiting.Turn.{Turn}
+use Rattle.gix_traverse_commit.specs.declared.simple.waiting.Waiting.{Waiting}
+use Rattle.gix_traverse_commit.proofs.Ids.{same_from_test}
 use Rattle.gix_traverse_commit.proofs.Lists.{at_from_contains, contains_from_at, none_at_nil}
+use Rattle.gix_traverse_commit.proofs.Timely.{turn_exact, turn_total}
 
 pub in_head : {I : Type 0} (x : I) (xs : List I) → Contains (x ∷ xs) x
 in_head x xs = contains_from_at (x ∷ xs) 0 x refl
@@ -26,11 +34,52 @@ from_map {A} {B} f xs y c = let (k, a) = at_from_contains (map f xs) y c in go x
     go (x ∷ xs) zero a = let same : f x ≡ y = cc in (x, in_head x xs, same)
     go (x ∷ xs) (suc k) a = let (z, c, e) = go xs k a in (z, in_tail x xs z c, e)
 
--- what is taken out in order of its places waited
-pub waited : (turns : List Turn) (places sorted : List (ℕ × ObjectId)) (ids : List ObjectId) → ((p : ℕ × ObjectId) → Contains places p → Waits turns p.1) → IsPermutation places sorted → ids ≡ map (λ (p : ℕ × ObjectId). p.1) sorted → (x : ObjectId) → Contains ids x → Waits turns x
-waited turns places sorted ids taken same is x c =
-    let (p, k, e) = from_map (λ (p : ℕ × ObjectId). p.1) sorted x (subst (λ (zs : List ObjectId). Contains zs x) is c) in
-    subst (Waits turns) e (taken p (Contains-permutation sorted places p (IsPermutation-sym places sorted same) k))
+from_filter : {A : Type 0} (p : A → Bool) (xs : List A) (x : A) → Contains (filter p xs) x → p x ≡ true
+from_filter {A} p xs x c = let (k, a) = at_from_contains (filter p xs) x c in go xs k a
+  where
+    go : (xs : List A) (k : ℕ) → At (filter p xs) k x → p x ≡ true
+    go [] k a = absurd (none_at_nil k x a)
+    go (y ∷ ys) k a = here (p y) refl k a (λ j b. go ys j b)
+      where
+        here : (b : Bool) → p y ≡ b → (k : ℕ) → At (cond b (y ∷ filter p ys) (filter p ys)) k x → ((j : ℕ) → At (filter p ys) j x → p x ≡ true) → p x ≡ true
+        here true e zero a next = let same : y ≡ x = cc in subst (λ (z : A). p z ≡ true) same e
+        here true e (suc k) a next = next k a
+        here false e k a next = next k a
+
+-- one more of a list, mapped where it passes
+pub pass_push : {A B : Type 0} (f : A → B) (p : A → Bool) (xs : List A) (x : A) → map f (filter p (xs ++ x ∷ [])) ≡ map f (filter p xs) ++ cond (p x) (f x ∷ []) []
+pass_push {A} {B} f p xs x = ap (map f) (filter-append p xs (x ∷ [])) ∙ map-append f (filter p xs) (filter p (x ∷ [])) ∙ ap (λ (zs : List B). map f (filter p xs) ++ zs) (one (p x))
+  where
+    one : (b : Bool) → map f (cond b (x ∷ []) []) ≡ cond b (f x ∷ []) []
+    one true = refl
+    one false = refl
+
+-- what is queued waits
+pub queued_waits : (w : Waiting) (x : ObjectId) → Contains (queued_by w) x → Waits (waiting w) x
+queued_waits w x c =
+    let p : Turn → Bool = λ (t : Turn). is_some (get turn_cmp w.turns t) in
+    let (t, k, e) = from_map (λ (t : Turn). t.id) (filter p w.order.items) x c in
+    (t, (btree_map_contains_key_iff turn_total turn_exact w.turns t).0 (from_filter p w.order.items t k), e)
+
+-- what is hidden has a node
+pub hidden_listed : (nodes : List Node) (q : ObjectId) → is_hidden nodes q ≡ true → Contains (map (λ (n : Node). n.id) nodes) q
+hidden_listed [] q h = let z : ⊥ = cc in absurd z
+hidden_listed (n ∷ nodes) q h = go (same_id q n.id) refl h (hidden_listed nodes q)
+  where
+    go : (b : Bool) → same_id q n.id ≡ b → (marks_in (cond b (Some n) (find (λ (m : Node). same_id q m.id) nodes))).hidden ≡ true → (is_hidden nodes q ≡ true → Contains (map (λ (m : Node). m.id) nodes) q) → Contains (n.id ∷ map (λ (m : Node). m.id) nodes) q
+    go true t k next = subst (λ (x : ObjectId). Contains (n.id ∷ map (λ (m : Node). m.id) nodes) x) (sym (same_from_test q n.id t)) (in_head n.id (map (λ (m : Node). m.id) nodes))
+    go false t k next = in_tail n.id (map (λ (m : Node). m.id) nodes) q (next k)
+
+pub is_false : (b : Bool) → (b ≡ true → ⊥) → b ≡ false
+is_false false h = refl
+is_false true h = absurd (h refl)
+
+nothing_in : (xs : List ObjectId) → ((x : ObjectId) → Contains xs x → ⊥) → xs ≡ []
+nothing_in [] h = refl
+nothing_in (x ∷ xs) h = absurd (h x (in_head x xs))
+
+pub none_queued : (w : Waiting) → waiting w ≡ [] → queued_by w ≡ []
+none_queued w e = nothing_in (queued_by w) (λ x c. let (t, k, f) = queued_waits w x c in let (j, a) = at_from_contains [] t (subst (λ (ts : List Turn). Contains ts t) e k) in none_at_nil j t a)
 
 -- all of both lists have rows
 pub held_both : (rows : List Row) (xs ys : List ObjectId) → AllHeld rows xs → AllHeld rows ys → AllHeld rows (xs ++ ys)

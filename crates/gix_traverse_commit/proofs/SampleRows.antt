@@ -1,8 +1,8 @@
 -- The rows that a table's tests accept are in the orders.
-use Rattle.std.proofs.Common.{◌≡◌, ℕ, zero, suc, List, [], ◌∷◌, refl, sym, ap, subst, Some, None, Option, Bool, true, false, ◌&&◌, nat_eq, unwrap_or, T, eqb-true, eq-eqb}
-use Rattle.std.specs.Prelude.{Contains, ℤ, not, ⊤, IfSome, ◌≤ℤ◌}
+use Rattle.std.proofs.Common.{◌≡◌, ℕ, zero, suc, List, [], ◌∷◌, refl, sym, ap, subst, Some, Bool, true, false, ◌&&◌, nat_eq, unwrap_or, T, eqb-true, eq-eqb}
+use Rattle.std.specs.Prelude.{Contains, not, ⊤}
 use Rattle.std.specs.List.{list_any, list_all}
-use Rattle.std.specs.Int.Signed.{le_z, le_z_yes}
+use Rattle.std.specs.Int.Signed.{le_z_yes}
 use Rattle.gix_traverse_commit.specs.Order.{At, IsListOf, IsBreadthFirst, IsReady, IsOpen, NewestFirst, OldestFirst, Outranks}
 use Rattle.gix_traverse_commit.specs.Commits.{Commit, Commits, WalkRequest, asked_parents, Reached, tip, parent, Passes, Hides, Listed}
 use Rattle.gix_traverse_commit.specs.Walks.{InBreadth, FinishedTopologically, FinishedByDate, ByNewest, ByOldest}

@@ -10,7 +10,7 @@ use Rattle.gix_traverse_commit.specs.Numbered.{same_id}
 use Rattle.gix_traverse_commit.specs.Order.{At}
 use Rattle.gix_traverse_commit.specs.Painting.{ReachedFrom}
 use Rattle.gix_traverse_commit.specs.Rows.{AllHeld, Holds}
-use Rattle.gix_traverse_commit.specs.Simply.{Answers, Asked, AreAsked, IsKnown, IsTurn, keep_of, request_in, timing}
+use Rattle.gix_traverse_commit.specs.Simply.{AcceptsAs, Answers, Asked, AreAsked, IsKnown, IsTurn, keep_of, request_in, timing}
 use Rattle.gix_object_find.specs.Table.{Table}
 use Rattle.gix_traverse_commit.specs.Simply.{SimpleFault, StopsFetch}
 use Rattle.gix_traverse_commit.specs.declared.simple.faults.Error.{Error}
@@ -93,6 +93,17 @@ asked_now accepts tips nodes nodes' it answer marks w told asked met hidden new 
     here : (x : ObjectId) → it ≡ x → marks_of nodes' x ≡ marks → is_met nodes' x ≡ false → accepts (id_of x) ≡ true
     here x e f m = subst (λ (z : ObjectId). accepts (id_of z) ≡ true) e (sym told ∙ not_false answer (sym met ∙ sym (ap (λ (k : Marks). k.met) f) ∙ m))
 
+-- the same predicate, and none that was met is unmet
+pub accepts_more : (f f' : Id → Bool) (nodes nodes' : List Node) (a : Asked) → f' ≡ f → ((x : ObjectId) → is_met nodes x ≡ true → is_met nodes' x ≡ true) → AcceptsAs f nodes a → AcceptsAs f' nodes' a
+accepts_more f f' nodes nodes' a e grown w = record {
+  given = λ x k. ap (λ (h : Id → Bool). h (id_of x)) e ∙ w.given x k;
+  unmet = λ x n. ap (λ (h : Id → Bool). h (id_of x)) e ∙ w.unmet x (before x (is_met nodes x) refl n);
+}
+  where
+    before : (x : ObjectId) (b : Bool) → is_met nodes x ≡ b → is_met nodes' x ≡ false → is_met nodes x ≡ false
+    before x false h n = h
+    before x true h n = let m = grown x h in let z : ⊥ = cc in absurd z
+
 -- ---- marks of one commit
 
 -- where a met commit is marked so again nothing changes
@@ -138,6 +149,21 @@ module _ (nodes nodes' : List Node) (id : ObjectId) (marks : Marks) (new : (q : 
       go : (b : Bool) → same_id id q ≡ b → (cond b marks (marks_of nodes q)).hidden ≡ is_hidden nodes q
       go true t = e ∙ ap (is_hidden nodes) (same_from_test id q t)
       go false t = refl
+
+  -- a mark is taken away
+  pub taken_off : (mark : Marks → Bool) → mark marks ≡ false → (q : ObjectId) → mark (marks_of nodes' q) ≡ true → (mark (marks_of nodes q) ≡ true) × (id ≡ q → ⊥)
+  taken_off mark e q h = go (same_id id q) refl (sym (ap mark (new q)) ∙ h)
+    where
+      go : (b : Bool) → same_id id q ≡ b → mark (cond b marks (marks_of nodes q)) ≡ true → (mark (marks_of nodes q) ≡ true) × (id ≡ q → ⊥)
+      go true t k = let z : ⊥ = cc in absurd z
+      go false t k = (k, λ s. let u = test_from_same id q s in let z : ⊥ = cc in z)
+
+  pub unmet_from : (q : ObjectId) → is_met nodes' q ≡ false → (id ≡ q) ⊎ (is_met nodes q ≡ false)
+  unmet_from q h = go (same_id id q) refl (sym (ap (λ (k : Marks). k.met) (new q)) ∙ h)
+    where
+      go : (b : Bool) → same_id id q ≡ b → (cond b marks (marks_of nodes q)).met ≡ false → (id ≡ q) ⊎ (is_met nodes q ≡ false)
+      go true t k = inl (same_from_test id q t)
+      go false t k = inr k
 
 -- ---- the listed set
 

@@ -7,7 +7,7 @@ use Rattle.gix_hash.specs.declared.object_id.ObjectId.{ObjectId}
 use Rattle.gix_object_commit.specs.ReadingOn.{TellsNone, committer_told}
 use Rattle.gix_object_commit.specs.Tokens.{Place, start}
 use Rattle.gix_object_find.specs.Existing.{Stands, KindFault}
-use Rattle.gix_object_find.specs.Table.{Table, Object, kind_at}
+use Rattle.gix_object_find.specs.Table.{Table, kind_at}
 use Rattle.gix_object_find.specs.declared.find.Error.TheVariants as lookup
 use Rattle.gix_object_find.specs.declared.find.existing_iter.Error as existing_iter
 use Rattle.gix_object_find.specs.declared.find.existing_iter.Error.TheVariants as iter_case
@@ -18,7 +18,7 @@ use Rattle.gix_traverse_commit.specs.Commits.{Commits}
 use Rattle.gix_traverse_commit.specs.Fetching.{TimeFault, TimeIsTold, find_error}
 use Rattle.gix_traverse_commit.specs.Rows.{Holds}
 use Rattle.gix_traverse_commit.specs.Simply.{IsFirstUnread, TipFault, error_of}
-use Rattle.gix_traverse_commit.specs.Told.{AreTold, IsNoCommit}
+use Rattle.gix_traverse_commit.specs.Told.{AreTold}
 use Rattle.gix_traverse_commit.specs.declared.fetch.FetchError.{FetchError}
 use Rattle.gix_traverse_commit.specs.declared.fetch.FetchError.TheVariants as fault
 use Rattle.gix_traverse_commit.specs.declared.nodes.Node.{Node}

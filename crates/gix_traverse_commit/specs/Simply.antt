@@ -14,9 +14,9 @@ use Rattle.gix_traverse_commit.specs.Painting.{IsUnpainted, ReachedFrom, StopsPa
 use Rattle.gix_traverse_commit.specs.Rows.{AllHeld, Holds}
 use Rattle.gix_traverse_commit.specs.Told.{AreTold, rows_of}
 use Rattle.gix_traverse_commit.specs.Standing.{Reads}
-use Rattle.gix_traverse_commit.specs.Order.{At, IsOpen}
+use Rattle.gix_traverse_commit.specs.Order.{At, IsListOf, IsOpen}
 use Rattle.gix_traverse_commit.specs.Sorting.{ComesFirst, InOrder, IsNextIn, cutoff_in, timing_of}
-use Rattle.gix_traverse_commit.specs.Timely.{AllRowed, IsChosenSoFar, IsMetSoFar, keep_since, waiting}
+use Rattle.gix_traverse_commit.specs.Timely.{AllRowed, IsChosenSoFar, IsMetSoFar, keep_since, queued_by, waiting}
 use Rattle.gix_traverse_commit.specs.declared.fetch.FetchError.{FetchError}
 use Rattle.gix_traverse_commit.specs.declared.fetch.FetchError.TheVariants as fetch
 use Rattle.gix_traverse_commit.specs.declared.fetch.Source.{Source}
@@ -57,6 +57,14 @@ content_of walk = walk.source.buffer.items
 abbrev pub kind_of : {F P : Type 0} → Simple F P → hash.Kind
 kind_of walk = walk.kind
 
+-- what is queued, in the order in which it was queued
+abbrev pub queued_in : {F P : Type 0} → Simple F P → List ObjectId
+queued_in walk = walk.queue.items ++ queued_by walk.waiting
+
+-- it has met the commit: as a tip, or as a parent of a commit that came, which was not hidden then
+abbrev pub HasMet : {F P : Type 0} → Simple F P → ObjectId → Type 0
+HasMet walk x = is_met walk.nodes x ≡ true
+
 -- ---- what it is asked for
 
 -- what a walk is asked for
@@ -83,35 +91,64 @@ Answers g a listed = InOrder (timing a) g (request_in (timing a) a) listed
 abbrev pub IsSure : Type 0 → Asked → Type 0
 IsSure may_fail a = (timing a ≡ None) ⊎ (¬ may_fail)
 
--- the tips that the predicate refuses are marked, and no others
+-- the tips that are refused are marked, and of the others only what is refused; nothing is painted
+pub record AreRefused (accepts : Id → Bool) (tips : List ObjectId) (nodes : List Node) : Type 0 where
+  pub refused : (x : ObjectId) → is_met nodes x ≡ true → accepts (id_of x) ≡ false
+  pub accepted : (x : ObjectId) → Contains tips x → is_met nodes x ≡ false → accepts (id_of x) ≡ true
+  pub unpainted : IsUnpainted nodes
+
+-- the same, where the predicate was asked of these tips
 pub record AreAsked (accepts : Id → Bool) (tips : List ObjectId) (nodes : List Node) : Type 0 where
   pub refused : (x : ObjectId) → is_met nodes x ≡ true → accepts (id_of x) ≡ false
   pub accepted : (x : ObjectId) → Contains tips x → is_met nodes x ≡ false → accepts (id_of x) ≡ true
   pub asked : (x : ObjectId) → is_asked nodes x ≡ true → is_met nodes x ≡ false → accepts (id_of x) ≡ true
   pub unpainted : IsUnpainted nodes
 
+-- the walk goes to no commit that the predicate refuses, and of those that weren't met to each that it accepts
+pub record AcceptsAs (accepts : Id → Bool) (nodes : List Node) (a : Asked) : Type 0 where
+  pub given : (x : ObjectId) → a.accepts (id_of x) ≡ true → accepts (id_of x) ≡ true
+  pub unmet : (x : ObjectId) → is_met nodes x ≡ false → accepts (id_of x) ≡ a.accepts (id_of x)
+
 -- the commit has a row, or is among these ids
 abbrev pub IsKnown : List Row → List Id → ObjectId → Type 0
 IsKnown rows ids x = Holds rows x ⊎ Contains ids (id_of x)
 
--- a walk that was asked for this, and has not begun
-pub record IsMade {F P : Type 0} (accepts : P → Id → Bool) (a : Asked) (walk : Simple F P) : Type 0 where
+-- a walk that has not begun, from these tips
+pub record IsNew {F P : Type 0} (accepts : P → Id → Bool) (a : Asked) (walk : Simple F P) : Type 0 where
   pub begun : walk.begun ≡ false
   pub tips : walk.tips.items ≡ a.tips
   pub hidden : walk.hidden.items ≡ a.hidden
   pub parents : walk.parents ≡ a.parents
   pub sorting : walk.sorting ≡ a.sorting
-  pub accepts_same : accepts walk.predicate ≡ a.accepts
-  pub asked : AreAsked a.accepts a.tips walk.nodes
+  pub accepts_as : AcceptsAs (accepts walk.predicate) walk.nodes a
+  pub asked : AreRefused a.accepts a.tips walk.nodes
   pub empty : walk.queue.items ≡ []
   pub none_waits : waiting walk.waiting ≡ []
 
--- the same with its hidden commits painted
-pub record IsPaintedFor {F P : Type 0} (accepts : P → Id → Bool) (g : Commits ObjectId) (a : Asked) (walk : Simple F P) : Type 0 where
-  pub tips : walk.tips.items ≡ a.tips
+-- a walk that begins anew, from what is queued: it goes to no other commit that was met before
+pub record IsTurned {F P : Type 0} (accepts : P → Id → Bool) (a : Asked) (walk : Simple F P) : Type 0 where
+  pub begun : walk.begun ≡ false
+  pub no_tips : walk.tips.items ≡ []
+  pub queued : queued_in walk ≡ a.tips
+  pub goes_on : (walk.queue.items ≡ []) → (waiting walk.waiting ≡ []) → ⊥
+  pub hidden : walk.hidden.items ≡ a.hidden
   pub parents : walk.parents ≡ a.parents
   pub sorting : walk.sorting ≡ a.sorting
-  pub accepts_same : accepts walk.predicate ≡ a.accepts
+  pub accepts_as : AcceptsAs (accepts walk.predicate) walk.nodes a
+  pub accepted : (x : ObjectId) → Contains a.tips x → a.accepts (id_of x) ≡ true
+  pub refused : (x : ObjectId) → is_met walk.nodes x ≡ true → (¬ Contains a.tips x) → a.accepts (id_of x) ≡ false
+
+-- a walk that was asked for this, and has not begun, or begins anew
+abbrev pub IsMade : {F P : Type 0} → (P → Id → Bool) → Asked → Simple F P → Type 0
+IsMade accepts a walk = IsNew accepts a walk ⊎ IsTurned accepts a walk
+
+-- a walk that was asked for this, with its hidden commits painted
+pub record IsPaintedFor {F P : Type 0} (accepts : P → Id → Bool) (g : Commits ObjectId) (a : Asked) (walk : Simple F P) : Type 0 where
+  pub tips : walk.tips.items ≡ a.tips
+  pub hidden : walk.hidden.items ≡ a.hidden
+  pub parents : walk.parents ≡ a.parents
+  pub sorting : walk.sorting ≡ a.sorting
+  pub accepts_as : AcceptsAs (accepts walk.predicate) walk.nodes a
   pub refused : (x : ObjectId) → is_met walk.nodes x ≡ true → a.accepts (id_of x) ≡ false
   pub accepted : (x : ObjectId) → Contains a.tips x → is_met walk.nodes x ≡ false → a.accepts (id_of x) ≡ true
   pub painted : (x : ObjectId) → (is_hidden walk.nodes x ≡ true) ↔ ReachedFrom g a.hidden x
@@ -126,10 +163,12 @@ keep_of hides accepts x = not (hides x) && accepts (id_of x)
 -- all that the list's parents name
 pub record IsGoing {F P : Type 0} (accepts : P → Id → Bool) (ids : List Id) (g : Commits ObjectId) (a : Asked) (listed : List ObjectId) (walk : Simple F P) : Type 0 where
   pub begun : walk.begun ≡ true
+  pub hidden_same : walk.hidden.items ≡ a.hidden
   pub parents : walk.parents ≡ a.parents
   pub sorting : walk.sorting ≡ a.sorting
   pub in_breadth : timing a ≡ None
-  pub accepts_same : accepts walk.predicate ≡ a.accepts
+  pub none_waits : waiting walk.waiting ≡ []
+  pub accepts_as : AcceptsAs (accepts walk.predicate) walk.nodes a
   pub hides : ObjectId → Bool
   pub hidden : (x : ObjectId) → is_hidden walk.nodes x ≡ hides x
   pub painted : (x : ObjectId) → (hides x ≡ true) ↔ ReachedFrom g a.hidden x
@@ -139,11 +178,13 @@ pub record IsGoing {F P : Type 0} (accepts : P → Id → Bool) (ids : List Id) 
 -- the same of a walk by time: of what the list names, the commits that are kept are listed or wait
 pub record IsGoingByTime {F P : Type 0} (accepts : P → Id → Bool) (ids : List Id) (g : Commits ObjectId) (a : Asked) (listed : List ObjectId) (walk : Simple F P) : Type 0 where
   pub begun : walk.begun ≡ true
+  pub hidden_same : walk.hidden.items ≡ a.hidden
   pub parents : walk.parents ≡ a.parents
   pub sorting : walk.sorting ≡ a.sorting
   pub by_time : Timing
   pub is_by_time : timing a ≡ Some by_time
-  pub accepts_same : accepts walk.predicate ≡ a.accepts
+  pub empty : walk.queue.items ≡ []
+  pub accepts_as : AcceptsAs (accepts walk.predicate) walk.nodes a
   pub hides : ObjectId → Bool
   pub hidden : (x : ObjectId) → is_hidden walk.nodes x ≡ hides x
   pub painted : (x : ObjectId) → (hides x ≡ true) ↔ ReachedFrom g a.hidden x
@@ -159,13 +200,43 @@ IsUnderWay accepts ids g a listed walk = IsGoing accepts ids g a listed walk ⊎
 abbrev pub Stands : {F P : Type 0} → (P → Id → Bool) → List Id → Commits ObjectId → Asked → List ObjectId → Simple F P → Type 0
 Stands accepts ids g a listed walk = ((listed ≡ []) × IsMade accepts a walk) ⊎ IsUnderWay accepts ids g a listed walk
 
+-- it gives nothing more
+pub record IsOver {F P : Type 0} (walk : Simple F P) : Type 0 where
+  pub begun : walk.begun ≡ true
+  pub empty : walk.queue.items ≡ []
+  pub none_waits : waiting walk.waiting ≡ []
+
+-- what is left of a walk that was asked for this: from what is queued, in its order, past no other commit that was met
+pub record IsRest {F P : Type 0} (a rest : Asked) (walk : Simple F P) : Type 0 where
+  pub tips : rest.tips ≡ queued_in walk
+  pub hidden : rest.hidden ≡ a.hidden
+  pub parents : rest.parents ≡ a.parents
+  pub sorting : rest.sorting ≡ a.sorting
+  pub accepts : (x : ObjectId) → (rest.accepts (id_of x) ≡ true) ↔ ((a.accepts (id_of x) ≡ true) × (Contains rest.tips x ⊎ (¬ HasMet walk x)))
+
+-- a walk that has begun and isn't over, of which this is left
+pub record IsUnderWayTo {F P : Type 0} (accepts : P → Id → Bool) (rest : Asked) (walk : Simple F P) : Type 0 where
+  pub ids : List Id
+  pub g : Commits ObjectId
+  pub a : Asked
+  pub listed : List ObjectId
+  pub under_way : IsUnderWay accepts ids g a listed walk
+  pub goes_on : ¬ IsOver walk
+  pub left : IsRest a rest walk
+
+-- this is what a walk has before it: it was asked for it, or it is left of one that has begun
+abbrev pub HasAhead : {F P : Type 0} → (P → Id → Bool) → Asked → Simple F P → Type 0
+HasAhead accepts a walk = IsMade accepts a walk ⊎ IsUnderWayTo accepts a walk
+
 -- it comes to the parents of this commit, which it gives next
 pub record Enters {F P : Type 0} (accepts : P → Id → Bool) (ids : List Id) (g : Commits ObjectId) (a : Asked) (listed : List ObjectId) (id : ObjectId) (walk : Simple F P) : Type 0 where
   pub begun : walk.begun ≡ true
+  pub hidden_same : walk.hidden.items ≡ a.hidden
   pub parents : walk.parents ≡ a.parents
   pub sorting : walk.sorting ≡ a.sorting
   pub in_breadth : timing a ≡ None
-  pub accepts_same : accepts walk.predicate ≡ a.accepts
+  pub none_waits : waiting walk.waiting ≡ []
+  pub accepts_as : AcceptsAs (accepts walk.predicate) walk.nodes a
   pub hides : ObjectId → Bool
   pub hidden : (x : ObjectId) → is_hidden walk.nodes x ≡ hides x
   pub painted : (x : ObjectId) → (hides x ≡ true) ↔ ReachedFrom g a.hidden x
@@ -176,11 +247,13 @@ pub record Enters {F P : Type 0} (accepts : P → Id → Bool) (ids : List Id) (
 -- the same in a walk by time
 pub record EntersByTime {F P : Type 0} (accepts : P → Id → Bool) (ids : List Id) (g : Commits ObjectId) (a : Asked) (listed : List ObjectId) (id : ObjectId) (walk : Simple F P) : Type 0 where
   pub begun : walk.begun ≡ true
+  pub hidden_same : walk.hidden.items ≡ a.hidden
   pub parents : walk.parents ≡ a.parents
   pub sorting : walk.sorting ≡ a.sorting
   pub by_time : Timing
   pub is_by_time : timing a ≡ Some by_time
-  pub accepts_same : accepts walk.predicate ≡ a.accepts
+  pub empty : walk.queue.items ≡ []
+  pub accepts_as : AcceptsAs (accepts walk.predicate) walk.nodes a
   pub hides : ObjectId → Bool
   pub hidden : (x : ObjectId) → is_hidden walk.nodes x ≡ hides x
   pub painted : (x : ObjectId) → (hides x ≡ true) ↔ ReachedFrom g a.hidden x
@@ -191,12 +264,6 @@ pub record EntersByTime {F P : Type 0} (accepts : P → Id → Bool) (ids : List
 -- it gives this commit next
 abbrev pub IsAtTurn : {F P : Type 0} → (P → Id → Bool) → List Id → Commits ObjectId → Asked → List ObjectId → ObjectId → Simple F P → Type 0
 IsAtTurn accepts ids g a listed id walk = Enters accepts ids g a listed id walk ⊎ EntersByTime accepts ids g a listed id walk
-
--- it gives nothing more
-pub record IsOver {F P : Type 0} (walk : Simple F P) : Type 0 where
-  pub begun : walk.begun ≡ true
-  pub empty : walk.queue.items ≡ []
-  pub none_waits : waiting walk.waiting ≡ []
 
 -- the commit's time, where the walk goes by time
 abbrev pub IsTime : Option Timing → Commit ObjectId → Option ℤ → Type 0
@@ -287,11 +354,40 @@ pub record CountsOne (rows : List Row) (id : ObjectId) (before after : ℕ) : Ty
   pub stored : (¬ Holds rows id) → after ≡ one_more before
   pub rowed : Holds rows id → after ≡ before
 
+-- one after the other was asked for, but those that have rows
+abbrev pub CountsAll : List Row → List ObjectId → ℕ → ℕ → Type 0
+CountsAll rows [] before after = after ≡ before
+CountsAll rows (x ∷ xs) before after = (mid : ℕ) × CountsOne rows x before mid × CountsAll rows xs mid after
+
+-- a walk begins: all that is hidden was asked for, each commit once, and by time the tips, for their times
+pub record CountsBeginning (honest : Type 0) (rows : List Row) (table : Table) (a : Asked) (before after : ℕ) : Type 0 where
+  pub painted : List ObjectId
+  pub behind : ℕ
+  pub each : CountsAll rows painted before behind
+  pub is_list : honest → (g : Commits ObjectId) → AreTold rows table g → IsListOf (ReachedFrom g a.hidden) painted
+  pub in_breadth : timing a ≡ None → after ≡ behind
+  pub least : behind ≤ after
+  pub most : after ≤ behind + length a.tips
+
 -- at least one was asked for where the commit has no row, and up to so many more; none where it has one
 pub record CountsUpTo (rows : List Row) (id : ObjectId) (more before after : ℕ) : Type 0 where
   pub stored : (¬ Holds rows id) → one_more before ≤ after
   pub rowed : Holds rows id → after ≡ before
   pub most : after ≤ before + 1 + more
+
+-- the same, and the first commit is read
+pub record CountsFirst (honest : Type 0) (rows : List Row) (table : Table) (a : Asked) (info : Info) (before after : ℕ) : Type 0 where
+  pub begun : ℕ
+  pub beginning : CountsBeginning honest rows table a before begun
+  pub one : timing a ≡ None → CountsOne rows info.id begun after
+  pub more : CountsUpTo rows info.id (length info.parent_ids.items) begun after
+
+-- one object was asked for where a commit isn't read; where memory is wanting none that was counted is lost
+abbrev pub CountsFault : ℕ → ℕ → Error → Type 0
+CountsFault before after (fault.Find error) = after ≡ one_more before
+CountsFault before after (fault.ObjectDecode error) = after ≡ one_more before
+CountsFault before after (fault.HiddenGraph error) = ⊥
+CountsFault before after fault.Memory = before ≤ after
 
 -- what the next commit is, after this list
 pub record IsNext {F P : Type 0} (accepts : P → Id → Bool) (ids : List Id) (g : Commits ObjectId) (a : Asked) (listed : List ObjectId) (rows : List Row) (info : Info) (after : Simple F P) : Type 0 where
@@ -316,3 +412,11 @@ pub record GivesNext {F P : Type 0} (accepts : P → Id → Bool) (honest may_fa
   pub counted_one : before.begun ≡ true → timing_of before.parents before.sorting ≡ None → IfSome item (λ answer. IfOk answer (λ info. CountsOne (rows_of before.source.rows) info.id before.source.lookups after.source.lookups))
   pub counted_by_time : before.begun ≡ true → IfSome item (λ answer. IfOk answer (λ info. CountsUpTo (rows_of before.source.rows) info.id (length info.parent_ids.items) before.source.lookups after.source.lookups))
   pub rowed : InRows before → IfSome item (λ answer. IfOk answer (λ _. InRows after × (after.source.lookups ≡ before.source.lookups)))
+  pub over : IfNone item (IsOver after)
+  pub content_end : IfNone item (after.source.buffer.items ≡ before.source.buffer.items)
+  pub content_fault : IfSome item (λ answer. OnErr answer (after.source.buffer.items ≡ []))
+  pub counted_end : before.begun ≡ true → IfNone item (after.source.lookups ≡ before.source.lookups)
+  pub counted_fault : before.begun ≡ true → IfSome item (λ answer. IfErr answer (CountsFault before.source.lookups after.source.lookups))
+  pub rowed_end : InRows before → IfNone item (after.source.lookups ≡ before.source.lookups)
+  pub first : (a : Asked) → IsMade accepts a before → IfSome item (λ answer. IfOk answer (λ info. CountsFirst honest (rows_of before.source.rows) table a info before.source.lookups after.source.lookups))
+  pub first_end : (a : Asked) → IsMade accepts a before → IfNone item (CountsBeginning honest (rows_of before.source.rows) table a before.source.lookups after.source.lookups)

@@ -1,7 +1,7 @@
 -- Where a walk by time stands.
-use Rattle.std.specs.Prelude.{◌≡◌, ◌⊎◌, ◌↔◌, ℕ, ℤ, Bool, true, not, ◌&&◌, List, ◌∷◌, [], ◌++◌, Option, take, Contains, IsTrue}
+use Rattle.std.specs.Prelude.{◌≡◌, ◌⊎◌, ◌↔◌, ℕ, ℤ, Bool, true, not, ◌&&◌, List, ◌∷◌, [], ◌++◌, Option, take, Contains, IsTrue, map, filter, is_some}
 use Rattle.std.specs.List.{All}
-use Rattle.std.specs.BTreeMap.{keys}
+use Rattle.std.specs.BTreeMap.{get, keys}
 use Rattle.std.specs.BTreeMap.Range.{IsLtBy}
 use Rattle.std.specs.Ordering.{int_cmp, ordering_then}
 use Rattle.std.specs.declared.cmp.Ordering.{Ordering}
@@ -25,6 +25,10 @@ waiting w = keys w.turns
 -- by time, and then by id
 abbrev pub turn_cmp : Turn → Turn → Ordering
 turn_cmp a b = ordering_then (int_cmp a.time b.time) (id_cmp (id_of a.id) (id_of b.id))
+
+-- those that wait, in the order in which they were queued
+abbrev pub queued_by : Waiting → List ObjectId
+queued_by w = map (λ (t : Turn). t.id) (filter (λ (t : Turn). is_some (get turn_cmp w.turns t)) w.order.items)
 
 -- one more waits, where that is so
 abbrev pub Joins : Bool → List Turn → Turn → List Turn → Type 0

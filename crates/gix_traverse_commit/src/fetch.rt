@@ -177,6 +177,7 @@ impl<F: Find> Source<F> {
         ensures closed { Holds (rows_of self.old.rows) id.now
             → IfOk result (λ commit. AllHeld (rows_of self.old.rows) commit.parents.items) }
         ensures counted { self.new.lookups ≤ self.old.lookups + 1 }
+        ensures rising { self.old.lookups ≤ self.new.lookups }
         ensures asked { (¬ Holds (rows_of self.old.rows) id.now) → self.new.lookups ≡ one_more self.old.lookups }
         ensures content { F.is_honest self.old.objects → ¬ Holds (rows_of self.old.rows) id.now
             → OnOk result (Stands (F.table self.old.objects) (id_of id.now) kinds.Commit self.new.buffer.items) }

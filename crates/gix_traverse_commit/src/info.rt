@@ -1,7 +1,10 @@
 //! What a walk gives of a commit.
 
+ghost use Rattle.std.specs.Prelude.{◌≡◌, IfOk};
+
 use gix_hash::ObjectId;
 use smallvec::SmallVec;
+use std::alloc::AllocError;
 
 /// The ids of a commit's parents, one of them without an allocation.
 pub type ParentIds = SmallVec<ObjectId, 1>;
@@ -17,4 +20,24 @@ pub struct Info {
     pub generation: Option<u32>,
     /// Its committer's seconds since 1970, where the walk goes by time.
     pub commit_time: Option<i64>,
+}
+
+impl Info {
+    /// A copy. It is an error where there is no memory for it.
+    pub fn try_clone(&self) -> Result<Info, AllocError>
+        ensures id { IfOk result (λ copy. copy.id ≡ self.now.id) }
+        ensures parents { IfOk result (λ copy. copy.parent_ids.items ≡ self.now.parent_ids.items) }
+        ensures generation { IfOk result (λ copy. copy.generation ≡ self.now.generation) }
+        ensures time { IfOk result (λ copy. copy.commit_time ≡ self.now.commit_time) }
+    {
+        Ok(Info {
+            id: self.id,
+            parent_ids: ParentIds::from_slice(
+                *self.parent_ids.allocator(),
+                self.parent_ids.as_slice(),
+            )?,
+            generation: self.generation,
+            commit_time: self.commit_time,
+        })
+    }
 }

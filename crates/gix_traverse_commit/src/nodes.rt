@@ -1,9 +1,9 @@
 //! The commits that a walk knows, by their numbers, and what was marked of each.
 
-ghost use Rattle.std.specs.Prelude.{◌≡◌, [], if◌then◌else◌, OnOk};
+ghost use Rattle.std.specs.Prelude.{◌≡◌, [], if◌then◌else◌, true, Contains, IfOk, OnOk};
 ghost use Rattle.gix_hash.specs.declared.object_id.ObjectId.{ObjectId};
 ghost use Rattle.gix_traverse_commit.specs.Numbered.{same_id};
-ghost use Rattle.gix_traverse_commit.specs.Nodes.{marks_of};
+ghost use Rattle.gix_traverse_commit.specs.Nodes.{is_hidden, marks_of};
 
 use gix_hash::ObjectId;
 use std::alloc::{AllocError, Global};
@@ -97,7 +97,9 @@ impl Nodes {
     }
 
     /// The ids of the commits that have nodes, in the order in which they were met first.
-    pub fn ids(&self, alloc: Global) -> Result<Vec<ObjectId>, AllocError> {
+    pub fn ids(&self, alloc: Global) -> Result<Vec<ObjectId>, AllocError>
+        ensures { IfOk result (λ ids. (q : ObjectId) → is_hidden self.now q ≡ true → Contains ids.items q) }
+    {
         let mut ids = Vec::new(alloc);
         for node in &self.nodes {
             ids.push(node.id)?;

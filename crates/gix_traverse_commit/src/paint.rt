@@ -6,9 +6,10 @@ ghost use Rattle.gix_traverse_commit.specs.Commits.{Commits, Reached};
 ghost use Rattle.gix_traverse_commit.specs.Keeping.{Kept, KeptAll};
 ghost use Rattle.gix_traverse_commit.specs.Nodes.{is_met, is_hidden};
 ghost use Rattle.gix_traverse_commit.specs.Numbered.{same_id};
-ghost use Rattle.gix_traverse_commit.specs.Order.{At};
-ghost use Rattle.gix_traverse_commit.specs.Painting.{IsPainted, IsUnpainted, Paints, PaintFault, every};
+ghost use Rattle.gix_traverse_commit.specs.Order.{At, IsListOf};
+ghost use Rattle.gix_traverse_commit.specs.Painting.{IsPainted, IsUnpainted, Paints, PaintFault, ReachedFrom, every};
 ghost use Rattle.gix_traverse_commit.specs.Rows.{AllHeld};
+ghost use Rattle.gix_traverse_commit.specs.Simply.{CountsAll};
 ghost use Rattle.gix_traverse_commit.specs.Standing.{Reads};
 ghost use Rattle.gix_traverse_commit.specs.Told.{AreTold, rows_of};
 ghost use Rattle.gix_traverse_commit.specs.declared.rows.Row.{Row};
@@ -99,6 +100,11 @@ pub fn paint<F: Find>(
     ensures painted { OnOk result (IsUnpainted nodes.old → F.is_honest source.old.objects → (g : Commits ObjectId)
         → AreTold (rows_of source.old.rows) (F.table source.old.objects) g → Paints g hidden.now nodes.new) }
     ensures rowed { OnOk result (AllHeld (rows_of source.old.rows) hidden.now → source.new.lookups ≡ source.old.lookups) }
+    ensures counted { OnOk result ((asked : List ObjectId)
+        × CountsAll (rows_of source.old.rows) asked source.old.lookups source.new.lookups
+        × (IsUnpainted nodes.old → F.is_honest source.old.objects → (g : Commits ObjectId)
+        → AreTold (rows_of source.old.rows) (F.table source.old.objects) g
+        → IsListOf (ReachedFrom g hidden.now) asked)) }
     ensures refused { IsUnpainted nodes.old → IfErr result (PaintFault (F.is_honest source.old.objects)
         (F.may_fail source.old.objects) (rows_of source.old.rows) (F.table source.old.objects) hidden.now) }
 {

@@ -7,7 +7,7 @@ ghost use Rattle.gix_object_commit.specs.Tokens.{place_of, start};
 ghost use Rattle.gix_traverse_commit.specs.Commits.{Commits, asked_parents};
 ghost use Rattle.gix_traverse_commit.specs.Fetching.{TimeIsTold};
 ghost use Rattle.gix_traverse_commit.specs.Rows.{AllHeld, Holds};
-ghost use Rattle.gix_traverse_commit.specs.Simply.{Answers, Asked, CountsOne, CountsUpTo, IsAccepted, IsMade, IsPaintedFor, IsUnderWay, IsAtTurn, IsOver, IsKnown, IsInfo, IsTurn, IsSure, IsContentOf, IsUnmet, InRows, Stands, StopsFetch, TipFault, SimpleFault, GivesNext, source_of, objects_of, graph_of, lookups_of, content_of, kind_of};
+ghost use Rattle.gix_traverse_commit.specs.Simply.{Answers, Asked, CountsBeginning, CountsFault, CountsOne, CountsUpTo, HasAhead, IsAccepted, IsMade, IsNew, IsPaintedFor, IsUnderWay, IsAtTurn, IsOver, IsKnown, IsInfo, IsTurn, IsSure, IsContentOf, IsUnmet, InRows, Stands, StopsFetch, TipFault, SimpleFault, GivesNext, source_of, objects_of, graph_of, lookups_of, content_of, kind_of};
 ghost use Rattle.gix_traverse_commit.specs.Sorting.{IsByTime, timing_of};
 ghost use Rattle.gix_traverse_commit.specs.Timely.{waiting};
 ghost use Rattle.gix_traverse_commit.specs.Told.{AreTold, rows_of};
@@ -70,6 +70,7 @@ impl<F: Find + Drop> Simple<F, All> {
         ensures objects { IfOk result (λ walk. objects_of walk ≡ find) }
         ensures rows { IfOk result (λ walk. graph_of walk ≡ None) }
         ensures lookups { IfOk result (λ walk. lookups_of walk ≡ 0) }
+        ensures content { IfOk result (λ walk. content_of walk ≡ []) }
         ensures made { IfOk result (IsMade (λ _ _. true) (record {
           tips = tips.items;
           hidden = [];
@@ -84,12 +85,14 @@ impl<F: Find + Drop> Simple<F, All> {
 }
 
 impl<F: Find + Drop, P: Accept + Drop> Simple<F, P> {
-    /// A walk that gives only commits that the predicate accepts, and goes past none that it refuses. The predicate is asked
-    /// once of each commit that the walk meets, and of the tips at once.
+    /// A walk that gives the commits alone that the predicate accepts, and doesn't go on to the parents of one that it refuses.
+    /// The predicate is asked of each tip here, and of each other commit when the walk first meets it as a parent of one that
+    /// comes, unless it is hidden. It is `Memory` where there is no memory for the walk.
     pub fn filtered(tips: Vec<ObjectId>, find: F, mut predicate: P) -> Result<Simple<F, P>, Error>
         ensures objects { IfOk result (λ walk. objects_of walk ≡ find) }
         ensures rows { IfOk result (λ walk. graph_of walk ≡ None) }
         ensures lookups { IfOk result (λ walk. lookups_of walk ≡ 0) }
+        ensures content { IfOk result (λ walk. content_of walk ≡ []) }
         ensures made { IfOk result (IsMade P.accepts (record {
           tips = tips.items;
           hidden = [];
@@ -123,24 +126,26 @@ impl<F: Find + Drop, P: Accept + Drop> Simple<F, P> {
     }
 
     /// The same walk in this order; the last call before the first commit decides. An order by time reads the time of each tip that
-    /// the predicate accepts, in their order. Of the first that isn't read the error tells why: it is `Find` where it isn't found,
-    /// `ObjectDecode` where it tells no committer, and `Memory` where there is no memory; no walk is left then.
+    /// the predicate accepts, in their order, and refuses where one of them can't be told. The error is that of the first such tip:
+    /// `Find` where no object of a commit is found under its id, `ObjectDecode` where the object tells no committer's time, and
+    /// `Memory` where there is no memory for the lookup. After an error there is no walk any more.
     ///
-    /// After the first commit this begins the rest anew, as each builder call but `commit_graph` does: from what is queued, in the
-    /// order in which it was queued, past no other commit that was met. A walk that is over stays over.
+    /// After the first commit this begins the rest anew, as each builder call but `commit_graph` does: a walk whose tips are what is
+    /// queued, in the order in which that was queued, and which goes to no other commit that was met. A walk that is over stays over.
     pub fn sorting(mut self, sorting: Sorting) -> Result<Simple<F, P>, Error>
         ensures objects { IfOk result (λ walk. objects_of walk ≡ objects_of self) }
         ensures rows { IfOk result (λ walk. graph_of walk ≡ graph_of self) }
-        ensures made { (a : Asked) → IsMade P.accepts a self
+        ensures content { IfOk result (λ walk. content_of walk ≡ content_of self) }
+        ensures made { (a : Asked) → HasAhead P.accepts a self
             → IfOk result (IsMade P.accepts (record a { sorting = sorting })) }
-        ensures counted { (a : Asked) → IsMade P.accepts a self
+        ensures counted { (a : Asked) → HasAhead P.accepts a self
             → IfOk result (λ walk. lookups_of walk ≤ lookups_of self + length a.tips) }
-        ensures rowed { (a : Asked) → IsMade P.accepts a self → AllHeld (rows_of (graph_of self)) a.tips
+        ensures rowed { (a : Asked) → HasAhead P.accepts a self → AllHeld (rows_of (graph_of self)) a.tips
             → IfOk result (λ walk. lookups_of walk ≡ lookups_of self) }
-        ensures told { F.is_honest (objects_of self) → IsByTime sorting → (a : Asked) → IsMade P.accepts a self
+        ensures told { F.is_honest (objects_of self) → IsByTime sorting → (a : Asked) → HasAhead P.accepts a self
             → OnOk result ((x : ObjectId) → Contains a.tips x → IsAccepted a x
             → TimeIsTold (rows_of (graph_of self)) (F.table (objects_of self)) x) }
-        ensures refused { (a : Asked) → IsMade P.accepts a self → IfErr result (TipFault
+        ensures refused { (a : Asked) → HasAhead P.accepts a self → IfErr result (TipFault
             (F.is_honest (objects_of self)) (F.may_fail (objects_of self)) (rows_of (graph_of self))
             (F.table (objects_of self)) a.tips (IsAccepted a)) }
         ensures over { IsOver self → IfOk result IsOver }
@@ -155,7 +160,7 @@ impl<F: Find + Drop, P: Accept + Drop> Simple<F, P> {
     /// The same walk along these parents. After the first commit this begins the rest anew.
     pub fn parents(mut self, parents: Parents) -> Simple<F, P>
         ensures source { source_of result ≡ source_of self }
-        ensures made { (a : Asked) → IsMade P.accepts a self → IsMade P.accepts (record a { parents = parents }) result }
+        ensures made { (a : Asked) → HasAhead P.accepts a self → IsMade P.accepts (record a { parents = parents }) result }
         ensures over { IsOver self → IsOver result }
     {
         self.turn();
@@ -167,7 +172,7 @@ impl<F: Find + Drop, P: Accept + Drop> Simple<F, P> {
     /// After the first commit this begins the rest anew.
     pub fn hide(mut self, tips: Vec<ObjectId>) -> Result<Simple<F, P>, Error>
         ensures source { IfOk result (λ walk. source_of walk ≡ source_of self) }
-        ensures made { (a : Asked) → IsMade P.accepts a self
+        ensures made { (a : Asked) → HasAhead P.accepts a self
             → IfOk result (IsMade P.accepts (record a { hidden = tips.items })) }
         ensures over { IsOver self → IfOk result IsOver }
         ensures whole { IsOk result }
@@ -182,7 +187,11 @@ impl<F: Find + Drop, P: Accept + Drop> Simple<F, P> {
         ensures objects { objects_of result ≡ objects_of self }
         ensures rows { graph_of result ≡ rows }
         ensures lookups { lookups_of result ≡ lookups_of self }
+        ensures content { content_of result ≡ content_of self }
         ensures made { (a : Asked) → IsMade P.accepts a self → IsMade P.accepts a result }
+        ensures going { (ids : List Id) (g : Commits ObjectId) (a : Asked) (listed : List ObjectId)
+            → ((x : ObjectId) → Contains listed x → IsKnown (rows_of rows) ids x)
+            → IsUnderWay P.accepts ids g a listed self → IsUnderWay P.accepts ids g a listed result }
         ensures over { IsOver self → IsOver result }
     {
         self.source.rows = rows;
@@ -196,7 +205,8 @@ impl<F: Find + Drop, P: Accept + Drop> Simple<F, P> {
         self.source.lookups
     }
 
-    /// The content of the commit that was given last, where its object told it; else nothing.
+    /// The content of the commit that was given last, where its object told it; else nothing: also before the first commit, and
+    /// after an error.
     pub fn commit_data(&self) -> &[u8]
         ensures { result.now ≡ content_of self.now }
     {
@@ -216,12 +226,14 @@ impl<F: Find + Drop, P: Accept + Drop> Simple<F, P> {
     fn turn(&mut self)
         ensures source { self.new.source ≡ self.old.source }
         ensures same { self.old.begun ≡ false → self.new ≡ self.old }
+        ensures ahead { (a : Asked) → HasAhead P.accepts a self.old → IsMade P.accepts a self.new }
         ensures over { IsOver self.old → IsOver self.new }
     {
-        if self.begun {
-            self.tips.clear();
-            self.begun = self.is_idle();
+        if !self.begun {
+            return;
         }
+        self.tips.clear();
+        self.begun = self.is_idle();
     }
 
     // Whether nothing is queued.
@@ -235,10 +247,11 @@ impl<F: Find + Drop, P: Accept + Drop> Simple<F, P> {
     fn read_tips(&mut self, sorting: Sorting) -> Result<(), Error>
         ensures objects { self.new.source.objects ≡ self.old.source.objects }
         ensures rows { self.new.source.rows ≡ self.old.source.rows }
-        ensures made { (a : Asked) → IsMade P.accepts a self.old → IsMade P.accepts a self.new }
+        ensures made { (a : Asked) → IsNew P.accepts a self.old → IsNew P.accepts a self.new }
         ensures counted { self.new.source.lookups ≤ self.old.source.lookups + length self.old.tips.items }
         ensures rowed { AllHeld (rows_of self.old.source.rows) self.old.tips.items
             → self.new.source.lookups ≡ self.old.source.lookups }
+        ensures content { OnOk result (content_of self.new ≡ content_of self.old) }
         ensures told { F.is_honest self.old.source.objects → IsByTime sorting → OnOk result ((x : ObjectId)
             → Contains self.old.tips.items x → IsUnmet self.old.nodes x
             → TimeIsTold (rows_of self.old.source.rows) (F.table self.old.source.objects) x) }
@@ -250,13 +263,19 @@ impl<F: Find + Drop, P: Accept + Drop> Simple<F, P> {
         if time_order(Parents::All, sorting).is_none() {
             return Ok(());
         }
-        read_times(&mut self.source, &self.nodes, self.tips.as_slice())
+        let alloc: Global = *self.tips.allocator();
+        let content = mem::replace(&mut self.source.buffer, Vec::new(alloc));
+        read_times(&mut self.source, &self.nodes, self.tips.as_slice())?;
+        self.source.buffer = content;
+        Ok(())
     }
 
     // Makes tips of what is queued, in its order, and takes the hidden marks away. A walk that has not begun has nothing queued.
     fn gather(&mut self) -> Result<(), AllocError>
         ensures source { self.new.source ≡ self.old.source }
         ensures same { self.old.queue.items ≡ [] → waiting self.old.waiting ≡ [] → (self.new ≡ self.old) × IsOk result }
+        ensures made { (a : Asked) → IsMade P.accepts a self.old → OnOk result (IsNew P.accepts a self.new) }
+        ensures order { (self.new.parents ≡ self.old.parents) × (self.new.sorting ≡ self.old.sorting) }
         ensures rowed { InRows self.old → OnOk result (InRows self.new) }
     {
         if self.is_idle() {
@@ -266,7 +285,8 @@ impl<F: Find + Drop, P: Accept + Drop> Simple<F, P> {
         unpaint(alloc, &mut self.nodes)?;
         let waiting = self.waiting.take_all(alloc)?;
         queue_all(&mut self.queue, waiting.as_slice())?;
-        take_all(&mut self.tips, &mut self.nodes, &mut self.queue)
+        take_all(&mut self.tips, &mut self.nodes, &mut self.queue)?;
+        Ok(())
     }
 
     // Queues the tips of a walk whose hidden commits are painted.
@@ -279,6 +299,11 @@ impl<F: Find + Drop, P: Accept + Drop> Simple<F, P> {
             → OnOk result (IsUnderWay P.accepts ids g a [] self.new) }
         ensures rowed { InRows self.old → OnOk result (InRows self.new
             × (self.new.source.lookups ≡ self.old.source.lookups)) }
+        ensures in_breadth { timing_of self.old.parents self.old.sorting ≡ None
+            → self.new.source.lookups ≡ self.old.source.lookups }
+        ensures rising { self.old.source.lookups ≤ self.new.source.lookups }
+        ensures counted { self.new.source.lookups ≤ self.old.source.lookups + length self.old.tips.items }
+        ensures order { (self.new.parents ≡ self.old.parents) × (self.new.sorting ≡ self.old.sorting) }
         ensures refused { IfErr result (λ error. error ≡ Memory) }
     {
         let Some(timing) = time_order(self.parents, self.sorting) else {
@@ -305,17 +330,25 @@ impl<F: Find + Drop, P: Accept + Drop> Simple<F, P> {
             → AreTold (rows_of self.old.source.rows) (F.table self.old.source.objects) g → (ids : List Id) (a : Asked)
             → IsSure (F.may_fail self.old.source.objects) a → IsMade P.accepts a self.old
             → OnOk result (IsUnderWay P.accepts ids g a [] self.new) }
+        ensures content { OnOk result (content_of self.new ≡ content_of self.old) }
         ensures rowed { OnOk result (InRows self.old → InRows self.new
             × (self.new.source.lookups ≡ self.old.source.lookups)) }
+        ensures counted { OnOk result ((a : Asked) → IsMade P.accepts a self.old → CountsBeginning
+            (F.is_honest self.old.source.objects) (rows_of self.old.source.rows) (F.table self.old.source.objects) a
+            self.old.source.lookups self.new.source.lookups) }
+        ensures order { (self.new.parents ≡ self.old.parents) × (self.new.sorting ≡ self.old.sorting) }
         ensures refused { (a : Asked) → IsMade P.accepts a self.old → IfErr result (SimpleFault (λ _. ⊥)
             (F.is_honest self.old.source.objects) (F.may_fail self.old.source.objects)
             (rows_of self.old.source.rows) (F.table self.old.source.objects) a.hidden) }
     {
         self.gather()?;
+        let alloc: Global = *self.tips.allocator();
+        let content = mem::replace(&mut self.source.buffer, Vec::new(alloc));
         if let Err(error) = paint(&mut self.source, &mut self.nodes, self.hidden.as_slice()) {
             return Err(of_painting(error));
         }
         self.line_up()?;
+        self.source.buffer = content;
         Ok(())
     }
 
@@ -330,8 +363,13 @@ impl<F: Find + Drop, P: Accept + Drop> Simple<F, P> {
             → OnOk result (IsUnderWay P.accepts ids g a listed self.new) }
         ensures same { self.old.begun ≡ true → OnOk result (self.new ≡ self.old) }
         ensures begun { self.old.begun ≡ true → IsOk result }
+        ensures content { OnOk result (content_of self.new ≡ content_of self.old) }
         ensures rowed { OnOk result (InRows self.old → InRows self.new
             × (self.new.source.lookups ≡ self.old.source.lookups)) }
+        ensures counted { OnOk result ((a : Asked) → IsMade P.accepts a self.old → CountsBeginning
+            (F.is_honest self.old.source.objects) (rows_of self.old.source.rows) (F.table self.old.source.objects) a
+            self.old.source.lookups self.new.source.lookups) }
+        ensures order { (self.new.parents ≡ self.old.parents) × (self.new.sorting ≡ self.old.sorting) }
         ensures refused { (g : Commits ObjectId) (ids : List Id) (a : Asked) (listed : List ObjectId)
             → Stands P.accepts ids g a listed self.old
             → IfErr result (SimpleFault (λ _. ⊥)
@@ -345,15 +383,24 @@ impl<F: Find + Drop, P: Accept + Drop> Simple<F, P> {
     }
 
     // Ends the walk.
-    fn stop(&mut self)
-        ensures objects { self.new.source.objects ≡ self.old.source.objects }
-        ensures rows { self.new.source.rows ≡ self.old.source.rows }
-        ensures lookups { self.new.source.lookups ≡ self.old.source.lookups }
+    fn finish(&mut self)
+        ensures source { self.new.source ≡ self.old.source }
         ensures over { IsOver self.new }
     {
         self.begun = true;
         self.queue.clear();
         self.waiting.clear();
+    }
+
+    // Ends the walk after an error.
+    fn stop(&mut self)
+        ensures objects { self.new.source.objects ≡ self.old.source.objects }
+        ensures rows { self.new.source.rows ≡ self.old.source.rows }
+        ensures lookups { self.new.source.lookups ≡ self.old.source.lookups }
+        ensures emptied { content_of self.new ≡ [] }
+        ensures over { IsOver self.new }
+    {
+        self.finish();
         self.source.buffer.clear();
     }
 
@@ -446,6 +493,7 @@ impl<F: Find + Drop, P: Accept + Drop> Simple<F, P> {
             (length info.parent_ids.items) self.old.source.lookups self.new.source.lookups) }
         ensures rowed { InRows self.old → Holds (rows_of self.old.source.rows) id → OnOk result (InRows self.new
             × (self.new.source.lookups ≡ self.old.source.lookups)) }
+        ensures failed { IfErr result (CountsFault self.old.source.lookups self.new.source.lookups) }
         ensures refused { IfErr result (StopsFetch (F.is_honest self.old.source.objects)
             (F.may_fail self.old.source.objects) (rows_of self.old.source.rows)
             (F.table self.old.source.objects) id) }
@@ -479,7 +527,10 @@ impl<F: Find + Drop, P: Accept + Drop> Iterator for Simple<F, P> {
             self.stop();
             return Some(Err(error));
         }
-        let id = self.take()?;
+        let Some(id) = self.take() else {
+            self.finish();
+            return None;
+        };
         match self.enter(id) {
             Ok(info) => Some(Ok(info)),
             Err(error) => {

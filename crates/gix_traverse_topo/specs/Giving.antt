@@ -1,5 +1,5 @@
 -- What one call of a walk gives.
-use Rattle.std.specs.Prelude.{◌≡◌, ◌⊎◌, List, [], ◌∷◌, ◌++◌, Bool, Option, Some, Result, IfOk, IfErr, OnErr, IfSome, IfNone, IsNone}
+use Rattle.std.specs.Prelude.{◌≡◌, ◌⊎◌, ℕ, ◌<◌, List, [], ◌∷◌, ◌++◌, Bool, Option, Some, Result, IfOk, IfErr, OnErr, OnOk, IfSome, IfNone, IsNone}
 use Rattle.gix_hash.specs.Id.{Id, id_of}
 use Rattle.gix_hash.specs.declared.object_id.ObjectId.{ObjectId}
 use Rattle.gix_traverse_commit.specs.Commits.{Commits}
@@ -8,7 +8,7 @@ use Rattle.gix_traverse_commit.specs.declared.rows.Row.{Row}
 use Rattle.gix_object_find.specs.Table.{Table}
 use Rattle.gix_traverse_commit.specs.Told.{rows_of}
 use Rattle.gix_traverse_topo.specs.Asking.{Asked}
-use Rattle.gix_traverse_topo.specs.Standing.{Answers, Begins, IsInfo, IsTurn, NoneReachesItself, Stands, all_accepted, topo_request}
+use Rattle.gix_traverse_topo.specs.Standing.{Answers, Begins, IsInfo, IsTurn, NoneReachesItself, Stands, all_accepted, topo_request, weight}
 use Rattle.gix_traverse_topo.specs.Waiting.{waiting}
 use Rattle.gix_traverse_topo.specs.declared.error.Error.{Error}
 use Rattle.gix_traverse_topo.specs.declared.error.Error.TheVariants.{Memory}
@@ -27,6 +27,10 @@ BeginsAs accepts honest may_fail table a walk = Begins honest may_fail a.sorting
 abbrev pub HasGiven : {P : Type 0} → (P → Id → Bool) → Topo P → Sorting → List Row → (ObjectId → Option Error) → Commits ObjectId → List ObjectId → List ObjectId → List ObjectId → Type 0
 HasGiven accepts walk sorting rows faults g tips ends given = Stands sorting rows faults g tips ends walk.parents (accepted_by accepts walk) given walk.known walk.ready
 
+-- what is left of a walk: the names that are still to be counted off, and the commits that wait
+abbrev pub left_of : {P : Type 0} → Topo P → ℕ
+left_of walk = weight walk.known walk.ready
+
 pub record GivesNext {P : Type 0} (accepts : P → Id → Bool) (before : Topo P) (item : Option (Result Info Error)) (after : Topo P) : Type 0 where
   pub lookups : after.lookups ≡ before.lookups
   pub more : (sorting : Sorting) (rows : List Row) (faults : ObjectId → Option Error) (g : Commits ObjectId) (tips ends given : List ObjectId) → HasGiven accepts before sorting rows faults g tips ends given
@@ -39,3 +43,4 @@ pub record GivesNext {P : Type 0} (accepts : P → Id → Bool) (before : Topo P
   pub failed : IfSome item (λ answer. OnErr answer (waiting after.ready ≡ []))
   pub over : IfNone item (waiting after.ready ≡ [])
   pub ended : waiting before.ready ≡ [] → IsNone item
+  pub fewer : IfSome item (λ answer. OnOk answer (left_of after < left_of before))

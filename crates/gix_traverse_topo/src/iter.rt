@@ -188,6 +188,8 @@ impl<P: Accept + Drop> Topo<P> {
         ensures failed { IfSome result (λ given. OnErr given (waiting self.new.ready ≡ [])) }
         ensures over { IfNone result (waiting self.new.ready ≡ []) }
         ensures ended { waiting self.old.ready ≡ [] → IsNone result }
+        ensures falls { IfSome result (λ given. OnOk given (weight self.new.known self.new.ready
+            < weight self.old.known self.old.ready)) }
     {
         'turns: while let Some(given) = self.turn() {
             let info = match given {

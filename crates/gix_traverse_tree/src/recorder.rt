@@ -1,6 +1,6 @@
 //! A delegate that records each entry of a walk.
 
-ghost use Rattle.std.specs.Prelude.{◌≡◌, [], Some, IfOk, OnOk, take, unwrap_or};
+ghost use Rattle.std.specs.Prelude.{◌≡◌, [], Some, IfOk, OnOk, map, take, unwrap_or};
 ghost use Rattle.bstr.specs.BStr.{bstr_bytes};
 ghost use Rattle.gix_object_entries.specs.Entry.{item_of};
 ghost use Rattle.gix_traverse_tree.specs.declared.recorder.Location.TheVariants as locations;
@@ -60,6 +60,31 @@ impl Entry {
     }
 }
 
+// Copies of these entries, in their order.
+fn copied_entries(alloc: Global, entries: &[Entry]) -> Result<Vec<Entry>, AllocError>
+    ensures { IfOk result (λ copies. map recorded_of copies.items ≡ map recorded_of entries.now) }
+{
+    let mut copies = Vec::new(alloc);
+    'entries: for entry in entries {
+        copies.push(entry.try_clone()?)?;
+    }
+    Ok(copies)
+}
+
+// Copies of these paths, in their order.
+fn copied_paths(
+    alloc: Global,
+    paths: &VecDeque<ByteString>,
+) -> Result<VecDeque<ByteString>, AllocError>
+    ensures { IfOk result (λ copies. copies.items ≡ paths.now.items) }
+{
+    let mut copies = VecDeque::new(alloc);
+    'paths: while let Some(path) = paths.get(copies.len()) {
+        copies.push_back(path.try_clone()?)?;
+    }
+    Ok(copies)
+}
+
 /// Records all entries that a walk shows, and goes below each tree.
 #[derive(Debug, Drop)]
 pub struct Recorder {
@@ -97,6 +122,19 @@ impl Recorder {
         ensures { bstr_bytes result ≡ (recording_of self.now).path }
     {
         BStr::new(self.path.as_slice())
+    }
+
+    /// A copy, with its entries and with the paths that are queued. It is an error where there is no memory for it.
+    pub fn try_clone(&self) -> Result<Recorder, AllocError>
+        ensures { IfOk result (λ copy. recording_of copy ≡ recording_of self.now) }
+    {
+        let alloc: Global = *self.path.allocator();
+        Ok(Recorder {
+            path_deque: copied_paths(alloc, &self.path_deque)?,
+            path: self.path.clone()?,
+            location: self.location,
+            records: copied_entries(alloc, self.records.as_slice())?,
+        })
     }
 
     /// A copy of that path.

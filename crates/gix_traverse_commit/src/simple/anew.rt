@@ -1,6 +1,9 @@
 //! Beginning anew from what is queued.
 
-ghost use Rattle.std.specs.Prelude.{◌≡◌, [], ◌++◌, OnOk};
+ghost use Rattle.std.specs.Prelude.{◌≡◌, ◌⊎◌, true, false, [], ◌++◌, Contains, OnOk};
+ghost use Rattle.gix_hash.specs.declared.object_id.ObjectId.{ObjectId};
+ghost use Rattle.gix_traverse_commit.specs.Nodes.{is_hidden, is_met};
+ghost use Rattle.gix_traverse_commit.specs.Painting.{IsUnpainted};
 
 use crate::nodes::{Marks, Nodes};
 use crate::simple::meet::pop;
@@ -8,21 +11,22 @@ use gix_hash::ObjectId;
 use std::alloc::{AllocError, Global};
 use std::collections::VecDeque;
 
-/// Takes all hidden marks away. A commit that was passed by since it was hidden may be met again.
-pub fn unpaint(alloc: Global, nodes: &mut Nodes) -> Result<(), AllocError> {
+/// Takes all hidden marks away.
+pub fn unpaint(alloc: Global, nodes: &mut Nodes) -> Result<(), AllocError>
+    ensures unpainted { OnOk result (IsUnpainted nodes.new) }
+    ensures met { OnOk result ((q : ObjectId) → is_met nodes.new q ≡ is_met nodes.old q) }
+{
     let ids = nodes.ids(alloc)?;
-    for id in &ids {
+    'ids: for id in &ids {
         let marks = nodes.marks(id);
-        if marks.hidden {
-            nodes.mark(
-                *id,
-                Marks {
-                    asked: marks.asked,
-                    met: marks.asked && marks.met,
-                    hidden: false,
-                },
-            )?;
-        }
+        nodes.mark(
+            *id,
+            Marks {
+                asked: marks.asked,
+                met: marks.met,
+                hidden: false,
+            },
+        )?;
     }
     Ok(())
 }
@@ -35,6 +39,11 @@ pub fn take_all(
 ) -> Result<(), AllocError>
     ensures tips { OnOk result (tips.new.items ≡ tips.old.items ++ queue.old.items) }
     ensures emptied { OnOk result (queue.new.items ≡ []) }
+    ensures hidden { OnOk result ((q : ObjectId) → is_hidden nodes.new q ≡ is_hidden nodes.old q) }
+    ensures met { OnOk result ((q : ObjectId) → is_met nodes.new q ≡ true
+        → (is_met nodes.old q ≡ true) × (¬ Contains queue.old.items q)) }
+    ensures unmet { OnOk result ((q : ObjectId) → is_met nodes.new q ≡ false
+        → (is_met nodes.old q ≡ false) ⊎ Contains queue.old.items q) }
 {
     'queued: while let Some(id) = pop(queue) {
         let marks = nodes.marks(&id);

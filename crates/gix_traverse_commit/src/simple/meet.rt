@@ -7,7 +7,7 @@ ghost use Rattle.gix_traverse_commit.specs.Keeping.{Kept, KeptAll};
 ghost use Rattle.gix_traverse_commit.specs.Nodes.{is_met, is_hidden};
 ghost use Rattle.gix_traverse_commit.specs.Numbered.{same_id};
 ghost use Rattle.gix_traverse_commit.specs.Rows.{AllHeld};
-ghost use Rattle.gix_traverse_commit.specs.Simply.{AreAsked};
+ghost use Rattle.gix_traverse_commit.specs.Simply.{AreAsked, AreRefused};
 ghost use Rattle.gix_traverse_commit.specs.Standing.{Reads};
 ghost use Rattle.gix_traverse_commit.specs.declared.rows.Row.{Row};
 
@@ -47,7 +47,7 @@ pub fn ask_tips<P: Accept>(
 ) -> Result<(), AllocError>
     ensures accepts { P.accepts predicate.new ≡ P.accepts predicate.old }
     ensures asked { OnOk result (AreAsked (P.accepts predicate.old) [] nodes.old
-        → AreAsked (P.accepts predicate.old) tips.now nodes.new) }
+        → AreRefused (P.accepts predicate.old) tips.now nodes.new) }
 {
     'tips: for tip in tips {
         ask_tip(nodes, predicate, *tip)?;
@@ -102,6 +102,7 @@ pub fn queue_tips(
     tips: &[ObjectId],
 ) -> Result<(), AllocError>
     ensures hidden { OnOk result ((q : ObjectId) → is_hidden nodes.new q ≡ is_hidden nodes.old q) }
+    ensures grown { OnOk result ((q : ObjectId) → is_met nodes.old q ≡ true → is_met nodes.new q ≡ true) }
     ensures rowed { OnOk result ((rows : List Row) → AllHeld rows queue.old.items → AllHeld rows tips.now
         → AllHeld rows queue.new.items) }
     ensures walked { OnOk result ((along : ObjectId → List ObjectId) (keep : ObjectId → Bool)
@@ -123,19 +124,22 @@ fn meet<P: Accept>(
     id: ObjectId,
 ) -> Result<(), AllocError>
     ensures accepts { P.accepts predicate.new ≡ P.accepts predicate.old }
-    ensures met { OnOk result ((q : ObjectId) → is_met nodes.new q
-        ≡ (if same_id id q then true else is_met nodes.old q)) }
+    ensures met { OnOk result ((q : ObjectId) → is_met nodes.new q ≡ (if is_hidden nodes.old id
+        then is_met nodes.old q else (if same_id id q then true else is_met nodes.old q))) }
     ensures hidden { OnOk result ((q : ObjectId) → is_hidden nodes.new q ≡ is_hidden nodes.old q) }
     ensures queued { OnOk result (queue.new.items ≡ (if is_met nodes.old id then queue.old.items
         else (if not (is_hidden nodes.old id) && P.accepts predicate.old (id_of id)
         then queue.old.items ++ id ∷ [] else queue.old.items))) }
 {
     let marks = nodes.marks(&id);
+    if marks.hidden {
+        return Ok(());
+    }
     if marks.met {
         return Ok(());
     }
     mark_met(nodes, id, marks)?;
-    if !marks.hidden && predicate.accept(id.as_oid()) {
+    if predicate.accept(id.as_oid()) {
         queue.push_back(id)?;
     }
     Ok(())
@@ -150,11 +154,13 @@ pub fn meet_parents<P: Accept>(
 ) -> Result<(), AllocError>
     ensures accepts { P.accepts predicate.new ≡ P.accepts predicate.old }
     ensures hidden { OnOk result ((q : ObjectId) → is_hidden nodes.new q ≡ is_hidden nodes.old q) }
+    ensures grown { OnOk result ((q : ObjectId) → is_met nodes.old q ≡ true → is_met nodes.new q ≡ true) }
     ensures rowed { OnOk result ((rows : List Row) → AllHeld rows queue.old.items → AllHeld rows parents.now
         → AllHeld rows queue.new.items) }
     ensures walked { OnOk result ((along : ObjectId → List ObjectId) (keep : ObjectId → Bool)
         (tips listed : List ObjectId) (id : ObjectId)
-        → ((x : ObjectId) → keep x ≡ (not (is_hidden nodes.old x) && P.accepts predicate.old (id_of x)))
+        → ((x : ObjectId) → is_met nodes.old x ≡ false
+        → keep x ≡ (not (is_hidden nodes.old x) && P.accepts predicate.old (id_of x)))
         → parents.now ≡ along id
         → Kept along tips keep (is_met nodes.old) (listed ++ queue.old.items) (length listed) 0
         → Reads (listed ++ queue.old.items) (length listed) id

@@ -82,7 +82,6 @@ pub fn read_times<F: Find>(
     'tips: for tip in tips {
         read_time(source, nodes, tip)?;
     }
-    source.buffer.clear();
     Ok(())
 }
 
@@ -122,6 +121,8 @@ fn await_tip<F: Find>(
 ) -> Result<(), Error>
     ensures objects { source.new.objects ≡ source.old.objects }
     ensures rows { source.new.rows ≡ source.old.rows }
+    ensures counted { source.new.lookups ≤ source.old.lookups + 1 }
+    ensures rising { source.old.lookups ≤ source.new.lookups }
     ensures met { OnOk result ((q : ObjectId) → is_met nodes.new q
         ≡ (if same_id id q then true else is_met nodes.old q)) }
     ensures hidden { OnOk result ((q : ObjectId) → is_hidden nodes.new q ≡ is_hidden nodes.old q) }
@@ -155,7 +156,10 @@ pub fn await_tips<F: Find>(
 ) -> Result<(), Error>
     ensures objects { source.new.objects ≡ source.old.objects }
     ensures rows { source.new.rows ≡ source.old.rows }
+    ensures counted { source.new.lookups ≤ source.old.lookups + length tips.now }
+    ensures rising { source.old.lookups ≤ source.new.lookups }
     ensures hidden { OnOk result ((q : ObjectId) → is_hidden nodes.new q ≡ is_hidden nodes.old q) }
+    ensures grown { OnOk result ((q : ObjectId) → is_met nodes.old q ≡ true → is_met nodes.new q ≡ true) }
     ensures rowed { AllHeld (rows_of source.old.rows) tips.now → OnOk result ((source.new.lookups ≡ source.old.lookups)
         × (AllRowed (rows_of source.old.rows) (waiting_turns waiting.old)
         → AllRowed (rows_of source.old.rows) (waiting_turns waiting.new))) }
@@ -188,8 +192,8 @@ fn await_parent<F: Find, P: Accept>(
     ensures counted { source.new.lookups ≤ source.old.lookups + 1 }
     ensures rising { source.old.lookups ≤ source.new.lookups }
     ensures accepts { P.accepts predicate.new ≡ P.accepts predicate.old }
-    ensures met { OnOk result ((q : ObjectId) → is_met nodes.new q
-        ≡ (if same_id id q then true else is_met nodes.old q)) }
+    ensures met { OnOk result ((q : ObjectId) → is_met nodes.new q ≡ (if is_hidden nodes.old id
+        then is_met nodes.old q else (if same_id id q then true else is_met nodes.old q))) }
     ensures hidden { OnOk result ((q : ObjectId) → is_hidden nodes.new q ≡ is_hidden nodes.old q) }
     ensures rowed { Holds (rows_of source.old.rows) id → OnOk result ((source.new.lookups ≡ source.old.lookups)
         × (AllRowed (rows_of source.old.rows) (waiting_turns waiting.old)
@@ -201,11 +205,14 @@ fn await_parent<F: Find, P: Accept>(
     ensures refused { IfErr result (λ error. error ≡ Memory) }
 {
     let marks = nodes.marks(&id);
+    if marks.hidden {
+        return Ok(());
+    }
     if marks.met {
         return Ok(());
     }
     mark_met(nodes, id, marks)?;
-    if !marks.hidden && predicate.accept(id.as_oid()) {
+    if predicate.accept(id.as_oid()) {
         wait(source, waiting, since, id)?;
     }
     Ok(())
@@ -226,15 +233,17 @@ pub fn await_parents<F: Find, P: Accept>(
     ensures rising { source.old.lookups ≤ source.new.lookups }
     ensures accepts { P.accepts predicate.new ≡ P.accepts predicate.old }
     ensures hidden { OnOk result ((q : ObjectId) → is_hidden nodes.new q ≡ is_hidden nodes.old q) }
+    ensures grown { OnOk result ((q : ObjectId) → is_met nodes.old q ≡ true → is_met nodes.new q ≡ true) }
     ensures rowed { AllHeld (rows_of source.old.rows) parents.now → OnOk result ((source.new.lookups ≡ source.old.lookups)
         × (AllRowed (rows_of source.old.rows) (waiting_turns waiting.old)
         → AllRowed (rows_of source.old.rows) (waiting_turns waiting.new))) }
     ensures walked { OnOk result (F.is_honest source.old.objects → ¬ F.may_fail source.old.objects
         → (g : Commits ObjectId) → AreTold (rows_of source.old.rows) (F.table source.old.objects) g
-        → (along : ObjectId → List ObjectId) (tips front listed : List ObjectId)
-        → IsMetSoFar g (keep_since since g (is_hidden nodes.old) (P.accepts predicate.old)) (is_met nodes.old)
+        → (accepts : Id → Bool) (along : ObjectId → List ObjectId) (tips front listed : List ObjectId)
+        → ((x : ObjectId) → is_met nodes.old x ≡ false → P.accepts predicate.old (id_of x) ≡ accepts (id_of x))
+        → IsMetSoFar g (keep_since since g (is_hidden nodes.old) accepts) (is_met nodes.old)
         (IsOpen along tips front) listed (waiting_turns waiting.old)
-        → IsMetSoFar g (keep_since since g (is_hidden nodes.old) (P.accepts predicate.old)) (is_met nodes.new)
+        → IsMetSoFar g (keep_since since g (is_hidden nodes.old) accepts) (is_met nodes.new)
         (λ x. IsOpen along tips front x ⊎ Contains parents.now x) listed (waiting_turns waiting.new)) }
     ensures refused { IfErr result (λ error. error ≡ Memory) }
 {

@@ -1,8 +1,7 @@
 //! The commits that wait in a walk by time, in the order of their times.
 
-ghost use Rattle.std.specs.Prelude.{◌≡◌, ◌↔◌, ℕ, [], map, Contains, IfSome, IfNone, IfOk, OnOk, true};
-ghost use Rattle.gix_traverse_commit.specs.Timely.{IsTaken, Joins, Waits, waiting};
-ghost use Rattle.gix_hash.specs.declared.object_id.ObjectId.{ObjectId};
+ghost use Rattle.std.specs.Prelude.{◌≡◌, ◌↔◌, [], ◌∷◌, ◌++◌, IfSome, IfNone, IfOk, OnOk, true};
+ghost use Rattle.gix_traverse_commit.specs.Timely.{IsTaken, Joins, queued_by, waiting};
 
 use crate::simple::sorting::CommitTimeOrder;
 use gix_hash::ObjectId;
@@ -18,11 +17,11 @@ pub struct Turn {
     pub id: ObjectId,
 }
 
-/// The commits that wait, each with how many were queued before it.
+/// The commits that wait, and the order in which commits were queued: also of those whose turn has come since.
 #[derive(Drop)]
 pub struct Waiting {
     turns: BTreeMap<Turn, usize>,
-    queued: usize,
+    order: Vec<Turn>,
 }
 
 impl Waiting {
@@ -32,16 +31,17 @@ impl Waiting {
     {
         Waiting {
             turns: BTreeMap::new(alloc),
-            queued: 0,
+            order: Vec::new(alloc),
         }
     }
 
-    /// One more waits.
+    /// One more waits, and is queued last.
     pub fn put(&mut self, turn: Turn) -> Result<(), AllocError>
-        ensures { OnOk result (Joins true (waiting self.old) turn (waiting self.new)) }
+        ensures joins { OnOk result (Joins true (waiting self.old) turn (waiting self.new)) }
+        ensures last { OnOk result (self.new.order.items ≡ self.old.order.items ++ turn ∷ []) }
     {
-        self.turns.insert(turn, self.queued)?;
-        self.queued = self.queued.saturating_add(1);
+        self.turns.insert(turn, self.order.len())?;
+        self.order.push(turn)?;
         Ok(())
     }
 
@@ -75,29 +75,21 @@ impl Waiting {
         ensures { waiting self.new ≡ [] }
     {
         self.turns.clear();
+        self.order.clear();
     }
 
     /// Takes all that wait, in the order in which they were queued.
     pub fn take_all(&mut self, alloc: Global) -> Result<Vec<ObjectId>, AllocError>
         ensures emptied { OnOk result (waiting self.new ≡ []) }
-        ensures waited { IfOk result (λ ids. (x : ObjectId) → Contains ids.items x → Waits (waiting self.old) x) }
+        ensures queued { IfOk result (λ ids. ids.items ≡ queued_by self.old) }
     {
-        let mut places: Vec<(usize, ObjectId)> = Vec::new(alloc);
-        'turns: while let Some((turn, place)) = self.turns.pop_first() {
-            places.push((place, turn.id))?;
+        let mut ids = Vec::new(alloc);
+        'order: for turn in &self.order {
+            if self.turns.contains_key(turn) {
+                ids.push(turn.id)?;
+            }
         }
-        places.sort()?;
-        ids_of(alloc, places.as_slice())
+        self.clear();
+        Ok(ids)
     }
-}
-
-// The ids, without their places.
-fn ids_of(alloc: Global, places: &[(usize, ObjectId)]) -> Result<Vec<ObjectId>, AllocError>
-    ensures { IfOk result (λ ids. ids.items ≡ map (λ (p : ℕ × ObjectId). p.1) places.now) }
-{
-    let mut ids = Vec::new(alloc);
-    'places: for place in places {
-        ids.push(place.1)?;
-    }
-    Ok(ids)
 }

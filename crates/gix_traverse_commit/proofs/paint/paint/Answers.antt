@@ -1,13 +1,16 @@
 use Rattle.std.proofs.lemmas.Result.{err_from_is_err_and}
 use Rattle.std.proofs.lemmas.Option.{slice_get_within}
-use Rattle.std.proofs.Common.{refl, sym, suc, List, ◌∙◌, ◌≡◌, ◌<◌, ◌≤◌, ◌+◌, ℕ, length, arith, subst}
+use Rattle.std.proofs.Common.{refl, sym, suc, List, ◌∙◌, ◌≡◌, ◌<◌, ◌≤◌, ◌+◌, ℕ, length, arith, subst, take}
 use Rattle.gix_hash.specs.declared.object_id.ObjectId.{ObjectId}
 use Rattle.gix_traverse_commit.specs.Nodes.{is_hidden}
 use Rattle.gix_traverse_commit.specs.Order.{At}
 use Rattle.gix_traverse_commit.specs.Painting.{every}
 use Rattle.gix_traverse_commit.specs.Keeping.{Kept}
 use Rattle.gix_traverse_commit.specs.Rows.{AllHeld}
+use Rattle.gix_traverse_commit.specs.Simply.{CountsAll}
 use Rattle.gix_traverse_commit.specs.Told.{rows_of}
+use Rattle.gix_traverse_commit.proofs.Chosen.{take_all}
+use Rattle.gix_traverse_commit.proofs.Counting.{counts_next, painted_list}
 use Rattle.gix_traverse_commit.proofs.Keeping.{kept_next}
 use Rattle.gix_traverse_commit.proofs.Lists.{contains_from_at}
 use Rattle.gix_traverse_commit.proofs.Painting.{painted_all, painted_reached, known_longer, read_fit, paint_fault, shorter}
@@ -44,6 +47,8 @@ painted-preserved-in_ok-paint_parents g c =
       painted = c.in_ok-paint_parents.ensures.painted c.painted.invariant.painted;
       known = known_longer rows ids items c.paint_parents.new.painted.items c.painted.read id l c.in_ok-paint_parents.ensures.longer c.painted.invariant.known here listed;
       rowed = (λ h. let r = c.painted.invariant.rowed h in let held = r.0 id (contains_from_at items c.painted.read id here) in (c.in_ok-paint_parents.ensures.rowed rows r.0 (subst (λ (xs : List ObjectId). AllHeld rows xs) (sym c.as_slice.ensures) (closed held)), (counted held).0 ∙ r.1));
+      counted = counts_next rows items c.paint_parents.new.painted.items c.painted.read id c.args.source.now.lookups c.painted.source.lookups c.fetch.new.self.lookups here c.in_ok-paint_parents.ensures.longer c.painted.invariant.counted
+          (record { stored = (rw c.painted.invariant.rows at c.fetch.ensures.asked); rowed = λ h. (counted h).0 });
       walked = (λ unpainted honest commits told.
           let w = c.painted.invariant.walked unpainted honest commits told in
           let e : c.painted.read + 1 ≡ suc c.painted.read = omega arith in
@@ -98,6 +103,8 @@ painted-preserved g c =
       painted = c.in_ok-paint_parents.ensures.painted c.painted.invariant.painted;
       known = known_longer rows ids items c.paint_parents.new.painted.items c.painted.read id l c.in_ok-paint_parents.ensures.longer c.painted.invariant.known here listed;
       rowed = (λ h. let r = c.painted.invariant.rowed h in let held = r.0 id (contains_from_at items c.painted.read id here) in (c.in_ok-paint_parents.ensures.rowed rows r.0 (subst (λ (xs : List ObjectId). AllHeld rows xs) (sym c.as_slice.ensures) (closed held)), (counted held).0 ∙ r.1));
+      counted = counts_next rows items c.paint_parents.new.painted.items c.painted.read id c.args.source.now.lookups c.painted.source.lookups c.fetch.new.self.lookups here c.in_ok-paint_parents.ensures.longer c.painted.invariant.counted
+          (record { stored = (rw c.painted.invariant.rows at c.fetch.ensures.asked); rowed = λ h. (counted h).0 });
       walked = (λ unpainted honest commits told.
           let w = c.painted.invariant.walked unpainted honest commits told in
           let e : c.painted.read + 1 ≡ suc c.painted.read = omega arith in
@@ -105,6 +112,15 @@ painted-preserved g c =
           (subst (λ (n : ℕ). Kept (λ y. (commits y).parents) c.args.hidden.now every (is_hidden c.painted.nodes) items n 0) (sym e) (kept_next (λ y. (commits y).parents) c.args.hidden.now every (is_hidden c.painted.nodes) items c.painted.read w (omega arith)))
           (c.painted.read, e, here));
     }
+
+pub returns-clause-counted : goal.returns-clause-counted
+returns-clause-counted g c =
+    let items : List ObjectId = c.painted.painted.items in
+    let e : take c.painted.read items ≡ items = take_all items c.painted.read (omega arith) in (
+      items,
+      subst (λ (xs : List ObjectId). CountsAll (rows_of c.args.source.now.rows) xs c.args.source.now.lookups c.painted.source.lookups) e c.painted.invariant.counted,
+      (λ unpainted honest commits told. painted_list commits c.args.hidden.now c.painted.nodes items c.painted.read (c.painted.invariant.walked unpainted honest commits told) (omega arith)),
+    )
 
 pub returns-clause-painted : goal.returns-clause-painted
 returns-clause-painted g c = λ unpainted honest commits told.

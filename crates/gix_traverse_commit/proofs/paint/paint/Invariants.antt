@@ -1,4 +1,4 @@
-use Rattle.std.proofs.Common.{◌≡◌, ℕ, ◌<◌, ◌≤◌, ◌+◌, ◌-◌, length}
+use Rattle.std.proofs.Common.{◌≡◌, ℕ, ◌<◌, ◌≤◌, ◌+◌, ◌-◌, length, take}
 use Rattle.gix_hash.specs.declared.object_id.ObjectId.{ObjectId}
 use Rattle.gix_traverse_commit.specs.Commits.{Commits}
 use Rattle.gix_traverse_commit.specs.Keeping.{KeptAll}
@@ -6,7 +6,7 @@ use Rattle.gix_traverse_commit.specs.Nodes.{is_hidden, is_met}
 use Rattle.gix_traverse_commit.specs.Order.{At}
 use Rattle.gix_traverse_commit.specs.Painting.{IsPainted, IsUnpainted, every}
 use Rattle.gix_traverse_commit.specs.Rows.{AllHeld}
-use Rattle.gix_traverse_commit.specs.Simply.{IsKnown}
+use Rattle.gix_traverse_commit.specs.Simply.{CountsAll, IsKnown}
 use Rattle.gix_traverse_commit.specs.Told.{AreTold, rows_of}
 use Rattle.gix_traverse_commit.proofs.paint.paint.Given as goal
 
@@ -19,6 +19,7 @@ invariant-painted g l = record {
   painted : IsPainted l.nodes l.painted.items;
   known : (k : ℕ) (x : ObjectId) → k < l.read → At l.painted.items k x → IsKnown (rows_of l.fn.source.rows) (g.F.Lookup.ids l.fn.source.objects) x;
   rowed : AllHeld (rows_of l.fn.source.rows) l.hidden → AllHeld (rows_of l.fn.source.rows) l.painted.items × (l.source.lookups ≡ l.fn.source.lookups);
+  counted : CountsAll (rows_of l.fn.source.rows) (take l.read l.painted.items) l.fn.source.lookups l.source.lookups;
   walked : IsUnpainted l.fn.nodes → g.F.Lookup.is_honest l.fn.source.objects → (commits : Commits ObjectId)
       → AreTold (rows_of l.fn.source.rows) (g.F.Lookup.table l.fn.source.objects) commits
       → KeptAll (λ y. (commits y).parents) l.hidden every (is_hidden l.nodes) l.painted.items l.read;

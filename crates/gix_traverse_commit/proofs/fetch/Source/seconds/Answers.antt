@@ -8,7 +8,7 @@ use Rattle.gix_traverse_commit.specs.Rows.{Holds}
 use Rattle.gix_traverse_commit.specs.Told.{TellsSeconds, rows_of}
 use Rattle.gix_traverse_commit.specs.declared.rows.Row.{Row}
 use Rattle.gix_traverse_commit.proofs.Told.{object_time}
-use Rattle.gix_traverse_commit.proofs.Times.{time_fault, time_zero, zero_unread, time_read, time_untold}
+use Rattle.gix_traverse_commit.proofs.Times.{time_fault, time_zero, zero_unread, time_read}
 use Rattle.gix_traverse_commit.proofs.fetch.Source.seconds.Goals as goal
 
 begun : (place : Place) (kind known : hash.Kind) (bytes content : List ℕ) → place ≡ start kind bytes → kind ≡ known → bytes ≡ content → place ≡ start known content

@@ -1,9 +1,9 @@
-use Rattle.std.proofs.Common.{◌≡◌, sym, ◌∙◌, ap, refl, subst, List, Option}
-use Rattle.std.specs.Prelude.{OnOk, ◌↔◌}
+use Rattle.std.proofs.Common.{◌≡◌, ◌≤◌, ◌+◌, sym, ◌∙◌, ap, refl, subst, List, [], Option, length}
 use Rattle.gix_hash.specs.declared.object_id.ObjectId.{ObjectId}
-use Rattle.gix_traverse_commit.specs.Painting.{PaintFault, Paints}
+use Rattle.gix_traverse_commit.specs.Painting.{PaintFault, Paints, ReachedFrom}
+use Rattle.gix_traverse_commit.specs.Order.{IsListOf}
 use Rattle.gix_traverse_commit.specs.Rows.{AllHeld}
-use Rattle.gix_traverse_commit.specs.Simply.{IsMade, IsSure, SimpleFault, hidden_error}
+use Rattle.gix_traverse_commit.specs.Simply.{CountsAll, IsNew, IsSure, SimpleFault, hidden_error}
 use Rattle.gix_traverse_commit.specs.Timely.{AllRowed, waiting}
 use Rattle.gix_traverse_commit.specs.Told.{AreTold, rows_of}
 use Rattle.gix_object_find.specs.Table.{Table}
@@ -11,29 +11,49 @@ use Rattle.gix_traverse_commit.specs.declared.fetch.FetchError.{FetchError}
 use Rattle.gix_traverse_commit.specs.declared.fetch.FetchError.TheVariants as fault
 use Rattle.gix_traverse_commit.specs.declared.rows.Row.{Row}
 use Rattle.gix_traverse_commit.specs.declared.simple.faults.Error.{Error}
+use Rattle.gix_traverse_commit.proofs.ByTime.{timing_same, under_source}
+use Rattle.gix_traverse_commit.proofs.Simply.{accepts_more}
 use Rattle.gix_traverse_commit.proofs.simple.Simple.begin.Goals as goal
 
 pub returns-clause-going : goal.returns-clause-going
 returns-clause-going g c = λ honest0 commits told0 ids a sure0 m0.
-    let still : c.gather.new.self ≡ c.args.self.now = (c.gather.ensures.same m0.empty m0.none_waits).0 in
-    let m : IsMade g.P.Accept.accepts a c.gather.new.self = subst (IsMade g.P.Accept.accepts a) (sym still) m0 in
-    let honest = subst (λ walk. g.F.Lookup.is_honest walk.source.objects) (sym still) honest0 in
-    let sure = subst (λ walk. IsSure (g.F.Lookup.may_fail walk.source.objects) a) (sym still) sure0 in
-    let told = subst (λ walk. AreTold (rows_of walk.source.rows) (g.F.Lookup.table walk.source.objects) commits) (sym still) told0 in
+    let still = c.gather.ensures.source in
+    let m : IsNew g.P.Accept.accepts a c.gather.new.self = c.in_ok-gather.ensures.made a m0 in
+    let honest = subst (λ s. g.F.Lookup.is_honest s.objects) (sym still) honest0 in
+    let sure = subst (λ s. IsSure (g.F.Lookup.may_fail s.objects) a) (sym still) sure0 in
+    let told = subst (λ s. AreTold (rows_of s.rows) (g.F.Lookup.table s.objects) commits) (sym still) told0 in
     let hidden : c.as_slice.result.now ≡ a.hidden = c.as_slice.ensures.value ∙ m.hidden in
     let honest' = subst (λ (o : g.row.F.Denot). g.F.Lookup.is_honest o) (sym c.paint.ensures.objects) honest in
     let told' = subst (λ (o : g.row.F.Denot). AreTold (rows_of c.paint.new.source.rows) (g.F.Lookup.table o) commits) (sym c.paint.ensures.objects) (subst (λ (r : Option (List Row)). AreTold (rows_of r) (g.F.Lookup.table c.gather.new.self.source.objects) commits) (sym c.paint.ensures.rows) told) in
-    c.in_ok-line_up.ensures.going honest' commits told' ids a (subst (λ (o : g.row.F.Denot). IsSure (g.F.Lookup.may_fail o) a) (sym c.paint.ensures.objects) sure) (record {
+    under_source g.P.Accept.accepts ids commits a [] c.line_up.new.self (record c.line_up.new.self.source { buffer = c.replace-content.result }) c.line_up.new.self.kind refl (c.in_ok-line_up.ensures.going honest' commits told' ids a (subst (λ (o : g.row.F.Denot). IsSure (g.F.Lookup.may_fail o) a) (sym c.paint.ensures.objects) sure) (record {
       tips = m.tips;
+      hidden = m.hidden;
       parents = m.parents;
       sorting = m.sorting;
-      accepts_same = m.accepts_same;
+      accepts_as = accepts_more (g.P.Accept.accepts c.gather.new.self.predicate) (g.P.Accept.accepts c.gather.new.self.predicate) c.gather.new.self.nodes c.paint.new.nodes a refl (λ x h. c.in_default.ensures.met x ∙ h) m.accepts_as;
       refused = λ x h. m.asked.refused x (sym (c.in_default.ensures.met x) ∙ h);
       accepted = λ x k h. m.asked.accepted x k (sym (c.in_default.ensures.met x) ∙ h);
       painted = subst (λ (hs : List ObjectId). Paints commits hs c.paint.new.nodes) hidden (c.in_default.ensures.painted m.asked.unpainted honest commits told);
       empty = m.empty;
       none_waits = m.none_waits;
-    })
+    }))
+
+pub returns-clause-counted : goal.returns-clause-counted
+returns-clause-counted g c = λ a m.
+    let still = c.gather.ensures.source in
+    let w : IsNew g.P.Accept.accepts a c.gather.new.self = c.in_ok-gather.ensures.made a m in
+    let (asked, each, list) = c.in_default.ensures.counted in
+    let hidden : c.as_slice.result.now ≡ a.hidden = c.as_slice.ensures.value ∙ w.hidden in
+    record {
+      painted = asked;
+      behind = c.paint.new.source.lookups;
+      each = subst (λ s. CountsAll (rows_of s.rows) asked s.lookups c.paint.new.source.lookups) still each;
+      is_list = λ honest commits told. subst (λ (hs : List ObjectId). IsListOf (ReachedFrom commits hs) asked) hidden
+          (list w.asked.unpainted (subst (λ s. g.F.Lookup.is_honest s.objects) (sym still) honest) commits (subst (λ s. AreTold (rows_of s.rows) (g.F.Lookup.table s.objects) commits) (sym still) told));
+      in_breadth = λ n. c.line_up.ensures.in_breadth (timing_same a c.gather.new.self.parents c.gather.new.self.sorting w.parents w.sorting ∙ n);
+      least = c.line_up.ensures.rising;
+      most = subst (λ (ts : List ObjectId). c.line_up.new.self.source.lookups ≤ c.paint.new.source.lookups + length ts) w.tips c.line_up.ensures.counted;
+    }
 
 pub returns-clause-rowed : goal.returns-clause-rowed
 returns-clause-rowed g c = λ r0.
@@ -44,7 +64,7 @@ returns-clause-rowed g c = λ r0.
       queue = subst (λ (o : Option (List Row)). AllHeld (rows_of o) c.gather.new.self.queue.items) (sym c.paint.ensures.rows) r.queue;
       waiting_rows = subst (λ (o : Option (List Row)). AllRowed (rows_of o) (waiting c.gather.new.self.waiting)) (sym c.paint.ensures.rows) r.waiting_rows;
     }) in
-    (step.0, step.1 ∙ c.in_default.ensures.rowed (subst (λ (xs : List ObjectId). AllHeld (rows_of c.gather.new.self.source.rows) xs) (sym c.as_slice.ensures.value) r.hidden) ∙ ap (λ s. s.lookups) c.gather.ensures.source)
+    (record { tips = step.0.tips; hidden = step.0.hidden; queue = step.0.queue; waiting_rows = step.0.waiting_rows }, step.1 ∙ c.in_default.ensures.rowed (subst (λ (xs : List ObjectId). AllHeld (rows_of c.gather.new.self.source.rows) xs) (sym c.as_slice.ensures.value) r.hidden) ∙ ap (λ s. s.lookups) c.gather.ensures.source)
 
 of_hidden : (honest may_fail : Type 0) (rows : List Row) (table : Table) (hidden : List ObjectId) (error : FetchError) → PaintFault honest may_fail rows table hidden error → SimpleFault (λ _. ⊥) honest may_fail rows table hidden (hidden_error error)
 of_hidden honest may_fail rows table hidden (fault.Find error) h = h
@@ -53,14 +73,26 @@ of_hidden honest may_fail rows table hidden fault.Memory h = tt
 
 pub returns-in-Err-clause-refused : goal.returns-in-Err-clause-refused
 returns-in-Err-clause-refused g c = λ a m.
-    let still : c.gather.new.self ≡ c.args.self.now = (c.gather.ensures.same m.empty m.none_waits).0 in
-    let w : IsMade g.P.Accept.accepts a c.gather.new.self = subst (IsMade g.P.Accept.accepts a) (sym still) m in
+    let still = c.gather.ensures.source in
+    let w : IsNew g.P.Accept.accepts a c.gather.new.self = c.in_ok-gather.ensures.made a m in
     let honest = g.F.Lookup.is_honest c.args.self.now.source.objects in
     let may_fail = g.F.Lookup.may_fail c.args.self.now.source.objects in
     let rows = rows_of c.args.self.now.source.rows in
     let table = g.F.Lookup.table c.args.self.now.source.objects in
     let error : FetchError = c.in-Err.error in
-    let here = subst (λ walk. PaintFault (g.F.Lookup.is_honest walk.source.objects) (g.F.Lookup.may_fail walk.source.objects) (rows_of walk.source.rows) (g.F.Lookup.table walk.source.objects) c.as_slice.result.now error) still (c.in-Err.ensures.refused w.asked.unpainted) in
+    let here = subst (λ s. PaintFault (g.F.Lookup.is_honest s.objects) (g.F.Lookup.may_fail s.objects) (rows_of s.rows) (g.F.Lookup.table s.objects) c.as_slice.result.now error) still (c.in-Err.ensures.refused w.asked.unpainted) in
     let hidden : c.as_slice.result.now ≡ a.hidden = c.as_slice.ensures.value ∙ w.hidden in
     let of_tips = subst (λ (hs : List ObjectId). PaintFault honest may_fail rows table hs error) hidden here in
     subst (λ (e : Error). SimpleFault (λ _. ⊥) honest may_fail rows table a.hidden e) (sym c.of_painting.ensures) (of_hidden honest may_fail rows table a.hidden error of_tips)
+
+pub returns-in_err-gather-clause-order : goal.returns-in_err-gather-clause-order
+returns-in_err-gather-clause-order g c = c.gather.ensures.order
+
+pub returns-in-Err-clause-order : goal.returns-in-Err-clause-order
+returns-in-Err-clause-order g c = c.gather.ensures.order
+
+pub returns-in_err-line_up-clause-order : goal.returns-in_err-line_up-clause-order
+returns-in_err-line_up-clause-order g c = (c.line_up.ensures.order.0 ∙ c.gather.ensures.order.0, c.line_up.ensures.order.1 ∙ c.gather.ensures.order.1)
+
+pub returns-clause-order : goal.returns-clause-order
+returns-clause-order g c = (c.line_up.ensures.order.0 ∙ c.gather.ensures.order.0, c.line_up.ensures.order.1 ∙ c.gather.ensures.order.1)

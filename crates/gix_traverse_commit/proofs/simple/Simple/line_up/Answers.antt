@@ -1,22 +1,21 @@
-use Rattle.std.proofs.Common.{rules, ◌≡◌, sym, ◌∙◌, ap, refl, subst, inl, inr, arith, List, [], ◌∷◌, ◌++◌, length, Option, Some, None, Bool, true, false}
-use Rattle.std.specs.Prelude.{Contains, not, ◌&&◌, OnOk}
-use Rattle.gix_hash.specs.Id.{Id, id_of}
+use Rattle.std.proofs.Common.{rules, ◌≡◌, sym, ◌∙◌, refl, subst, inl, inr, List, [], Option, Some, None, Bool, true, false}
+use Rattle.std.specs.Prelude.{Contains, not, ◌&&◌}
+use Rattle.gix_hash.specs.Id.{id_of}
 use Rattle.gix_hash.specs.declared.object_id.ObjectId.{ObjectId}
 use Rattle.gix_traverse_commit.specs.Commits.{asked_parents}
 use Rattle.gix_traverse_commit.specs.Nodes.{is_hidden, is_met}
-use Rattle.gix_traverse_commit.specs.Rows.{AllHeld, Holds}
-use Rattle.gix_traverse_commit.specs.Simply.{IsKnown, keep_of, timing}
+use Rattle.gix_traverse_commit.specs.Rows.{AllHeld}
+use Rattle.gix_traverse_commit.specs.Simply.{keep_of, timing}
 use Rattle.gix_traverse_commit.specs.Sorting.{in_time, timing_of}
-use Rattle.gix_traverse_commit.specs.Timely.{AllRowed, IsMetSoFar, IsTaken, keep_since, waiting}
-use Rattle.gix_traverse_commit.specs.Told.{AreTold, rows_of}
-use Rattle.gix_traverse_commit.specs.declared.parents.Parents.{Parents}
+use Rattle.gix_traverse_commit.specs.Timely.{AllRowed, IsMetSoFar, keep_since, waiting}
+use Rattle.gix_traverse_commit.specs.Told.{rows_of}
 use Rattle.gix_traverse_commit.specs.declared.rows.Row.{Row}
 use Rattle.gix_traverse_commit.specs.declared.simple.sorting.Timing.{Timing}
-use Rattle.gix_traverse_commit.proofs.ByTime.{is_sure, none_some, one_timing, timing_same, since_end, since_turn}
+use Rattle.gix_traverse_commit.proofs.ByTime.{is_sure, timing_same}
 use Rattle.gix_traverse_commit.specs.Keeping.{KeptAll}
 use Rattle.gix_traverse_commit.proofs.Chosen.{chosen_none, met_tips}
 use Rattle.gix_traverse_commit.proofs.Keeping.{kept_none}
-use Rattle.gix_traverse_commit.proofs.Simply.{and_left, and_right, kept_tip, refused_tip}
+use Rattle.gix_traverse_commit.proofs.Simply.{accepts_more, and_left, and_right, kept_tip, refused_tip}
 use Rattle.gix_traverse_commit.proofs.Timely.{in_nil, met_none}
 use Rattle.gix_traverse_commit.proofs.simple.Simple.line_up.Goals as goal
 
@@ -33,10 +32,12 @@ returns-in_default-clause-going g c = λ honest commits told ids a sure m.
     let keep = keep_of hides a.accepts in
     inl (record {
       begun = refl;
+      hidden_same = m.hidden;
       parents = m.parents;
       sorting = m.sorting;
       in_breadth = sym (timing_same a c.args.self.now.parents c.args.self.now.sorting m.parents m.sorting) ∙ none;
-      accepts_same = m.accepts_same;
+      none_waits = m.none_waits;
+      accepts_as = accepts_more (g.P.Accept.accepts c.args.self.now.predicate) (g.P.Accept.accepts c.args.self.now.predicate) c.args.self.now.nodes c.queue_tips.new.nodes a refl c.in_ok-queue_tips.ensures.grown m.accepts_as;
       hides = hides;
       hidden = c.in_ok-queue_tips.ensures.hidden;
       painted = m.painted;
@@ -59,11 +60,13 @@ returns-clause-going g c = λ honest commits told ids a sure m.
     (met_none commits keep [] (is_met c.args.self.now.nodes) (waiting c.args.self.now.waiting) refl m.none_waits (λ q h k. refused_since (hides q) (a.accepts (id_of q)) (in_time t.since (commits q).time) (m.refused q h) k)) in
     inr (record {
       begun = refl;
+      hidden_same = m.hidden;
       parents = m.parents;
       sorting = m.sorting;
       by_time = t;
       is_by_time = is;
-      accepts_same = m.accepts_same;
+      empty = m.empty;
+      accepts_as = accepts_more (g.P.Accept.accepts c.args.self.now.predicate) (g.P.Accept.accepts c.args.self.now.predicate) c.args.self.now.nodes c.await_tips.new.nodes a refl c.in_ok-await_tips.ensures.grown m.accepts_as;
       hides = hides;
       hidden = c.in_ok-await_tips.ensures.hidden;
       painted = m.painted;

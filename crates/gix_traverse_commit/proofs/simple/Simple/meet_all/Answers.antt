@@ -1,22 +1,21 @@
-use Rattle.std.proofs.Common.{rules, ◌≡◌, ◌⊎◌, sym, ◌∙◌, ap, refl, subst, inl, inr, arith, List, [], ◌∷◌, ◌++◌, length, Option, Some, None, Bool, true, false}
-use Rattle.std.specs.Prelude.{Contains, not, ◌&&◌, OnOk}
-use Rattle.gix_hash.specs.Id.{Id, id_of}
+use Rattle.std.proofs.Common.{rules, ◌≡◌, ◌⊎◌, sym, ◌∙◌, ap, subst, inl, inr, List, [], ◌∷◌, ◌++◌, Option, Some, None, Bool}
+use Rattle.std.specs.Prelude.{Contains, not, ◌&&◌}
+use Rattle.gix_hash.specs.Id.{id_of}
 use Rattle.gix_hash.specs.declared.object_id.ObjectId.{ObjectId}
 use Rattle.gix_traverse_commit.specs.Commits.{asked_parents}
 use Rattle.gix_traverse_commit.specs.Nodes.{is_hidden, is_met}
-use Rattle.gix_traverse_commit.specs.Rows.{AllHeld, Holds}
-use Rattle.gix_traverse_commit.specs.Simply.{IsKnown, keep_of, timing}
+use Rattle.gix_traverse_commit.specs.Rows.{AllHeld}
+use Rattle.gix_traverse_commit.specs.Simply.{IsKnown, keep_of}
 use Rattle.gix_traverse_commit.specs.Sorting.{in_time, timing_of}
-use Rattle.gix_traverse_commit.specs.Timely.{AllRowed, IsMetSoFar, IsTaken, keep_since, waiting}
-use Rattle.gix_traverse_commit.specs.Told.{AreTold, rows_of}
-use Rattle.gix_traverse_commit.specs.declared.parents.Parents.{Parents}
+use Rattle.gix_traverse_commit.specs.Timely.{AllRowed, IsMetSoFar, keep_since, waiting}
+use Rattle.gix_traverse_commit.specs.Told.{rows_of}
 use Rattle.gix_traverse_commit.specs.declared.rows.Row.{Row}
 use Rattle.gix_traverse_commit.specs.declared.simple.sorting.Timing.{Timing}
-use Rattle.gix_traverse_commit.proofs.ByTime.{is_sure, none_some, one_timing, timing_same, since_end, since_turn}
+use Rattle.gix_traverse_commit.proofs.ByTime.{is_sure, none_some, one_timing, timing_same}
 use Rattle.gix_traverse_commit.specs.Order.{IsOpen}
 use Rattle.gix_traverse_commit.proofs.Chosen.{met_parents}
-use Rattle.gix_traverse_commit.proofs.Simply.{known_push}
-use Rattle.gix_traverse_commit.proofs.Timely.{met_kept, met_renamed}
+use Rattle.gix_traverse_commit.proofs.Simply.{accepts_more, known_push}
+use Rattle.gix_traverse_commit.proofs.Timely.{met_kept}
 use Rattle.gix_traverse_commit.proofs.simple.Simple.meet_all.Goals as goal
 
 pub returns-in_default-clause-going : goal.returns-in_default-clause-going
@@ -25,16 +24,18 @@ returns-in_default-clause-going g c = λ honest commits told ids a listed id sur
     elim at [
       | inl n ↦ inl (record {
         begun = n.begun;
+        hidden_same = n.hidden_same;
         parents = n.parents;
         sorting = n.sorting;
         in_breadth = n.in_breadth;
-        accepts_same = c.meet_parents.ensures.accepts ∙ n.accepts_same;
+        none_waits = n.none_waits;
+        accepts_as = accepts_more (g.P.Accept.accepts c.args.self.now.predicate) (g.P.Accept.accepts c.meet_parents.new.predicate) c.args.self.now.nodes c.meet_parents.new.nodes a c.meet_parents.ensures.accepts c.in_ok-meet_parents.ensures.grown n.accepts_as;
         hides = n.hides;
         hidden = λ x. c.in_ok-meet_parents.ensures.hidden x ∙ n.hidden x;
         painted = n.painted;
         known = known_push (rows_of c.args.self.now.source.rows) ids listed id n.known known;
         walked = c.in_ok-meet_parents.ensures.walked (asked_parents a.parents commits) (keep_of n.hides a.accepts) a.tips (listed ++ id ∷ []) id
-            (λ x. ap (λ (b : Bool). not b && a.accepts (id_of x)) (sym (n.hidden x)) ∙ ap (λ (f : Id → Bool). not (is_hidden c.args.self.now.nodes x) && f (id_of x)) (sym n.accepts_same))
+            (λ x f. ap (λ (b : Bool). not b && a.accepts (id_of x)) (sym (n.hidden x)) ∙ ap (λ (b : Bool). not (is_hidden c.args.self.now.nodes x) && b) (sym (n.accepts_as.unmet x f)))
             same n.walked n.reads;
       })
       | inr n ↦ absurd (none_some n.by_time (sym none ∙ (timing_same a c.args.self.now.parents c.args.self.now.sorting n.parents n.sorting ∙ n.is_by_time)))
@@ -46,26 +47,26 @@ returns-clause-going g c = λ honest commits told ids a listed id sure same know
     elim at [
       | inl n ↦ absurd (none_some c.in-Some.timing (sym n.in_breadth ∙ (sym (timing_same a c.args.self.now.parents c.args.self.now.sorting n.parents n.sorting) ∙ is)))
       | inr n ↦ (
-          let accepts = g.P.Accept.accepts c.args.self.now.predicate in
           let one : n.by_time ≡ c.in-Some.timing = one_timing n.by_time c.in-Some.timing (sym n.is_by_time ∙ (sym (timing_same a c.args.self.now.parents c.args.self.now.sorting n.parents n.sorting) ∙ is)) in
           let along = asked_parents a.parents commits in
           let keep = keep_since n.by_time.since commits n.hides a.accepts in
-          let keep' = keep_since c.in-Some.timing.since commits (is_hidden c.args.self.now.nodes) accepts in
+          let keep' = keep_since c.in-Some.timing.since commits (is_hidden c.args.self.now.nodes) a.accepts in
           let alike : (x : ObjectId) → keep x ≡ keep' x = (λ x.
           ap (λ (b : Bool). not b && (a.accepts (id_of x) && in_time n.by_time.since (commits x).time)) (sym (n.hidden x))
-          ∙ (ap (λ (f : Id → Bool). not (is_hidden c.args.self.now.nodes x) && (f (id_of x) && in_time n.by_time.since (commits x).time)) (sym n.accepts_same)
-          ∙ ap (λ (t : Timing). not (is_hidden c.args.self.now.nodes x) && (accepts (id_of x) && in_time t.since (commits x).time)) one)) in
+          ∙ ap (λ (t : Timing). not (is_hidden c.args.self.now.nodes x) && (a.accepts (id_of x) && in_time t.since (commits x).time)) one) in
           let before = met_kept commits keep (listed ++ id ∷ []) keep' (is_met c.args.self.now.nodes) (IsOpen along a.tips listed) (waiting c.args.self.now.waiting) alike n.met in
-          let after = c.in_ok-await_parents.ensures.walked honest (is_sure (g.F.Lookup.may_fail c.args.self.now.source.objects) a n.by_time sure n.is_by_time) commits told along a.tips listed (listed ++ id ∷ []) before in
+          let after = c.in_ok-await_parents.ensures.walked honest (is_sure (g.F.Lookup.may_fail c.args.self.now.source.objects) a n.by_time sure n.is_by_time) commits told a.accepts along a.tips listed (listed ++ id ∷ []) n.accepts_as.unmet before in
           let back = met_kept commits keep' (listed ++ id ∷ []) keep (is_met c.await_parents.new.nodes) (λ x. IsOpen along a.tips listed x ⊎ Contains c.args.parents.now x) (waiting c.await_parents.new.waiting) (λ x. sym (alike x)) after in
           let named = subst (λ (ps : List ObjectId). IsMetSoFar commits keep (is_met c.await_parents.new.nodes) (λ x. IsOpen along a.tips listed x ⊎ Contains ps x) (listed ++ id ∷ []) (waiting c.await_parents.new.waiting)) same back in
           inr (record {
             begun = n.begun;
+            hidden_same = n.hidden_same;
             parents = n.parents;
             sorting = n.sorting;
             by_time = n.by_time;
             is_by_time = n.is_by_time;
-            accepts_same = c.await_parents.ensures.accepts ∙ n.accepts_same;
+            empty = n.empty;
+            accepts_as = accepts_more (g.P.Accept.accepts c.args.self.now.predicate) (g.P.Accept.accepts c.await_parents.new.predicate) c.args.self.now.nodes c.await_parents.new.nodes a c.await_parents.ensures.accepts c.in_ok-await_parents.ensures.grown n.accepts_as;
             hides = n.hides;
             hidden = λ x. c.in_ok-await_parents.ensures.hidden x ∙ n.hidden x;
             painted = n.painted;

@@ -6,7 +6,8 @@ use Rattle.gix_traverse_commit.proofs.simple.Simple.ready.Goals as goal
 
 pub returns-then-self-clause-going : goal.returns-then-self-clause-going
 returns-then-self-clause-going g c = λ honest commits told ids a listed sure s. elim s [
-  | inl (e, m) ↦ (let h = m.begun in let f = c.if-self.true in let z : ⊥ = cc in absurd z)
+  | inl (e, inl m) ↦ (let h = m.begun in let f = c.if-self.true in let z : ⊥ = cc in absurd z)
+  | inl (e, inr m) ↦ (let h = m.begun in let f = c.if-self.true in let z : ⊥ = cc in absurd z)
   | inr w ↦ w
 ]
 
@@ -22,4 +23,10 @@ returns-clause-refused g c = λ commits ids a listed s. elim s [
   | inl (e, m) ↦ c.begin.ensures.refused a m
   | inr (inl w) ↦ (let h = w.begun in let f = c.if-self.false in let z : ⊥ = cc in absurd z)
   | inr (inr w) ↦ (let h = w.begun in let f = c.if-self.false in let z : ⊥ = cc in absurd z)
+]
+
+pub returns-then-self-clause-counted : goal.returns-then-self-clause-counted
+returns-then-self-clause-counted g c = λ a made. elim made [
+  | inl m ↦ (let h = m.begun in let f = c.if-self.true in let z : ⊥ = cc in absurd z)
+  | inr m ↦ (let h = m.begun in let f = c.if-self.true in let z : ⊥ = cc in absurd z)
 ]

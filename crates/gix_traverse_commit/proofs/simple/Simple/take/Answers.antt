@@ -1,18 +1,14 @@
-use Rattle.std.proofs.Common.{rules, ◌≡◌, sym, ◌∙◌, ap, refl, subst, inl, inr, arith, List, [], ◌∷◌, ◌++◌, length, Option, Some, None, Bool, true, false}
-use Rattle.std.specs.Prelude.{Contains, not, ◌&&◌, OnOk}
-use Rattle.gix_hash.specs.Id.{Id, id_of}
+use Rattle.std.proofs.Common.{rules, ◌≡◌, sym, ◌∙◌, refl, subst, inl, inr, List, [], ◌∷◌, ◌++◌, Some, None}
+use Rattle.gix_hash.specs.Id.{Id}
 use Rattle.gix_hash.specs.declared.object_id.ObjectId.{ObjectId}
 use Rattle.gix_traverse_commit.specs.Commits.{Commits, asked_parents}
-use Rattle.gix_traverse_commit.specs.Nodes.{is_hidden, is_met}
-use Rattle.gix_traverse_commit.specs.Rows.{AllHeld, Holds}
-use Rattle.gix_traverse_commit.specs.Simply.{Answers, Asked, IsKnown, IsUnderWay, keep_of, timing}
-use Rattle.gix_traverse_commit.specs.Sorting.{in_time, timing_of}
-use Rattle.gix_traverse_commit.specs.Timely.{AllRowed, IsMetSoFar, IsTaken, keep_since, waiting}
-use Rattle.gix_traverse_commit.specs.Told.{AreTold, rows_of}
-use Rattle.gix_traverse_commit.specs.declared.parents.Parents.{Parents}
-use Rattle.gix_traverse_commit.specs.declared.rows.Row.{Row}
+use Rattle.gix_traverse_commit.specs.Nodes.{is_met}
+use Rattle.gix_traverse_commit.specs.Simply.{Answers, Asked, IsUnderWay, keep_of}
+use Rattle.gix_traverse_commit.specs.Sorting.{timing_of}
+use Rattle.gix_traverse_commit.specs.Timely.{IsTaken, keep_since, waiting}
+use Rattle.gix_traverse_commit.specs.Told.{rows_of}
 use Rattle.gix_traverse_commit.specs.declared.simple.sorting.Timing.{Timing}
-use Rattle.gix_traverse_commit.proofs.ByTime.{is_sure, none_some, one_timing, timing_same, since_end, since_turn}
+use Rattle.gix_traverse_commit.proofs.ByTime.{none_some, one_timing, timing_same, since_end, since_turn}
 use Rattle.gix_traverse_commit.proofs.Chosen.{taken_chosen, taken_met}
 use Rattle.gix_traverse_commit.proofs.Keeping.{kept_pop}
 use Rattle.gix_traverse_commit.proofs.Simply.{held_first, kept_breadth, kept_turn}
@@ -28,7 +24,7 @@ returns-in_default-clause-turn g c = λ ids commits a listed u.
     elim u [
       | inl w ↦ (
           let r = kept_pop (asked_parents a.parents commits) a.tips (keep_of w.hides a.accepts) (is_met c.args.self.now.nodes) listed queue (listed ++ id ∷ []) queue' id w.walked c.in_ok-id.ensures.first refl in (
-            inl (record { begun = w.begun; parents = w.parents; sorting = w.sorting; in_breadth = w.in_breadth; accepts_same = w.accepts_same; hides = w.hides; hidden = w.hidden; painted = w.painted; known = w.known; walked = r.0; reads = r.1 }),
+            inl (record { begun = w.begun; hidden_same = w.hidden_same; parents = w.parents; sorting = w.sorting; in_breadth = w.in_breadth; none_waits = w.none_waits; accepts_as = w.accepts_as; hides = w.hides; hidden = w.hidden; painted = w.painted; known = w.known; walked = r.0; reads = r.1 }),
             kept_turn commits a w.hides w.painted (is_met c.args.self.now.nodes) listed queue queue' id w.walked c.in_ok-id.ensures.first w.in_breadth,
           ))
       | inr w ↦ absurd (none_some w.by_time (sym none ∙ (timing_same a c.args.self.now.parents c.args.self.now.sorting w.parents w.sorting ∙ w.is_by_time)))
@@ -73,11 +69,13 @@ returns-clause-turn g c = λ ids commits a listed u.
           let keep = keep_since w.by_time.since commits w.hides a.accepts in (
             inr (record {
               begun = w.begun;
+              hidden_same = w.hidden_same;
               parents = w.parents;
               sorting = w.sorting;
               by_time = w.by_time;
               is_by_time = w.is_by_time;
-              accepts_same = w.accepts_same;
+              empty = w.empty;
+              accepts_as = w.accepts_as;
               hides = w.hides;
               hidden = w.hidden;
               painted = w.painted;

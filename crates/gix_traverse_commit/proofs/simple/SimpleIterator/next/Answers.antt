@@ -1,15 +1,15 @@
 use Rattle.std.proofs.Common.{◌≡◌, ◌∙◌, sym, refl, ap, subst, arith, ℕ, length, List, [], ◌∷◌, ◌++◌, Option, None, true, false}
-use Rattle.std.specs.Prelude.{Contains}
 use Rattle.gix_hash.specs.Id.{id_of}
 use Rattle.gix_hash.specs.declared.object_id.ObjectId.{ObjectId}
-use Rattle.gix_traverse_commit.specs.Simply.{CountsOne, CountsUpTo, IsAtTurn, IsContentOf, IsInfo, IsOver, IsKnown, IsSure, IsTurn, IsUnderWay, StopsFetch}
+use Rattle.gix_traverse_commit.specs.Simply.{CountsBeginning, CountsFault, CountsOne, CountsUpTo, IsAtTurn, IsContentOf, IsInfo, IsOver, IsKnown, IsSure, IsTurn, IsUnderWay, StopsFetch}
 use Rattle.gix_traverse_commit.specs.Rows.{Holds}
 use Rattle.gix_traverse_commit.specs.Sorting.{timing_of}
 use Rattle.gix_traverse_commit.specs.Told.{AreTold, rows_of}
 use Rattle.gix_traverse_commit.specs.declared.parents.Parents.{Parents}
 use Rattle.gix_traverse_commit.specs.declared.rows.Row.{Row}
 use Rattle.gix_traverse_commit.specs.declared.simple.sorting.Sorting.{Sorting}
-use Rattle.gix_traverse_commit.proofs.ByTime.{at_fewer, at_order}
+use Rattle.gix_traverse_commit.proofs.ByTime.{at_fewer, at_order, timing_same}
+use Rattle.gix_traverse_commit.proofs.Rest.{made_order}
 use Rattle.gix_traverse_commit.proofs.Simply.{fault_more, fetch_fault}
 use Rattle.gix_traverse_commit.proofs.simple.SimpleIterator.next.Goals as goal
 
@@ -30,29 +30,47 @@ returns-in-Err-clause-steps g c = record {
   counted_one = λ b n. tt;
   counted_by_time = λ b. tt;
   rowed = λ r. tt;
+  over = tt;
+  content_end = tt;
+  content_fault = c.stop.ensures.emptied;
+  counted_end = λ b. tt;
+  counted_fault = λ b. absurd (no_way (c.in-Err.ensures.begun b));
+  rowed_end = λ r. tt;
+  first = λ a m. tt;
+  first_end = λ a m. tt;
 }
 
-pub returns-in_err-id-clause-steps : goal.returns-in_err-id-clause-steps
-returns-in_err-id-clause-steps g c = rw c.from_residual.ensures (record {
-  objects = ap (λ s. s.objects) c.take.ensures.source ∙ c.ready.ensures.objects;
-  rows = ap (λ s. s.rows) c.take.ensures.source ∙ c.ready.ensures.rows;
-  given = λ honest commits told a listed sure s. tt;
-  end = λ honest commits told a listed sure s. c.in_err-id.ensures.end (g.F.Lookup.ids c.args.self.now.source.objects) commits a listed (c.in_default.ensures.going honest commits told (g.F.Lookup.ids c.args.self.now.source.objects) a listed sure s);
-  refused = λ honest commits told a listed sure s. tt;
-  failed = tt;
-  ended = λ o. refl;
-  content = tt;
-  counted = (λ b n. let s = c.in_default.ensures.same b in let f = c.take.ensures.source in let e : c.take.new.self.source.lookups ≡ c.args.self.now.source.lookups = cc in omega arith);
-  counted_one = λ b n. tt;
-  counted_by_time = λ b. tt;
-  rowed = λ r. tt;
-})
+pub returns-in_default-take-clause-steps : goal.returns-in_default-take-clause-steps
+returns-in_default-take-clause-steps g c =
+    let lookups : c.finish.new.self.source.lookups ≡ c.ready.new.self.source.lookups = ap (λ s. s.lookups) (c.finish.ensures.source ∙ c.take.ensures.source) in
+    record {
+      objects = ap (λ s. s.objects) c.finish.ensures.source ∙ ap (λ s. s.objects) c.take.ensures.source ∙ c.ready.ensures.objects;
+      rows = ap (λ s. s.rows) c.finish.ensures.source ∙ ap (λ s. s.rows) c.take.ensures.source ∙ c.ready.ensures.rows;
+      given = λ honest commits told a listed sure s. tt;
+      end = λ honest commits told a listed sure s. c.in_default-take.ensures.end (g.F.Lookup.ids c.args.self.now.source.objects) commits a listed (c.in_default.ensures.going honest commits told (g.F.Lookup.ids c.args.self.now.source.objects) a listed sure s);
+      refused = λ honest commits told a listed sure s. tt;
+      failed = tt;
+      ended = λ o. refl;
+      content = tt;
+      counted = λ b n. let s = ap (λ walk. walk.source.lookups) (c.in_default.ensures.same b) in omega (arith, lookups, s);
+      counted_one = λ b n. tt;
+      counted_by_time = λ b. tt;
+      rowed = λ r. tt;
+      over = c.finish.ensures.over;
+      content_end = ap (λ s. s.buffer.items) (c.finish.ensures.source ∙ c.take.ensures.source) ∙ c.in_default.ensures.content;
+      content_fault = tt;
+      counted_end = λ b. lookups ∙ ap (λ walk. walk.source.lookups) (c.in_default.ensures.same b);
+      counted_fault = λ b. tt;
+      rowed_end = λ r. lookups ∙ (c.in_default.ensures.rowed r).1;
+      first = λ a m. tt;
+      first_end = λ a m. subst (λ (n : ℕ). CountsBeginning (g.F.Lookup.is_honest c.args.self.now.source.objects) (rows_of c.args.self.now.source.rows) (g.F.Lookup.table c.args.self.now.source.objects) a c.args.self.now.source.lookups n) (sym lookups) (c.in_default.ensures.counted a m);
+    }
 
 pub returns-in-Ok-clause-steps : goal.returns-in-Ok-clause-steps
 returns-in-Ok-clause-steps g c =
     let rows = rows_of c.args.self.now.source.rows in
     let ids = g.F.Lookup.ids c.args.self.now.source.objects in
-    let id : ObjectId = c.in_ok-id.id in
+    let id : ObjectId = c.in-Some.id in
     let objects : c.take.new.self.source.objects ≡ c.args.self.now.source.objects = ap (λ s. s.objects) c.take.ensures.source ∙ c.ready.ensures.objects in
     let same_rows : c.take.new.self.source.rows ≡ c.args.self.now.source.rows = ap (λ s. s.rows) c.take.ensures.source ∙ c.ready.ensures.rows in
     let known : IsKnown rows ids id = subst (λ (o : g.row.F.Denot). IsKnown rows (g.F.Lookup.ids o) id) objects (subst (λ (r : Option (List Row)). IsKnown (rows_of r) (g.F.Lookup.ids c.take.new.self.source.objects) id) same_rows c.in-Ok.ensures.known) in
@@ -61,7 +79,7 @@ returns-in-Ok-clause-steps g c =
       rows = c.enter.ensures.rows ∙ same_rows;
       given = (λ honest commits told a listed sure s.
           let w = c.in_default.ensures.going honest commits told ids a listed sure s in
-          let (at, turn) = c.in_ok-id.ensures.turn ids commits a listed w in
+          let (at, turn) = c.in-Some.ensures.turn ids commits a listed w in
           let honest' = subst (λ (o : g.row.F.Denot). g.F.Lookup.is_honest o) (sym objects) honest in
           let sure' = subst (λ (o : g.row.F.Denot). IsSure (g.F.Lookup.may_fail o) a) (sym objects) sure in
           let told' = subst (λ (o : g.row.F.Denot). AreTold (rows_of c.take.new.self.source.rows) (g.F.Lookup.table o) commits) (sym objects) (subst (λ (r : Option (List Row)). AreTold (rows_of r) (g.F.Lookup.table c.args.self.now.source.objects) commits) (sym same_rows) told) in
@@ -75,7 +93,7 @@ returns-in-Ok-clause-steps g c =
       end = λ honest commits told a listed sure s. tt;
       refused = λ honest commits told a listed sure s. tt;
       failed = tt;
-      ended = (λ o. let e = c.in_default.ensures.same o.begun in let over : IsOver c.ready.new.self = subst IsOver (sym e) o in let h = rw c.in_ok-id.was at (c.take.ensures.ended over) in absurd (no_way (sym h)));
+      ended = (λ o. let e = c.in_default.ensures.same o.begun in let over : IsOver c.ready.new.self = subst IsOver (sym e) o in let h = rw c.in-Some.is at (c.take.ensures.ended over) in absurd (no_way (sym h)));
       content = subst (λ (x : ObjectId). IsContentOf (g.F.Lookup.is_honest c.args.self.now.source.objects) rows (g.F.Lookup.table c.args.self.now.source.objects) x c.enter.new.self.source.buffer.items × (c.enter.new.self.kind ≡ (id_of x).kind)) (sym c.in-Ok.ensures.id)
           (subst (λ (o : g.row.F.Denot). IsContentOf (g.F.Lookup.is_honest o) rows (g.F.Lookup.table o) id c.enter.new.self.source.buffer.items × (c.enter.new.self.kind ≡ (id_of id).kind)) objects
           (subst (λ (r : Option (List Row)). IsContentOf (g.F.Lookup.is_honest c.take.new.self.source.objects) (rows_of r) (g.F.Lookup.table c.take.new.self.source.objects) id c.enter.new.self.source.buffer.items × (c.enter.new.self.kind ≡ (id_of id).kind)) same_rows c.in-Ok.ensures.content));
@@ -94,14 +112,38 @@ returns-in-Ok-clause-steps g c =
           (subst (λ (r : Option (List Row)). CountsUpTo (rows_of r) id more c.take.new.self.source.lookups c.enter.new.self.source.lookups) same_rows c.in-Ok.ensures.counted)));
       rowed = (λ r.
           let (r', e) = c.in_default.ensures.rowed r in
-          let (r2, held) = c.in_ok-id.ensures.rowed r' in
+          let (r2, held) = c.in-Some.ensures.rowed r' in
           let (n, f) = c.in-Ok.ensures.rowed r2 (subst (λ s. Holds (rows_of s.rows) id) (sym c.take.ensures.source) held) in
           (n, f ∙ (ap (λ s. s.lookups) c.take.ensures.source ∙ e)));
+      over = tt;
+      content_end = tt;
+      content_fault = tt;
+      counted_end = λ b. tt;
+      counted_fault = λ b. tt;
+      rowed_end = λ r. tt;
+      first = (λ a m.
+          let begin = c.in_default.ensures.counted a m in
+          let f : c.take.new.self.source.lookups ≡ c.ready.new.self.source.lookups = ap (λ s. s.lookups) c.take.ensures.source in
+          let more : ℕ = length c.in-Ok.info.parent_ids.items in
+          let order = made_order g.P.Accept.accepts a c.args.self.now m in
+          let parents : c.take.new.self.parents ≡ a.parents = c.take.ensures.order.0 ∙ (c.in_default.ensures.order.0 ∙ order.0) in
+          let sorting : c.take.new.self.sorting ≡ a.sorting = c.take.ensures.order.1 ∙ (c.in_default.ensures.order.1 ∙ order.1) in
+          record {
+            begun = c.ready.new.self.source.lookups;
+            beginning = begin;
+            one = (λ n. subst (λ (x : ObjectId). CountsOne rows x c.ready.new.self.source.lookups c.enter.new.self.source.lookups) (sym c.in-Ok.ensures.id)
+                (subst (λ (k : ℕ). CountsOne rows id k c.enter.new.self.source.lookups) f
+                (subst (λ (r : Option (List Row)). CountsOne (rows_of r) id c.take.new.self.source.lookups c.enter.new.self.source.lookups) same_rows (c.in-Ok.ensures.one (timing_same a c.take.new.self.parents c.take.new.self.sorting parents sorting ∙ n)))));
+            more = subst (λ (x : ObjectId). CountsUpTo rows x more c.ready.new.self.source.lookups c.enter.new.self.source.lookups) (sym c.in-Ok.ensures.id)
+                (subst (λ (k : ℕ). CountsUpTo rows id more k c.enter.new.self.source.lookups) f
+                (subst (λ (r : Option (List Row)). CountsUpTo (rows_of r) id more c.take.new.self.source.lookups c.enter.new.self.source.lookups) same_rows c.in-Ok.ensures.counted));
+          });
+      first_end = λ a m. tt;
     }
 
 pub returns-in-Err-enter-clause-steps : goal.returns-in-Err-enter-clause-steps
 returns-in-Err-enter-clause-steps g c =
-    let id : ObjectId = c.in_ok-id.id in
+    let id : ObjectId = c.in-Some.id in
     let error = c.in-Err-enter.error in
     let ids = g.F.Lookup.ids c.args.self.now.source.objects in
     let objects : c.take.new.self.source.objects ≡ c.args.self.now.source.objects = ap (λ s. s.objects) c.take.ensures.source ∙ c.ready.ensures.objects in
@@ -115,10 +157,10 @@ returns-in-Err-enter-clause-steps g c =
       end = λ honest commits told a listed sure s. tt;
       refused = (λ honest commits told a listed sure s.
           let w = c.in_default.ensures.going honest commits told ids a listed sure s in
-          let turn = (c.in_ok-id.ensures.turn ids commits a listed w).1 in
+          let turn = (c.in-Some.ensures.turn ids commits a listed w).1 in
           fetch_fault (IsTurn commits a listed) (g.F.Lookup.is_honest c.args.self.now.source.objects) (g.F.Lookup.may_fail c.args.self.now.source.objects) (rows_of c.args.self.now.source.rows) (g.F.Lookup.table c.args.self.now.source.objects) a.hidden id error turn fault);
       failed = c.stop-in-Err-enter.ensures.over;
-      ended = (λ o. let e = c.in_default.ensures.same o.begun in let over : IsOver c.ready.new.self = subst IsOver (sym e) o in let h = rw c.in_ok-id.was at (c.take.ensures.ended over) in absurd (no_way (sym h)));
+      ended = (λ o. let e = c.in_default.ensures.same o.begun in let over : IsOver c.ready.new.self = subst IsOver (sym e) o in let h = rw c.in-Some.is at (c.take.ensures.ended over) in absurd (no_way (sym h)));
       content = tt;
       counted = (λ b n. let s = c.in_default.ensures.same b in let f = c.take.ensures.source in let e : c.take.new.self.source.lookups ≡ c.args.self.now.source.lookups = cc in
           let m : timing_of c.take.new.self.parents c.take.new.self.sorting ≡ None = (let p = c.take.ensures.order.0 in let q = c.take.ensures.order.1 in ap (λ (x : Parents). timing_of x c.take.new.self.sorting) p ∙ (ap (λ (x : Sorting). timing_of c.ready.new.self.parents x) q ∙ (ap (λ walk. timing_of walk.parents walk.sorting) s ∙ n))) in
@@ -126,4 +168,14 @@ returns-in-Err-enter-clause-steps g c =
       counted_one = λ b n. tt;
       counted_by_time = λ b. tt;
       rowed = λ r. tt;
+      over = tt;
+      content_end = tt;
+      content_fault = c.stop-in-Err-enter.ensures.emptied;
+      counted_end = λ b. tt;
+      counted_fault = (λ b. let s = c.in_default.ensures.same b in let f = c.take.ensures.source in let e : c.take.new.self.source.lookups ≡ c.args.self.now.source.lookups = cc in
+          subst (λ (n : ℕ). CountsFault n c.stop-in-Err-enter.new.self.source.lookups error) e
+          (subst (λ (n : ℕ). CountsFault c.take.new.self.source.lookups n error) (sym c.stop-in-Err-enter.ensures.lookups) c.in-Err-enter.ensures.failed));
+      rowed_end = λ r. tt;
+      first = λ a m. tt;
+      first_end = λ a m. tt;
     }

@@ -1,4 +1,4 @@
-use Rattle.std.proofs.Common.{◌≡◌, ◌∙◌, ap, List, ◌++◌}
+use Rattle.std.proofs.Common.{◌∙◌, ap, List, ◌++◌}
 use Rattle.gix_hash.specs.declared.object_id.ObjectId.{ObjectId}
 use Rattle.gix_traverse_commit.proofs.Chosen.{take_all}
 use Rattle.gix_traverse_commit.proofs.simple.anew.queue_all.Goals as goal

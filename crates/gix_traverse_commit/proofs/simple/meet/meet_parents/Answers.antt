@@ -5,7 +5,7 @@ use Rattle.gix_hash.specs.Id.{Id, id_of}
 use Rattle.gix_hash.specs.declared.object_id.ObjectId.{ObjectId}
 use Rattle.gix_hash.specs.declared.object_id.ObjectId.TheVariants.{Sha1}
 use Rattle.gix_traverse_commit.specs.Nodes.{is_hidden, is_met}
-use Rattle.gix_traverse_commit.proofs.Keeping.{kept_parent, kept_row}
+use Rattle.gix_traverse_commit.proofs.Keeping.{kept_row, kept_step, stays_met, unmet_before}
 use Rattle.gix_traverse_commit.proofs.Lists.{contains_from_at}
 use Rattle.gix_traverse_commit.proofs.Painting.{queues_held}
 use Rattle.gix_traverse_commit.proofs.simple.meet.meet_parents.Goals as goal
@@ -19,12 +19,16 @@ parents-preserved g c =
     record {
       accepts = c.meet.ensures.accepts ∙ c.parents.invariant.accepts;
       hidden = λ q. c.in_ok-meet.ensures.hidden q ∙ c.parents.invariant.hidden q;
+      grown = λ q h. stays_met (is_met c.parents.nodes) (is_met c.meet.new.nodes) (is_hidden c.parents.nodes id) id q c.in_ok-meet.ensures.met (c.parents.invariant.grown q h);
       rowed = λ rows a b. queues_held rows (is_met c.parents.nodes id) (not (is_hidden c.parents.nodes id) && accepts c.parents.predicate (id_of id)) c.parents.queue.items c.meet.new.queue.items id c.in_ok-meet.ensures.queued (c.parents.invariant.rowed rows a b) (b id (contains_from_at ids c.parents.parent-index id here));
-      walked = λ along keep tips listed child which e w r. kept_parent along tips keep (is_met c.parents.nodes) (is_met c.meet.new.nodes) (not (is_hidden c.parents.nodes id) && accepts c.parents.predicate (id_of id)) listed c.parents.queue.items c.meet.new.queue.items (length listed) c.parents.parent-index id child (c.parents.invariant.walked along keep tips listed child which e w r)
+      walked = λ along keep tips listed child which e w r. kept_step along tips keep (is_met c.parents.nodes) (is_met c.meet.new.nodes) (is_hidden c.parents.nodes id) (accepts c.parents.predicate (id_of id)) listed c.parents.queue.items c.meet.new.queue.items (length listed) c.parents.parent-index id child (c.parents.invariant.walked along keep tips listed child which e w r)
           (subst (λ (zs : List ObjectId). slice_get zs c.parents.parent-index ≡ Some id) e here) c.in_ok-meet.ensures.queued c.in_ok-meet.ensures.met
-          (λ f. which id ∙ ap (λ (b : Bool). not b && accepts c.args.predicate.now (id_of id)) (sym (c.parents.invariant.hidden id)) ∙ ap (λ (a : Id → Bool). not (is_hidden c.parents.nodes id) && a (id_of id)) (sym c.parents.invariant.accepts));
+          (λ f. which id (unmet_before (is_met c.args.nodes.now) (is_met c.parents.nodes) id (c.parents.invariant.grown id) f) ∙ ap (λ (b : Bool). not b && accepts c.args.predicate.now (id_of id)) (sym (c.parents.invariant.hidden id)) ∙ ap (λ (a : Id → Bool). not (is_hidden c.parents.nodes id) && a (id_of id)) (sym c.parents.invariant.accepts));
     }
 
 pub returns-clause-walked : goal.returns-clause-walked
 returns-clause-walked g c = λ along keep tips listed child which e w r.
     kept_row along tips keep (is_met c.parents.nodes) (listed ++ c.parents.queue.items) (length listed) c.parents.parent-index child (c.parents.invariant.walked along keep tips listed child which e w r) (subst (λ (row : List ObjectId). length row ≤ c.parents.parent-index) e c.parents-test.false)
+
+pub returns-clause-grown : goal.returns-clause-grown
+returns-clause-grown g c = c.parents.invariant.grown

@@ -1,4 +1,4 @@
-use Rattle.std.proofs.Common.{◌≡◌, List, ◌++◌, length, Bool}
+use Rattle.std.proofs.Common.{◌≡◌, List, ◌++◌, length, Bool, true, false}
 use Rattle.std.specs.Prelude.{not, ◌&&◌}
 use Rattle.gix_hash.specs.Id.{id_of}
 use Rattle.gix_hash.specs.declared.object_id.ObjectId.{ObjectId}
@@ -13,9 +13,10 @@ abbrev pub invariant-parents : goal.invariant-parents
 invariant-parents g l = record {
   accepts : g.P.Accept.accepts l.predicate ≡ g.P.Accept.accepts l.fn.predicate;
   hidden : (q : ObjectId) → is_hidden l.nodes q ≡ is_hidden l.fn.nodes q;
+  grown : (q : ObjectId) → is_met l.fn.nodes q ≡ true → is_met l.nodes q ≡ true;
   rowed : (rows : List Row) → AllHeld rows l.fn.queue.items → AllHeld rows l.parents → AllHeld rows l.queue.items;
   walked : (along : ObjectId → List ObjectId) (keep : ObjectId → Bool) (tips listed : List ObjectId) (id : ObjectId)
-      → ((x : ObjectId) → keep x ≡ (not (is_hidden l.fn.nodes x) && g.P.Accept.accepts l.fn.predicate (id_of x)))
+      → ((x : ObjectId) → is_met l.fn.nodes x ≡ false → keep x ≡ (not (is_hidden l.fn.nodes x) && g.P.Accept.accepts l.fn.predicate (id_of x)))
       → l.parents ≡ along id
       → Kept along tips keep (is_met l.fn.nodes) (listed ++ l.fn.queue.items) (length listed) 0
       → Reads (listed ++ l.fn.queue.items) (length listed) id

@@ -24,3 +24,6 @@ tips-preserved c =
 
 pub returns-clause-walked : goal.returns-clause-walked
 returns-clause-walked c = λ along keep which w. kept_start along c.args.tips.now keep (is_met c.tips.nodes) [] c.tips.queue.items c.tips.tip-index refl (c.tips.invariant.walked along keep which w) c.tips-test.false
+
+pub returns-clause-grown : goal.returns-clause-grown
+returns-clause-grown c = c.tips.invariant.grown

@@ -1,4 +1,4 @@
-use Rattle.std.proofs.Common.{◌≡◌, ◌∙◌, sym, ap, refl, subst, ◌⊎◌, inl, inr, List, [], take, get_or, Option, Bool, true, false}
+use Rattle.std.proofs.Common.{◌≡◌, ◌∙◌, sym, ap, refl, subst, ◌⊎◌, inl, inr, List, [], take, get_or, Option, Bool}
 use Rattle.std.specs.Prelude.{Contains, not, ◌&&◌}
 use Rattle.std.proofs.lemmas.Option.{slice_get-get_or}
 use Rattle.gix_hash.specs.Id.{Id, id_of}
@@ -11,10 +11,10 @@ use Rattle.gix_traverse_commit.specs.Timely.{AllRowed, IsMetSoFar, keep_since, t
 use Rattle.gix_traverse_commit.specs.Told.{AreTold, rows_of}
 use Rattle.gix_traverse_commit.specs.declared.rows.Row.{Row}
 use Rattle.gix_traverse_commit.proofs.Chosen.{take_all}
-use Rattle.gix_traverse_commit.proofs.Keeping.{met_more, unmet_before}
+use Rattle.gix_traverse_commit.proofs.Keeping.{stays_met, unmet_before}
 use Rattle.gix_traverse_commit.proofs.Lists.{contains_from_at}
-use Rattle.gix_traverse_commit.proofs.Timely.{in_nil, joins_same, met_renamed, next_parent, next_tip, tip_joins}
-use Rattle.std.proofs.Common.{arith, ◌≤◌, ◌+◌}
+use Rattle.gix_traverse_commit.proofs.Timely.{hides_out, in_nil, joins_same, met_renamed, parent_joins, step_parent}
+use Rattle.std.proofs.Common.{arith}
 use Rattle.gix_traverse_commit.specs.Order.{IsOpen}
 use Rattle.gix_traverse_commit.proofs.simple.timed.await_parents.Goals as goal
 
@@ -24,11 +24,12 @@ parents-init g c = record {
   rows = refl;
   accepts = refl;
   hidden = λ q. refl;
+  grown = λ q h. h;
   counted = omega arith;
   rising = omega arith;
   same = λ all. refl;
   rowed = λ all before. before;
-  walked = λ honest sure h told along tips front listed w. met_renamed h (keep_since c.args.since h (is_hidden c.args.nodes.now) (g.P.Accept.accepts c.args.predicate.now)) listed (is_met c.args.nodes.now) (IsOpen along tips front) (λ x. IsOpen along tips front x ⊎ Contains (take 0 c.args.parents.now) x) (waiting c.args.waiting.now) w (λ x. ((λ o. inl o), (λ d. elim d [ inl o ↦ o | inr c ↦ absurd (in_nil x c) ])));
+  walked = λ honest sure h told accepts along tips front listed which w. met_renamed h (keep_since c.args.since h (is_hidden c.args.nodes.now) accepts) listed (is_met c.args.nodes.now) (IsOpen along tips front) (λ x. IsOpen along tips front x ⊎ Contains (take 0 c.args.parents.now) x) (waiting c.args.waiting.now) w (λ x. ((λ o. inl o), (λ d. elim d [ inl o ↦ o | inr c ↦ absurd (in_nil x c) ])));
 }
 
 pub parents-preserved : goal.parents-preserved
@@ -43,24 +44,29 @@ parents-preserved g c =
       rows = c.await_parent.ensures.rows ∙ inv.rows;
       accepts = c.await_parent.ensures.accepts ∙ inv.accepts;
       hidden = λ q. c.in_ok-await_parent.ensures.hidden q ∙ inv.hidden q;
+      grown = λ q h. stays_met (is_met c.parents.nodes) (is_met c.await_parent.new.nodes) (is_hidden c.parents.nodes id) id q c.in_ok-await_parent.ensures.met (inv.grown q h);
       counted = omega (arith, c.await_parent.ensures.counted, inv.counted);
       rising = omega (arith, c.await_parent.ensures.rising, inv.rising);
       same = λ all. (rowed (all id (contains_from_at ids c.parents.parent-index id here))).0 ∙ inv.same all;
       rowed = λ all before. (rowed (all id (contains_from_at ids c.parents.parent-index id here))).1 (inv.rowed all before);
-      walked = (λ honest sure h told along tips front listed w.
-          let accepts = g.P.Accept.accepts c.args.predicate.now in
+      walked = (λ honest sure h told accepts along tips front listed which w.
           let keep = keep_since c.args.since h (is_hidden c.args.nodes.now) accepts in
           let honest' = subst (λ (o : g.row.F.Denot). g.F.Lookup.is_honest o) (sym inv.objects) honest in
           let sure' = subst (λ (o : g.row.F.Denot). g.F.Lookup.may_fail o → ⊥) (sym inv.objects) sure in
           let told' = subst (λ (o : g.row.F.Denot). AreTold (rows_of c.parents.source.rows) (g.F.Lookup.table o) h) (sym inv.objects) (subst (λ (r : Option (List Row)). AreTold (rows_of r) (g.F.Lookup.table c.args.source.now.objects) h) (sym inv.rows) told) in
           let time = in_time c.args.since (h id).time in
           let met = is_met c.parents.nodes id in
-          let so = ap (λ (b : Bool). not met && (not b && (g.P.Accept.accepts c.parents.predicate (id_of id) && time))) (inv.hidden id) ∙ ap (λ (f : Id → Bool). not met && (not (is_hidden c.args.nodes.now id) && (f (id_of id) && time))) inv.accepts in
+          let so = parent_joins met (is_hidden c.parents.nodes id) (is_hidden c.args.nodes.now id) (g.P.Accept.accepts c.parents.predicate (id_of id)) (accepts (id_of id)) time (inv.hidden id)
+          (λ f. ap (λ (p : Id → Bool). p (id_of id)) inv.accepts ∙ which id (unmet_before (is_met c.args.nodes.now) (is_met c.parents.nodes) id (inv.grown id) f)) in
           let j = joins_same (not met && (not (is_hidden c.parents.nodes id) && (g.P.Accept.accepts c.parents.predicate (id_of id) && time))) (not met && keep id) (waiting c.parents.waiting) (turn_of h id) (turn_of h id) (waiting c.await_parent.new.waiting) so refl (c.in_ok-await_parent.ensures.waits honest' sure' h told') in
-          next_parent h keep (is_met c.parents.nodes) (is_met c.await_parent.new.nodes) ids c.parents.parent-index (waiting c.parents.waiting) (waiting c.await_parent.new.waiting) id here j c.in_ok-await_parent.ensures.met (IsOpen along tips front) listed (inv.walked honest sure h told along tips front listed w));
+          step_parent h keep (is_met c.parents.nodes) (is_met c.await_parent.new.nodes) (is_hidden c.parents.nodes id) ids c.parents.parent-index (waiting c.parents.waiting) (waiting c.await_parent.new.waiting) id here j c.in_ok-await_parent.ensures.met
+          (λ e. hides_out (is_hidden c.args.nodes.now id) (accepts (id_of id) && time) (sym (inv.hidden id) ∙ e)) (IsOpen along tips front) listed (inv.walked honest sure h told accepts along tips front listed which w));
     }
 
 pub returns-clause-walked : goal.returns-clause-walked
-returns-clause-walked g c = λ honest sure h told along tips front listed w.
-    subst (λ (zs : List ObjectId). IsMetSoFar h (keep_since c.args.since h (is_hidden c.args.nodes.now) (g.P.Accept.accepts c.args.predicate.now)) (is_met c.parents.nodes) (λ x. IsOpen along tips front x ⊎ Contains zs x) listed (waiting c.parents.waiting)) (take_all c.args.parents.now c.parents.parent-index c.parents-test.false)
-    (c.parents.invariant.walked honest sure h told along tips front listed w)
+returns-clause-walked g c = λ honest sure h told accepts along tips front listed which w.
+    subst (λ (zs : List ObjectId). IsMetSoFar h (keep_since c.args.since h (is_hidden c.args.nodes.now) accepts) (is_met c.parents.nodes) (λ x. IsOpen along tips front x ⊎ Contains zs x) listed (waiting c.parents.waiting)) (take_all c.args.parents.now c.parents.parent-index c.parents-test.false)
+    (c.parents.invariant.walked honest sure h told accepts along tips front listed which w)
+
+pub returns-clause-grown : goal.returns-clause-grown
+returns-clause-grown g c = c.parents.invariant.grown

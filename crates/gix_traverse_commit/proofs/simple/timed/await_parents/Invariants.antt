@@ -1,5 +1,6 @@
-use Rattle.std.proofs.Common.{◌≡◌, ◌⊎◌, ◌+◌, ◌≤◌, List, [], Bool, true, false, take}
+use Rattle.std.proofs.Common.{◌≡◌, ◌⊎◌, ◌+◌, ◌≤◌, List, Bool, true, false, take}
 use Rattle.std.specs.Prelude.{Contains}
+use Rattle.gix_hash.specs.Id.{Id, id_of}
 use Rattle.gix_hash.specs.declared.object_id.ObjectId.{ObjectId}
 use Rattle.gix_traverse_commit.specs.Commits.{Commits}
 use Rattle.gix_traverse_commit.specs.Nodes.{is_hidden, is_met}
@@ -15,12 +16,14 @@ invariant-parents g l = record {
   rows : l.source.rows ≡ l.fn.source.rows;
   accepts : g.P.Accept.accepts l.predicate ≡ g.P.Accept.accepts l.fn.predicate;
   hidden : (q : ObjectId) → is_hidden l.nodes q ≡ is_hidden l.fn.nodes q;
+  grown : (q : ObjectId) → is_met l.fn.nodes q ≡ true → is_met l.nodes q ≡ true;
   counted : l.source.lookups ≤ l.fn.source.lookups + l.parent-index;
   rising : l.fn.source.lookups ≤ l.source.lookups;
   same : AllHeld (rows_of l.fn.source.rows) l.parents → l.source.lookups ≡ l.fn.source.lookups;
   rowed : AllHeld (rows_of l.fn.source.rows) l.parents → AllRowed (rows_of l.fn.source.rows) (waiting l.fn.waiting) → AllRowed (rows_of l.fn.source.rows) (waiting l.waiting);
   walked : g.F.Lookup.is_honest l.fn.source.objects → (¬ g.F.Lookup.may_fail l.fn.source.objects) → (h : Commits ObjectId) → AreTold (rows_of l.fn.source.rows) (g.F.Lookup.table l.fn.source.objects) h
-      → (along : ObjectId → List ObjectId) (tips front listed : List ObjectId)
-      → IsMetSoFar h (keep_since l.since h (is_hidden l.fn.nodes) (g.P.Accept.accepts l.fn.predicate)) (is_met l.fn.nodes) (IsOpen along tips front) listed (waiting l.fn.waiting)
-      → IsMetSoFar h (keep_since l.since h (is_hidden l.fn.nodes) (g.P.Accept.accepts l.fn.predicate)) (is_met l.nodes) (λ x. IsOpen along tips front x ⊎ Contains (take l.parent-index l.parents) x) listed (waiting l.waiting);
+      → (accepts : Id → Bool) (along : ObjectId → List ObjectId) (tips front listed : List ObjectId)
+      → ((x : ObjectId) → is_met l.fn.nodes x ≡ false → g.P.Accept.accepts l.fn.predicate (id_of x) ≡ accepts (id_of x))
+      → IsMetSoFar h (keep_since l.since h (is_hidden l.fn.nodes) accepts) (is_met l.fn.nodes) (IsOpen along tips front) listed (waiting l.fn.waiting)
+      → IsMetSoFar h (keep_since l.since h (is_hidden l.fn.nodes) accepts) (is_met l.nodes) (λ x. IsOpen along tips front x ⊎ Contains (take l.parent-index l.parents) x) listed (waiting l.waiting);
 }

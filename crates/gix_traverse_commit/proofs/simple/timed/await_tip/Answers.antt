@@ -1,4 +1,4 @@
-use Rattle.std.proofs.Common.{rules, ◌≡◌, refl, true, false}
+use Rattle.std.proofs.Common.{rules, ◌≡◌, refl, false}
 use Rattle.std.specs.Prelude.{not, ◌&&◌}
 use Rattle.gix_traverse_commit.specs.Nodes.{is_hidden, is_met}
 use Rattle.gix_traverse_commit.specs.Sorting.{in_time}

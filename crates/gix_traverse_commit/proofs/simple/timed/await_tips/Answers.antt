@@ -1,7 +1,7 @@
-use Rattle.std.proofs.Common.{◌≡◌, ◌∙◌, sym, ap, refl, subst, inl, inr, List, [], take, get_or, Option, Bool, true, false}
+use Rattle.std.proofs.Common.{◌≡◌, ◌∙◌, sym, refl, subst, List, [], take, get_or, Option, arith}
 use Rattle.std.specs.Prelude.{Contains, not, ◌&&◌}
 use Rattle.std.proofs.lemmas.Option.{slice_get-get_or}
-use Rattle.gix_hash.specs.Id.{Id, id_of}
+use Rattle.gix_hash.specs.Id.{id_of}
 use Rattle.gix_hash.specs.declared.object_id.ObjectId.{ObjectId}
 use Rattle.gix_hash.specs.declared.object_id.ObjectId.TheVariants.{Sha1}
 use Rattle.gix_traverse_commit.specs.Nodes.{is_hidden, is_met}
@@ -13,7 +13,7 @@ use Rattle.gix_traverse_commit.specs.declared.rows.Row.{Row}
 use Rattle.gix_traverse_commit.proofs.Chosen.{take_all}
 use Rattle.gix_traverse_commit.proofs.Keeping.{met_more, unmet_before}
 use Rattle.gix_traverse_commit.proofs.Lists.{contains_from_at}
-use Rattle.gix_traverse_commit.proofs.Timely.{in_nil, joins_same, met_renamed, next_parent, next_tip, tip_joins}
+use Rattle.gix_traverse_commit.proofs.Timely.{in_nil, joins_same, met_renamed, next_tip, tip_joins}
 use Rattle.gix_traverse_commit.proofs.simple.timed.await_tips.Goals as goal
 
 pub tips-init : goal.tips-init
@@ -22,6 +22,8 @@ tips-init g c = record {
   rows = refl;
   hidden = λ q. refl;
   grown = λ q h. h;
+  most = omega arith;
+  rising = omega arith;
   counted = λ all. refl;
   rowed = λ all before. before;
   walked = λ honest sure h told accepts which w. met_renamed h (keep_since c.args.since h (is_hidden c.args.nodes.now) accepts) [] (is_met c.args.nodes.now) (λ _. ⊥) (Contains (take 0 c.args.tips.now)) (waiting c.args.waiting.now) w (λ x. ((λ z. absurd z), (λ d. in_nil x d)));
@@ -39,6 +41,8 @@ tips-preserved g c =
       rows = c.await_tip.ensures.rows ∙ inv.rows;
       hidden = λ q. c.in_ok-await_tip.ensures.hidden q ∙ inv.hidden q;
       grown = λ q h. met_more (is_met c.tips.nodes) (is_met c.await_tip.new.nodes) id q c.in_ok-await_tip.ensures.met (inv.grown q h);
+      most = omega (arith, c.await_tip.ensures.counted, inv.most);
+      rising = omega (arith, c.await_tip.ensures.rising, inv.rising);
       counted = λ all. (rowed (all id (contains_from_at ids c.tips.tip-index id here))).0 ∙ inv.counted all;
       rowed = λ all before. (rowed (all id (contains_from_at ids c.tips.tip-index id here))).1 (inv.rowed all before);
       walked = (λ honest sure h told accepts which w.
@@ -58,3 +62,6 @@ pub returns-clause-walked : goal.returns-clause-walked
 returns-clause-walked g c = λ honest sure h told accepts which w.
     subst (λ (zs : List ObjectId). IsMetSoFar h (keep_since c.args.since h (is_hidden c.args.nodes.now) accepts) (is_met c.tips.nodes) (Contains zs) [] (waiting c.tips.waiting)) (take_all c.args.tips.now c.tips.tip-index c.tips-test.false)
     (c.tips.invariant.walked honest sure h told accepts which w)
+
+pub returns-clause-grown : goal.returns-clause-grown
+returns-clause-grown g c = c.tips.invariant.grown

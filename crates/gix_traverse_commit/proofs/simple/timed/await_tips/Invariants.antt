@@ -1,4 +1,4 @@
-use Rattle.std.proofs.Common.{◌≡◌, List, [], Bool, true, false, take}
+use Rattle.std.proofs.Common.{◌≡◌, ◌≤◌, ◌+◌, [], Bool, true, false, take}
 use Rattle.std.specs.Prelude.{Contains}
 use Rattle.gix_hash.specs.Id.{Id, id_of}
 use Rattle.gix_hash.specs.declared.object_id.ObjectId.{ObjectId}
@@ -15,6 +15,8 @@ invariant-tips g l = record {
   rows : l.source.rows ≡ l.fn.source.rows;
   hidden : (q : ObjectId) → is_hidden l.nodes q ≡ is_hidden l.fn.nodes q;
   grown : (q : ObjectId) → is_met l.fn.nodes q ≡ true → is_met l.nodes q ≡ true;
+  most : l.source.lookups ≤ l.fn.source.lookups + l.tip-index;
+  rising : l.fn.source.lookups ≤ l.source.lookups;
   counted : AllHeld (rows_of l.fn.source.rows) l.tips → l.source.lookups ≡ l.fn.source.lookups;
   rowed : AllHeld (rows_of l.fn.source.rows) l.tips → AllRowed (rows_of l.fn.source.rows) (waiting l.fn.waiting) → AllRowed (rows_of l.fn.source.rows) (waiting l.waiting);
   walked : g.F.Lookup.is_honest l.fn.source.objects → (¬ g.F.Lookup.may_fail l.fn.source.objects) → (h : Commits ObjectId) → AreTold (rows_of l.fn.source.rows) (g.F.Lookup.table l.fn.source.objects) h

@@ -1,4 +1,4 @@
-use Rattle.std.proofs.Common.{rules, ◌≡◌, ◌∙◌, ap, sym, subst, List, ℤ, true, Bool}
+use Rattle.std.proofs.Common.{rules, ◌≡◌, ◌∙◌, ap, sym, ℤ, true}
 use mir.Syntax.{w64}
 use mir.Val.{of_z, to_z}
 use Rattle.gix_hash.specs.declared.object_id.ObjectId.{ObjectId}
@@ -15,7 +15,7 @@ turn time id = record { time = time; id = id }
 pub returns-in_ok-put-clause-rowed : goal.returns-in_ok-put-clause-rowed
 returns-in_ok-put-clause-rowed g c = λ held. (
   c.seconds_or_zero.ensures.rowed held,
-  joins_rowed (rows_of c.args.source.now.rows) (waiting c.args.waiting.now) (turn (to_z w64 (of_z w64 c.in_ok-time.time)) c.args.id) (waiting c.put.new.self) c.in_ok-put.ensures held,
+  joins_rowed (rows_of c.args.source.now.rows) (waiting c.args.waiting.now) (turn (to_z w64 (of_z w64 c.in_ok-time.time)) c.args.id) (waiting c.put.new.self) c.in_ok-put.ensures.joins held,
 )
 
 pub returns-in_ok-put-clause-waits : goal.returns-in_ok-put-clause-waits
@@ -24,4 +24,4 @@ returns-in_ok-put-clause-waits g c = λ honest sure commits told.
     let so : in_time c.args.since c.in_ok-time.time ≡ true = search rules in
     let same : to_z w64 (of_z w64 c.in_ok-time.time) ≡ c.in_ok-time.time = search rules in
     joins_same true (in_time c.args.since (commits c.args.id).time) (waiting c.args.waiting.now) (turn (to_z w64 (of_z w64 c.in_ok-time.time)) c.args.id) (turn_of commits c.args.id) (waiting c.put.new.self)
-    (sym so ∙ ap (in_time c.args.since) e) (ap (λ (n : ℤ). turn n c.args.id) (same ∙ e)) c.in_ok-put.ensures
+    (sym so ∙ ap (in_time c.args.since) e) (ap (λ (n : ℤ). turn n c.args.id) (same ∙ e)) c.in_ok-put.ensures.joins

@@ -1,4 +1,4 @@
-use Rattle.std.proofs.Common.{◌≡◌, List, [], Option}
+use Rattle.std.proofs.Common.{◌≡◌, ◌≤◌, List, [], Option}
 use Rattle.gix_hash.specs.declared.object_id.ObjectId.{ObjectId}
 use Rattle.gix_hash.specs.Id.{id_of}
 use Rattle.gix_traverse_commit.specs.Commits.{Commits}
@@ -15,6 +15,7 @@ invariant-turns g l = record {
   predicate : g.P.Accept.accepts l.self.predicate ≡ g.P.Accept.accepts l.initial.self.predicate;
   lookups : l.self.lookups ≡ l.initial.self.lookups;
   stands : (sorting : Sorting) (rows : List Row) (faults : ObjectId → Option Error) (h : Commits ObjectId) (tips ends listed : List ObjectId) → Stands sorting rows faults h tips ends l.initial.self.parents (λ x. g.P.Accept.accepts l.initial.self.predicate (id_of x)) listed l.initial.self.known l.initial.self.ready → Stands sorting rows faults h tips ends l.initial.self.parents (λ x. g.P.Accept.accepts l.initial.self.predicate (id_of x)) listed l.self.known l.self.ready;
+  weight : weight l.self.known l.self.ready ≤ weight l.initial.self.known l.initial.self.ready;
   ended : waiting l.initial.self.ready ≡ [] → waiting l.self.ready ≡ [];
 }
 

@@ -4,5 +4,5 @@ use Rattle.std.specs.Map.{keys_of}
 use Rattle.std.proofs.Common.{ap}
 use Rattle.gix_traverse_commit.proofs.simple.waiting.Waiting.put.Goals as goal
 
-pub returns : goal.returns
-returns c = put_joins c.args.turn c.args.self.now.queued c.args.self.now.turns.entries (keys c.insert.new.self) (ap keys_of c.in_ok-insert.ensures.entries)
+pub returns-clause-joins : goal.returns-clause-joins
+returns-clause-joins c = put_joins c.args.turn c.len.result c.args.self.now.turns.entries (keys c.insert.new.self) (ap keys_of c.in_ok-insert.ensures.entries)

@@ -1,30 +1,34 @@
-use Rattle.std.proofs.Common.{◌≡◌, ◌∙◌, ℕ, sym, ap, subst, inl, inr, map, List, [], ◌∷◌}
-use Rattle.std.specs.Prelude.{Contains}
-use Rattle.std.specs.BTreeMap.{keys}
-use Rattle.std.specs.Map.{keys_of}
+use Rattle.std.proofs.Common.{◌≡◌, ◌+◌, ◌∙◌, sym, ap, subst, List, [], ◌∷◌, ◌++◌, map, take, get_or, Bool, true, false, cond, pos, append-nil}
+use Rattle.std.specs.BTreeMap.{get}
+use Rattle.std.specs.Prelude.{filter, is_some}
+use Rattle.std.proofs.lemmas.Option.{slice_get-get_or}
 use Rattle.gix_hash.specs.declared.object_id.ObjectId.{ObjectId}
-use Rattle.gix_traverse_commit.specs.Timely.{Waits, waiting}
+use Rattle.gix_hash.specs.declared.object_id.ObjectId.TheVariants.{Sha1}
+use Rattle.gix_traverse_commit.specs.Order.{At}
+use Rattle.gix_traverse_commit.specs.Timely.{turn_cmp}
 use Rattle.gix_traverse_commit.specs.declared.simple.waiting.Turn.{Turn}
-use Rattle.gix_traverse_commit.proofs.Pending.{in_head, in_tail, ok_more, waited}
-use Rattle.gix_traverse_commit.proofs.Simply.{in_push}
+use Rattle.gix_traverse_commit.proofs.Chosen.{take_all}
+use Rattle.gix_traverse_commit.proofs.Pending.{pass_push}
+use Rattle.gix_traverse_commit.proofs.Simply.{take_push}
 use Rattle.gix_traverse_commit.proofs.simple.waiting.Waiting.take_all.Goals as goal
+use Rattle.gix_traverse_commit.proofs.simple.waiting.Waiting.take_all.Goals.{then-contains_key+in_ok-push, else-contains_key}
 
-pub turns-preserved : goal.turns-preserved
-turns-preserved c =
-    let turn : Turn = c.in-Some.turn in
-    let old : List Turn = waiting c.turns.self in
-    let rest : List Turn = keys c.pop_first.new.self in
-    let e : old ≡ turn ∷ rest = ap keys_of c.in-Some.ensures.removal in
-    record {
-      left = λ t k. c.turns.invariant.left t (subst (λ (ts : List Turn). Contains ts t) (sym e) (in_tail turn rest t k));
-      taken = λ p k. elim (in_push c.turns.places.items (c.in-Some.place, turn.id) p (subst (λ (zs : List (ℕ × ObjectId)). Contains zs p) c.in_ok-push.ensures.items k)) [
-        | inl before ↦ c.turns.invariant.taken p before
-        | inr same ↦ (turn, c.turns.invariant.left turn (subst (λ (ts : List Turn). Contains ts turn) (sym e) (in_head turn rest)), ap (λ (q : ℕ × ObjectId). q.1) (sym same))
-      ];
-    }
+pub order-preserved : goal.order-preserved
+order-preserved c =
+    let i = c.order.turn-index in
+    let items : List Turn = c.args.self.now.order.items in
+    let p : Turn → Bool = λ (t : Turn). is_some (get turn_cmp c.args.self.now.turns t) in
+    let f : Turn → ObjectId = λ (t : Turn). t.id in
+    let lent : List Turn = c.deref-turn-items.result.now in
+    let turn : Turn = get_or lent i (record { time = pos 0; id = Sha1 [] }) in
+    let here : At items i turn = subst (λ (ts : List Turn). At ts i turn) c.deref-turn-items.ensures.value (slice_get-get_or lent i (record { time = pos 0; id = Sha1 [] }) c.order-test.true) in
+    let step : map f (filter p (take (i + 1) items)) ≡ map f (filter p (take i items)) ++ cond (p turn) (turn.id ∷ []) [] = ap (λ (ts : List Turn). map f (filter p ts)) (take_push items i turn here) ∙ pass_push f p (take i items) turn in
+    let told : (b : Bool) → c.contains_key.result ≡ b → map f (filter p (take (i + 1) items)) ≡ map f (filter p (take i items)) ++ cond b (turn.id ∷ []) [] = λ b e. step ∙ ap (λ (b : Bool). map f (filter p (take i items)) ++ cond b (turn.id ∷ []) []) (sym c.contains_key.ensures ∙ e) in
+    elim c.if-contains_key.branch [
+      | then-contains_key+in_ok-push w ↦ ap (λ v. v.items) w.ids-is ∙ w.in_ok-push.ensures.items ∙ ap (λ (zs : List ObjectId). zs ++ turn.id ∷ []) c.order.invariant ∙ sym (told true w.if-contains_key.true)
+      | else-contains_key w ↦ ap (λ v. v.items) w.ids-is ∙ c.order.invariant ∙ sym (told false w.if-contains_key.false ∙ append-nil (map f (filter p (take i items))))
+    ]
 
-pub returns-clause-waited : goal.returns-clause-waited
-returns-clause-waited c =
-    ok_more c.ids_of.result (λ ids. ids.items ≡ map (λ (p : ℕ × ObjectId). p.1) c.as_slice.result.now) (λ ids. (x : ObjectId) → Contains ids.items x → Waits (waiting c.args.self.now) x)
-    (λ ids is x k. waited (waiting c.args.self.now) c.turns.places.items c.sort.new.self.items ids.items c.turns.invariant.taken c.in_ok-sort.ensures.permutation (is ∙ ap (map (λ (p : ℕ × ObjectId). p.1)) c.as_slice.ensures.value) x k)
-    c.ids_of.ensures
+pub returns-clause-queued : goal.returns-clause-queued
+returns-clause-queued c = c.order.invariant ∙ ap (λ (ts : List Turn). map (λ (t : Turn). t.id) (filter (λ (t : Turn). is_some (get turn_cmp c.args.self.now.turns t)) ts))
+    (ap (take c.order.turn-index) (sym c.deref-turn-items.ensures.value) ∙ take_all c.deref-turn-items.result.now c.order.turn-index c.order-test.false ∙ c.deref-turn-items.ensures.value)

@@ -1,0 +1,63 @@
+-- How many objects were asked for.
+use Rattle.std.proofs.Common.{◌≡◌, ℕ, zero, suc, ◌+◌, ◌≤◌, List, [], ◌∷◌, ◌++◌, length, take, refl, sym, ◌∙◌, ap, subst, arith, add-one}
+use Rattle.std.specs.Prelude.{IsTrue}
+use Rattle.gix_hash.specs.declared.object_id.ObjectId.{ObjectId}
+use Rattle.gix_object_find.specs.Table.{Table}
+use Rattle.gix_traverse_commit.specs.Commits.{Commits, Reached, tip, parent}
+use Rattle.gix_traverse_commit.specs.Fetching.{FetchFault, one_more}
+use Rattle.gix_traverse_commit.specs.Keeping.{KeptAll}
+use Rattle.gix_traverse_commit.specs.Nodes.{is_hidden}
+use Rattle.gix_traverse_commit.specs.Order.{At, IsListOf}
+use Rattle.gix_traverse_commit.specs.Painting.{ReachedFrom, every}
+use Rattle.gix_traverse_commit.specs.Rows.{Holds}
+use Rattle.gix_traverse_commit.specs.Simply.{CountsAll, CountsFault, CountsOne, error_of}
+use Rattle.gix_traverse_commit.specs.declared.fetch.FetchError.{FetchError}
+use Rattle.gix_traverse_commit.specs.declared.fetch.FetchError.TheVariants as fetch
+use Rattle.gix_traverse_commit.specs.declared.nodes.Node.{Node}
+use Rattle.gix_traverse_commit.specs.declared.rows.Row.{Row}
+use Rattle.gix_traverse_commit.proofs.Frontier.{read_all}
+use Rattle.gix_traverse_commit.proofs.Lists.{none_at_nil}
+
+counts_push : (rows : List Row) (xs : List ObjectId) (x : ObjectId) (a b c : ℕ) → CountsAll rows xs a b → CountsOne rows x b c → CountsAll rows (xs ++ x ∷ []) a c
+counts_push rows [] x a b c e one = (c, subst (λ (n : ℕ). CountsOne rows x n c) e one, refl)
+counts_push rows (y ∷ ys) x a b c (mid, first, rest) one = (mid, first, counts_push rows ys x mid b c rest one)
+
+-- the beginning of a longer list, and the one behind it
+take_next : (xs ys : List ObjectId) (k : ℕ) (x : ObjectId) → At xs k x → ((j : ℕ) (y : ObjectId) → At xs j y → At ys j y) → take (suc k) ys ≡ take k xs ++ x ∷ []
+take_next [] ys k x a more = absurd (none_at_nil k x a)
+take_next (z ∷ xs) [] k x a more = absurd (none_at_nil 0 z (more 0 z refl))
+take_next (z ∷ xs) (w ∷ ys) zero x a more =
+    let b : At (w ∷ ys) 0 x = more 0 x a in
+    let same : w ≡ x = cc in ap (λ (v : ObjectId). v ∷ []) same
+take_next (z ∷ xs) (w ∷ ys) (suc k) x a more =
+    let b : At (w ∷ ys) 0 z = more 0 z refl in
+    let same : w ≡ z = cc in
+    ap (λ (v : ObjectId). v ∷ take (suc k) ys) same ∙ ap (λ (zs : List ObjectId). z ∷ zs) (take_next xs ys k x a (λ j y c. more (suc j) y c))
+
+pub counts_next : (rows : List Row) (xs ys : List ObjectId) (k : ℕ) (x : ObjectId) (a b c : ℕ) → At xs k x → ((j : ℕ) (y : ObjectId) → At xs j y → At ys j y) → CountsAll rows (take k xs) a b → CountsOne rows x b c → CountsAll rows (take (k + 1) ys) a c
+counts_next rows xs ys k x a b c here more before one =
+    let e : take (k + 1) ys ≡ take k xs ++ x ∷ [] = rw add-one (take_next xs ys k x here more) in
+    subst (λ (zs : List ObjectId). CountsAll rows zs a c) (sym e) (counts_push rows (take k xs) x a b c before one)
+
+-- what is painted once all places are read
+pub painted_list : (g : Commits ObjectId) (hidden : List ObjectId) (nodes : List Node) (xs : List ObjectId) (p : ℕ) → KeptAll (λ y. (g y).parents) hidden every (is_hidden nodes) xs p → length xs ≤ p → IsListOf (ReachedFrom g hidden) xs
+painted_list g hidden nodes xs p w l = go (omega (arith, w.kept.read.within))
+  where
+    go : p ≡ length xs → IsListOf (ReachedFrom g hidden) xs
+    go e =
+        let v : KeptAll (λ y. (g y).parents) hidden every (is_hidden nodes) xs (length xs) = subst (λ (n : ℕ). KeptAll (λ y. (g y).parents) hidden every (is_hidden nodes) xs n) e w in
+        (read_all (λ y. (g y).parents) hidden (λ q. IsTrue (every q)) xs v.count v.kept.read v.all (ReachedFrom g hidden) to from).list
+      where
+        to : (x : ObjectId) → ReachedFrom g hidden x → Reached (λ y. (g y).parents) (λ q. IsTrue (every q)) hidden x
+        to x (tip t k) = tip t refl
+        to x (parent {x = c} r n k) = parent (to c r) n refl
+
+        from : (x : ObjectId) → Reached (λ y. (g y).parents) (λ q. IsTrue (every q)) hidden x → ReachedFrom g hidden x
+        from x (tip t k) = tip t tt
+        from x (parent {x = c} r n k) = parent (from c r) n tt
+
+-- a commit that isn't read
+pub fault_counts : (honest may_fail : Type 0) (rows : List Row) (table : Table) (id : ObjectId) (error : FetchError) (before after : ℕ) → FetchFault honest may_fail rows table id error → ((¬ Holds rows id) → after ≡ one_more before) → before ≤ after → CountsFault before after (error_of error)
+fault_counts honest may_fail rows table id (fetch.Find error) before after f one l = one f.0
+fault_counts honest may_fail rows table id (fetch.ObjectDecode error) before after f one l = one f.0
+fault_counts honest may_fail rows table id fetch.Memory before after f one l = l

@@ -1,0 +1,8 @@
+use Rattle.std.proofs.Common.{refl, inl, inr}
+use Rattle.gix_traverse_commit.proofs.simple.Simple.parents.Goals as goal
+
+pub returns-clause-made : goal.returns-clause-made
+returns-clause-made g c = λ a m. elim (c.turn.ensures.ahead a m) [
+  | inl n ↦ inl (record { begun = n.begun; tips = n.tips; hidden = n.hidden; parents = refl; sorting = n.sorting; accepts_as = record { given = n.accepts_as.given; unmet = n.accepts_as.unmet }; asked = n.asked; empty = n.empty; none_waits = n.none_waits })
+  | inr t ↦ inr (record { begun = t.begun; no_tips = t.no_tips; queued = t.queued; goes_on = t.goes_on; hidden = t.hidden; parents = refl; sorting = t.sorting; accepts_as = record { given = t.accepts_as.given; unmet = t.accepts_as.unmet }; accepted = t.accepted; refused = t.refused })
+]
