@@ -1,8 +1,7 @@
 //! The file `packed-refs`: its header, its records, and what finds them.
 
-ghost use Rattle.std.specs.Prelude.{◌≡◌, unwrap_or};
-ghost use Rattle.std.specs.Option.{option_map};
-ghost use Rattle.gix_hash.specs.Id.{id_of};
+ghost use Rattle.std.specs.Prelude.{◌≡◌, false, unwrap_or};
+ghost use Rattle.gix_ref_format.specs.declared.packed.Peeled.TheVariants.{Unspecified};
 
 pub mod buffer;
 mod decode;
@@ -38,8 +37,19 @@ pub struct Header {
     pub sorted: bool,
 }
 
+impl Default for Header {
+    ghost is_default = { λ header. header ≡ record { peeled = Unspecified; sorted = false } };
+
+    fn default() -> Header {
+        Header {
+            peeled: Peeled::Unspecified,
+            sorted: false,
+        }
+    }
+}
+
 /// A record.
-#[derive(Debug, Clone, Copy)]
+#[derive(Debug, Clone, Copy, PartialEq, Eq)]
 pub struct Reference<'a> {
     /// Its name.
     pub name: FullNameRef<'a>,

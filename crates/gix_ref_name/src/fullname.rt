@@ -1,5 +1,6 @@
 //! Full names of references.
 
+mod convert;
 mod owned;
 mod view;
 mod views;

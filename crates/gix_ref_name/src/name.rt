@@ -1,5 +1,6 @@
 //! Partial names, which rules may complete, and why bytes are no name.
 
+mod convert;
 mod error;
 mod partial;
 mod view;

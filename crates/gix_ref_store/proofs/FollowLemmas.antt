@@ -8,7 +8,7 @@ use Rattle.gix_ref_name.specs.Targets.{ToName}
 use Rattle.gix_ref_store.specs.Places.{Base}
 use Rattle.gix_ref_store.specs.Readings.{Reading, Stands, Absent, Faulty}
 use Rattle.gix_ref_store.specs.Finds.{OnExisting, reading_of}
-use Rattle.gix_ref_store.specs.Follows.{Followed, Cycles, TooDeep, Dangles, Breaks, is_among, follow, EndsBy, ReadFault, FollowFault, IsGiven, CantOpen}
+use Rattle.gix_ref_store.specs.Follows.{Followed, Cycles, TooDeep, is_among, follow, EndsBy, ReadFault, FollowFault, IsGiven, CantOpen}
 use Rattle.gix_ref_store.specs.declared.reference.Reference.{Reference}
 use Rattle.gix_ref_store.specs.declared.store.file.find.Error.TheVariants as find
 use Rattle.gix_ref_store.specs.declared.store.file.find.ExistingError.{ExistingError}

@@ -7,8 +7,9 @@ use Rattle.gix_ref_file.specs.Tree.{Tree}
 use Rattle.gix_ref_file.specs.Changes.{is_file_at}
 use Rattle.gix_ref_format.specs.Lookup.{is_own, behind_slash}
 use Rattle.gix_ref_store.specs.Places.{Base, place, place_in, under, main_home, linked_home, shared_home}
-use Rattle.gix_ref_store.specs.Listings.{is_below_refs, is_pseudo}
+use Rattle.gix_ref_store.specs.Listings.{is_pseudo}
 use Rattle.gix_ref_store.specs.Walks.{has, Keeps, Gathers, GathersBelow, GathersPlaces, GathersRecords}
+use Rattle.gix_ref_store.proofs.WalkSteps.{HasFront}
 use Rattle.std.specs.List.{filter}
 use Rattle.std.proofs.lemmas.Slice.Eq.{bytes_eq-Decides}
 use Rattle.gix_ref_format.specs.Packed.{Record}
@@ -19,9 +20,9 @@ and_left true b h = refl
 and_left false b h = cc
 
 -- ---- all names below `refs/`
-pub gathers_all : (tree : Tree) (base front : List ℕ) (names : List (List ℕ)) → GathersBelow tree base front (codes "refs") names → Gathers tree base (is_below_refs front) names
-gathers_all tree base front names gathers name it =
-    let b = (begins-Decides (codes "refs/") name).0 (and_left (begins (codes "refs/") name) (begins front name) it.asked_for) in
+pub gathers_all : (tree : Tree) (base : List ℕ) (asked : List ℕ → Bool) (names : List (List ℕ)) → HasFront (codes "refs/") asked → GathersBelow tree base asked (codes "refs") names → Gathers tree base asked names
+gathers_all tree base asked names refs gathers name it =
+    let b = (begins-Decides (codes "refs/") name).0 (refs name it.asked_for) in
     gathers name b.0 (ap (under base) b.1 ∙ at_base base b.0) it
   where
     at_base : (base rest : List ℕ) → under base (codes "refs/" ++ rest) ≡ under base (codes "refs") ++ 47 ∷ rest
@@ -37,15 +38,15 @@ place_refs b rest = by_case (is_own (codes "refs/" ++ rest)) refl
     by_case false is = inr (ap (λ own. place_in (cond own (record { folder = b.git; path = codes "refs/" ++ rest }) (shared_home b (codes "refs/" ++ rest)))) is)
 
 -- the names with files below the worktree's own folder and below the shared one
-pub both_places : (b : Base) (tree : Tree) (front : List ℕ) (names : List (List ℕ)) → Gathers tree b.git (is_below_refs front) names → Gathers tree b.common (is_below_refs front) names → GathersPlaces b tree (is_below_refs front) names
-both_places b tree front names own shared name file full asked =
-    let r = (begins-Decides (codes "refs/") name).0 (and_left (begins (codes "refs/") name) (begins front name) asked) in
+pub both_places : (b : Base) (tree : Tree) (asked : List ℕ → Bool) (names : List (List ℕ)) → HasFront (codes "refs/") asked → Gathers tree b.git asked names → Gathers tree b.common asked names → GathersPlaces b tree asked names
+both_places b tree asked names refs own shared name file full so =
+    let r = (begins-Decides (codes "refs/") name).0 (refs name so) in
     by_case r.0 r.1 (place_refs b r.0)
   where
     by_case : (rest : List ℕ) → name ≡ codes "refs/" ++ rest
         → (place b (codes "refs/" ++ rest) ≡ under b.git (codes "refs/" ++ rest)) ⊎ (place b (codes "refs/" ++ rest) ≡ under b.common (codes "refs/" ++ rest)) → IsTrue (has names name)
-    by_case rest is (inl at) = own name (record { file = subst (λ p. IsTrue (is_file_at tree p)) (ap (place b) is ∙ at ∙ ap (under b.git) (sym is)) file; full = full; asked_for = asked })
-    by_case rest is (inr at) = shared name (record { file = subst (λ p. IsTrue (is_file_at tree p)) (ap (place b) is ∙ at ∙ ap (under b.common) (sym is)) file; full = full; asked_for = asked })
+    by_case rest is (inl at) = own name (record { file = subst (λ p. IsTrue (is_file_at tree p)) (ap (place b) is ∙ at ∙ ap (under b.git) (sym is)) file; full = full; asked_for = so })
+    by_case rest is (inr at) = shared name (record { file = subst (λ p. IsTrue (is_file_at tree p)) (ap (place b) is ∙ at ∙ ap (under b.common) (sym is)) file; full = full; asked_for = so })
 
 pub still_all : (tree : Tree) (base : List ℕ) (asked : List ℕ → Bool) (old new : List (List ℕ)) → Keeps old new → Gathers tree base asked old → Gathers tree base asked new
 still_all tree base asked old new keeps gathers name it = keeps name (gathers name it)
@@ -116,14 +117,10 @@ one_came all before left r asked old new is keeps there coming name in_all so = 
     by_case (inl here) = by_first (hit_first r left name (subst (λ (rs : List Record). IsSome (hit rs name)) is here))
     by_case (inr in_old) = inr (keeps name in_old)
 
-pub all_came : (front : List ℕ) (records all left : List Record) (names : List (List ℕ)) → all ≡ filter (λ r. begins front r.name) records → left ≡ [] → IsComing all left (is_below_refs front) names → GathersRecords records (is_below_refs front) names
-all_came front records all left names all_is none coming name is so =
-    by_case (coming name (subst (λ (rs : List Record). IsSome (hit rs name)) (sym all_is) (hit_prefixed front records name (and_right (begins (codes "refs/") name) (begins front name) so) is)) so)
+pub all_came : (front : List ℕ) (asked : List ℕ → Bool) (records all left : List Record) (names : List (List ℕ)) → HasFront front asked → all ≡ filter (λ r. begins front r.name) records → left ≡ [] → IsComing all left asked names → GathersRecords records asked names
+all_came front asked records all left names fronts all_is none coming name is so =
+    by_case (coming name (subst (λ (rs : List Record). IsSome (hit rs name)) (sym all_is) (hit_prefixed front records name (fronts name so) is)) so)
   where
-    and_right : (a b : Bool) → (a && b) ≡ true → b ≡ true
-    and_right true b h = h
-    and_right false b h = cc
-
     by_case : IsSome (hit left name) ⊎ IsTrue (has names name) → IsTrue (has names name)
     by_case (inl there) = let h : IsSome (hit [] name) = subst (λ (rs : List Record). IsSome (hit rs name)) none there in absurd (cc h)
     by_case (inr in_names) = in_names

@@ -1,5 +1,5 @@
 -- One step of a listing.
-use Rattle.std.proofs.Common.{◌≡◌, ◌⊎◌, inl, inr, ℕ, Bool, true, false, cond, List, [], ◌∷◌, ◌++◌, ◌&&◌, map, Option, Some, None, refl, sym, ◌∙◌, ap, subst}
+use Rattle.std.proofs.Common.{◌≡◌, ◌⊎◌, inl, inr, ℕ, Bool, true, false, cond, List, [], ◌∷◌, ◌++◌, map, Option, Some, None, refl, sym, ◌∙◌, ap, subst}
 use Rattle.std.specs.Prelude.{Result, Ok, Err, IsTrue, IsSome, codes, option_and_then}
 use Rattle.std.specs.Borrow.{Bor}
 use Rattle.std.specs.List.{filter}
@@ -14,7 +14,7 @@ use Rattle.gix_ref_store.specs.Readings.{Reading, Met, reading_among}
 use Rattle.gix_ref_store.specs.Finds.{records_in, TellsReading}
 use Rattle.gix_ref_store.specs.Searches.{reads_in}
 use Rattle.gix_ref_store.specs.Items.{is_there, met_by, mets_of, left_in, GivesNext, TellsName}
-use Rattle.gix_ref_store.specs.Listings.{IsListing, is_below_refs}
+use Rattle.gix_ref_store.specs.Listings.{IsListing}
 use Rattle.gix_ref_store.specs.Stores.{base_of}
 use Rattle.gix_ref_store.specs.Walks.{Keeps, GathersPlaces}
 use Rattle.gix_ref_store.specs.Places.{Base}
@@ -66,14 +66,10 @@ of_items tree asked store packed names items s p n listing =
 pub still_places : (b : Base) (tree : Tree) (asked : List ℕ → Bool) (old new : List (List ℕ)) → Keeps old new → GathersPlaces b tree asked old → GathersPlaces b tree asked new
 still_places b tree asked old new keeps gathers name file full so = keeps name (gathers name file full so)
 
-and_left : (a b : Bool) → (a && b) ≡ true → a ≡ true
-and_left true b h = refl
-and_left false b h = cc
-
 -- a record of a name below `refs/` has that name
-pub record_named : (records : List Record) (front name : List ℕ) → IsTrue (is_below_refs front name) → IsSome (packed_hit records name) → IsSome (hit records name)
-record_named records front name so is =
-    let b = (begins-Decides (codes "refs/") name).0 (and_left (begins (codes "refs/") name) (begins front name) so) in
+pub record_named : (records : List Record) (name : List ℕ) → IsTrue (begins (codes "refs/") name) → IsSome (packed_hit records name) → IsSome (hit records name)
+record_named records name so is =
+    let b = (begins-Decides (codes "refs/") name).0 so in
     subst (λ n. IsSome (hit records n)) (sym b.1) (at_refs b.0 (subst (λ n. IsSome (packed_hit records n)) b.1 is))
   where
     at_refs : (rest : List ℕ) → IsSome (packed_hit records (codes "refs/" ++ rest)) → IsSome (hit records (codes "refs/" ++ rest))

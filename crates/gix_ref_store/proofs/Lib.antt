@@ -1,5 +1,6 @@
 pub mod Homes
 pub mod MetLemmas
+pub mod AskLemmas
 pub mod Among
 pub mod NameSets
 pub mod Descents

@@ -1,15 +1,15 @@
 -- Listings in which nothing points anywhere.
-use Rattle.std.proofs.Common.{◌≡◌, ◌≢◌, ◌∙◌, ◌⊎◌, inl, inr, sym, ap, subst, ℕ, Bool, true, false, List, [], ◌∷◌, ◌++◌, Option, Some, None, refl, arith}
+use Rattle.std.proofs.Common.{◌≡◌, ◌∙◌, ◌⊎◌, inl, inr, sym, ap, subst, ℕ, Bool, true, false, List, [], ◌∷◌, Option, Some, None, refl, arith}
 use Rattle.std.specs.Prelude.{◌↔◌, IsTrue, not, is_some}
 use Rattle.std.specs.List.{Contains}
 use Rattle.std.proofs.lemmas.List.Elements.{Contains-append_left, Contains-append_cases, Contains-append_right, Contains-push, Contains-push_cases}
-use Rattle.gix_hash.specs.Id.{Id}
+use Rattle.gix_object_lines.specs.NameTest.{begins}
 use Rattle.gix_ref_file.specs.Tree.{Tree}
 use Rattle.gix_ref_name.specs.Targets.{Points, ToName}
 use Rattle.gix_ref_store.specs.Places.{Base}
-use Rattle.gix_ref_store.specs.Readings.{Reading, Absent, Faulty, Stands, Met, reading_among, packed_text_in}
+use Rattle.gix_ref_store.specs.Readings.{Reading, Faulty, Stands, Met, reading_among, packed_text_in}
 use Rattle.gix_ref_store.specs.Finds.{met_of}
-use Rattle.gix_ref_store.specs.Listings.{IsListing, is_below_refs}
+use Rattle.gix_ref_store.specs.Listings.{IsListing, is_listed}
 use Rattle.gix_ref_store.specs.Pristine.{SomeStands, IsPristine, head_in}
 use Rattle.gix_ref_store.specs.declared.reference.Reference.{Reference}
 
@@ -69,8 +69,8 @@ none_stands read asked out left listing passed none (name, points, peeled, so, r
     by_case (inr same) = cc
 
 -- ---- the whole answer
-module _ (b : Base) (tree : Tree) (branch : List ℕ) where
-  never : (IsPristine b tree branch → ⊥) → IsTrue false ↔ IsPristine b tree branch
+module _ (b : Base) (composes : Bool) (tree : Tree) (branch : List ℕ) where
+  never : (IsPristine b composes tree branch → ⊥) → IsTrue false ↔ IsPristine b composes tree branch
   never isnt = (λ so. let z : ⊥ = cc in absurd z, λ is. absurd (isnt is))
 
   none_packed : (text : Option (List ℕ)) → is_some text ≡ false → text ≡ None
@@ -78,7 +78,7 @@ module _ (b : Base) (tree : Tree) (branch : List ℕ) where
   none_packed (Some text) h = let z : ⊥ = cc in absurd z
 
   pub by_loose : (points : Points) (headed packed used : Bool) → head_in b tree ≡ Stands points None → IsTrue headed ↔ (points ≡ ToName branch) → headed ≡ true → packed ≡ is_some (packed_text_in b tree) → packed ≡ false
-      → IsTrue used ↔ SomeStands (reading_among b tree []) (is_below_refs []) → IsTrue (not used) ↔ IsPristine b tree branch
+      → IsTrue used ↔ SomeStands (reading_among b tree []) (is_listed composes (begins [])) → IsTrue (not used) ↔ IsPristine b composes tree branch
   by_loose points headed packed true is told so records none some = never (λ p. p.alone (some.0 refl))
   by_loose points headed packed false is told so records none some = (
     λ _. record {

@@ -16,7 +16,7 @@ use Rattle.gix_ref_file.specs.Tree.{Tree, Node, file, folder, is_slash, is_compo
 use Rattle.gix_ref_file.specs.Changes.{is_file_at}
 use Rattle.gix_ref_file.proofs.Below.{path_in_folder}
 use Rattle.gix_ref_store.specs.Places.{under}
-use Rattle.gix_ref_store.specs.Listings.{is_below_refs, is_pseudo}
+use Rattle.gix_ref_store.specs.Listings.{is_pseudo}
 use Rattle.gix_ref_store.specs.Walks.{has, Keeps, HasFile, Gathers, GathersBelow, may_lead_to}
 use Rattle.gix_ref_store.proofs.Descents.{IsAtOrBelow, on_way, is_found, listed_stands, folder_below}
 
@@ -60,9 +60,9 @@ and_right : (a b : Bool) → (a && b) ≡ true → b ≡ true
 and_right true b h = h
 and_right false b h = cc
 
-pub may_lead : (front path name : List ℕ) → IsTrue (is_below_refs front name) → IsAtOrBelow name path → IsTrue (may_lead_to path front)
-may_lead front path name asked (inl is) = leads front path name [] (and_right (begins (codes "refs/") name) (begins front name) asked) (is ∙ append_nil path)
-may_lead front path name asked (inr (rest, is)) = leads front path name (47 ∷ rest) (and_right (begins (codes "refs/") name) (begins front name) asked) is
+pub may_lead : (front path name : List ℕ) → IsTrue (begins front name) → IsAtOrBelow name path → IsTrue (may_lead_to path front)
+may_lead front path name so (inl is) = leads front path name [] so (is ∙ append_nil path)
+may_lead front path name so (inr (rest, is)) = leads front path name (47 ∷ rest) so is
 
 -- ---- below a base
 cancel : (front xs ys : List ℕ) → front ++ xs ≡ front ++ ys → xs ≡ ys
@@ -100,11 +100,15 @@ some_in within name some = let n = nonempty within name some in omega (arith, ap
 
 -- ---- what stands at a path of the folder, and below it
 -- the names asked for with files at a path of the base or below it
-abbrev pub IsGathered : Tree → List ℕ → List ℕ → List (List ℕ) → List ℕ → Type 0
-IsGathered tree base front names path = (name : List ℕ) → IsAtOrBelow (under base name) path → HasFile tree base (is_below_refs front) name → IsTrue (has names name)
+abbrev pub IsGathered : Tree → List ℕ → (List ℕ → Bool) → List (List ℕ) → List ℕ → Type 0
+IsGathered tree base asked names path = (name : List ℕ) → IsAtOrBelow (under base name) path → HasFile tree base asked name → IsTrue (has names name)
 
-pub still_gathered : (tree : Tree) (base front path : List ℕ) (old new : List (List ℕ)) → Keeps old new → IsGathered tree base front old path → IsGathered tree base front new path
-still_gathered tree base front path old new keeps is name at it = keeps name (is name at it)
+pub still_gathered : (tree : Tree) (base : List ℕ) (asked : List ℕ → Bool) (path : List ℕ) (old new : List (List ℕ)) → Keeps old new → IsGathered tree base asked old path → IsGathered tree base asked new path
+still_gathered tree base asked path old new keeps is name at it = keeps name (is name at it)
+
+-- all that is asked for begins so
+abbrev pub HasFront : List ℕ → (List ℕ → Bool) → Type 0
+HasFront front asked = (name : List ℕ) → IsTrue (asked name) → IsTrue (begins front name)
 
 file_stands : (tree : Tree) (path : List ℕ) → IsTrue (is_file_at tree path) → IsSome (get tree path)
 file_stands tree [] is = absurd (cc is)
@@ -121,7 +125,7 @@ folder_above tree rooted path (b ∷ place) rest some is there =
     let w = on_way tree rooted b place (length path) path rest (omega arith) is (file_stands tree path there) in
     subst (λ q. IsTrue (is_folder (node_at tree q))) w.here (rooted w.step w.there).1
 
-module _ (tree : Tree) (rooted : IsRooted tree) (base front path : List ℕ) (some : 0 < length path) (kind : Place) (kind_is : IsTrue (may_lead_to path front) → kind ≡ place_of (node_at tree (under base path))) (names : List (List ℕ)) where
+module _ (tree : Tree) (rooted : IsRooted tree) (base front : List ℕ) (asked : List ℕ → Bool) (fronts : HasFront front asked) (path : List ℕ) (some : 0 < length path) (kind : Place) (kind_is : IsTrue (may_lead_to path front) → kind ≡ place_of (node_at tree (under base path))) (names : List (List ℕ)) where
   long : 0 < length (under base path)
   long = let n = nonempty base path some in omega (arith, ap length n.2)
 
@@ -135,27 +139,27 @@ module _ (tree : Tree) (rooted : IsRooted tree) (base front path : List ℕ) (so
   folder_place (Some (file bytes)) h = absurd (cc h)
   folder_place (Some folder) h = refl
 
-  at_kind : (name : List ℕ) → IsAtOrBelow (under base name) (under base path) → HasFile tree base (is_below_refs front) name → kind ≡ place_of (node_at tree (under base path))
-  at_kind name at it = kind_is (may_lead front path name it.asked_for (without_base base name path at))
+  at_kind : (name : List ℕ) → IsAtOrBelow (under base name) (under base path) → HasFile tree base asked name → kind ≡ place_of (node_at tree (under base path))
+  at_kind name at it = kind_is (may_lead front path name (fronts name it.asked_for) (without_base base name path at))
 
-  here : (name : List ℕ) → under base name ≡ under base path → HasFile tree base (is_below_refs front) name → (size : ℕ) × (kind ≡ places.File size)
+  here : (name : List ℕ) → under base name ≡ under base path → HasFile tree base asked name → (size : ℕ) × (kind ≡ places.File size)
   here name same it =
       let f = is_file (node_at tree (under base path)) (subst (λ p. IsTrue (is_file_at tree p)) same it.file) in
       (f.1.0, at_kind name (inl same) it ∙ f.1.1)
 
-  below : (name rest : List ℕ) → under base name ≡ under base path ++ 47 ∷ rest → HasFile tree base (is_below_refs front) name → kind ≡ places.Folder
+  below : (name rest : List ℕ) → under base name ≡ under base path ++ 47 ∷ rest → HasFile tree base asked name → kind ≡ places.Folder
   below name rest is it = at_kind name (inr (rest, is)) it ∙ folder_place (node_at tree (under base path)) (folder_above tree rooted (under base name) (under base path) rest long is it.file)
 
-  pub with_folder : kind ≡ places.Folder → GathersBelow tree base front path names → IsGathered tree base front names (under base path)
+  pub with_folder : kind ≡ places.Folder → GathersBelow tree base asked path names → IsGathered tree base asked names (under base path)
   with_folder is gathers name (inl same) it = let f = here name same it in absurd (cc (sym is ∙ f.1))
   with_folder is gathers name (inr (rest, at)) it = gathers name rest at it
 
-  pub with_file : (size : ℕ) → kind ≡ places.File size → (IsTrue (is_full_name path) → IsTrue (is_below_refs front path) → IsTrue (has names path)) → IsGathered tree base front names (under base path)
+  pub with_file : (size : ℕ) → kind ≡ places.File size → (IsTrue (is_full_name path) → IsTrue (asked path) → IsTrue (has names path)) → IsGathered tree base asked names (under base path)
   with_file size is put name (inr (rest, at)) it = absurd (cc (sym is ∙ below name rest at it))
   with_file size is put name (inl same) it = by_case (without_base base name path (inl same))
     where
       same_name : name ≡ path → IsTrue (has names name)
-      same_name e = subst (λ n. IsTrue (has names n)) (sym e) (put (subst (λ n. IsTrue (is_full_name n)) e it.full) (subst (λ n. IsTrue (is_below_refs front n)) e it.asked_for))
+      same_name e = subst (λ n. IsTrue (has names n)) (sym e) (put (subst (λ n. IsTrue (is_full_name n)) e it.full) (subst (λ n. IsTrue (asked n)) e it.asked_for))
 
       longer : (rest : List ℕ) → name ≡ path ++ 47 ∷ rest → length (under base name) ≡ length (under base path) → ⊥
       longer rest e lengths = apart base lengths
@@ -168,7 +172,7 @@ module _ (tree : Tree) (rooted : IsRooted tree) (base front path : List ℕ) (so
       by_case (inl e) = same_name e
       by_case (inr (rest, e)) = absurd (longer rest e (ap length same))
 
-  pub with_absent : kind ≡ places.Absent → IsGathered tree base front names (under base path)
+  pub with_absent : kind ≡ places.Absent → IsGathered tree base asked names (under base path)
   with_absent is name (inl same) it = let f = here name same it in absurd (cc (sym is ∙ f.1))
   with_absent is name (inr (rest, at)) it = absurd (cc (sym is ∙ below name rest at it))
 
@@ -232,9 +236,9 @@ one_more P place path names k before at here i below = by_test (nat_lt i k) refl
         subst (λ j. P (under place (get_or names j []))) same (subst P at here)
 
 -- all that the folder lists is gathered
-pub all_gathered : (tree : Tree) (base front within : List ℕ) (place : List ℕ) (listed names : List (List ℕ)) → IsRooted tree → 0 < length within → place ≡ under base within → listed ≡ names_at tree place
-    → ((i : ℕ) → i < length listed → IsGathered tree base front names (under place (get_or listed i []))) → GathersBelow tree base front within names
-all_gathered tree base front within place listed names rooted some place_is listed_is all name rest at it =
+pub all_gathered : (tree : Tree) (base : List ℕ) (asked : List ℕ → Bool) (within : List ℕ) (place : List ℕ) (listed names : List (List ℕ)) → IsRooted tree → 0 < length within → place ≡ under base within → listed ≡ names_at tree place
+    → ((i : ℕ) → i < length listed → IsGathered tree base asked names (under place (get_or listed i []))) → GathersBelow tree base asked within names
+all_gathered tree base asked within place listed names rooted some place_is listed_is all name rest at it =
     let n = nonempty base within some in
     let w = on_way tree rooted n.0 n.1 (length (under base name)) (under base name) rest (omega arith) (at ∙ ap (λ p. p ++ 47 ∷ rest) n.2) (file_stands tree (under base name) it.file) in
     let f = is_found tree place listed w.step rooted listed_is w.there (w.here ∙ sym n.2 ∙ sym place_is) in

@@ -7,7 +7,9 @@ pub mod Folders
 pub mod Finds
 pub mod Searches
 pub mod Logs
+pub mod Known
 pub mod Listings
+pub mod Asks
 pub mod Walks
 pub mod Items
 pub mod Pristine

@@ -6,6 +6,8 @@ use Rattle.gix_hash.specs.declared.kind.Kind.TheVariants.{Sha1}
 use Rattle.gix_ref_store.specs.declared.options.Options.{Options}
 use Rattle.gix_ref_store.specs.declared.options.WriteReflog.TheVariants.{Normal}
 use Rattle.gix_ref_store.specs.declared.store.file.Store.{Store}
+use Rattle.gix_ref_format.specs.Lookup.{lookup_names}
+use Rattle.gix_ref_store.specs.Known.{known_as}
 use Rattle.gix_ref_store.specs.Places.{Base}
 
 -- logs as Git writes them where nothing is set, SHA-1 ids, names as they are
@@ -26,3 +28,7 @@ base_of store = record {
   git = store.git_dir.items;
   common = shared_folder store.git_dir.items store.common_dir;
 }
+
+-- the names that a word may stand for in a store, in the order in which they are tried
+abbrev pub names_of : {F : Type 0} → Store F → List ℕ → List (List ℕ)
+names_of store word = lookup_names (known_as store.options.precompose_unicode word)

@@ -9,7 +9,6 @@ use Rattle.gix_ref_file.specs.Changes.{is_file_at}
 use Rattle.gix_ref_format.specs.Packed.{Record}
 use Rattle.gix_ref_format.specs.PackedBuffer.{hit}
 use Rattle.gix_ref_store.specs.Places.{Base, place, under}
-use Rattle.gix_ref_store.specs.Listings.{is_below_refs}
 use Rattle.gix_ref_store.specs.declared.store.file.iter.Error.{Error}
 use Rattle.gix_ref_store.specs.declared.store.file.iter.Error.TheVariants.{Traversal, ReadFileContents, ReferenceCreation, Memory}
 
@@ -32,9 +31,9 @@ pub record HasFile (tree : Tree) (base : List ℕ) (asked : List ℕ → Bool) (
   pub asked_for : IsTrue (asked name)
 
 -- the names asked for that have a file below a folder of names are there
-abbrev pub GathersBelow : Tree → List ℕ → List ℕ → List ℕ → List (List ℕ) → Type 0
-GathersBelow tree base front folder names = (name rest : List ℕ) → under base name ≡ under base folder ++ 47 ∷ rest
-    → HasFile tree base (is_below_refs front) name → IsTrue (has names name)
+abbrev pub GathersBelow : Tree → List ℕ → (List ℕ → Bool) → List ℕ → List (List ℕ) → Type 0
+GathersBelow tree base asked folder names = (name rest : List ℕ) → under base name ≡ under base folder ++ 47 ∷ rest
+    → HasFile tree base asked name → IsTrue (has names name)
 
 -- all names asked for that have a file are there
 abbrev pub Gathers : Tree → List ℕ → (List ℕ → Bool) → List (List ℕ) → Type 0

@@ -1,15 +1,16 @@
 //! References that own what they hold.
 
-ghost use Rattle.std.specs.Prelude.{◌≡◌, ◌++◌, ℕ, List, None, IsFalse, IfErr, MatchOption, MatchResult};
+ghost use Rattle.std.specs.Prelude.{◌≡◌, ◌++◌, ℕ, List, None, IsFalse, IfOk, IfErr, MatchOption, MatchResult};
+ghost use Rattle.gix_hash.specs.Id.{id_of};
 ghost use Rattle.gix_object_lines.specs.NameTest.{is_full_name};
 ghost use Rattle.gix_ref_name.specs.Names.{name_of};
 ghost use Rattle.gix_ref_name.specs.Namespaces.{outside_of};
-ghost use Rattle.gix_ref_name.specs.Targets.{kind_of, target_view};
+ghost use Rattle.gix_ref_name.specs.Targets.{ToObject, kind_of, target_view};
 ghost use Rattle.gix_ref_store.specs.Stripped.{points_outside};
 
 use gix_hash::ObjectId;
 use gix_object_lines::cut::behind;
-use gix_ref_format::loose;
+use gix_ref_format::{loose, packed};
 use gix_ref_name::{FullName, FullNameRef, Kind, Namespace, Target};
 use std::alloc::{AllocError, Global};
 
@@ -25,6 +26,20 @@ pub struct Reference {
 }
 
 impl Reference {
+    /// The reference that a packed record holds, with a copy of its name.
+    pub fn from_packed(
+        alloc: Global,
+        record: packed::Reference<'_>,
+    ) -> Result<Reference, AllocError>
+        ensures { IfOk result (λ r. (r.name ≡ name_of record.entry.name) × (target_view r.target ≡ ToObject (id_of record.entry.target)) × (r.peeled ≡ record.entry.object)) }
+    {
+        Ok(Reference {
+            name: record.name.to_owned(alloc)?,
+            target: Target::Object(record.target),
+            peeled: record.object,
+        })
+    }
+
     /// Whether it points to an object or to another reference.
     pub fn kind(&self) -> Kind
         ensures { result ≡ kind_of (target_view self.now.target) }

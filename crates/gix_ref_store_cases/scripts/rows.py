@@ -6,6 +6,7 @@ so, from a rule of git's documents; none from the program.
 import os
 import subprocess
 import tempfile
+import unicodedata
 
 rows = []
 base = tempfile.mkdtemp()
@@ -99,6 +100,11 @@ class Repository:
         loose = [name for name in names if os.path.exists(self.path(name))]
         self.ask("files", prefix, "".join(f"{name} {self.target(name)};" for name in loose))
 
+    def within(self, folder):
+        """Lists a name and those below it: the lines of `git for-each-ref` with it as a pattern, in its order."""
+        names = self.git("for-each-ref", "--format=%(refname)", folder).split()
+        self.ask("within", folder, "".join(self.shown(name) + ";" for name in names))
+
     def find(self, word, name=None, operation="find"):
         """A word: git says its full name, but for a symbolic one, where the caller gives it by the rules of gitrevisions."""
         if name is None:
@@ -112,6 +118,10 @@ class Repository:
 
 PREFIXES = ["", "refs/", "refs/heads/", "refs/heads/fe", "refs/heads/a", "refs/heads/a/", "refs/heads/a.", "refs/heads/feature", "refs/heads/zz",
             "refs/tags/", "refs/tags/v", "refs/remotes/origin", "re", "heads/", "refs/heads", "refs/bisect/", "refs/worktree/", "refs//", "x"]
+
+
+FOLDERS = ["refs", "refs/", "refs/heads", "refs/heads/", "refs/heads/a", "refs/heads/a/", "refs/heads/a/b", "refs/heads/a.b", "refs/heads/ab", "refs/heads/fe",
+           "refs/heads/feature", "refs/heads/main", "refs/heads/m", "refs/tags", "refs/tag", "refs/tags/v1", "refs/remotes/origin", "refs/bisect", "refs/heads/zz", "heads", "x"]
 
 
 def fill(repository):
@@ -132,6 +142,8 @@ def look(repository):
     repository.ask("all", "", "".join(repository.shown(name) + ";" for name in repository.names()))
     for prefix in PREFIXES:
         repository.list(prefix)
+    for folder in FOLDERS:
+        repository.within(folder)
     for word in ["feature", "heads/feature", "refs/heads/feature", "light", "tags/light", "v1", "v2", "fe/x", "a.b", "origin/main",
                  "refs/notes/n", "notes/n", "refs/bisect/bad", "bisect/bad", "refs/worktree/own", "ORIG_HEAD"]:
         repository.find(word)
@@ -163,6 +175,10 @@ packed.git("pack-refs", "--all")
 look(packed)
 packed.find("feature", operation="packed")
 packed.lacks("nosuch", operation="packed")
+for word in ["feature", "light", "v1", "v2"]:
+    packed.find(word, operation="record")
+packed.lacks("nosuch", operation="record")
+packed.ask("record", "refs/bisect/bad", "none")
 # Names that stand loose again hide their records, which still hold the older ids.
 packed.git("update-ref", "refs/heads/feature", packed.commits[3])
 packed.git("update-ref", "refs/heads/new", packed.commits[0])
@@ -334,6 +350,45 @@ fresh.ask("pristine", "refs/heads/other", "no head")
 look_linked()
 tree.git("pack-refs", "--all")
 look_linked()
+
+# Names with their characters composed, as Git knows them where `core.precomposeUnicode` is set (it is so on one system alone: what form
+# C of a name is comes from Python's tables). An uncomposed word stands for the composed name; a name that stands uncomposed isn't known.
+marks = Repository("marks")
+UNCOMPOSED = {name: unicodedata.normalize("NFD", name) for name in ["refs/heads/ä", "refs/heads/é/x", "refs/tags/한글", "refs/heads/plain"]}
+for name in UNCOMPOSED:
+    assert unicodedata.normalize("NFC", name) == name
+    marks.git("update-ref", "-m", "made", "--create-reflog", name, marks.commits[1])
+
+
+def look_marks():
+    for name, apart in UNCOMPOSED.items():
+        for word in [name, name.split("/", 2)[2]]:
+            marks.ask("find", word, marks.shown(name), "+")
+            marks.ask("find", word, marks.shown(name))
+        for word in [apart, apart.split("/", 2)[2]]:
+            marks.ask("find", word, marks.shown(name), "+")
+            if apart != name:
+                marks.lacks(word)
+    for prefix in ["", "refs/heads/", "refs/heads/ä", "refs/heads/a", "refs/heads/a\u0308", "refs/heads/e\u0301/", "refs/tags/\u1112"]:
+        for folder in ["+", "-"]:
+            known = unicodedata.normalize("NFC", prefix) if folder == "+" else prefix
+            marks.ask("prefixed", prefix, "".join(marks.shown(name) + ";" for name in marks.names() if name.startswith(known)), folder)
+    for prefix in ["refs/heads", "refs/heads/e\u0301", "refs/heads/é", "refs/heads/a\u0308", "refs/heads/a"]:
+        known = unicodedata.normalize("NFC", prefix)
+        marks.ask("within", prefix, "".join(marks.shown(name) + ";" for name in marks.names() if name == known or name.startswith(known + "/")), "+")
+
+
+look_marks()
+marks.git("pack-refs", "--all")
+look_marks()
+marks.git("update-ref", "refs/heads/o\u0308", marks.commits[2])
+known = [name for name in marks.names() if unicodedata.normalize("NFC", name) == name]
+assert len(known) == 4
+marks.ask("all", "", "".join(marks.shown(name) + ";" for name in marks.names()))
+marks.ask("all", "", "".join(marks.shown(name) + ";" for name in known), "+")
+marks.find("o\u0308", "refs/heads/o\u0308")
+marks.ask("find", "o\u0308", "none", "+")
+marks.ask("find", "ö", "none", "+")
 
 here = os.path.dirname(os.path.abspath(__file__))
 with open(os.path.join(here, "../stdin"), "w") as file:

@@ -5,6 +5,7 @@ use crate::files;
 use crate::lists::list;
 use crate::objects::Objects;
 use gix_ref_file::MemoryFiles;
+use gix_ref_format::packed::FindError;
 use gix_ref_name::{FullNameRef, PartialNameRef};
 use gix_ref_store::store::file::{Store, find};
 use gix_ref_store::{Options, Reference};
@@ -12,7 +13,7 @@ use std::alloc::{AllocError, Global};
 
 const MEMORY: &str = "memory";
 
-// The store of these files: of the root, or of the worktree with this folder.
+// The store of these files: of the root, with `+` one that knows names by their composed characters, or of the worktree with this folder.
 fn store(
     alloc: Global,
     files: MemoryFiles,
@@ -21,6 +22,12 @@ fn store(
     let root = Vec::new(alloc);
     let made = if folder == "-" {
         Store::at(files, root)
+    } else if folder == "+" {
+        let options = Options {
+            precompose_unicode: true,
+            ..Options::default()
+        };
+        Store::at_opts(files, root, options)
     } else {
         let git_dir = folder.as_bytes().to_vec(alloc)?;
         Store::for_linked_worktree_opts(files, git_dir, root, Options::default())
@@ -75,6 +82,7 @@ fn find_word(
     match operation {
         "find" => found_in(alloc, store.find(alloc, name)),
         "loose" => found_loose(alloc, store, name),
+        "record" => found_record(alloc, store, name),
         _ => found_packed(alloc, store, name),
     }
 }
@@ -99,6 +107,22 @@ fn found_packed(
     match store.open_packed_buffer(alloc) {
         Ok(packed) => found_in(alloc, store.find_packed(alloc, name, packed.as_ref())),
         Err(_) => format!(in alloc; "packed broken"),
+    }
+}
+
+// The reference that a record of the buffer holds.
+fn found_record(
+    alloc: Global,
+    store: &Store<MemoryFiles>,
+    name: PartialNameRef<'_>,
+) -> Result<String, AllocError> {
+    let Ok(Some(packed)) = store.open_packed_buffer(alloc) else {
+        return format!(in alloc; "no records");
+    };
+    match packed.find(alloc, name) {
+        Ok(record) => shown(alloc, &Reference::from_packed(alloc, record)?),
+        Err(FindError::NotFound) => format!(in alloc; "none"),
+        Err(FindError::Memory) => format!(in alloc; "{MEMORY}"),
     }
 }
 
@@ -184,7 +208,7 @@ pub fn answer(alloc: Global, line: &str) -> Result<String, AllocError> {
         return format!(in alloc; "no store");
     };
     match operation {
-        "find" | "loose" | "packed" => find_word(alloc, &store, asked, operation),
+        "find" | "loose" | "packed" | "record" => find_word(alloc, &store, asked, operation),
         "log" => log(alloc, &store, asked),
         "follow" => follow(alloc, &store, asked),
         "next" | "peel" | "lines" => {
@@ -192,7 +216,7 @@ pub fn answer(alloc: Global, line: &str) -> Result<String, AllocError> {
             end(alloc, &store, &objects, operation, asked)
         }
         "pristine" => pristine(alloc, &store, asked),
-        "all" | "prefixed" | "files" | "pseudo" => list(alloc, &store, operation, asked),
+        "all" | "prefixed" | "within" | "files" | "pseudo" => list(alloc, &store, operation, asked),
         _ => format!(in alloc; "no operation"),
     }
 }

@@ -34,6 +34,7 @@ fn of_platform(
     match operation {
         "all" => listed(alloc, platform.all(alloc)),
         "pseudo" => listed(alloc, platform.pseudo(alloc)),
+        "within" => listed(alloc, platform.within(alloc, prefix.as_bytes())),
         _ => listed(alloc, platform.prefixed(alloc, prefix.as_bytes())),
     }
 }

@@ -4,11 +4,13 @@ ghost use Rattle.std.specs.Prelude.{◌≡◌, IfOk, option_map};
 ghost use Rattle.gix_ref_store.specs.Places.{packed_place};
 ghost use Rattle.gix_ref_store.specs.Stores.{base_of};
 
+mod asked;
 pub mod find;
 pub mod follow;
 mod gather;
 mod init;
 pub mod iter;
+mod known;
 mod listing;
 pub mod log;
 mod logged;

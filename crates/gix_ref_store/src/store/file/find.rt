@@ -4,7 +4,8 @@ ghost use Rattle.std.specs.Prelude.{◌≡◌, ◌&&◌, [], not, is_some, Some,
 ghost use Rattle.gix_ref_name.specs.Names.{part_of};
 ghost use Rattle.gix_ref_format.specs.Lookup.{lookup_names, is_complete, packed_key};
 ghost use Rattle.gix_ref_store.specs.Readings.{reading, reading_among, first_met};
-ghost use Rattle.gix_ref_store.specs.Stores.{base_of};
+ghost use Rattle.gix_ref_store.specs.Searches.{Finds};
+ghost use Rattle.gix_ref_store.specs.Stores.{base_of, names_of};
 ghost use Rattle.gix_ref_store.specs.Finds.{met_of, loose_met, records_in, LookupFault, FindFault, FindsOpened, MayTell, OnExisting};
 ghost use Rattle.gix_ref_store.specs.declared.store.file.find.Error.TheVariants.{Memory};
 
@@ -58,7 +59,8 @@ pub enum ExistingError {
 impl<F: Files> Store<F> {
     /// The reference that a name stands for, `None` where there is none: of a name that begins `refs/`, one of another worktree
     /// and one of capital letters its own; else the first that stands of those below `refs/`, `refs/tags/`, `refs/heads/` and
-    /// `refs/remotes/`, and of its `HEAD` below the last. A file of a reference's own wins over its packed record.
+    /// `refs/remotes/`, and of its `HEAD` below the last. A file of a reference's own wins over its packed record. Where the store
+    /// knows names with their characters composed, this one is composed first.
     ///
     /// `ReferenceCreation` where the file of the first of these names that doesn't read as absent tells no target. Packed
     /// references are opened unless a file stands at the first name: `PackedOpen` where that isn't possible. Nothing changes.
@@ -67,12 +69,22 @@ impl<F: Files> Store<F> {
         alloc: Global,
         name: PartialNameRef<'_>,
     ) -> Result<Option<Reference>, Error>
-        ensures found { F.is_honest self.now.files → let met = first_met (reading (base_of self.now) (F.history self.now.files).tree) (lookup_names (part_of name.entry)) in
+        ensures found { F.is_honest self.now.files → let met = first_met (reading (base_of self.now) (F.history self.now.files).tree) (names_of self.now (part_of name.entry)) in
             MatchResult result (λ found. option_map met_of found ≡ met)
-            (FindFault (base_of self.now) (F.history self.now.files).tree (lookup_names (part_of name.entry)) met) }
+            (FindFault (base_of self.now) (F.history self.now.files).tree (names_of self.now (part_of name.entry)) met) }
         ensures failed { MatchResult result (λ _. Unit {0}) (MayTell F.reading_may_fail) }
     {
-        let word = name.to_partial_path();
+        let word = self.known(alloc, name.to_partial_path())?;
+        self.find_word(alloc, word.as_bytes())
+    }
+
+    // The reference that a word stands for, as the store knows words.
+    fn find_word(&self, alloc: Global, word: &[u8]) -> Result<Option<Reference>, Error>
+        ensures found { F.is_honest self.now.files → let met = first_met (reading (base_of self.now) (F.history self.now.files).tree) (lookup_names word.now) in
+            MatchResult result (λ found. option_map met_of found ≡ met)
+            (FindFault (base_of self.now) (F.history self.now.files).tree (lookup_names word.now) met) }
+        ensures failed { MatchResult result (λ _. Unit {0}) (MayTell F.reading_may_fail) }
+    {
         let loose = Search {
             alloc,
             store: self,
@@ -81,24 +93,38 @@ impl<F: Files> Store<F> {
         match loose.first(word)? {
             Some(found) => Ok(Some(found)),
             None if is_unpacked(word) => Ok(None),
-            None => self.find_opened(alloc, name),
+            None => self.find_opened(alloc, word),
         }
     }
 
-    // The reference that a name stands for, by the packed references as they are now.
-    fn find_opened(
-        &self,
-        alloc: Global,
-        name: PartialNameRef<'_>,
-    ) -> Result<Option<Reference>, Error>
-        ensures found { F.is_honest self.now.files → FindsOpened (base_of self.now) (F.history self.now.files).tree (lookup_names (part_of name.entry)) result }
+    // The reference that a word stands for, by the packed references as they are now.
+    fn find_opened(&self, alloc: Global, word: &[u8]) -> Result<Option<Reference>, Error>
+        ensures found { F.is_honest self.now.files → FindsOpened (base_of self.now) (F.history self.now.files).tree (lookup_names word.now) result }
         ensures failed { MatchResult result (λ _. Unit {0}) (MayTell F.reading_may_fail) }
     {
         match self.open_packed_buffer(alloc) {
-            Ok(Some(packed)) => self.try_find_packed(alloc, name, Some(&packed)),
-            Ok(None) => self.try_find_packed(alloc, name, None),
+            Ok(Some(packed)) => self.find_among(alloc, word, Some(&packed)),
+            Ok(None) => self.find_among(alloc, word, None),
             Err(error) => Err(Error::PackedOpen(error)),
         }
+    }
+
+    // The reference that a word stands for, with these packed references.
+    fn find_among(
+        &self,
+        alloc: Global,
+        word: &[u8],
+        packed: Option<&Buffer>,
+    ) -> Result<Option<Reference>, Error>
+        ensures found { F.is_honest self.now.files → Finds (reading_among (base_of self.now) (F.history self.now.files).tree (records_in packed.entry)) (lookup_names word.now) result }
+        ensures failed { MatchResult result (λ _. Unit {0}) (MayTell F.reading_may_fail) }
+    {
+        let search = Search {
+            alloc,
+            store: self,
+            packed,
+        };
+        search.named(word)
     }
 
     /// The reference that a name stands for, as `try_find` has it, with these packed references; without any, `None`, only those
@@ -109,16 +135,12 @@ impl<F: Files> Store<F> {
         name: PartialNameRef<'_>,
         packed: Option<&Buffer>,
     ) -> Result<Option<Reference>, Error>
-        ensures found { F.is_honest self.now.files → let met = first_met (reading_among (base_of self.now) (F.history self.now.files).tree (records_in packed.entry)) (lookup_names (part_of name.entry)) in
+        ensures found { F.is_honest self.now.files → let met = first_met (reading_among (base_of self.now) (F.history self.now.files).tree (records_in packed.entry)) (names_of self.now (part_of name.entry)) in
             MatchResult result (λ found. option_map met_of found ≡ met) (LookupFault met) }
         ensures failed { MatchResult result (λ _. Unit {0}) (MayTell F.reading_may_fail) }
     {
-        let search = Search {
-            alloc,
-            store: self,
-            packed,
-        };
-        search.named(name.to_partial_path())
+        let word = self.known(alloc, name.to_partial_path())?;
+        self.find_among(alloc, word.as_bytes(), packed)
     }
 
     /// The reference with a file of its own that a name stands for, as `try_find` has it.
@@ -127,7 +149,7 @@ impl<F: Files> Store<F> {
         alloc: Global,
         name: PartialNameRef<'_>,
     ) -> Result<Option<loose::Reference>, Error>
-        ensures found { F.is_honest self.now.files → let met = first_met (reading_among (base_of self.now) (F.history self.now.files).tree []) (lookup_names (part_of name.entry)) in
+        ensures found { F.is_honest self.now.files → let met = first_met (reading_among (base_of self.now) (F.history self.now.files).tree []) (names_of self.now (part_of name.entry)) in
             MatchResult result (λ found. option_map loose_met found ≡ met) (LookupFault met) }
         ensures failed { MatchResult result (λ _. Unit {0}) (MayTell F.reading_may_fail) }
     {
@@ -139,9 +161,9 @@ impl<F: Files> Store<F> {
 
     /// The reference that a name stands for, as `try_find` has it; `NotFound` where there is none.
     pub fn find(&self, alloc: Global, name: PartialNameRef<'_>) -> Result<Reference, ExistingError>
-        ensures found { F.is_honest self.now.files → let met = first_met (reading (base_of self.now) (F.history self.now.files).tree) (lookup_names (part_of name.entry)) in
+        ensures found { F.is_honest self.now.files → let met = first_met (reading (base_of self.now) (F.history self.now.files).tree) (names_of self.now (part_of name.entry)) in
             MatchResult result (λ r. met ≡ Some (met_of r))
-            (OnExisting (met ≡ None) (FindFault (base_of self.now) (F.history self.now.files).tree (lookup_names (part_of name.entry)) met)) }
+            (OnExisting (met ≡ None) (FindFault (base_of self.now) (F.history self.now.files).tree (names_of self.now (part_of name.entry)) met)) }
         ensures failed { MatchResult result (λ _. Unit {0}) (OnExisting (Unit {0}) (MayTell F.reading_may_fail)) }
     {
         match self.try_find(alloc, name) {
@@ -157,7 +179,7 @@ impl<F: Files> Store<F> {
         name: PartialNameRef<'_>,
         packed: Option<&Buffer>,
     ) -> Result<Reference, ExistingError>
-        ensures found { F.is_honest self.now.files → let met = first_met (reading_among (base_of self.now) (F.history self.now.files).tree (records_in packed.entry)) (lookup_names (part_of name.entry)) in
+        ensures found { F.is_honest self.now.files → let met = first_met (reading_among (base_of self.now) (F.history self.now.files).tree (records_in packed.entry)) (names_of self.now (part_of name.entry)) in
             MatchResult result (λ r. met ≡ Some (met_of r)) (OnExisting (met ≡ None) (LookupFault met)) }
         ensures failed { MatchResult result (λ _. Unit {0}) (OnExisting (Unit {0}) (MayTell F.reading_may_fail)) }
     {
@@ -173,7 +195,7 @@ impl<F: Files> Store<F> {
         alloc: Global,
         name: PartialNameRef<'_>,
     ) -> Result<loose::Reference, ExistingError>
-        ensures found { F.is_honest self.now.files → let met = first_met (reading_among (base_of self.now) (F.history self.now.files).tree []) (lookup_names (part_of name.entry)) in
+        ensures found { F.is_honest self.now.files → let met = first_met (reading_among (base_of self.now) (F.history self.now.files).tree []) (names_of self.now (part_of name.entry)) in
             MatchResult result (λ r. met ≡ Some (loose_met r)) (OnExisting (met ≡ None) (LookupFault met)) }
         ensures failed { MatchResult result (λ _. Unit {0}) (OnExisting (Unit {0}) (MayTell F.reading_may_fail)) }
     {

@@ -151,7 +151,8 @@ fn lies_in_names(folder: &[u8], path: &[u8]) -> bool
     is_below(folder, path) && is_of_names(&path[folder.len() + 1..])
 }
 
-fn is_below(folder: &[u8], path: &[u8]) -> bool
+// Whether the path stands below the folder.
+pub(crate) fn is_below(folder: &[u8], path: &[u8]) -> bool
     ensures below { result ≡ spec.is_below folder.now path.now }
     ensures longer { IsTrue result → length folder.now < length path.now }
 {

@@ -8,12 +8,14 @@ ghost use Rattle.gix_ref_format.specs.PackedKept.{kept};
 ghost use Rattle.gix_ref_format.specs.declared.packed.buffer.Error.TheVariants.{Io};
 ghost use Rattle.gix_ref_store.specs.Finds.{records_in};
 ghost use Rattle.gix_ref_store.specs.Items.{left_in, kept_in};
-ghost use Rattle.gix_ref_store.specs.Listings.{IsListing, is_below_refs, is_pseudo};
+ghost use Rattle.gix_ref_store.specs.Asks.{is_asked};
+ghost use Rattle.gix_ref_store.specs.Listings.{IsListing, all_names, names_with, names_within, is_pseudo};
 ghost use Rattle.gix_ref_store.specs.Readings.{reading_among, packed_text_in};
 ghost use Rattle.gix_ref_store.specs.Stores.{base_of};
 ghost use Rattle.gix_ref_store.specs.Walks.{MayStop};
 
 use crate::store::file::Store;
+use crate::store::file::asked::Asked;
 use crate::store::file::gather::put_packed;
 use crate::store::file::iter::{Error, LooseThenPacked};
 use crate::store::file::search::Search;
@@ -35,10 +37,10 @@ impl<F: Files> Platform<'_, F> {
     pub fn all(&self, alloc: Global) -> Result<LooseThenPacked<'_, '_, F>, Error>
         ensures store { IfOk result (λ items. items.search.store.now ≡ self.now.store.now) }
         ensures listed { F.is_honest self.now.store.now.files → IfOk result (λ items.
-            IsListing (reading_among (base_of self.now.store.now) (F.history self.now.store.now.files).tree (kept_in self.now.packed)) (is_below_refs []) (left_in (F.history self.now.store.now.files).tree items)) }
+            IsListing (reading_among (base_of self.now.store.now) (F.history self.now.store.now.files).tree (kept_in self.now.packed)) (all_names self.now.store.now) (left_in (F.history self.now.store.now.files).tree items)) }
         ensures failed { IfErr result (MayStop F.reading_may_fail) }
     {
-        self.prefixed(alloc, b"")
+        self.store.iter_packed(alloc, self.packed.as_ref())
     }
 
     /// The references below `refs/` whose names begin so, as `Store::iter_prefixed_packed` has them.
@@ -49,11 +51,22 @@ impl<F: Files> Platform<'_, F> {
     ) -> Result<LooseThenPacked<'_, '_, F>, Error>
         ensures store { IfOk result (λ items. items.search.store.now ≡ self.now.store.now) }
         ensures listed { F.is_honest self.now.store.now.files → IfOk result (λ items.
-            IsListing (reading_among (base_of self.now.store.now) (F.history self.now.store.now.files).tree (kept_in self.now.packed)) (is_below_refs prefix.now) (left_in (F.history self.now.store.now.files).tree items)) }
+            IsListing (reading_among (base_of self.now.store.now) (F.history self.now.store.now.files).tree (kept_in self.now.packed)) (names_with self.now.store.now prefix.now) (left_in (F.history self.now.store.now.files).tree items)) }
         ensures failed { IfErr result (MayStop F.reading_may_fail) }
     {
         self.store
             .iter_prefixed_packed(alloc, prefix, self.packed.as_ref())
+    }
+
+    /// The reference of this name and those below it, as `Store::iter_within_packed` has them.
+    pub fn within(&self, alloc: Global, folder: &[u8]) -> Result<LooseThenPacked<'_, '_, F>, Error>
+        ensures store { IfOk result (λ items. items.search.store.now ≡ self.now.store.now) }
+        ensures listed { F.is_honest self.now.store.now.files → IfOk result (λ items.
+            IsListing (reading_among (base_of self.now.store.now) (F.history self.now.store.now.files).tree (kept_in self.now.packed)) (names_within self.now.store.now folder.now) (left_in (F.history self.now.store.now.files).tree items)) }
+        ensures failed { IfErr result (MayStop F.reading_may_fail) }
+    {
+        self.store
+            .iter_within_packed(alloc, folder, self.packed.as_ref())
     }
 
     /// The pseudo references, as `Store::iter_pseudo` has them.
@@ -93,14 +106,14 @@ impl<F: Files> Store<F> {
     ) -> Result<LooseThenPacked<'s, 'p, F>, Error>
         ensures store { IfOk result (λ items. items.search.store.now ≡ self.now) }
         ensures listed { F.is_honest self.now.files → IfOk result (λ items.
-            IsListing (reading_among (base_of self.now) (F.history self.now.files).tree (records_in packed.entry)) (is_below_refs []) (left_in (F.history self.now.files).tree items)) }
+            IsListing (reading_among (base_of self.now) (F.history self.now.files).tree (records_in packed.entry)) (all_names self.now) (left_in (F.history self.now.files).tree items)) }
         ensures failed { IfErr result (MayStop F.reading_may_fail) }
     {
-        self.iter_prefixed_packed(alloc, b"", packed)
+        self.listed(alloc, self.every_name(), packed)
     }
 
-    /// The same of those whose names begin so, by their bytes: `refs/heads/a` lists `refs/heads/ab`, and `refs/heads/a/` what stands
-    /// below `refs/heads/a` alone. No folder is listed in which none of them can stand.
+    /// The same of those whose names begin so, by their bytes: `refs/heads/fe` lists `refs/heads/feature`, and `refs/heads/a/` what
+    /// stands below `refs/heads/a` alone. No folder is listed in which none of them can stand.
     pub fn iter_prefixed_packed<'s, 'p>(
         &'s self,
         alloc: Global,
@@ -109,28 +122,49 @@ impl<F: Files> Store<F> {
     ) -> Result<LooseThenPacked<'s, 'p, F>, Error>
         ensures store { IfOk result (λ items. items.search.store.now ≡ self.now) }
         ensures listed { F.is_honest self.now.files → IfOk result (λ items.
-            IsListing (reading_among (base_of self.now) (F.history self.now.files).tree (records_in packed.entry)) (is_below_refs prefix.now) (left_in (F.history self.now.files).tree items)) }
+            IsListing (reading_among (base_of self.now) (F.history self.now.files).tree (records_in packed.entry)) (names_with self.now prefix.now) (left_in (F.history self.now.files).tree items)) }
         ensures failed { IfErr result (MayStop F.reading_may_fail) }
     {
-        let mut names = BTreeSet::new(alloc);
-        self.put_loose(alloc, prefix, &mut names)?;
-        match packed {
-            Some(buffer) => {
-                put_packed(alloc, buffer, prefix, &mut names)?;
-                Ok(self.items(alloc, packed, names))
-            }
-            None => Ok(self.items(alloc, packed, names)),
-        }
+        let front = self.known(alloc, prefix)?;
+        let asked = Asked {
+            front: front.as_bytes(),
+            is_whole: false,
+            composes: self.options.precompose_unicode,
+        };
+        self.listed(alloc, asked, packed)
+    }
+
+    /// The reference of this name, and those whose names stand below it, by components as `git for-each-ref` takes them:
+    /// `refs/heads/a` lists itself and `refs/heads/a/b`, and not `refs/heads/ab`; with a slash at its end it lists what begins so. No
+    /// folder is listed in which none of them can stand.
+    pub fn iter_within_packed<'s, 'p>(
+        &'s self,
+        alloc: Global,
+        folder: &[u8],
+        packed: Option<&'p Buffer>,
+    ) -> Result<LooseThenPacked<'s, 'p, F>, Error>
+        ensures store { IfOk result (λ items. items.search.store.now ≡ self.now) }
+        ensures listed { F.is_honest self.now.files → IfOk result (λ items.
+            IsListing (reading_among (base_of self.now) (F.history self.now.files).tree (records_in packed.entry)) (names_within self.now folder.now) (left_in (F.history self.now.files).tree items)) }
+        ensures failed { IfErr result (MayStop F.reading_may_fail) }
+    {
+        let front = self.known(alloc, folder)?;
+        let asked = Asked {
+            front: front.as_bytes(),
+            is_whole: true,
+            composes: self.options.precompose_unicode,
+        };
+        self.listed(alloc, asked, packed)
     }
 
     /// The references below `refs/` with files of their own, ascending by name.
     pub fn loose_iter(&self, alloc: Global) -> Result<LooseThenPacked<'_, '_, F>, Error>
         ensures store { IfOk result (λ items. items.search.store.now ≡ self.now) }
         ensures listed { F.is_honest self.now.files → IfOk result (λ items.
-            IsListing (reading_among (base_of self.now) (F.history self.now.files).tree []) (is_below_refs []) (left_in (F.history self.now.files).tree items)) }
+            IsListing (reading_among (base_of self.now) (F.history self.now.files).tree []) (all_names self.now) (left_in (F.history self.now.files).tree items)) }
         ensures failed { IfErr result (MayStop F.reading_may_fail) }
     {
-        self.iter_prefixed_packed(alloc, b"", None)
+        self.listed(alloc, self.every_name(), None)
     }
 
     /// The same of those whose names begin so.
@@ -141,7 +175,7 @@ impl<F: Files> Store<F> {
     ) -> Result<LooseThenPacked<'_, '_, F>, Error>
         ensures store { IfOk result (λ items. items.search.store.now ≡ self.now) }
         ensures listed { F.is_honest self.now.files → IfOk result (λ items.
-            IsListing (reading_among (base_of self.now) (F.history self.now.files).tree []) (is_below_refs prefix.now) (left_in (F.history self.now.files).tree items)) }
+            IsListing (reading_among (base_of self.now) (F.history self.now.files).tree []) (names_with self.now prefix.now) (left_in (F.history self.now.files).tree items)) }
         ensures failed { IfErr result (MayStop F.reading_may_fail) }
     {
         self.iter_prefixed_packed(alloc, prefix, None)
@@ -157,6 +191,40 @@ impl<F: Files> Store<F> {
         let mut names = BTreeSet::new(alloc);
         self.put_pseudo(alloc, &mut names)?;
         Ok(self.items(alloc, None, names))
+    }
+
+    // That all names below `refs/` are asked for.
+    fn every_name(&self) -> Asked<'static>
+        ensures { is_asked result ≡ all_names self.now }
+    {
+        Asked {
+            front: b"",
+            is_whole: false,
+            composes: self.options.precompose_unicode,
+        }
+    }
+
+    // The references of the names that are asked for.
+    fn listed<'s, 'p>(
+        &'s self,
+        alloc: Global,
+        asked: Asked<'_>,
+        packed: Option<&'p Buffer>,
+    ) -> Result<LooseThenPacked<'s, 'p, F>, Error>
+        ensures store { IfOk result (λ items. items.search.store.now ≡ self.now) }
+        ensures listed { F.is_honest self.now.files → IfOk result (λ items.
+            IsListing (reading_among (base_of self.now) (F.history self.now.files).tree (records_in packed.entry)) (is_asked asked.entry) (left_in (F.history self.now.files).tree items)) }
+        ensures failed { IfErr result (MayStop F.reading_may_fail) }
+    {
+        let mut names = BTreeSet::new(alloc);
+        self.put_loose(alloc, asked, &mut names)?;
+        match packed {
+            Some(buffer) => {
+                put_packed(alloc, buffer, asked, &mut names)?;
+                Ok(self.items(alloc, packed, names))
+            }
+            None => Ok(self.items(alloc, packed, names)),
+        }
     }
 
     // The references of these names.

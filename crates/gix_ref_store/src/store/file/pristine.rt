@@ -3,7 +3,7 @@
 ghost use Rattle.std.specs.Prelude.{◌≡◌, ◌⊎◌, ◌↔◌, [], None, is_some, IsTrue, IsFalse, IfErr, IfOk, MatchOption};
 ghost use Rattle.gix_ref_name.specs.Names.{name_of};
 ghost use Rattle.gix_ref_name.specs.Targets.{ToName, target_view};
-ghost use Rattle.gix_ref_store.specs.Listings.{is_below_refs};
+ghost use Rattle.gix_ref_store.specs.Listings.{all_names};
 ghost use Rattle.gix_ref_store.specs.Pristine.{IsPristine, PointsNowhere, SomeStands, head_in};
 ghost use Rattle.gix_ref_store.specs.Readings.{Stands, reading_among, packed_text_in};
 ghost use Rattle.gix_ref_store.specs.Stores.{base_of};
@@ -25,7 +25,7 @@ impl<F: Files> Store<F> {
         default_ref: FullNameRef<'_>,
     ) -> Result<Option<bool>, Error>
         ensures told { F.is_honest self.now.files → let b = base_of self.now in let tree = (F.history self.now.files).tree in
-            IfOk result (λ told. MatchOption told (PointsNowhere (head_in b tree) ⊎ F.reading_may_fail) (λ pristine. IsTrue pristine ↔ IsPristine b tree (name_of default_ref.entry))) }
+            IfOk result (λ told. MatchOption told (PointsNowhere (head_in b tree) ⊎ F.reading_may_fail) (λ pristine. IsTrue pristine ↔ IsPristine b self.now.options.precompose_unicode tree (name_of default_ref.entry))) }
         ensures failed { IfErr result (MayTell F.reading_may_fail) }
     {
         let Some(head) = self.head_target(alloc)? else {
@@ -70,7 +70,7 @@ impl<F: Files> Store<F> {
 
     // Whether a name below `refs/` has a file that tells a target.
     fn has_loose(&self, alloc: Global) -> Result<bool, Error>
-        ensures told { F.is_honest self.now.files → IfOk result (λ found. IsTrue found ↔ SomeStands (reading_among (base_of self.now) (F.history self.now.files).tree []) (is_below_refs [])) }
+        ensures told { F.is_honest self.now.files → IfOk result (λ found. IsTrue found ↔ SomeStands (reading_among (base_of self.now) (F.history self.now.files).tree []) (all_names self.now)) }
         ensures failed { IfErr result (MayTell F.reading_may_fail) }
     {
         let mut references = self.loose_iter(alloc)?;

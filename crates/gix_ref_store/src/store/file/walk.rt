@@ -4,10 +4,11 @@ ghost use Rattle.std.specs.Prelude.{◌≡◌, ◌<◌, ◌⊎◌, ◌&&◌, ℕ
 ghost use Rattle.gix_object_lines.specs.NameTest.{is_full_name};
 ghost use Rattle.gix_ref_file.specs.Tree.{node_at, place_of};
 ghost use Rattle.gix_ref_store.specs.Places.{under};
-ghost use Rattle.gix_ref_store.specs.Listings.{is_below_refs, is_pseudo};
-ghost use Rattle.gix_ref_store.specs.Walks as spec;
-ghost use Rattle.gix_ref_store.specs.Walks.{Keeps, BringsAsked, GathersBelow, Gathers, MayStop, has};
+ghost use Rattle.gix_ref_store.specs.Asks.{is_asked};
+ghost use Rattle.gix_ref_store.specs.Listings.{is_pseudo};
+ghost use Rattle.gix_ref_store.specs.Walks.{Keeps, BringsAsked, GathersBelow, Gathers, MayStop, has, may_lead_to};
 
+use crate::store::file::asked::Asked;
 use crate::store::file::iter::Error;
 use crate::store::file::place::joined;
 use gix_object_lines::ByteString;
@@ -20,13 +21,13 @@ use std::collections::BTreeSet;
 // The most bytes that a path has.
 const MAX_PATH: usize = 4096;
 
-// Files, a folder of theirs in which names stand as paths, and how the names begin that are asked for.
+// Files, a folder of theirs in which names stand as paths, and which names are asked for.
 #[derive(Drop)]
 pub(crate) struct Walk<'a, F> {
     pub(crate) alloc: Global,
     pub(crate) files: &'a F,
     pub(crate) base: &'a [u8],
-    pub(crate) front: &'a [u8],
+    pub(crate) asked: Asked<'a>,
 }
 
 impl<F: Files> Walk<'_, F> {
@@ -35,8 +36,8 @@ impl<F: Files> Walk<'_, F> {
     pub(crate) fn below(&self, folder: &[u8], names: &mut BTreeSet<FullName>) -> Result<(), Error>
         requires { 0 < length folder.now }
         ensures kept { Keeps names.old.keys names.new.keys }
-        ensures asked { BringsAsked (is_below_refs self.now.front.now) names.old.keys names.new.keys }
-        ensures all { F.is_honest self.now.files.now → OnOk result (GathersBelow (F.history self.now.files.now).tree self.now.base.now self.now.front.now folder.now names.new.keys) }
+        ensures asked { BringsAsked (is_asked self.now.asked) names.old.keys names.new.keys }
+        ensures all { F.is_honest self.now.files.now → OnOk result (GathersBelow (F.history self.now.files.now).tree self.now.base.now (is_asked self.now.asked) folder.now names.new.keys) }
         ensures failed { IfErr result (MayStop F.reading_may_fail) }
     {
         let place = joined(self.alloc, self.base, folder)?;
@@ -44,7 +45,7 @@ impl<F: Files> Walk<'_, F> {
             let path = joined(self.alloc, folder, name)?;
             match self.kind_of(&path)? {
                 Place::Folder if is_deeper(&path, folder) => self.below(&path, names)?,
-                Place::File(_) => put_asked(path, self.front, names)?,
+                Place::File(_) => self.asked.put(self.alloc, path, names)?,
                 Place::Absent => {}
                 // No path is so long.
                 Place::Folder => {}
@@ -55,10 +56,10 @@ impl<F: Files> Walk<'_, F> {
 
     // What stands at this path of the folder; nothing where none of the names can stand there.
     fn kind_of(&self, path: &[u8]) -> Result<Place, Error>
-        ensures kind { F.is_honest self.now.files.now → IfOk result (λ kind. IsTrue (spec.may_lead_to path.now self.now.front.now) → kind ≡ place_of (node_at (F.history self.now.files.now).tree (under self.now.base.now path.now))) }
+        ensures kind { F.is_honest self.now.files.now → IfOk result (λ kind. IsTrue (may_lead_to path.now self.now.asked.front.now) → kind ≡ place_of (node_at (F.history self.now.files.now).tree (under self.now.base.now path.now))) }
         ensures failed { IfErr result (MayStop F.reading_may_fail) }
     {
-        if !may_lead_to(path, self.front) {
+        if !self.asked.may_stand_at(self.alloc, path)? {
             return Ok(Place::Absent);
         }
         let place = joined(self.alloc, self.base, path)?;
@@ -79,31 +80,11 @@ impl<F: Files> Walk<'_, F> {
     }
 }
 
-// Whether a name that begins so may stand at this path or below it.
-fn may_lead_to(path: &[u8], front: &[u8]) -> bool
-    ensures { result ≡ spec.may_lead_to path.now front.now }
-{
-    path.starts_with(front) || front.starts_with(path)
-}
-
 // Whether the path is longer than the folder's, and within the limit.
 fn is_deeper(path: &[u8], folder: &[u8]) -> bool
     ensures { result ≡ (nat_lt (length folder.now) (length path.now) && nat_le (length path.now) 4096) }
 {
     folder.len() < path.len() && path.len() <= MAX_PATH
-}
-
-// Puts a path in, where it is a name below `refs/` that begins so.
-fn put_asked(path: Vec<u8>, front: &[u8], names: &mut BTreeSet<FullName>) -> Result<(), Error>
-    ensures kept { Keeps names.old.keys names.new.keys }
-    ensures asked { BringsAsked (is_below_refs front.now) names.old.keys names.new.keys }
-    ensures there { IsTrue (is_full_name path.items) → IsTrue (is_below_refs front.now path.items) → OnOk result (IsTrue (has names.new.keys path.items)) }
-    ensures failed { IfErr result (MayStop ⊥) }
-{
-    if path.starts_with(b"refs/") && path.starts_with(front) {
-        return put_name(path, names);
-    }
-    Ok(())
 }
 
 // Puts a copy of the path in, where it is the name of a pseudo reference.
@@ -114,19 +95,19 @@ fn put_pseudo(alloc: Global, path: &[u8], names: &mut BTreeSet<FullName>) -> Res
     ensures failed { IfErr result (MayStop ⊥) }
 {
     if is_capitals(path) && path.ends_with(b"HEAD") {
-        return put_name(path.to_vec(alloc)?, names);
+        return put_name(ByteString::from_slice(alloc, path)?, names);
     }
     Ok(())
 }
 
-// Puts a path in, where it is a full name.
-fn put_name(path: Vec<u8>, names: &mut BTreeSet<FullName>) -> Result<(), Error>
+// Puts a name in, where it is a full one.
+pub(crate) fn put_name(name: ByteString, names: &mut BTreeSet<FullName>) -> Result<(), Error>
     ensures kept { Keeps names.old.keys names.new.keys }
-    ensures only { (name : List ℕ) → IsTrue (has names.new.keys name) → IsTrue (has names.old.keys name) ⊎ (name ≡ path.items) }
-    ensures there { IsTrue (is_full_name path.items) → OnOk result (IsTrue (has names.new.keys path.items)) }
+    ensures only { (other : List ℕ) → IsTrue (has names.new.keys other) → IsTrue (has names.old.keys other) ⊎ (other ≡ name) }
+    ensures there { IsTrue (is_full_name name) → OnOk result (IsTrue (has names.new.keys name)) }
     ensures failed { IfErr result (MayStop ⊥) }
 {
-    match FullName::new(ByteString::new(path)) {
+    match FullName::new(name) {
         Ok(name) => {
             names.insert(name)?;
             Ok(())

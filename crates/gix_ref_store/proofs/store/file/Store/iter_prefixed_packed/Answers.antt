@@ -1,36 +1,17 @@
-use Rattle.std.proofs.Common.{sym, ap, subst}
+use Rattle.std.proofs.Common.{◌∙◌, subst, refl, ℕ, List, Bool, false}
+use Rattle.std.specs.Prelude.{IfOk}
+use Rattle.gix_ref_store.specs.Known.{known_as}
 use Rattle.gix_ref_store.specs.Finds.{records_in}
-use Rattle.gix_ref_store.specs.Listings.{is_below_refs}
+use Rattle.gix_ref_store.specs.Items.{left_in}
+use Rattle.gix_ref_store.specs.Listings.{IsListing}
+use Rattle.gix_ref_store.specs.Readings.{reading_among}
 use Rattle.gix_ref_store.specs.Stores.{base_of}
-use Rattle.gix_ref_store.specs.Walks.{GathersRecords}
-use Rattle.gix_ref_store.proofs.NameSets.{brings_on}
-use Rattle.gix_ref_store.proofs.ListingLemmas.{is_listing}
-use Rattle.gix_ref_store.proofs.ItemLemmas.{of_items, still_places, record_named, no_record}
+use Rattle.gix_ref_store.proofs.AskLemmas.{asks_front}
 use Rattle.gix_ref_store.proofs.store.file.Store.iter_prefixed_packed.Goals as goal
 
-pub returns-in_ok-put_packed-in-Some-clause-listed : goal.returns-in_ok-put_packed-in-Some-clause-listed
-returns-in_ok-put_packed-in-Some-clause-listed g c = λ honest.
+pub returns-clause-listed : goal.returns-clause-listed
+returns-clause-listed g c = λ honest.
     let tree = (g.F.Files.history c.args.self.now.files).tree in
-    let b = base_of c.args.self.now in
-    let front = c.args.prefix.now in
-    let start = c.new-names.result.keys in
-    let loose = c.put_loose.new.names.keys in
-    let names = c.put_packed.new.names.keys in
-    let records = records_in c.args.packed in
-    let all = subst (λ rs. GathersRecords rs (is_below_refs front) names) (sym (ap records_in c.in-Some.is)) c.in_ok-put_packed-in-Some.ensures.all in
-    of_items tree (is_below_refs front) c.args.self.now c.args.packed names c.items.result c.items.ensures.store c.items.ensures.packed c.items.ensures.names
-    (is_listing b tree records (is_below_refs front) start names c.items.ensures.order c.new-names.ensures.empty
-    (brings_on (is_below_refs front) start loose names c.in_ok-put_loose.ensures.asked c.in_ok-put_packed-in-Some.ensures.asked)
-    (still_places b tree (is_below_refs front) loose names c.in_ok-put_packed-in-Some.ensures.kept (c.in_ok-put_loose.ensures.all honest))
-    (λ name so is. all name (record_named records front name so is) so))
-
-pub returns-in-None-clause-listed : goal.returns-in-None-clause-listed
-returns-in-None-clause-listed g c = λ honest.
-    let tree = (g.F.Files.history c.args.self.now.files).tree in
-    let b = base_of c.args.self.now in
-    let front = c.args.prefix.now in
-    let names = c.put_loose.new.names.keys in
-    of_items tree (is_below_refs front) c.args.self.now c.args.packed names c.items-in-None.result c.items-in-None.ensures.store c.items-in-None.ensures.packed c.items-in-None.ensures.names
-    (is_listing b tree (records_in c.args.packed) (is_below_refs front) c.new-names.result.keys names c.items-in-None.ensures.order c.new-names.ensures.empty
-    c.in_ok-put_loose.ensures.asked (c.in_ok-put_loose.ensures.all honest)
-    (λ name so is. absurd (no_record name (rw (sym (ap records_in c.in-None.is)) is))))
+    let composes = c.args.self.now.options.precompose_unicode in
+    let is = asks_front (record { front = c.as_bytes.result; is_whole = false; composes = composes }) (known_as composes c.args.prefix.now) composes (c.as_bytes.ensures ∙ c.in_ok-front.ensures) refl refl in
+    subst (λ (asked : List ℕ → Bool). IfOk c.listed.result (λ items. IsListing (reading_among (base_of c.args.self.now) tree (records_in c.args.packed)) asked (left_in tree items))) is (c.listed.ensures.listed honest)

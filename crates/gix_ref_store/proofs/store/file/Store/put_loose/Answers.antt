@@ -1,26 +1,27 @@
 use Rattle.std.proofs.Common.{sym, subst, ap, ◌∙◌}
-use Rattle.gix_ref_store.specs.Listings.{is_below_refs}
+use Rattle.gix_ref_store.specs.Asks.{is_asked}
 use Rattle.gix_ref_store.specs.Stores.{base_of, shared_folder}
 use Rattle.gix_ref_store.specs.Walks.{Gathers, GathersPlaces}
+use Rattle.gix_ref_store.proofs.AskLemmas.{asked_refs}
 use Rattle.gix_ref_store.proofs.GatherLemmas.{on_ok, both_places, still_all}
 use Rattle.gix_ref_store.proofs.store.file.Store.put_loose.Goals as goal
 
 pub returns-in-Some-clause-all : goal.returns-in-Some-clause-all
 returns-in-Some-clause-all g c = λ honest.
     let tree = (g.F.Files.history c.args.self.now.files).tree in
-    let front = c.args.front.now in
+    let asked = is_asked c.args.asked in
     let names = c.put_below-in-Some.new.names.keys in
     let b = base_of c.args.self.now in
-    let own = still_all tree b.git (is_below_refs front) c.put_below.new.names.keys names c.put_below-in-Some.ensures.kept
-    (subst (λ p. Gathers tree p (is_below_refs front) c.put_below.new.names.keys) c.git_dir.ensures (c.in_ok-put_below.ensures.all honest)) in
-    on_ok c.put_below-in-Some.result (Gathers tree c.deref.result.now (is_below_refs front) names) (GathersPlaces b tree (is_below_refs front) names)
-    (λ shared. both_places b tree front names own (subst (λ p. Gathers tree p (is_below_refs front) names) (c.deref.ensures.value ∙ sym (ap (shared_folder b.git) c.in-Some.is)) shared)) (c.put_below-in-Some.ensures.all honest)
+    let own = still_all tree b.git asked c.put_below.new.names.keys names c.put_below-in-Some.ensures.kept
+    (subst (λ p. Gathers tree p asked c.put_below.new.names.keys) c.git_dir.ensures (c.in_ok-put_below.ensures.all honest)) in
+    on_ok c.put_below-in-Some.result (Gathers tree c.deref.result.now asked names) (GathersPlaces b tree asked names)
+    (λ shared. both_places b tree asked names (asked_refs c.args.asked) own (subst (λ p. Gathers tree p asked names) (c.deref.ensures.value ∙ sym (ap (shared_folder b.git) c.in-Some.is)) shared)) (c.put_below-in-Some.ensures.all honest)
 
 pub returns-in-None-clause-all : goal.returns-in-None-clause-all
 returns-in-None-clause-all g c = λ honest.
     let tree = (g.F.Files.history c.args.self.now.files).tree in
-    let front = c.args.front.now in
+    let asked = is_asked c.args.asked in
     let names = c.put_below.new.names.keys in
     let b = base_of c.args.self.now in
-    let own = subst (λ p. Gathers tree p (is_below_refs front) names) c.git_dir.ensures (c.in_ok-put_below.ensures.all honest) in
-    both_places b tree front names own (subst (λ p. Gathers tree p (is_below_refs front) names) (sym (ap (shared_folder b.git) c.in-None.is)) own)
+    let own = subst (λ p. Gathers tree p asked names) c.git_dir.ensures (c.in_ok-put_below.ensures.all honest) in
+    both_places b tree asked names (asked_refs c.args.asked) own (subst (λ p. Gathers tree p asked names) (sym (ap (shared_folder b.git) c.in-None.is)) own)

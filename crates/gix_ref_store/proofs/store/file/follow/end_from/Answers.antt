@@ -1,4 +1,4 @@
-use Rattle.std.proofs.Common.{◌≡◌, subst, List, ℕ}
+use Rattle.std.proofs.Common.{subst, List, ℕ}
 use Rattle.std.specs.Prelude.{MatchResult, unwrap_or}
 use Rattle.gix_ref_store.specs.Finds.{reading_of}
 use Rattle.gix_ref_store.specs.Follows.{EndsBy, FollowFault, IsGiven, follow}

@@ -1,6 +1,7 @@
 use Rattle.gix_ref_format.specs.Packed.{record_of}
 use Rattle.gix_ref_format.specs.PackedKept.{kept, records_left}
-use Rattle.gix_ref_store.specs.Listings.{is_below_refs}
+use Rattle.gix_ref_store.specs.Asks.{is_asked}
+use Rattle.gix_ref_store.proofs.AskLemmas.{asked_front}
 use Rattle.gix_ref_store.proofs.NameSets.{keeps_same, brings_none, keeps_on, brings_on}
 use Rattle.gix_ref_store.proofs.GatherLemmas.{all_coming, one_came, all_came}
 use Rattle.gix_ref_store.proofs.store.file.gather.put_packed.Goals as goal
@@ -10,8 +11,8 @@ loop-found-init c = (
   tt,
   tt,
   keeps_same c.args.names.now.keys,
-  brings_none (is_below_refs c.args.front.now) c.args.names.now.keys,
-  all_coming (records_left c.iter_prefixed-records.result) (is_below_refs c.args.front.now) c.args.names.now.keys,
+  brings_none (is_asked c.args.asked) c.args.names.now.keys,
+  all_coming (records_left c.iter_prefixed-records.result) (is_asked c.args.asked) c.args.names.now.keys,
 )
 
 pub loop-found-preserved : goal.loop-found-preserved
@@ -19,8 +20,8 @@ loop-found-preserved c = (
   tt,
   tt,
   keeps_on c.args.names.now.keys c.loop-found.names.keys c.put_record.new.names.keys c.loop-found.invariant.2 c.in_ok-put_record.ensures.kept,
-  brings_on (is_below_refs c.args.front.now) c.args.names.now.keys c.loop-found.names.keys c.put_record.new.names.keys c.loop-found.invariant.3 c.in_ok-put_record.ensures.asked,
-  one_came (records_left c.iter_prefixed-records.result) (records_left c.loop-found.records) (records_left c.next.new.self) (record_of c.in-Some.found) (is_below_refs c.args.front.now) c.loop-found.names.keys
+  brings_on (is_asked c.args.asked) c.args.names.now.keys c.loop-found.names.keys c.put_record.new.names.keys c.loop-found.invariant.3 c.in_ok-put_record.ensures.asked,
+  one_came (records_left c.iter_prefixed-records.result) (records_left c.loop-found.records) (records_left c.next.new.self) (record_of c.in-Some.found) (is_asked c.args.asked) c.loop-found.names.keys
       c.put_record.new.names.keys c.in-Some.ensures.steps c.in_ok-put_record.ensures.kept c.in_ok-put_record.ensures.there c.loop-found.invariant.4,
 )
 
@@ -30,5 +31,5 @@ returns-in_err-put_record-clause-kept c =
 
 pub returns-clause-all : goal.returns-clause-all
 returns-clause-all c =
-    all_came c.args.front.now (kept c.args.packed.now) (records_left c.iter_prefixed-records.result) (records_left c.loop-found.records) c.loop-found.names.keys c.iter_prefixed-records.ensures
+    all_came c.args.asked.front.now (is_asked c.args.asked) (kept c.args.packed.now) (records_left c.iter_prefixed-records.result) (records_left c.loop-found.records) c.loop-found.names.keys (asked_front c.args.asked) c.iter_prefixed-records.ensures
     c.in_default.ensures.steps.0 c.loop-found.invariant.4

@@ -2,7 +2,7 @@ use Rattle.std.proofs.Common.{◌⊎◌, List, ℕ}
 use Rattle.std.specs.Prelude.{IsTrue, IsSome}
 use Rattle.gix_ref_format.specs.PackedBuffer.{hit}
 use Rattle.gix_ref_format.specs.PackedKept.{records_left}
-use Rattle.gix_ref_store.specs.Listings.{is_below_refs}
+use Rattle.gix_ref_store.specs.Asks.{is_asked}
 use Rattle.gix_ref_store.specs.Walks.{Keeps, BringsAsked, has}
 use Rattle.gix_ref_store.proofs.store.file.gather.put_packed.Given as goal
 
@@ -10,5 +10,5 @@ use Rattle.gix_ref_store.proofs.store.file.gather.put_packed.Given as goal
 abbrev pub invariant-loop-found : goal.invariant-loop-found
 invariant-loop-found l =
     (goal.iterator-loop-found).can_next l.records × (goal.iterator-loop-found).is_finite l.records
-    × Keeps l.fn.names.keys l.names.keys × BringsAsked (is_below_refs l.front) l.fn.names.keys l.names.keys
-    × ((name : List ℕ) → IsSome (hit (records_left l.initial.records) name) → IsTrue (is_below_refs l.front name) → IsSome (hit (records_left l.records) name) ⊎ IsTrue (has l.names.keys name))
+    × Keeps l.fn.names.keys l.names.keys × BringsAsked (is_asked l.asked) l.fn.names.keys l.names.keys
+    × ((name : List ℕ) → IsSome (hit (records_left l.initial.records) name) → IsTrue (is_asked l.asked name) → IsSome (hit (records_left l.records) name) ⊎ IsTrue (has l.names.keys name))

@@ -1,4 +1,4 @@
-use Rattle.std.proofs.Common.{◌≡◌, ◌∙◌, inr, sym, ap, subst, ◌-◌, ◌<◌, List, length, map, refl}
+use Rattle.std.proofs.Common.{◌∙◌, inr, sym, ap, subst, ◌-◌, ◌<◌, List, length, map, refl}
 use Rattle.std.specs.Prelude.{is_some}
 use Rattle.gix_hash.specs.Id.{Id, id_of}
 use Rattle.gix_hash.specs.declared.object_id.ObjectId.{ObjectId}

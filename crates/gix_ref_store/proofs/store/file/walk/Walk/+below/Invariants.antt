@@ -2,7 +2,7 @@ use Rattle.std.proofs.Common.{◌-◌, ◌<◌, ℕ, [], length, map, Vec}
 use Rattle.std.proofs.Math.ListN.{get_or}
 use Rattle.std.specs.declared.alloc.Global.{Global}
 use Rattle.gix_ref_store.specs.Places.{under}
-use Rattle.gix_ref_store.specs.Listings.{is_below_refs}
+use Rattle.gix_ref_store.specs.Asks.{is_asked}
 use Rattle.gix_ref_store.specs.Walks.{Keeps, BringsAsked}
 use Rattle.gix_ref_store.proofs.WalkSteps.{IsGathered}
 use Rattle.gix_ref_store.proofs.store.file.walk.Walk.+below.Given as goal
@@ -14,6 +14,6 @@ decreases-below g l = 4096 - length l.folder.now
 -- what is listed so far is gathered
 abbrev pub invariant-loop-name : goal.invariant-loop-name
 invariant-loop-name g l =
-    Keeps l.fn.names.keys l.names.keys × BringsAsked (is_below_refs l.self.front.now) l.fn.names.keys l.names.keys
+    Keeps l.fn.names.keys l.names.keys × BringsAsked (is_asked l.self.asked) l.fn.names.keys l.names.keys
     × (g.F.Files.is_honest l.self.files.now → (i : ℕ) → i < l.name-index
-    → IsGathered (g.F.Files.history l.self.files.now).tree l.self.base.now l.self.front.now l.names.keys (under l.place.items (get_or (map (λ (name : Vec ℕ Global). name.items) l.name-items) i [])))
+    → IsGathered (g.F.Files.history l.self.files.now).tree l.self.base.now (is_asked l.self.asked) l.names.keys (under l.place.items (get_or (map (λ (name : Vec ℕ Global). name.items) l.name-items) i [])))
