@@ -103,9 +103,17 @@ fn step<E: Drop>(item: Option<Result<Info, E>>) -> Option<bool> {
     }
 }
 
+fn step_simple(walk: &mut Simple<&Store, All>) -> Option<bool> {
+    step(walk.next())
+}
+
+fn step_topo(walk: &mut Topo<All>) -> Option<bool> {
+    step(walk.next())
+}
+
 fn by_simple(mut walk: Simple<&Store, All>) -> Option<Counts> {
     for commits in 0..usize::MAX {
-        match step(walk.next()) {
+        match step_simple(&mut walk) {
             Some(true) => {}
             Some(false) => return None,
             None => {
@@ -119,7 +127,7 @@ fn by_simple(mut walk: Simple<&Store, All>) -> Option<Counts> {
 
 fn by_topo(mut walk: Topo<All>) -> Option<Counts> {
     for commits in 0..usize::MAX {
-        match step(walk.next()) {
+        match step_topo(&mut walk) {
             Some(true) => {}
             Some(false) => return None,
             None => {

@@ -1,13 +1,13 @@
 -- What one call of a walk gives, from what its clauses say.
-use Rattle.std.proofs.Common.{◌≡◌, ◌⊎◌, List, [], ◌∷◌, ◌++◌, sym, subst, Some, None, Option, Bool}
-use Rattle.std.specs.Prelude.{Result, Ok, Err, IfOk, IfErr, OnErr, IfSome, IfNone, IsNone}
+use Rattle.std.proofs.Common.{◌≡◌, ◌⊎◌, List, [], ◌∷◌, ◌++◌, sym, subst, Some, None, Option, Bool, ◌<◌}
+use Rattle.std.specs.Prelude.{Result, Ok, Err, IfOk, IfErr, OnErr, IfSome, IfNone, IsNone, OnOk}
 use Rattle.gix_hash.specs.Id.{Id, id_of}
 use Rattle.gix_hash.specs.declared.object_id.ObjectId.{ObjectId}
 use Rattle.gix_traverse_commit.specs.Commits.{Commits}
 use Rattle.gix_traverse_commit.specs.declared.info.Info.{Info}
 use Rattle.gix_traverse_commit.specs.declared.parents.Parents.{Parents}
 use Rattle.gix_traverse_commit.specs.declared.rows.Row.{Row}
-use Rattle.gix_traverse_topo.specs.Giving.{GivesNext}
+use Rattle.gix_traverse_topo.specs.Giving.{GivesNext, left_of}
 use Rattle.gix_traverse_topo.specs.Standing.{Answers, IsInfo, IsTurn, NoneReachesItself, Stands, all_accepted, topo_request}
 use Rattle.gix_traverse_topo.specs.Waiting.{waiting}
 use Rattle.gix_traverse_topo.specs.declared.error.Error.{Error}
@@ -34,8 +34,8 @@ module _ {P : Type 0} (accepts : P → Id → Bool) (before after : Topo P) (ite
       → IfSome item (λ a. IfOk a (λ info. (sorting : Sorting) (rows : List Row) (faults : ObjectId → Option Error) (g : Commits ObjectId) (tips ends listed : List ObjectId) → Stands sorting rows faults g tips ends before.parents (λ x. accepts before.predicate (id_of x)) listed before.known before.ready → Stands sorting rows faults g tips ends before.parents (λ x. accepts before.predicate (id_of x)) (listed ++ info.id ∷ []) after.known after.ready × IsInfo rows g info))
       → IfNone item ((sorting : Sorting) (rows : List Row) (faults : ObjectId → Option Error) (g : Commits ObjectId) (tips ends listed : List ObjectId) → Stands sorting rows faults g tips ends before.parents (λ x. accepts before.predicate (id_of x)) listed before.known before.ready → NoneReachesItself g (topo_request tips ends before.parents all_accepted) → Answers sorting g (topo_request tips ends before.parents (λ x. accepts before.predicate (id_of x))) listed)
       → IfSome item (λ a. IfErr a (λ error. (sorting : Sorting) (rows : List Row) (faults : ObjectId → Option Error) (g : Commits ObjectId) (tips ends listed : List ObjectId) → Stands sorting rows faults g tips ends before.parents (λ x. accepts before.predicate (id_of x)) listed before.known before.ready → (error ≡ Memory) ⊎ ((x : ObjectId) × (faults x ≡ Some error) × IsTurn sorting faults g (topo_request tips ends before.parents (λ x. accepts before.predicate (id_of x))) listed x)))
-      → IfSome item (λ a. OnErr a (waiting after.ready ≡ [])) → IfNone item (waiting after.ready ≡ []) → (waiting before.ready ≡ [] → IsNone item) → GivesNext accepts before item after
-  gives_next parents same lookups more end refused failed over ended = record {
+      → IfSome item (λ a. OnErr a (waiting after.ready ≡ [])) → IfNone item (waiting after.ready ≡ []) → (waiting before.ready ≡ [] → IsNone item) → IfSome item (λ a. OnOk a (left_of after < left_of before)) → GivesNext accepts before item after
+  gives_next parents same lookups more end refused failed over ended fewer = record {
     lookups = lookups;
     more = λ sorting rows faults g tips ends given sd. ok_then item _ _ more (λ info f.
         let (s, i) = f sorting rows faults g tips ends given sd in (
@@ -48,4 +48,5 @@ module _ {P : Type 0} (accepts : P → Id → Bool) (before after : Topo P) (ite
     failed = failed;
     over = over;
     ended = ended;
+    fewer = fewer;
   }
