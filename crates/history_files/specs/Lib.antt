@@ -3,3 +3,5 @@ pub mod Laws
 pub mod Reading
 pub mod Edits
 pub mod Editing
+pub mod Entries
+pub mod Handing

@@ -1,16 +1,19 @@
 //! The trees that edits make of a root's files.
 
-ghost use Rattle.std.specs.Prelude.{◌≡◌, ◌≤◌, ◌+◌, IfOk, IfErr, IsErrOf};
+ghost use Rattle.std.specs.Prelude.{◌≡◌, ◌≤◌, ◌+◌, IfOk, IfErr, IsErrOf, map};
 ghost use Rattle.history_model.specs.FileMap.{FileMap};
 ghost use Rattle.history_files.specs.Edits.{name_count};
+ghost use Rattle.gix_object_entries.specs.Entry.{own_item};
+ghost use Rattle.gix_object_entries.specs.Writing.{tree_text};
 ghost use Rattle.history_files.specs.Editing.{OfEdits, AreEdited, EditsFault, root_id, standing};
-ghost use Rattle.history_files.specs.declared.edits.EditError.TheVariants.{Failed};
+ghost use Rattle.history_files.specs.Handing.{HasWritten, KeepsTree};
+ghost use Rattle.history_files.specs.declared.edits.EditError.TheVariants.{Failed, Memory};
 
 use crate::edits::{Change, Edit, EditError, make_edits};
 use crate::opening::open_editor;
 use gix_hash::{Kind, ObjectId};
 use gix_object_commit::compute_hash;
-use gix_object_editor::tree::editor::{Editor, write};
+use gix_object_editor::tree::editor::Editor;
 use gix_object_entries::Tree;
 use gix_object_find::Find;
 use gix_object_lines::{Kind as ObjectKind, WriteTo};
@@ -66,7 +69,11 @@ pub fn edit_files<S: Find>(
         return Err(EditError::NullId);
     }
     make_edits(alloc, &mut editor, edits)?;
-    written(alloc, kind, &editor)
+    let edited = written(alloc, kind, &editor)?;
+    if edited.trees.iter().any(|tree| tree.id.is_null()) {
+        return Err(EditError::NullId);
+    }
+    Ok(edited)
 }
 
 // Refuses a path with an empty name or a zero byte.
@@ -141,16 +148,18 @@ fn with_id<'a>(kind: Kind, edit: &Edit<'a>) -> Edit<'a> {
     }
 }
 
-// The trees of what the editor's edits made.
-fn written<S: Find>(
-    alloc: Global,
-    kind: Kind,
-    editor: &Editor<S>,
-) -> Result<EditedFiles, EditError> {
+// The trees that the editor hands out.
+fn written<S: Find>(alloc: Global, kind: Kind, editor: &Editor<S>) -> Result<EditedFiles, EditError>
+    ensures trees { IfOk result (λ edited. HasWritten kind editor.now edited) }
+    ensures counted { IfOk result (λ edited. edited.lookups ≤ editor.now.lookups + 1) }
+    ensures refused { IfErr result (λ error. error ≡ Memory) }
+{
     let mut trees = Vec::new(alloc);
     let root = editor.write(
         alloc,
-        &mut |tree: &Tree| -> Result<ObjectId, EditError> { keep(alloc, kind, &mut trees, tree) },
+        &mut |tree: &Tree| -> Result<ObjectId, AllocError>
+            ensures { IfOk result (KeepsTree kind trees.entry.items tree.now trees.exit.items) }
+        { keep(alloc, kind, &mut trees, tree) },
     );
     match root {
         Ok(root) => Ok(EditedFiles {
@@ -158,8 +167,7 @@ fn written<S: Find>(
             trees,
             lookups: editor.lookups().saturating_add(1),
         }),
-        Err(write::Error::Out(error)) => Err(error),
-        Err(write::Error::Memory) => Err(EditError::Memory),
+        Err(_) => Err(EditError::Memory),
     }
 }
 
@@ -169,15 +177,22 @@ fn keep(
     kind: Kind,
     trees: &mut Vec<EditedTree>,
     tree: &Tree,
-) -> Result<ObjectId, EditError> {
-    let mut content = Vec::new(alloc);
-    if tree.write_to(&mut content).is_err() {
-        return Err(EditError::Memory);
-    }
+) -> Result<ObjectId, AllocError>
+    ensures { IfOk result (KeepsTree kind trees.old.items tree.now trees.new.items) }
+{
+    let content = content_of(alloc, tree)?;
     let id = compute_hash(kind, ObjectKind::Tree, content.as_slice());
-    if id.is_null() {
-        return Err(EditError::NullId);
-    }
     trees.push(EditedTree { id, content })?;
     Ok(id)
+}
+
+// The tree's text. Each name was tested, so that a byte that no tree has isn't the cause where none is given.
+fn content_of(alloc: Global, tree: &Tree) -> Result<Vec<u8>, AllocError>
+    ensures { IfOk result (λ content. content.items ≡ tree_text (map own_item tree.now.entries.items)) }
+{
+    let mut content = Vec::new(alloc);
+    match tree.write_to(&mut content) {
+        Ok(()) => Ok(content),
+        Err(_) => Err(AllocError),
+    }
 }
