@@ -166,6 +166,14 @@ of_all P [] all x i = absurd i
 of_all P (y ∷ xs) all x (inl e) = subst P (sym e) (all zero y (omega arith))
 of_all P (y ∷ xs) all x (inr i) = of_all P xs (λ k d within. all (suc k) d (omega arith)) x i
 
+-- a tree with entries is that of a map with files
+pub file_of_items : (kind : Kind) (g : FileMap) → (items kind g ≡ [] → ⊥) → HasFile g
+file_of_items kind g differ = go (entries g) refl
+  where
+    go : (es : List Entry) → entries g ≡ es → HasFile g
+    go [] e = absurd (differ (ap (λ xs. map (item_of kind (tree_of kind g)) (tree_entries xs)) e))
+    go (x ∷ es) e = (x.0, x.1, in_get g x.0 x.1 (subst (In x) (sym e) (inl refl)))
+
 -- ---- trees that are handed out
 
 -- a folder whose tree stands with its own, and has a file
@@ -317,17 +325,10 @@ module _ (kind : Kind) (table : Table) (trees : Trees) (stored : HasStored table
         let is_known = known child i in
         let same : folder m child ≡ inside item.name (folder m t) = ap (folder_at m) path ∙ folder_below m t.path item.name in
         record {
-          file = subst HasFile same (some_file (folder m child) (λ e. some child i (is_known.items_are ∙ e)));
+          file = subst HasFile same (file_of_items kind (folder m child) (λ e. some child i (is_known.items_are ∙ e)));
           is = item_by item folder_mode (folder_id kind (inside item.name (folder m t))) mode (sym id ∙ is_known.id_is ∙ ap (folder_id kind) same);
           closed = λ h j. is_known.closed h (subst (λ x. In h (folders_of x)) (sym same) j);
         }
-      where
-        some_file : (g : FileMap) → (items kind g ≡ [] → ⊥) → HasFile g
-        some_file g differ = go (entries g) refl
-          where
-            go : (es : List Entry) → entries g ≡ es → HasFile g
-            go [] e = absurd (differ (ap (λ xs. map (item_of kind (tree_of kind g)) (tree_entries xs)) e))
-            go (x ∷ es) e = (x.0, x.1, in_get g x.0 x.1 (subst (In x) (sym e) (inl refl)))
 
     item_case : (item : Item) → In item t.items → IsFileItem kind (folder m t) item.name item ⊎ IsFolderItem kind stands (map (folder m) before) (folder m t) item.name item
     item_case item i = go (of_all (IsKnown slots before t.path) t.items out.known item i)

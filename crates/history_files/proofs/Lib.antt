@@ -18,3 +18,5 @@ pub mod Parsed
 pub mod OneList
 pub mod Handed
 pub mod Named
+pub mod GivenTrees
+pub mod StandInEdits

@@ -9,8 +9,8 @@ use Rattle.gix_object_entries.specs.declared.tree.owned.Tree.{Tree}
 use Rattle.gix_object_editor.specs.Written.{HandedOut, IsWritten}
 use Rattle.gix_object_editor.specs.declared.tree.editor.state.Editor.{Editor}
 use Rattle.history_model.specs.Objects.{digest, tree_text}
-use Rattle.history_files.specs.declared.editing.EditedFiles.{EditedFiles}
-use Rattle.history_files.specs.declared.editing.EditedTree.{EditedTree}
+use Rattle.history_files.specs.declared.trees.EditedFiles.{EditedFiles}
+use Rattle.history_files.specs.declared.trees.EditedTree.{EditedTree}
 
 -- the text of these entries, under its id
 pub record IsTextOf (kind : Kind) (items : List Item) (tree : EditedTree) : Type 0 where

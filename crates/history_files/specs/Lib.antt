@@ -5,3 +5,6 @@ pub mod Edits
 pub mod Editing
 pub mod Entries
 pub mod Handing
+pub mod TreeIds
+pub mod StandIns
+pub mod Opening

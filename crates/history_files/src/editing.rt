@@ -1,16 +1,24 @@
 //! The trees that edits make of a root's files.
 
 ghost use Rattle.std.specs.Prelude.{◌≡◌, ◌≤◌, ◌+◌, IfOk, IfErr, IsErrOf, map};
-ghost use Rattle.history_model.specs.FileMap.{FileMap};
+ghost use Rattle.std.specs.List.{list_all, list_any};
+ghost use Rattle.gix_hash.specs.Id.{id_of};
+ghost use Rattle.gix_object_editor.specs.Editor.{IsAsRead};
+ghost use Rattle.gix_object_editor.specs.Files.{Trees, is_null};
+ghost use Rattle.gix_hash.specs.declared.kind.Kind.{Kind};
+ghost use Rattle.history_model.specs.FileMap.{FileMap, is_path};
+ghost use Rattle.history_files.specs.StandIns.{puts_null, stand_in};
 ghost use Rattle.history_files.specs.Edits.{name_count};
 ghost use Rattle.gix_object_entries.specs.Entry.{own_item};
 ghost use Rattle.gix_object_entries.specs.Writing.{tree_text};
-ghost use Rattle.history_files.specs.Editing.{OfEdits, AreEdited, EditsFault, root_id, standing};
+ghost use Rattle.history_files.specs.Editing.{OfEdits, AreEdited, EditsFault, IsBase, root_id};
+ghost use Rattle.history_files.specs.Opening.{OpenFault, StandsAtBase};
 ghost use Rattle.history_files.specs.Handing.{HasWritten, KeepsTree};
 ghost use Rattle.history_files.specs.declared.edits.EditError.TheVariants.{Failed, Memory};
 
 use crate::edits::{Change, Edit, EditError, make_edits};
 use crate::opening::open_editor;
+use crate::trees::{EditedFiles, EditedTree};
 use gix_hash::{Kind, ObjectId};
 use gix_object_commit::compute_hash;
 use gix_object_editor::tree::editor::Editor;
@@ -18,26 +26,6 @@ use gix_object_entries::Tree;
 use gix_object_find::Find;
 use gix_object_lines::{Kind as ObjectKind, WriteTo};
 use std::alloc::{AllocError, Global};
-
-/// A tree of edited files.
-#[derive(Debug, Drop)]
-pub struct EditedTree {
-    /// Its id.
-    pub id: ObjectId,
-    /// Its content.
-    pub content: Vec<u8>,
-}
-
-/// What edits made of a root's files.
-#[derive(Debug, Drop)]
-pub struct EditedFiles {
-    /// The id of the tree of all files.
-    pub root: ObjectId,
-    /// The trees that are to be stored, each behind those of its own folders. That of all files is the last.
-    pub trees: Vec<EditedTree>,
-    /// How many trees were asked of the store.
-    pub lookups: u64,
-}
 
 /// Makes the edits of a root's files in their order, and gives the trees that are to be stored for what they make of them: those on
 /// the edited paths, and always the root's, also where it has no entries. Without a root there are no files before. Nothing is
@@ -55,42 +43,42 @@ pub fn edit_files<S: Find>(
     edits: &[Edit<'_>],
 ) -> Result<EditedFiles, EditError>
     ensures edited { OfEdits (S.is_honest store.now) (S.table store.now) kind (root_id root) edits.now
-        (λ files made. IfOk result (AreEdited kind (standing (root_id root) files) files made)) }
+        (λ files made. IfOk result (AreEdited kind files made)) }
     ensures refused { OfEdits (S.is_honest store.now) (S.table store.now) kind (root_id root) edits.now
         (λ files made. IfErr result (EditsFault (S.may_fail store.now) kind files made)) }
     ensures counted { IfOk result (λ edited. edited.lookups ≤ name_count edits.now + 1) }
     ensures failed { IsErrOf result Failed → S.may_fail store.now }
 {
-    check_paths(edits)?;
+    if !are_paths(edits) {
+        return Err(EditError::BadPath);
+    }
     let mut editor = editor_of(alloc, store, root)?;
     if has_null(edits) {
-        let tested = with_ids(alloc, kind, edits)?;
+        let tested = with_id(alloc, ObjectId::empty_blob(kind), edits)?;
         make_edits(alloc, &mut editor, tested.as_slice())?;
         return Err(EditError::NullId);
     }
     make_edits(alloc, &mut editor, edits)?;
     let edited = written(alloc, kind, &editor)?;
-    if edited.trees.iter().any(|tree| tree.id.is_null()) {
+    if has_null_tree(edited.trees.as_slice()) {
         return Err(EditError::NullId);
     }
     Ok(edited)
 }
 
-// Refuses a path with an empty name or a zero byte.
-fn check_paths(edits: &[Edit<'_>]) -> Result<(), EditError> {
-    for edit in edits {
-        if !is_path(edit.path) {
-            return Err(EditError::BadPath);
-        }
-    }
-    Ok(())
+fn are_paths(edits: &[Edit<'_>]) -> bool
+    ensures { result ≡ list_all (λ edit. is_path edit.path.now) edits.now }
+{
+    edits.iter().all(|edit| is_path(edit.path))
 }
 
-fn is_path(path: &[u8]) -> bool {
-    !path.contains(&0)
-        && path
-            .split(|byte| *byte == b'/')
-            .all(|name| !name.is_empty())
+// Whether no name is empty, and no byte is zero.
+fn is_path(path: &[u8]) -> bool
+    ensures { result ≡ is_path path.now }
+{
+    path.split(|byte| *byte == b'/')
+        .all(|name| !name.is_empty())
+        && !path.contains(&0)
 }
 
 // An editor of the root's files, or of none.
@@ -98,7 +86,16 @@ fn editor_of<'a, S: Find>(
     alloc: Global,
     store: &'a S,
     root: Option<&ObjectId>,
-) -> Result<Editor<&'a S>, EditError> {
+) -> Result<Editor<&'a S>, EditError>
+    ensures base { S.is_honest store.now → (kind : Kind) (files : FileMap)
+        → IsBase (S.table store.now) kind (root_id root) files → IfOk result (StandsAtBase (S.table store.now) kind files) }
+    ensures as_read { IfOk result (λ editor. (trees : Trees) → IsAsRead trees editor) }
+    ensures store { IfOk result (λ editor. editor.store ≡ store) }
+    ensures uncounted { IfOk result (λ editor. editor.lookups ≡ 0) }
+    ensures own { S.is_honest store.now → (kind : Kind) (files : FileMap)
+        → IsBase (S.table store.now) kind (root_id root) files → IfErr result (OpenFault (S.may_fail store.now)) }
+    ensures failed { IsErrOf result Failed → S.may_fail store.now }
+{
     match root {
         Some(root) => Ok(open_editor(alloc, store, root)?),
         None => {
@@ -109,36 +106,33 @@ fn editor_of<'a, S: Find>(
 }
 
 // Whether an edit puts what has the null id.
-fn has_null(edits: &[Edit<'_>]) -> bool {
+fn has_null(edits: &[Edit<'_>]) -> bool
+    ensures { result ≡ list_any (λ edit. puts_null edit.change) edits.now }
+{
     edits.iter().any(|edit| puts_null(&edit.change))
 }
 
-fn puts_null(change: &Change) -> bool {
+fn puts_null(change: &Change) -> bool
+    ensures { result ≡ puts_null change.now }
+{
     match change {
-        Change::Put { id, .. } => id.is_null(),
+        Change::Put { id, .. } => is_null(id),
         Change::Remove | Change::RemoveFile => false,
     }
 }
 
-// The edits, each `put` of the empty blob: an editor has no file where the id is null.
-fn with_ids<'a>(
-    alloc: Global,
-    kind: Kind,
-    edits: &[Edit<'a>],
-) -> Result<Vec<Edit<'a>>, AllocError> {
-    let mut tested = Vec::new(alloc);
-    for edit in edits {
-        tested.push(with_id(kind, edit))?;
-    }
-    Ok(tested)
+// The edits, by which what has this id is put: they are tested so, since an editor has no file where the id is null.
+fn with_id<'a>(alloc: Global, id: ObjectId, edits: &[Edit<'a>]) -> Result<Vec<Edit<'a>>, AllocError>
+    ensures { IfOk result (λ tested. tested.items ≡ map (stand_in id) edits.now) }
+{
+    edits.iter().map(|edit| stand_in(id, edit)).collect(alloc)
 }
 
-fn with_id<'a>(kind: Kind, edit: &Edit<'a>) -> Edit<'a> {
+fn stand_in<'a>(id: ObjectId, edit: &Edit<'a>) -> Edit<'a>
+    ensures { result ≡ stand_in id edit.now }
+{
     let change = match edit.change {
-        Change::Put { kind: file, .. } => Change::Put {
-            kind: file,
-            id: ObjectId::empty_blob(kind),
-        },
+        Change::Put { kind, .. } => Change::Put { kind, id },
         Change::Remove => Change::Remove,
         Change::RemoveFile => Change::RemoveFile,
     };
@@ -146,6 +140,18 @@ fn with_id<'a>(kind: Kind, edit: &Edit<'a>) -> Edit<'a> {
         path: edit.path,
         change,
     }
+}
+
+fn has_null_tree(trees: &[EditedTree]) -> bool
+    ensures { result ≡ list_any (λ tree. is_null (id_of tree.id)) trees.now }
+{
+    trees.iter().any(|tree| is_null(&tree.id))
+}
+
+fn is_null(id: &ObjectId) -> bool
+    ensures { result ≡ is_null (id_of id.now) }
+{
+    id.is_null()
 }
 
 // The trees that the editor hands out.
