@@ -183,6 +183,14 @@ pub record IsInner (kind : Kind) (table : Table) (stands : List FileMap) (g : Fi
   pub some : HasFile g
   pub within : (h : FileMap) → In h (folders_of g) → In h stands
 
+-- files of an entry that names such a folder
+pub folder_files : (kind : Kind) (table : Table) (trees : Trees) (stored : HasStored table trees) (stands : List FileMap) (g : FileMap) → IsInner kind table stands g → (leaf : Leaf) → leaf.mode ≡ folder_mode → is_null leaf.id ≡ false
+    → leaf.id ≡ folder_id kind g → (name : Bytes) (rest : Path) → files_of_entry trees (name ∷ rest) leaf ≡ files_of_tree trees (items kind g) (name ∷ rest)
+folder_files kind table trees stored stands g in_g leaf mode isnt_null id name rest =
+    ap (λ b. cond b None (through (tree_under trees leaf) (λ found. through (named name found) (λ item. files_of_entry trees rest (leaf_of item))))) isnt_null
+    ∙ ap (λ o. through o (λ found. through (named name found) (λ item. files_of_entry trees rest (leaf_of item))))
+    (ap (λ (x : Mode). cond (is_tree_value x.value) (trees leaf.id) None) mode ∙ ap trees id ∙ tree_there kind table trees stored g in_g.map in_g.has.itself)
+
 abbrev pub folder : FileMap → HandedOut → FileMap
 folder m tree = folder_at m tree.path
 
@@ -235,14 +243,6 @@ module _ (kind : Kind) (table : Table) (trees : Trees) (stored : HasStored table
       → files_of_node trees slots 0 (path ++ n ∷ rest) ≡ files_of_entry trees rest (leaf_in s)
   files_at path j n rest s leads at closed =
       sym (files_below trees slots path j (n ∷ rest) leads) ∙ ap (λ o. through o (files_of_slot trees slots rest)) at ∙ closed_files trees slots s closed rest
-
-  -- files of an entry that names a folder
-  folder_files : (g : FileMap) → IsInner kind table stands g → (leaf : Leaf) → leaf.mode ≡ folder_mode → is_null leaf.id ≡ false → leaf.id ≡ folder_id kind g → (name : Bytes) (rest : Path)
-      → files_of_entry trees (name ∷ rest) leaf ≡ files_of_tree trees (items kind g) (name ∷ rest)
-  folder_files g in_g leaf mode isnt_null id name rest =
-      ap (λ b. cond b None (through (tree_under trees leaf) (λ found. through (named name found) (λ item. files_of_entry trees rest (leaf_of item))))) isnt_null
-      ∙ ap (λ o. through o (λ found. through (named name found) (λ item. files_of_entry trees rest (leaf_of item))))
-      (ap (λ (x : Mode). cond (is_tree_value x.value) (trees leaf.id) None) mode ∙ ap trees id ∙ tree_there kind table trees stored g in_g.map in_g.has.itself)
 
   module _ (before : List HandedOut) (known : (c : HandedOut) → In c before → IsTreeKnown kind stands m before c) (some : (c : HandedOut) → In c before → c.items ≢ []) (t : HandedOut)
       (out : IsHandedOut slots before t) where
@@ -307,7 +307,7 @@ module _ (kind : Kind) (table : Table) (trees : Trees) (stored : HasStored table
             same_files (n ∷ rest) = sym (
                 ap (λ ps. under (under (files_of_node trees slots 0) t.path) ps (n ∷ rest)) (one_part item.name flat)
                 ∙ there (n ∷ rest)
-                ∙ folder_files g in_g (leaf_of item) mode isnt_null id n rest)
+                ∙ folder_files kind table trees stored stands g in_g (leaf_of item) mode isnt_null id n rest)
 
             roots : root kind g ≡ root kind (inside item.name (folder m t))
             roots = one_root kind g (inside item.name (folder m t)) (files_of_tree trees (items kind g)) (under (under (files_of_node trees slots 0) t.path) (components item.name)) of_g of_inside same_files

@@ -20,3 +20,4 @@ pub mod Handed
 pub mod Named
 pub mod GivenTrees
 pub mod StandInEdits
+pub mod Faults

@@ -12,7 +12,7 @@ ghost use Rattle.history_files.specs.Edits.{name_count};
 ghost use Rattle.gix_object_entries.specs.Entry.{own_item};
 ghost use Rattle.gix_object_entries.specs.Writing.{tree_text};
 ghost use Rattle.history_files.specs.Editing.{OfEdits, AreEdited, EditsFault, IsBase, root_id};
-ghost use Rattle.history_files.specs.Opening.{OpenFault, StandsAtBase};
+ghost use Rattle.history_files.specs.Opening.{EditsFiles, OpenFault};
 ghost use Rattle.history_files.specs.Handing.{HasWritten, KeepsTree};
 ghost use Rattle.history_files.specs.declared.edits.EditError.TheVariants.{Failed, Memory};
 
@@ -88,7 +88,7 @@ fn editor_of<'a, S: Find>(
     root: Option<&ObjectId>,
 ) -> Result<Editor<&'a S>, EditError>
     ensures base { S.is_honest store.now → (kind : Kind) (files : FileMap)
-        → IsBase (S.table store.now) kind (root_id root) files → IfOk result (StandsAtBase (S.table store.now) kind files) }
+        → IsBase (S.table store.now) kind (root_id root) files → IfOk result (EditsFiles (S.table store.now) kind files files) }
     ensures as_read { IfOk result (λ editor. (trees : Trees) → IsAsRead trees editor) }
     ensures store { IfOk result (λ editor. editor.store ≡ store) }
     ensures uncounted { IfOk result (λ editor. editor.lookups ≡ 0) }
