@@ -1,5 +1,5 @@
 -- Why edits of a file map aren't made over a store that has its trees.
-use Rattle.std.proofs.Common.{◌≡◌, ◌≢◌, ℕ, Bool, true, false, cond, not, ◌&&◌, ◌||◌, List, [], ◌∷◌, ◌++◌, map, refl, sym, ◌∙◌, ap, subst, arith, inl, inr, ◌⊎◌, Option, Some, None, option_map, Bor, ⊤}
+use Rattle.std.proofs.Common.{◌≡◌, ◌≢◌, ℕ, Bool, true, false, cond, not, ◌&&◌, ◌||◌, List, [], ◌∷◌, ◌++◌, map, refl, sym, ◌∙◌, ap, subst, arith, inl, inr, ◌⊎◌, Option, Some, None, option_map}
 use Rattle.std.specs.List.{All, AllByRecursion, list_any}
 use Rattle.std.specs.FinMap.{get}
 use Rattle.gix_hash.specs.Id.{Id, id_of}
@@ -196,7 +196,7 @@ module _ (kind : Kind) (table : Table) (folders : List FileMap) (inner : (g : Fi
     unread_fault : (id : Id) → Standing id → (error : existing.Error) → TreeIsUnread honest may_fail table id error → MakingFault may_fail files made (as_unread error)
     unread_fault id there (not_given.Find looked_up.Failed) h = h
     unread_fault id there (not_given.Find looked_up.Memory) h = tt
-    unread_fault id there (not_given.Decode oid source) (told, content, stands, fault, whole) =
+    unread_fault id there (not_given.Decode oid source) (told, (content, stands, fault, whole)) =
         by_source source (whole there.all (subst (λ t. SpellsTree id.kind t there.all) (one_content id there.content content there.stands (stands answers)) there.spelled))
       where
         by_source : (s : decode.Error) → s ≡ unread.Memory → MakingFault may_fail files made (unless_memory s (Broken oid))
@@ -214,7 +214,7 @@ module _ (kind : Kind) (table : Table) (folders : List FileMap) (inner : (g : Fi
         sym_is = refl
 
     malformed_fault : (id : Id) → Standing id → (oid : Id) → TreeIsMalformed honest table id oid → ⊥
-    malformed_fault id there oid (told, content, all, stands, spelled, not) =
+    malformed_fault id there oid (told, (content, all, stands, spelled, not)) =
         let same = one_content id there.content content there.stands (stands answers) in
         not (subst IsWellFormed (one_tree id.kind content there.all all (subst (λ t. SpellsTree id.kind t there.all) same there.spelled) spelled) there.well)
 

@@ -32,7 +32,7 @@ use Rattle.history_model.proofs.WholeSteps.{contains_in, in_contains}
 use Rattle.history_model.proofs.WholeStores.{get_in, in_get}
 use Rattle.history_files.specs.Unfolding.{IsInTable, IsUnfolded, file_leaf}
 use Rattle.history_files.specs.Editing.{HasTreeOf}
-use Rattle.history_files.specs.Entries.{is_filename, is_file_mode, names_only}
+use Rattle.history_files.specs.Entries.{is_filename, is_file_mode, is_folder_mode, names_only}
 use Rattle.history_files.proofs.Components.{one_part, parts_below, same_parts, some_parts}
 use Rattle.history_files.proofs.InOrder.{root_well_formed}
 use Rattle.history_files.proofs.Inside.{ArePlainNames, HasFile, among_inside, file_inside, folder_at, folder_below, folder_map, folder_unfolds, inside_among, inside_unfolds, same_file, same_folders, under}
@@ -109,20 +109,18 @@ module _ (kind : Kind) (m : FileMap) (fits : IsFileMap m) (name : Bytes) (plain 
 one_number : (a b : ℕ) → (a == b) ≡ true → a ≡ b
 one_number a b h = grind (arith, tests)
 
-file_no_tree : (mode : Mode) → is_file_mode mode ≡ true → is_tree_value mode.value ≡ false
-file_no_tree mode h = go (and_true (not mode.padded) _ h).1
+pub file_no_tree : (mode : Mode) → is_file_mode mode ≡ true → is_tree_value mode.value ≡ false
+file_no_tree mode h = go (or_true (mode.value == 33188 || mode.value == 33261) (mode.value == 40960) (and_true (not mode.padded) (mode.value == 33188 || mode.value == 33261 || mode.value == 40960) h).1)
   where
     by_number : (n : ℕ) → (mode.value == n) ≡ true → is_tree_value n ≡ false → is_tree_value mode.value ≡ false
     by_number n e f = ap is_tree_value (one_number mode.value n e) ∙ f
 
-    go : (mode.value == 33188 || mode.value == 33261 || mode.value == 40960) ≡ true → is_tree_value mode.value ≡ false
-    go k = elim (or_true (mode.value == 33188) (mode.value == 33261 || mode.value == 40960) k) [
-      | inl e ↦ by_number 33188 e refl
-      | inr more ↦ elim (or_true (mode.value == 33261) (mode.value == 40960) more) [
-        | inl e ↦ by_number 33261 e refl
-        | inr e ↦ by_number 40960 e refl
-      ]
-    ]
+    first : (mode.value == 33188 || mode.value == 33261) ≡ true → is_tree_value mode.value ≡ false
+    first k = elim (or_true (mode.value == 33188) (mode.value == 33261) k) [ inl e ↦ by_number 33188 e refl | inr e ↦ by_number 33261 e refl ]
+
+    go : ((mode.value == 33188 || mode.value == 33261) ≡ true) ⊎ ((mode.value == 40960) ≡ true) → is_tree_value mode.value ≡ false
+    go (inl k) = first k
+    go (inr e) = by_number 40960 e refl
 
 module _ (kind : Kind) (folders : List FileMap) where
   -- it names a file, nothing yet, or one of the folders
@@ -136,11 +134,11 @@ module _ (kind : Kind) (folders : List FileMap) where
         elim (or_true (is_file_mode leaf.mode) _ parts.1) [
           | inl file ↦ inl file
           | inr folder ↦
-              let both = and_true _ (is_null leaf.id || list_any (λ f. id_eq leaf.id (folder_id kind f)) folders) folder in
+              let both = and_true (is_folder_mode leaf.mode) (is_null leaf.id || list_any (λ f. id_eq leaf.id (folder_id kind f)) folders) folder in
               let mode = and_true (not leaf.mode.padded) (leaf.mode.value == 16384) both.0 in
               inr (
                 same_mode (not_true leaf.mode.padded mode.0) (one_number leaf.mode.value 16384 mode.1),
-                elim (or_true (is_null leaf.id) _ both.1) [
+                elim (or_true (is_null leaf.id) (list_any (λ f. id_eq leaf.id (folder_id kind f)) folders) both.1) [
                   | inl null ↦ inl null
                   | inr among ↦ let one = one_passes (λ f. id_eq leaf.id (folder_id kind f)) folders among in inr (one.0, one.1, one_id leaf.id (folder_id kind one.0) one.2)
                 ],
@@ -148,17 +146,20 @@ module _ (kind : Kind) (folders : List FileMap) where
         ],
       )
     where
+      names_folder : Bool
+      names_folder = is_folder_mode leaf.mode && (is_null leaf.id || list_any (λ f. id_eq leaf.id (folder_id kind f)) folders)
+
       same_mode : leaf.mode.padded ≡ false → leaf.mode.value ≡ 16384 → leaf.mode ≡ folder_mode
       same_mode p v = λ i. record { value = v i; padded = p i }
 
 pub is_filename_of : (name : Bytes) → is_filename name ≡ true → IsFilename name
 is_filename_of name h =
-    let parts = and_true (not (is_empty name)) _ h in
-    let more = and_true (not (has_byte 47 name)) (not (has_byte 0 name)) parts.1 in
+    let outer = and_true (not (is_empty name) && not (has_byte 47 name)) (not (has_byte 0 name)) h in
+    let inner = and_true (not (is_empty name)) (not (has_byte 47 name)) outer.0 in
     record {
-      some = λ e. clash (ap is_empty e) (not_true (is_empty name) parts.0);
-      within_folder = not_true (has_byte 47 name) more.0;
-      endless = not_true (has_byte 0 name) more.1;
+      some = λ e. clash (ap is_empty e) (not_true (is_empty name) inner.0);
+      within_folder = not_true (has_byte 47 name) inner.1;
+      endless = not_true (has_byte 0 name) outer.1;
     }
 
 pub of_all : {X : Type 0} (P : X → Type 0) (xs : List X) → All P xs → (x : X) → In x xs → P x

@@ -12,11 +12,11 @@ use Rattle.gix_object_entries.proofs.TreeLaws.{one_tree}
 use Rattle.gix_object_find.specs.Table.{Table, Object}
 use Rattle.gix_object_editor.specs.Editor.{leaf_of_kind}
 use Rattle.gix_object_editor.specs.Entries.{ItemsHave, MayStand, PassesDown, made_leaf}
-use Rattle.gix_object_editor.specs.Files.{leaf_of}
+use Rattle.gix_object_editor.specs.Files.{Leaf, is_null, leaf_of}
 use Rattle.history_model.specs.Bytes.{Bytes, has_byte, is_empty}
 use Rattle.history_model.specs.FileMap as model
 use Rattle.history_model.specs.FileMap.{FileMap, Content, IsFileMap, beginnings, components, edit_path, folders_of, inside, is_path}
-use Rattle.history_model.specs.Objects.{FileEntry, FolderEntry, TreeEntry, StoredFolder, digest, folder_id, root, tree_entries}
+use Rattle.history_model.specs.Objects.{FileEntry, FolderEntry, TreeEntry, digest, folder_id, root, tree_entries, tree_text}
 use Rattle.history_model.specs.declared.FileKind.{FileKind}
 use Rattle.history_model.specs.declared.FileKind.TheVariants.{File as PlainFile, Exec, Link}
 use Rattle.history_model.proofs.IdLemmas.{id_itself}
@@ -28,7 +28,7 @@ use Rattle.history_model.proofs.WholeStores.{get_in, in_get}
 use Rattle.history_files.specs.Unfolding.{IsInTable, HasTrees, entry_kind}
 use Rattle.history_files.specs.Edits.{IsChange}
 use Rattle.history_files.specs.Editing.{HavePaths, NameEdits, Names}
-use Rattle.history_files.specs.Entries.{MayBeMade, MayPut, is_file_mode, is_filename, names_only, own_folders}
+use Rattle.history_files.specs.Entries.{MayBeMade, MayPut, is_file_mode, is_filename, is_folder_mode, names_only, own_folders}
 use Rattle.history_files.specs.declared.edits.Change.{Change}
 use Rattle.history_files.specs.declared.edits.Change.TheVariants.{Put, Remove, RemoveFile}
 use Rattle.history_files.specs.declared.edits.Edit.{Edit}
@@ -77,11 +77,24 @@ module _ (kind : Kind) (folders : List FileMap) where
   file_mode Exec id = refl
   file_mode Link id = refl
 
+  -- what an entry has that names a file, or one of the folders, or nothing yet
+  file_has : (name : Bytes) (leaf : Leaf) → is_filename name ≡ true → is_file_mode leaf.mode ≡ true → names_only kind folders name leaf ≡ true
+  file_has name leaf fine file =
+      and_both (is_filename name) (is_file_mode leaf.mode || (is_folder_mode leaf.mode && (is_null leaf.id || list_any (λ f. id_eq leaf.id (folder_id kind f)) folders))) fine
+      (true_or (is_file_mode leaf.mode) (is_folder_mode leaf.mode && (is_null leaf.id || list_any (λ f. id_eq leaf.id (folder_id kind f)) folders)) (inl file))
+
+  folder_has : (name : Bytes) (leaf : Leaf) → is_filename name ≡ true → is_folder_mode leaf.mode ≡ true → (is_null leaf.id || list_any (λ f. id_eq leaf.id (folder_id kind f)) folders) ≡ true → names_only kind folders name leaf ≡ true
+  folder_has name leaf fine folder id =
+      and_both (is_filename name) (is_file_mode leaf.mode || (is_folder_mode leaf.mode && (is_null leaf.id || list_any (λ f. id_eq leaf.id (folder_id kind f)) folders))) fine
+      (true_or (is_file_mode leaf.mode) (is_folder_mode leaf.mode && (is_null leaf.id || list_any (λ f. id_eq leaf.id (folder_id kind f)) folders))
+      (inr (and_both (is_folder_mode leaf.mode) (is_null leaf.id || list_any (λ f. id_eq leaf.id (folder_id kind f)) folders) folder id)))
+
   file_leaf_has : (name : Bytes) (k : FileKind) (id : ObjectId) → is_filename name ≡ true → names_only kind folders name (leaf_of_kind (entry_kind k) id) ≡ true
-  file_leaf_has name k id fine = and_both (is_filename name) _ fine (true_or (is_file_mode (leaf_of_kind (entry_kind k) id).mode) _ (inl (file_mode k id)))
+  file_leaf_has name k id fine = file_has name (leaf_of_kind (entry_kind k) id) fine (file_mode k id)
 
   made_has : (name : Bytes) (k : Kind) → is_filename name ≡ true → names_only kind folders name (made_leaf k) ≡ true
-  made_has name k fine = and_both (is_filename name) _ fine (true_or (id_eq (null_id k) (null_id k)) _ (inl (id_itself (null_id k))))
+  made_has name k fine = folder_has name (made_leaf k) fine refl
+      (true_or (is_null (null_id k)) (list_any (λ f. id_eq (null_id k) (folder_id kind f)) folders) (inl (id_itself (null_id k))))
 
   pub may_put : (path : Bytes) (change : Change) → is_path path ≡ true → MayPut (names_only kind folders) path change
   may_put path (Put k id) fine = all_of (λ name. (names_only kind folders name (leaf_of_kind (entry_kind k) id) ≡ true) × (names_only kind folders name (made_leaf (id_of id).kind) ≡ true)) (components path)
@@ -112,23 +125,24 @@ module _ (kind : Kind) (folders : List FileMap) where
       some_name_of : (u : TreeEntry) → In u (tree_entries (entries g)) → name_of u ≡ [] → ⊥
       some_name_of u j e = some_name (λ id. None) kind g fits u j e
 
-      kind_mode : (k : FileKind) (content : Content) → content.kind ≡ k → is_file_mode (item_of kind (tree_of kind g) (FileEntry [] content)).mode ≡ true
-      kind_mode PlainFile content e = ap (λ x. is_file_mode (record { value = kind_value (entry_kind x); padded = false })) e
-      kind_mode Exec content e = ap (λ x. is_file_mode (record { value = kind_value (entry_kind x); padded = false })) e
-      kind_mode Link content e = ap (λ x. is_file_mode (record { value = kind_value (entry_kind x); padded = false })) e
+      kind_mode : (k : FileKind) → is_file_mode (record { value = kind_value (entry_kind k); padded = false }) ≡ true
+      kind_mode PlainFile = refl
+      kind_mode Exec = refl
+      kind_mode Link = refl
+
+      there : (n rest : Bytes) (content : Content) → In (n ++ 47 ∷ rest, content) (entries g) → get (inside n g) rest ≡ Some content
+      there n rest content k = in_get (inside n g) rest content (in_inside n g rest content k)
 
       by_entry : (u : TreeEntry) → In u (tree_entries (entries g)) → is_filename (item_of kind (tree_of kind g) u).name ≡ true
           → names_only kind folders (item_of kind (tree_of kind g) u).name (leaf_of (item_of kind (tree_of kind g) u)) ≡ true
-      by_entry (FileEntry path content) j named = and_both (is_filename path) _ named (true_or _ _ (inl (kind_mode content.kind content refl)))
+      by_entry (FileEntry path content) j named = file_has path (leaf_of (item_of kind (tree_of kind g) (FileEntry path content))) named (kind_mode content.kind)
       by_entry (FolderEntry name below) j named =
           let one = folder_of kind g name below j in
           let file : HasFile (inside name g) = ((one.some.0).0, (one.some.0).1, there name (one.some.0).0 (one.some.0).1 one.some.1) in
-          let same : id_eq (item_of kind (tree_of kind g) (FolderEntry name below)).id (folder_id kind (inside name g)) ≡ true = ap (λ x. id_eq x (folder_id kind (inside name g))) one.id ∙ id_itself (folder_id kind (inside name g)) in
-          and_both (is_filename name) _ named (true_or _ _ (inr (true_or _ _ (inr
-          (passes_one (λ f. id_eq (item_of kind (tree_of kind g) (FolderEntry name below)).id (folder_id kind f)) folders (inside name g) (inner name file) same)))))
-        where
-          there : (n rest : Bytes) (content : Content) → In (n ++ 47 ∷ rest, content) (entries g) → get (inside n g) rest ≡ Some content
-          there n rest content k = in_get (inside n g) rest content (in_inside n g rest content k)
+          let id : Id = digest kind (tree_text (tree_of kind g below)) in
+          let same : id_eq id (folder_id kind (inside name g)) ≡ true = ap (λ x. id_eq x (folder_id kind (inside name g))) one.id ∙ id_itself (folder_id kind (inside name g)) in
+          folder_has name (leaf_of (item_of kind (tree_of kind g) (FolderEntry name below))) named refl
+          (true_or (is_null id) (list_any (λ f. id_eq id (folder_id kind f)) folders) (inr (passes_one (λ f. id_eq id (folder_id kind f)) folders (inside name g) (inner name file) same)))
 
   pub items_have : (g : FileMap) → IsFileMap g → ((name : Bytes) → HasFile (inside name g) → In (inside name g) folders) → ItemsHave (names_only kind folders) (items kind g)
   items_have g fits inner = all_of (λ (item : Item). names_only kind folders item.name (leaf_of item) ≡ true) (items kind g) (λ item i.

@@ -42,9 +42,9 @@ pub fn edit_files<S: Find>(
     root: Option<&ObjectId>,
     edits: &[Edit<'_>],
 ) -> Result<EditedFiles, EditError>
-    ensures edited { OfEdits (S.is_honest store.now) (S.table store.now) kind (root_id root) edits.now
+    ensures edited { OfEdits (S.is_honest store.now) (S.table store.now) kind (root_id root.entry) edits.now
         (λ files made. IfOk result (AreEdited kind files made)) }
-    ensures refused { OfEdits (S.is_honest store.now) (S.table store.now) kind (root_id root) edits.now
+    ensures refused { OfEdits (S.is_honest store.now) (S.table store.now) kind (root_id root.entry) edits.now
         (λ files made. IfErr result (EditsFault (S.may_fail store.now) kind files made)) }
     ensures counted { IfOk result (λ edited. edited.lookups ≤ name_count edits.now + 1) }
     ensures failed { IsErrOf result Failed → S.may_fail store.now }
@@ -88,12 +88,12 @@ fn editor_of<'a, S: Find>(
     root: Option<&ObjectId>,
 ) -> Result<Editor<&'a S>, EditError>
     ensures base { S.is_honest store.now → (kind : Kind) (files : FileMap)
-        → IsBase (S.table store.now) kind (root_id root) files → IfOk result (EditsFiles (S.table store.now) kind files files) }
+        → IsBase (S.table store.now) kind (root_id root.entry) files → IfOk result (EditsFiles (S.table store.now) kind files files) }
     ensures as_read { IfOk result (λ editor. (trees : Trees) → IsAsRead trees editor) }
     ensures store { IfOk result (λ editor. editor.store ≡ store) }
     ensures uncounted { IfOk result (λ editor. editor.lookups ≡ 0) }
     ensures own { S.is_honest store.now → (kind : Kind) (files : FileMap)
-        → IsBase (S.table store.now) kind (root_id root) files → IfErr result (OpenFault (S.may_fail store.now)) }
+        → IsBase (S.table store.now) kind (root_id root.entry) files → IfErr result (OpenFault (S.may_fail store.now)) }
     ensures failed { IsErrOf result Failed → S.may_fail store.now }
 {
     match root {
