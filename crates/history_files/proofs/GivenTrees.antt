@@ -9,7 +9,7 @@ use Rattle.gix_object_entries.specs.Writing as writing
 use Rattle.gix_object_find.specs.Table.{Table}
 use Rattle.gix_object_editor.specs.declared.tree.editor.state.Editor.{Editor}
 use Rattle.gix_object_editor.specs.declared.tree.editor.node.Slot.{Slot}
-use Rattle.gix_object_editor.specs.Editor.{EachEntryHas, IsAsRead, files_of}
+use Rattle.gix_object_editor.specs.Editor.{EachEntryHas, IsAsRead, IsChanged, files_of}
 use Rattle.gix_object_editor.specs.Entries.{EachHas}
 use Rattle.gix_object_editor.specs.Files.{Bytes, HasStored, Path, Trees, is_null, through}
 use Rattle.gix_object_editor.specs.Marks.{Marks, due, is_due, marks_of, slot_if}
@@ -23,7 +23,7 @@ use Rattle.history_model.proofs.WholeLists.{In, either, in_all, in_either, in_le
 use Rattle.history_model.proofs.WholeSteps.{contains_in, in_contains}
 use Rattle.history_model.proofs.WholeStores.{in_get}
 use Rattle.history_files.specs.Editing.{AreGiven, AreTreesOf, HasTreeOf, IsTreeOf}
-use Rattle.history_files.specs.Entries.{names_only}
+use Rattle.history_files.specs.Entries.{names_only, own_folders}
 use Rattle.history_files.specs.Handing.{AreKept, HasWritten, IsTextOf}
 use Rattle.history_files.specs.Unfolding.{IsUnfolded}
 use Rattle.history_files.specs.declared.trees.EditedFiles.{EditedFiles}
@@ -32,6 +32,7 @@ use Rattle.history_files.proofs.Changes.{same_unfolded}
 use Rattle.history_files.proofs.Handed.{IsInner, IsTreeKnown, file_of_items, folder, next_known, of_all}
 use Rattle.history_files.proofs.Inside.{folder_among, folder_at}
 use Rattle.history_files.proofs.Items.{items, items_root}
+use Rattle.history_files.proofs.Parsed.{has_stored, trees_in}
 
 -- ---- lists
 
@@ -197,6 +198,13 @@ module _ (kind : Kind) (stands : List FileMap) (m : FileMap) where
           turn h names (inl i) = inl (in_contains (first ++ g ∷ []) h (subst (In h) names i))
           turn h names (inr one) = inr one
 
+-- one more is kept
+pub kept_more : (kind : Kind) (handed : List HandedOut) (kept : List EditedTree) (t : HandedOut) (k : EditedTree) → AreKept kind handed kept → id_of k.id ≡ t.id → IsTextOf kind t.items k → AreKept kind (handed ++ t ∷ []) (kept ++ k ∷ [])
+kept_more kind [] [] t k are id text = (id, text, tt)
+kept_more kind [] (l ∷ kept) t k are id text = absurd are
+kept_more kind (u ∷ handed) [] t k are id text = absurd are
+kept_more kind (u ∷ handed) (l ∷ kept) t k are id text = (are.0, are.1, kept_more kind handed kept t k are.2 id text)
+
 -- ---- of an editor
 
 -- the trees that are due have the property of entries too
@@ -206,3 +214,36 @@ due_each kind folders slots marks each i name s at = go (slots i name) refl at
     go : (o : Option Slot) → slots i name ≡ o → through o (λ x. Some (slot_if (is_due marks 0) x)) ≡ Some s → names_only kind folders name (leaf_in s) ≡ true
     go None e k = none_is_some s k
     go (Some x) e k = subst (λ y. names_only kind folders name (leaf_in y) ≡ true) (some_inside (slot_if (is_due marks 0) x) s k) (each i name x e)
+
+-- where an editor has files of a base whose trees stand, what is written of it is theirs, unless a tree has the null id
+pub written_trees : {S : Type 0} (kind : Kind) (table : Table) (base : FileMap) → ((g : FileMap) → In g (own_folders base) → IsInner kind table (own_folders base) g) → (editor : Editor S)
+    → EachEntryHas (names_only kind (own_folders base)) editor → IsAsRead (trees_in table) editor → (m : FileMap) → IsFileMap m → IsUnfolded kind m (files_of (trees_in table) editor)
+    → (edited : EditedFiles) → HasWritten kind editor edited
+    → ((id_of edited.root ≡ folder_id kind m) × AreGiven kind (own_folders base) m edited.trees.items) ⊎ ((tree : FileMap) × In tree (folders_of m) × (is_null (folder_id kind tree) ≡ true))
+written_trees kind table base inner editor each read m fits is edited (handed, written, kept) =
+    let last = written.last in
+    let below = last.0 in
+    let top : HandedOut = record { path = []; items = last.1; id = id_of edited.root } in
+    let slots = slots_of editor.nodes.items in
+    let marks = marks_of editor.nodes.items in
+    let kept_all = subst (λ l. AreKept kind l edited.trees.items) last.2 kept in
+    let order = subst (EachBehind (IsHandedOut (due slots marks 0)) []) last.2 written.in_order in
+    let some = λ (c : HandedOut) (i : In c below). (of_all (λ (t : HandedOut). (t.items ≢ []) × IsChanged editor t.path) below last.3 c i).0 in
+    let unfolds = same_unfolded kind m (files_of (trees_in table) editor) (files_of_node (trees_in table) (due slots marks 0) 0) is (λ q. due_files (trees_in table) slots marks 0 read q 0) in
+    let known = all_known kind (own_folders base) m table (trees_in table) (has_stored table) (own_folders base) inner (due slots marks 0) (due_each kind (own_folders base) slots marks each) fits unfolds
+        [] (below ++ top ∷ []) (λ c i. absurd i) order (but_last below top some) (kept_named kind (own_folders base) m (below ++ top ∷ []) edited.trees.items kept_all) in
+    elim known [
+      | inl fine ↦ inl (root_id below top fine, given_trees kind (own_folders base) m below top edited.trees.items refl fine kept_all some)
+      | inr null ↦ inr (folder m null.tree, among below top refl some null, ap is_null (sym null.id_is) ∙ null.null)
+    ]
+  where
+    root_id : (below : List HandedOut) (top : HandedOut) → EachBehind (IsFine kind (own_folders base) m) [] (below ++ top ∷ []) → top.id ≡ folder_id kind (folder m top)
+    root_id below top fine = (each_at (IsFine kind (own_folders base) m) [] (below ++ top ∷ []) below top [] fine refl).0.id_is
+
+    among : (below : List HandedOut) (top : HandedOut) → top.path ≡ [] → ((c : HandedOut) → In c below → c.items ≢ []) → (null : HasNullTree kind (own_folders base) m (below ++ top ∷ [])) → In (folder m null.tree) (folders_of m)
+    among below top at some null = go (in_either null.tree below (top ∷ []) null.among)
+      where
+        go : In null.tree below ⊎ In null.tree (top ∷ []) → In (folder m null.tree) (folders_of m)
+        go (inl i) = folder_among m null.tree.path (file_of_items kind (folder m null.tree) (λ none. some null.tree i (null.items_are ∙ none)))
+        go (inr (inl e)) = inl (ap (λ (t : HandedOut). folder_at m t.path) e ∙ ap (folder_at m) at)
+        go (inr (inr j)) = absurd j

@@ -1,12 +1,13 @@
 //! The trees that edits make of a root's files.
 
-ghost use Rattle.std.specs.Prelude.{◌≡◌, ◌≤◌, ◌+◌, IfOk, IfErr, IsErrOf, map};
+ghost use Rattle.std.specs.Prelude.{◌≡◌, ◌≤◌, ◌+◌, IfOk, IfErr, IsErrOf, map, not};
 ghost use Rattle.std.specs.List.{list_all, list_any};
 ghost use Rattle.gix_hash.specs.Id.{id_of};
 ghost use Rattle.gix_object_editor.specs.Editor.{IsAsRead};
 ghost use Rattle.gix_object_editor.specs.Files.{Trees, is_null};
 ghost use Rattle.gix_hash.specs.declared.kind.Kind.{Kind};
-ghost use Rattle.history_model.specs.FileMap.{FileMap, is_path};
+ghost use Rattle.history_model.specs.Bytes.{is_empty};
+ghost use Rattle.history_model.specs.FileMap.{FileMap, components, is_path};
 ghost use Rattle.history_files.specs.StandIns.{puts_null, stand_in};
 ghost use Rattle.history_files.specs.Edits.{name_count};
 ghost use Rattle.gix_object_entries.specs.Entry.{own_item};
