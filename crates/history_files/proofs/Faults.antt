@@ -152,19 +152,24 @@ module _ (kind : Kind) (table : Table) (folders : List FileMap) (inner : (g : Fi
   all_filled slots each i name s at closed nonnull = go (names_one kind folders name (leaf_in s) (each i name s at)).1
     where
       go : NamesOne kind folders (leaf_in s) → HasEntryFile (trees_in table) (leaf_in s)
-      go (inl file) = ([], leaf_in s,
-          ap (λ b. cond b None (unless_tree (tree_under (trees_in table) (leaf_in s)) (leaf_in s))) nonnull
-          ∙ ap (λ b. unless_tree (cond b (trees_in table (leaf_in s).id) None) (leaf_in s)) (file_no_tree (leaf_in s).mode file))
+      go (inl file) = (
+        [],
+        leaf_in s,
+        ap (λ b. cond b None (unless_tree (tree_under (trees_in table) (leaf_in s)) (leaf_in s))) nonnull
+            ∙ ap (λ b. unless_tree (cond b (trees_in table (leaf_in s).id) None) (leaf_in s)) (file_no_tree (leaf_in s).mode file),
+      )
       go (inr (mode, inl null)) = clash null nonnull
       go (inr (mode, inr (g, j, id))) =
           let in_g = inner g j in
           let parts = some_parts in_g.some.0 in
-          let unfolds = root_unfolds kind table (trees_in table) (has_stored table) g in_g.map (all_values (IsInTable table kind) g in_g.has) in
-          (parts.0 ∷ parts.1, file_leaf kind in_g.some.1,
-          folder_files kind table (trees_in table) (has_stored table) folders g in_g (leaf_in s) mode nonnull id parts.0 parts.1
-          ∙ ap (files_of_tree (trees_in table) (items kind g)) (sym parts.2)
-          ∙ unfolds.at in_g.some.0
-          ∙ ap (option_map (file_leaf kind)) in_g.some.2)
+          let unfolds = root_unfolds kind table (trees_in table) (has_stored table) g in_g.map (all_values (IsInTable table kind) g in_g.has) in (
+            parts.0 ∷ parts.1,
+            file_leaf kind in_g.some.1,
+            folder_files kind table (trees_in table) (has_stored table) folders g in_g (leaf_in s) mode nonnull id parts.0 parts.1
+                ∙ ap (files_of_tree (trees_in table) (items kind g)) (sym parts.2)
+                ∙ unfolds.at in_g.some.0
+                ∙ ap (option_map (file_leaf kind)) in_g.some.2,
+          )
 
   -- ---- why an edit isn't made
 

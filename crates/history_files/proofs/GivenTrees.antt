@@ -231,7 +231,7 @@ written_trees kind table base inner editor each read m fits is edited (handed, w
     let some = λ (c : HandedOut) (i : In c below). (of_all (λ (t : HandedOut). (t.items ≢ []) × IsChanged editor t.path) below last.3 c i).0 in
     let unfolds = same_unfolded kind m (files_of (trees_in table) editor) (files_of_node (trees_in table) (due slots marks 0) 0) is (λ q. due_files (trees_in table) slots marks 0 read q 0) in
     let known = all_known kind (own_folders base) m table (trees_in table) (has_stored table) (own_folders base) inner (due slots marks 0) (due_each kind (own_folders base) slots marks each) fits unfolds
-        [] (below ++ top ∷ []) (λ c i. absurd i) order (but_last below top some) (kept_named kind (own_folders base) m (below ++ top ∷ []) edited.trees.items kept_all) in
+    [] (below ++ top ∷ []) (λ c i. absurd i) order (but_last below top some) (kept_named kind (own_folders base) m (below ++ top ∷ []) edited.trees.items kept_all) in
     elim known [
       | inl fine ↦ inl (root_id below top fine, given_trees kind (own_folders base) m below top edited.trees.items refl fine kept_all some)
       | inr null ↦ inr (folder m null.tree, among below top refl some null, ap is_null (sym null.id_is) ∙ null.null)

@@ -77,9 +77,14 @@ fn are_paths(edits: &[Edit<'_>]) -> bool
 fn is_path(path: &[u8]) -> bool
     ensures { result ≡ is_path path.now }
 {
+    has_names(path) && !path.contains(&0)
+}
+
+fn has_names(path: &[u8]) -> bool
+    ensures { result ≡ not (list_any is_empty (components path.now)) }
+{
     path.split(|byte| *byte == b'/')
         .all(|name| !name.is_empty())
-        && !path.contains(&0)
 }
 
 // An editor of the root's files, or of none.
@@ -91,7 +96,7 @@ fn editor_of<'a, S: Find>(
     ensures base { S.is_honest store.now → (kind : Kind) (files : FileMap)
         → IsBase (S.table store.now) kind (root_id root.entry) files → IfOk result (EditsFiles (S.table store.now) kind files files) }
     ensures as_read { IfOk result (λ editor. (trees : Trees) → IsAsRead trees editor) }
-    ensures store { IfOk result (λ editor. editor.store ≡ store) }
+    ensures store { IfOk result (λ editor. editor.store ≡ store.entry) }
     ensures uncounted { IfOk result (λ editor. editor.lookups ≡ 0) }
     ensures own { S.is_honest store.now → (kind : Kind) (files : FileMap)
         → IsBase (S.table store.now) kind (root_id root.entry) files → IfErr result (OpenFault (S.may_fail store.now)) }
