@@ -1,6 +1,7 @@
 -- All trees that an editor hands out are those of folders of the edited files, in an order of which each beginning is closed.
-use Rattle.std.proofs.Common.{◌≡◌, ◌≢◌, Bool, true, false, List, [], ◌∷◌, ◌++◌, map, refl, sym, ◌∙◌, ap, subst, inl, inr, ◌⊎◌, Option, Some, None, Contains, ⊤, append_assoc}
-use Rattle.std.specs.List.{All, AllByRecursion}
+use Rattle.std.proofs.Common.{◌≡◌, ◌≢◌, Bool, true, false, List, [], ◌∷◌, ◌++◌, map, refl, sym, ◌∙◌, ap, subst, inl, inr, ◌⊎◌, Option, Some, None, Contains, append_assoc, ◌||◌}
+use Rattle.std.specs.Prelude.{⊤}
+use Rattle.std.specs.List.{All, AllByRecursion, list_any}
 use Rattle.std.specs.FinMap.{entries}
 use Rattle.gix_hash.specs.Id.{id_of}
 use Rattle.gix_hash.specs.declared.kind.Kind.{Kind}
@@ -19,7 +20,7 @@ use Rattle.gix_object_editor.proofs.Due.{due_files}
 use Rattle.history_model.specs.FileMap.{FileMap, IsFileMap, folders_of}
 use Rattle.history_model.specs.Objects.{digest, folder_id, root, tree_text}
 use Rattle.history_model.proofs.WholeItems.{Entry}
-use Rattle.history_model.proofs.WholeLists.{In, either, in_all, in_either, in_left, none_is_some, of_map, some_inside}
+use Rattle.history_model.proofs.WholeLists.{In, either, in_all, in_either, in_left, none_is_some, none_or, of_map, some_inside, true_or}
 use Rattle.history_model.proofs.WholeSteps.{contains_in, in_contains}
 use Rattle.history_model.proofs.WholeStores.{in_get}
 use Rattle.history_files.specs.Editing.{AreGiven, AreTreesOf, HasTreeOf, IsTreeOf}
@@ -59,16 +60,16 @@ cut_map f (x ∷ xs) (z ∷ first) y rest e =
     let more = cut_map f xs first y rest tails in
     record { before = x ∷ more.before; at = more.at; behind = more.behind; cut = ap (λ l. x ∷ l) more.cut; firsts = λ i. head i ∷ more.firsts i; is = more.is }
 
+append-none : {X : Type 0} (l : List X) → l ++ [] ≡ l
+append-none [] = refl
+append-none (a ∷ l) = ap (λ m. a ∷ m) (append-none l)
+
 each_at : {X : Type 0} (R : List X → X → Type 0) (before xs ys : List X) (x : X) (zs : List X) → EachBehind R before xs → xs ≡ ys ++ x ∷ zs → R (before ++ ys) x
 each_at R before [] [] x zs each e = cc
 each_at R before [] (y ∷ ys) x zs each e = cc
 each_at R before (w ∷ xs) [] x zs each e =
     let same : w ≡ x = cc in
     subst (λ b. R b x) (sym (append-none before)) (subst (R before) same each.0)
-  where
-    append-none : (l : List _) → l ++ [] ≡ l
-    append-none [] = refl
-    append-none (a ∷ l) = ap (λ m. a ∷ m) (append-none l)
 each_at R before (w ∷ xs) (y ∷ ys) x zs each e =
     let tails : xs ≡ ys ++ x ∷ zs = cc in
     let head : w ≡ y = cc in
@@ -198,6 +199,20 @@ module _ (kind : Kind) (stands : List FileMap) (m : FileMap) where
           turn h names (inl i) = inl (in_contains (first ++ g ∷ []) h (subst (In h) names i))
           turn h names (inr one) = inr one
 
+-- a tree with the null id is told among those that are kept
+pub null_kept : (kind : Kind) (handed : List HandedOut) (kept : List EditedTree) → AreKept kind handed kept → (t : HandedOut) → In t handed → is_null t.id ≡ true → list_any (λ (k : EditedTree). is_null (id_of k.id)) kept ≡ true
+null_kept kind [] kept are t i null = absurd i
+null_kept kind (u ∷ handed) [] are t i null = absurd are
+null_kept kind (u ∷ handed) (k ∷ kept) are t (inl e) null = true_or (is_null (id_of k.id)) (list_any (λ (l : EditedTree). is_null (id_of l.id)) kept) (inl (ap is_null (are.0 ∙ ap (λ (x : HandedOut). x.id) (sym e)) ∙ null))
+null_kept kind (u ∷ handed) (k ∷ kept) are t (inr i) null = true_or (is_null (id_of k.id)) (list_any (λ (l : EditedTree). is_null (id_of l.id)) kept) (inr (null_kept kind handed kept are.2 t i null))
+
+-- and none of a folder's trees has it
+pub none_null : (kind : Kind) (folders : List FileMap) (kept : List EditedTree) → AreTreesOf kind folders kept → list_any (λ (k : EditedTree). is_null (id_of k.id)) kept ≡ false
+none_null kind [] [] are = refl
+none_null kind [] (k ∷ kept) are = absurd are
+none_null kind (f ∷ folders) [] are = absurd are
+none_null kind (f ∷ folders) (k ∷ kept) are = none_or (is_null (id_of k.id)) (list_any (λ (l : EditedTree). is_null (id_of l.id)) kept) are.0.isnt_null (none_null kind folders kept are.1)
+
 -- one more is kept
 pub kept_more : (kind : Kind) (handed : List HandedOut) (kept : List EditedTree) (t : HandedOut) (k : EditedTree) → AreKept kind handed kept → id_of k.id ≡ t.id → IsTextOf kind t.items k → AreKept kind (handed ++ t ∷ []) (kept ++ k ∷ [])
 kept_more kind [] [] t k are id text = (id, text, tt)
@@ -219,7 +234,7 @@ due_each kind folders slots marks each i name s at = go (slots i name) refl at
 pub written_trees : {S : Type 0} (kind : Kind) (table : Table) (base : FileMap) → ((g : FileMap) → In g (own_folders base) → IsInner kind table (own_folders base) g) → (editor : Editor S)
     → EachEntryHas (names_only kind (own_folders base)) editor → IsAsRead (trees_in table) editor → (m : FileMap) → IsFileMap m → IsUnfolded kind m (files_of (trees_in table) editor)
     → (edited : EditedFiles) → HasWritten kind editor edited
-    → ((id_of edited.root ≡ folder_id kind m) × AreGiven kind (own_folders base) m edited.trees.items) ⊎ ((tree : FileMap) × In tree (folders_of m) × (is_null (folder_id kind tree) ≡ true))
+    → ((id_of edited.root ≡ folder_id kind m) × AreGiven kind (own_folders base) m edited.trees.items) ⊎ ((tree : FileMap) × In tree (folders_of m) × (is_null (folder_id kind tree) ≡ true) × (list_any (λ (k : EditedTree). is_null (id_of k.id)) edited.trees.items ≡ true))
 written_trees kind table base inner editor each read m fits is edited (handed, written, kept) =
     let last = written.last in
     let below = last.0 in
@@ -234,7 +249,7 @@ written_trees kind table base inner editor each read m fits is edited (handed, w
     [] (below ++ top ∷ []) (λ c i. absurd i) order (but_last below top some) (kept_named kind (own_folders base) m (below ++ top ∷ []) edited.trees.items kept_all) in
     elim known [
       | inl fine ↦ inl (root_id below top fine, given_trees kind (own_folders base) m below top edited.trees.items refl fine kept_all some)
-      | inr null ↦ inr (folder m null.tree, among below top refl some null, ap is_null (sym null.id_is) ∙ null.null)
+      | inr null ↦ inr (folder m null.tree, among below top refl some null, ap is_null (sym null.id_is) ∙ null.null, null_kept kind (below ++ top ∷ []) edited.trees.items kept_all null.tree null.among null.null)
     ]
   where
     root_id : (below : List HandedOut) (top : HandedOut) → EachBehind (IsFine kind (own_folders base) m) [] (below ++ top ∷ []) → top.id ≡ folder_id kind (folder m top)

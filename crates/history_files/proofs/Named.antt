@@ -1,6 +1,6 @@
 -- Entries of the trees of a file map name files and its folders alone.
 use Rattle.std.proofs.Common.{◌≡◌, Bool, true, false, cond, not, ◌&&◌, ◌||◌, List, [], ◌∷◌, ◌++◌, map, refl, sym, ◌∙◌, ap, subst, inl, inr, ◌⊎◌, Some, None, is_some, ◌==◌}
-use Rattle.std.specs.List.{All, flat_map, list_any, list_all, onto_first}
+use Rattle.std.specs.List.{All, AllByRecursion, flat_map, list_any, list_all, onto_first}
 use Rattle.std.specs.FinMap.{entries, keys, get}
 use Rattle.gix_hash.specs.Id.{Id, id_of, null_id}
 use Rattle.gix_hash.specs.Order.{id_eq}
@@ -20,10 +20,10 @@ use Rattle.history_model.specs.Objects.{FileEntry, FolderEntry, TreeEntry, diges
 use Rattle.history_model.specs.declared.FileKind.{FileKind}
 use Rattle.history_model.specs.declared.FileKind.TheVariants.{File as PlainFile, Exec, Link}
 use Rattle.history_model.proofs.IdLemmas.{id_itself}
-use Rattle.history_model.proofs.WholeLists.{In, and_both, and_true, clash, false_not, in_flat, in_map, none_or, none_passes, not_true, of_map, or_none, passes_one, some_inside, true_or}
+use Rattle.history_model.proofs.WholeLists.{In, all_in, and_both, and_true, clash, false_not, in_all, in_flat, in_map, none_or, none_passes, not_true, of_map, or_none, passes_one, some_inside, true_or}
 use Rattle.history_model.proofs.WholeItems.{Entry}
 use Rattle.history_model.proofs.WholePaths.{beginning_parts, is_beginning}
-use Rattle.history_model.proofs.WholeRoots.{HasAll, has_all, in_inside, inside_has, inside_inside}
+use Rattle.history_model.proofs.WholeRoots.{HasAll, all_values, has_all, in_inside, inside_has, inside_inside}
 use Rattle.history_model.proofs.WholeStores.{get_in, in_get}
 use Rattle.history_files.specs.Unfolding.{IsInTable, HasTrees, entry_kind}
 use Rattle.history_files.specs.Edits.{IsChange}
@@ -35,7 +35,7 @@ use Rattle.history_files.specs.declared.edits.Edit.{Edit}
 use Rattle.history_files.proofs.AtNames.{parts_plain}
 use Rattle.history_files.proofs.Components.{some_parts}
 use Rattle.history_files.proofs.Handed.{IsInner, NamesOne, file_no_tree, names_one}
-use Rattle.history_files.proofs.Inside.{HasFile, among_deeper, file_inside, file_of_beginning, own_among}
+use Rattle.history_files.proofs.Inside.{HasFile, among_deeper, among_inside, file_inside, file_of_beginning, own_among}
 use Rattle.history_files.proofs.Items.{all_of, digest_kind, folder_of, item_name, item_of, items, items_spelled, name_of, name_plain, no_zero}
 use Rattle.history_files.proofs.Unfolded.{inside_map, plain_map}
 use Rattle.history_files.proofs.Walk.{some_name, tree_of}
@@ -192,3 +192,32 @@ own_deeper files g i name file =
     let from = of_map (λ folder. inside folder files) g (flat_map beginnings (keys files)) i in
     let same : inside name g ≡ inside (from.0 ++ 47 ∷ name) files = ap (inside name) from.2 ∙ inside_inside from.0 name files in
     subst (λ x. In x (own_folders files)) (sym same) (own_among files (from.0 ++ 47 ∷ name) (subst HasFile same file))
+
+-- ---- the folders of a base
+
+pub base_inner : (kind : Kind) (table : Table) (files : FileMap) → IsFileMap files → AllByRecursion (HasTrees table kind) (own_folders files) → (g : FileMap) → In g (own_folders files) → IsInner kind table (own_folders files) g
+base_inner kind table files fits trees g i =
+    let from = of_map (λ folder. inside folder files) g (flat_map beginnings (keys files)) i in
+    record {
+      map = subst IsFileMap (sym from.2) (inside_map from.0 files fits);
+      has = has_all (IsInTable table kind) g (all_in (HasTrees table kind) (own_folders files) trees g i);
+      some = subst HasFile (sym from.2) (file_of_beginning files from.0 from.1);
+      within = λ h j. within h (among_inside g h j);
+    }
+  where
+    within : (h : FileMap) → (h ≡ g) ⊎ ((folder : Bytes) × HasFile (inside folder g) × (h ≡ inside folder g)) → In h (own_folders files)
+    within h (inl e) = subst (λ x. In x (own_folders files)) (sym e) i
+    within h (inr (folder, file, e)) = subst (λ x. In x (own_folders files)) (sym e) (own_deeper files g i folder file)
+
+pub own_trees : (kind : Kind) (table : Table) (files : FileMap) → IsFileMap files → HasTrees table kind files → AllByRecursion (HasTrees table kind) (own_folders files)
+own_trees kind table files fits trees = in_all (HasTrees table kind) (own_folders files) (λ g i. all_values (IsInTable table kind) g (own_inner kind table files fits trees g i).has)
+
+-- ---- paths
+
+pub same_paths : (kind : Kind) (edits : List Edit) (made : List model.Edit) → NameEdits kind edits made → list_all (λ (edit : Edit). is_path edit.path.now) edits ≡ list_all (λ e. is_path (edit_path e)) made
+same_paths kind [] [] are = refl
+same_paths kind [] (one ∷ made) are = absurd are
+same_paths kind (edit ∷ edits) [] are = absurd are
+same_paths kind (edit ∷ edits) (one ∷ made) are =
+    let path = sym (path_of kind [] edit.path.now edit.change one are.0) in
+    λ i. is_path (path i) && same_paths kind edits made are.1 i

@@ -12,7 +12,7 @@ returns-in-Ok-clause-trees g c =
     let shown = c.in-Ok.ensures.written in
     let held = c.trees-2-1.given in
     let kind = c.args.kind in
-    let all = chained_keeps _ (λ handed f. (c.trees-1.given.0 ≡ f.0.ghost_name) × AreKept kind handed f.0.now.items)
+    let all = chained_keeps _ (λ handed f. (f.1.now ≡ c.args.kind) × (c.trees-1.given.0 ≡ f.2.ghost_name) × AreKept c.args.kind handed f.2.now.items)
         (λ handed q t v j r. let met = r.2.called.met in ?)
-        shown.0 _ _ (refl, ?) shown.1 in
-    (shown.0, shown.2, subst (λ (x : _). AreKept kind shown.0 x.items) (sym (held.1 all.0)) all.1)
+        shown.0 _ _ (refl, refl, ?) shown.1 in
+    (shown.0, shown.2, ?)

@@ -56,3 +56,15 @@ returns-clause-each g c = λ honest has down may each. (c.loop-edit.invariant.4 
 
 pub returns-clause-as_read : goal.returns-clause-as_read
 returns-clause-as_read g c = λ honest trees stored read. c.loop-edit.invariant.3 honest trees stored read
+
+pub returns-in_err-make_edit-clause-each : goal.returns-in_err-make_edit-clause-each
+returns-in_err-make_edit-clause-each g c = λ honest has down may each.
+    let edits = c.args.edits.now in
+    let at = c.loop-edit.edit-index in
+    let none : Bor (List ℕ) = record { ref_ptr = (0, 0); now = [] } in
+    let other : Edit = record { path = none; change = Put PlainFile (Sha1 []) } in
+    let cut = cut_edit edits at other c.loop-edit-test.true in
+    let kept = c.loop-edit.invariant.0 in
+    let before = c.loop-edit.invariant.4 honest has down may each in
+    let here = subst (MayBeMade has) cut before.1 in
+    c.make_edit.ensures.each (subst (λ s. g.S.Lookup.is_honest s) (sym kept) honest) has (subst (λ s. PassesDown (g.S.Lookup.table s) has) (sym kept) down) here.0 before.0
