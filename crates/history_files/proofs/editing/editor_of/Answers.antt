@@ -3,7 +3,7 @@ use Rattle.std.specs.FinMap.{empty, get}
 use Rattle.gix_hash.specs.Id.{id_of}
 use Rattle.gix_object_editor.specs.Editor.{EachEntryHas, files_of}
 use Rattle.history_model.proofs.WholeLists.{none_is_some}
-use Rattle.history_model.proofs.WholeReads.{empty_written}
+use Rattle.history_model.specs.FileMap.{IsFileMap}
 use Rattle.history_files.specs.Editing.{IsBase, root_id}
 use Rattle.history_files.specs.Entries.{names_only, own_folders}
 use Rattle.history_files.specs.Opening.{EditsFiles}
@@ -21,12 +21,15 @@ returns-in_ok-open_editor-in-Some-clause-base g c = λ honest kind files base.
       each = c.in_ok-open_editor-in-Some.ensures.each honest kind files is;
     }
 
+empty_map : IsFileMap empty
+empty_map = record { paths = λ p h. cc; apart = λ p q h k. cc }
+
 pub returns-in_ok-new-in-None-clause-base : goal.returns-in_ok-new-in-None-clause-base
 returns-in_ok-new-in-None-clause-base g c = λ honest kind files base.
     let table = g.S.Lookup.table c.args.store.now in
     let is = subst (λ root. IsBase table kind (root_id root) files) c.in-None.is base in
     subst (λ m. EditsFiles table kind m m c.in_ok-new-in-None.field-0) (sym is) (record {
-      map = empty_written.map;
+      map = empty_map;
       trees = tt;
       unfolds = λ trees stored. record { at = λ path. ?; only = λ names leaf e. ? };
       each = ?;
