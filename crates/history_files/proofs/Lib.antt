@@ -21,3 +21,5 @@ pub mod Named
 pub mod GivenTrees
 pub mod StandInEdits
 pub mod Faults
+pub mod EmptyFiles
+pub mod Outcome
