@@ -1,4 +1,5 @@
 use Rattle.std.proofs.Common.{◌≡◌, ◌∙◌, ap, sym, subst, arith, List, map}
+use Rattle.std.specs.FinMap.{empty}
 use Rattle.gix_object_entries.specs.Entry.{own_item}
 use Rattle.gix_object_editor.specs.Entries.{ItemsHave}
 use Rattle.gix_object_editor.specs.Files.{files_of_tree}
@@ -29,5 +30,5 @@ returns-in_ok-new-in-None-clause-base g c = λ honest kind files base.
       map = empty_map;
       trees = empty_trees kind table;
       unfolds = λ trees stored. empty_unfolds kind _ (λ q. c.in_ok-new-in-None.ensures.files trees q ∙ ap (λ es. files_of_tree trees (map own_item es) q) none ∙ no_entries trees q);
-      each = c.in_ok-new-in-None.ensures.each _ (subst (λ es. ItemsHave _ (map own_item es)) (sym none) (λ k d within. absurd (omega arith)));
+      each = c.in_ok-new-in-None.ensures.each (names_only kind (own_folders empty)) (subst (λ es. ItemsHave (names_only kind (own_folders empty)) (map own_item es)) (sym none) (λ k d within. absurd (omega arith)));
     })
