@@ -23,3 +23,4 @@ pub mod StandInEdits
 pub mod Faults
 pub mod EmptyFiles
 pub mod Outcome
+pub mod Leftover
