@@ -248,7 +248,7 @@ pub full_path : (path : Bytes) → is_path path ≡ true → NamesAreFull (compo
 full_path path fine =
     let some = some_parts path in (
       λ e. cc (sym some.2 ∙ e),
-      all_of (λ (name : Bytes). name ≢ []) (components path) (λ name i e. clash (ap is_filename e) (sym (ap is_filename (sym e)) ∙ part_name path name fine i)),
+      all_of (λ (name : Bytes). name ≢ []) (components path) (λ name i e. clash (part_name path name fine i) (ap is_filename e)),
     )
 
 -- ---- an edit of an editor

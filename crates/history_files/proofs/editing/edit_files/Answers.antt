@@ -28,8 +28,8 @@ returns-in_err-make_edits-clause-refused g c = λ honest files made base named.
     let are = subst (λ es. AreEdits kind es (map emptied made)) (sym same) (stand_in_edits kind c.empty_blob.result (c.empty_blob.ensures ∙ sym (empty_id kind)) c.args.edits.now made named) in
     let can = subst (λ s. EditsFiles (g.S.Lookup.table s.now) kind files files opened) (sym store) (c.in_ok-editor.ensures.base honest kind files base) in
     let p = err_from_is_err_and c.from_residual-in_err-make_edits.result c.from_residual-in_err-make_edits.ensures.1 in
-    rw (p.1, p.2) (making_fault (g.S.Lookup.may_fail c.args.store.now) kind files made paths _ (emptied_fault (g.S.Lookup.may_fail c.args.store.now) files made _
-    (subst (λ s. MakingFault (g.S.Lookup.may_fail s.now) files (map emptied made) _) store
+    rw (p.1, p.2) (making_fault (g.S.Lookup.may_fail c.args.store.now) kind files made paths c.in_err-make_edits.field-0.0 (emptied_fault (g.S.Lookup.may_fail c.args.store.now) files made c.in_err-make_edits.field-0.0
+    (subst (λ s. MakingFault (g.S.Lookup.may_fail s.now) files (map emptied made) c.in_err-make_edits.field-0.0) store
     (c.in_err-make_edits.ensures.refused here kind files files (map emptied made) can (emptied_paths made ∙ paths) are))))
 
 pub returns-then-has_null-clause-refused : goal.returns-then-has_null-clause-refused
@@ -51,8 +51,8 @@ returns-in_err-make_edits-2-clause-refused g c = λ honest files made base named
     let are = named_edits kind c.args.edits.now made named (sym c.has_null.ensures ∙ c.if-has_null.false) in
     let can = subst (λ s. EditsFiles (g.S.Lookup.table s.now) kind files files opened) (sym store) (c.in_ok-editor.ensures.base honest kind files base) in
     let p = err_from_is_err_and c.from_residual-in_err-make_edits-2.result c.from_residual-in_err-make_edits-2.ensures.1 in
-    rw (p.1, p.2) (making_fault (g.S.Lookup.may_fail c.args.store.now) kind files made paths _
-    (subst (λ s. MakingFault (g.S.Lookup.may_fail s.now) files made _) store (c.in_err-make_edits-2.ensures.refused here kind files files made can paths are)))
+    rw (p.1, p.2) (making_fault (g.S.Lookup.may_fail c.args.store.now) kind files made paths c.in_err-make_edits-2.field-0.0
+    (subst (λ s. MakingFault (g.S.Lookup.may_fail s.now) files made c.in_err-make_edits-2.field-0.0) store (c.in_err-make_edits-2.ensures.refused here kind files files made can paths are)))
 
 pub returns-then-has_null_tree-clause-refused : goal.returns-then-has_null_tree-clause-refused
 returns-then-has_null_tree-clause-refused g c = λ honest files made base named.

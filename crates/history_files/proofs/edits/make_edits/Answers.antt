@@ -1,4 +1,4 @@
-use Rattle.std.proofs.Common.{◌∙◌, ◌+◌, ap, sym, subst, drop, get_or, arith, Bor, List, ℕ, [], ◌∷◌}
+use Rattle.std.proofs.Common.{◌∙◌, ◌+◌, ap, sym, subst, refl, drop, get_or, arith, Bor, List, ℕ, [], ◌∷◌}
 use Rattle.gix_object_editor.specs.Files.{HasStored}
 use Rattle.gix_object_editor.specs.Editor.{files_of}
 use Rattle.gix_object_editor.specs.Entries.{PassesDown}
@@ -13,7 +13,7 @@ use Rattle.gix_hash.specs.declared.object_id.ObjectId.TheVariants.{Sha1}
 use Rattle.history_model.specs.declared.FileKind.TheVariants.{File as PlainFile}
 use Rattle.history_files.specs.declared.edits.Change.TheVariants.{Put}
 use Rattle.history_files.specs.declared.edits.Edit.{Edit}
-use Rattle.history_files.proofs.Changes.{IsLeft, at_last, one_done, cut_edit, none_left}
+use Rattle.history_files.proofs.Changes.{IsLeft, at_first, at_last, one_done, cut_edit, none_left}
 use Rattle.history_files.proofs.edits.make_edits.Goals as goal
 
 pub loop-edit-preserved : goal.loop-edit-preserved
@@ -57,7 +57,14 @@ loop-edit-preserved g c =
     )
 
 pub loop-edit-init : goal.loop-edit-init
-loop-edit-init g c = ?
+loop-edit-init g c = (
+  refl,
+  omega arith,
+  λ honest trees kind files made stored are is. at_first kind files made c.args.edits.now (files_of trees c.args.editor.now) are is,
+  λ honest trees stored read. read,
+  λ honest has down may each. (each, may),
+  λ honest kind base files made can paths are. record { now = files; more = made; can = can; paths = paths; edits_are = are; refused = refl },
+)
 
 pub returns-in_err-make_edit-clause-refused : goal.returns-in_err-make_edit-clause-refused
 returns-in_err-make_edit-clause-refused g c = λ honest kind base files made can paths are.
@@ -72,8 +79,8 @@ returns-in_err-make_edit-clause-refused g c = λ honest kind base files made can
     let still = subst (λ s. g.S.Lookup.is_honest s) (sym kept) honest in
     let left = subst (λ es. IsLeftOver table kind base files made es c.loop-edit.editor) cut (c.loop-edit.invariant.5 honest kind base files made can paths are) in
     let p = err_from_is_err_and c.from_residual.result c.from_residual.ensures.1 in
-    rw (p.1, p.2) (left_fault table kind base files made edit (drop (at + 1) edits) c.loop-edit.editor (g.S.Lookup.may_fail c.args.editor.now.store) _ left
-    (λ now one there fine is_edit. subst (λ s. MakingFault (g.S.Lookup.may_fail s) now (one ∷ []) _) kept
+    rw (p.1, p.2) (left_fault table kind base files made edit (drop (at + 1) edits) c.loop-edit.editor (g.S.Lookup.may_fail c.args.editor.now.store) c.in_err-make_edit.field-0.0 left
+    (λ now one there fine is_edit. subst (λ s. MakingFault (g.S.Lookup.may_fail s) now (one ∷ []) c.in_err-make_edit.field-0.0) kept
     (c.in_err-make_edit.ensures.refused still kind base now one (subst (λ s. EditsFiles (g.S.Lookup.table s) kind base now c.loop-edit.editor) (sym kept) there) fine is_edit)))
 
 pub returns-clause-files : goal.returns-clause-files
