@@ -1,16 +1,21 @@
 //! Edits of a root's files.
 
-ghost use Rattle.std.specs.Prelude.{◌≡◌, ◌≤◌, ◌+◌, length, OnOk, IsErrOf, IsFalse};
+ghost use Rattle.std.specs.Prelude.{◌≡◌, ◌≤◌, ◌+◌, List, [], ◌∷◌, length, OnOk, IfErr, IsErrOf, IsFalse, IsTrue};
 ghost use Rattle.gix_hash.specs.declared.kind.Kind.{Kind};
 ghost use Rattle.gix_object_editor.specs.Files.{Trees, HasStored};
-ghost use Rattle.gix_object_editor.specs.Editor.{files_of};
+ghost use Rattle.gix_object_editor.specs.Editor.{files_of, EachEntryHas, IsAsRead};
+ghost use Rattle.gix_object_editor.specs.Entries.{Property, PassesDown};
+ghost use Rattle.history_files.specs.Editing.{HavePaths};
+ghost use Rattle.history_files.specs.Entries.{MayPut, MayBeMade};
+ghost use Rattle.history_files.specs.Opening.{EditsFiles, MakingFault};
 ghost use Rattle.history_model.specs.FileMap as model;
-ghost use Rattle.history_model.specs.FileMap.{FileMap, components, edited, is_refused};
+ghost use Rattle.history_model.specs.FileMap.{FileMap, components, edited, is_path, is_refused};
 ghost use Rattle.history_files.specs.Unfolding as unfolded;
 ghost use Rattle.history_files.specs.Unfolding.{IsUnfolded};
-ghost use Rattle.history_files.specs.Edits.{IsEdit, EditsMake, EditsPass, name_count, as_edited, as_unread};
+ghost use Rattle.history_files.specs.Edits.{AreEdits, IsEdit, EditsMake, EditsPass, name_count, as_edited, as_opened, as_unread};
 ghost use Rattle.history_files.specs.declared.edits.EditError.TheVariants.{Failed, Memory};
 
+use crate::error::ReadError;
 use crate::names::names_of;
 use gix_hash::ObjectId;
 use gix_object_editor::tree::editor::{self, Editor};
@@ -55,6 +60,9 @@ pub enum EditError {
     /// Files stand below the path where a file is to be removed.
     #[error("files stand below a path where a file is to be removed")]
     IsFolder,
+    /// What is put, or the tree of a folder, has the null id, by which a tree names nothing.
+    #[error("an object has the null id")]
+    NullId,
     /// The store failed to look a tree up.
     #[error("a tree couldn't be looked up")]
     Failed,
@@ -79,6 +87,18 @@ impl From<editor::Error> for EditError {
             editor::Error::CannotRemoveNonLeaf { .. } => EditError::IsFolder,
             editor::Error::MalformedTree { oid } => EditError::Broken { oid },
             editor::Error::Memory => EditError::Memory,
+        }
+    }
+}
+
+impl From<ReadError> for EditError {
+    ghost from_gives = { λ error given. given ≡ as_opened error };
+
+    fn from(error: ReadError) -> EditError {
+        match error {
+            ReadError::Failed => EditError::Failed,
+            ReadError::Broken { oid } => EditError::Broken { oid },
+            ReadError::Memory => EditError::Memory,
         }
     }
 }
@@ -125,6 +145,13 @@ pub fn make_edits<S: Find>(
     ensures accepted { S.is_honest editor.old.store
         → OnOk result (EditsPass (S.table editor.old.store) edits.now
         (λ trees. files_of trees editor.old)) }
+    ensures refused { S.is_honest editor.old.store → (kind : Kind) (base files : FileMap) (made : List model.Edit)
+        → EditsFiles (S.table editor.old.store) kind base files editor.old → HavePaths made → AreEdits kind edits.now made
+        → IfErr result (MakingFault (S.may_fail editor.old.store) files made) }
+    ensures each { S.is_honest editor.old.store → (has : Property) → PassesDown (S.table editor.old.store) has → MayBeMade has edits.now
+        → EachEntryHas has editor.old → EachEntryHas has editor.new }
+    ensures as_read { S.is_honest editor.old.store → (trees : Trees) → HasStored (S.table editor.old.store) trees
+        → IsAsRead trees editor.old → IsAsRead trees editor.new }
     ensures counted { editor.new.lookups ≤ editor.old.lookups + name_count edits.now }
     ensures store { editor.new.store ≡ editor.old.store }
     ensures failed { IsErrOf result Failed → S.may_fail editor.old.store }
@@ -151,6 +178,13 @@ fn make_edit<S: Find>(
         → HasStored (S.table editor.old.store) trees → IsEdit kind edit.now made
         → IsUnfolded kind files (files_of trees editor.old)
         → IsFalse (is_refused files made)) }
+    ensures refused { S.is_honest editor.old.store → (kind : Kind) (base files : FileMap) (made : model.Edit)
+        → EditsFiles (S.table editor.old.store) kind base files editor.old → IsTrue (is_path edit.now.path.now) → IsEdit kind edit.now made
+        → IfErr result (MakingFault (S.may_fail editor.old.store) files (made ∷ [])) }
+    ensures each { S.is_honest editor.old.store → (has : Property) → PassesDown (S.table editor.old.store) has
+        → MayPut has edit.now.path.now edit.now.change → EachEntryHas has editor.old → EachEntryHas has editor.new }
+    ensures as_read { S.is_honest editor.old.store → (trees : Trees) → HasStored (S.table editor.old.store) trees
+        → IsAsRead trees editor.old → IsAsRead trees editor.new }
     ensures counted { editor.new.lookups ≤ editor.old.lookups + length (components edit.now.path.now) }
     ensures store { editor.new.store ≡ editor.old.store }
     ensures failed { IsErrOf result Failed → S.may_fail editor.old.store }
