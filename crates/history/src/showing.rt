@@ -16,8 +16,9 @@ use crate::stopped::Stopped;
 use gix_hash::{Kind, ObjectId};
 use gix_object::lines::write_time;
 use gix_ref_file::Files;
-use history_model::Cause;
-use history_store::{Actor, Commit, ObjectKind, TreeEntry, hex_digits};
+use history_files::Found;
+use history_model::{Cause, FileKind};
+use history_store::{Actor, Commit, ObjectKind, hex_digits};
 use history_word::{Field, Show};
 use std::alloc::{AllocError, Global};
 
@@ -99,9 +100,14 @@ fn commit_text(alloc: Global, id: &ObjectId, commit: &Commit) -> Result<Vec<u8>,
     Ok(text)
 }
 
-/// The text that shows an entry's file with this content.
-fn content_text(alloc: Global, entry: &TreeEntry, content: &[u8]) -> Result<Vec<u8>, AllocError>
-    ensures { IfOk result (λ text. text.items ≡ reply_text (ShowsContent (shown_content entry.now content.now))) }
+/// The text that shows a file whose content has this id.
+fn content_text(
+    alloc: Global,
+    kind: FileKind,
+    id: &ObjectId,
+    content: &[u8],
+) -> Result<Vec<u8>, AllocError>
+    ensures { IfOk result (λ text. text.items ≡ reply_text (ShowsContent (shown_content kind id.now content.now))) }
 {
     let mut text = Vec::new(alloc);
     let mut size = itoa::Buffer::new();
@@ -112,8 +118,8 @@ fn content_text(alloc: Global, entry: &TreeEntry, content: &[u8]) -> Result<Vec<
             b"ok".as_slice(),
             b"show".as_slice(),
             b"content".as_slice(),
-            kind_word(entry.kind),
-            hex_digits(&entry.id, &mut digits),
+            kind_word(kind),
+            hex_digits(id, &mut digits),
             size.format(content.len()).as_bytes(),
         ],
     )?;
@@ -152,12 +158,14 @@ impl<F: Files> Repository<F> {
             return Err(Stopped::Refused(Cause::BadPath));
         }
         let commit = self.read_commit(alloc, id)?;
-        let tree = self.read_tree(alloc, &commit.tree)?;
-        let Some(entry) = tree.get(kept(path)) else {
-            return Err(Stopped::Refused(Cause::NoSuchPath));
-        };
-        let content = self.content(alloc, ObjectKind::Blob, &entry.id)?;
-        Ok(content_text(alloc, &entry, &content)?)
+        match self.found_below(alloc, &commit.tree, kept(path))? {
+            None => Err(Stopped::Refused(Cause::NoSuchPath)),
+            Some(Found::Folder { .. }) => Err(Stopped::Refused(Cause::IsFolder)),
+            Some(Found::File { kind, id }) => {
+                let content = self.content(alloc, ObjectKind::Blob, &id)?;
+                Ok(content_text(alloc, kind, &id, &content)?)
+            }
+        }
     }
 
     /// The reply to `show`: a commit, or what it has at a path.
