@@ -22,6 +22,8 @@ use Rattle.history_files.specs.declared.edits.Change.TheVariants.{Put, Remove, R
 use Rattle.history_files.specs.declared.edits.Edit.{Edit}
 use Rattle.history_files.specs.declared.edits.EditError.{EditError}
 use Rattle.history_files.specs.declared.edits.EditError.TheVariants.{BadPath, IsFolder, Failed, Broken, Memory}
+use Rattle.history_files.specs.declared.error.ReadError as reading
+use Rattle.history_files.specs.declared.error.ReadError.TheVariants as unopened
 
 -- the change at this path is this edit of a file map; the bytes that are put have the id, which isn't null
 abbrev pub IsChange : Kind → Bytes → Change → model.Edit → Type 0
@@ -80,3 +82,8 @@ as_edited (refused.FindExistingObject error) = as_unread error
 as_edited (refused.CannotRemoveNonLeaf filename) = IsFolder
 as_edited (refused.MalformedTree oid) = Broken oid
 as_edited refused.Memory = Memory
+
+abbrev pub as_opened : reading.ReadError → EditError
+as_opened unopened.Failed = Failed
+as_opened (unopened.Broken oid) = Broken oid
+as_opened unopened.Memory = Memory

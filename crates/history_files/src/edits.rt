@@ -8,9 +8,10 @@ ghost use Rattle.history_model.specs.FileMap as model;
 ghost use Rattle.history_model.specs.FileMap.{FileMap, components, edited, is_refused};
 ghost use Rattle.history_files.specs.Unfolding as unfolded;
 ghost use Rattle.history_files.specs.Unfolding.{IsUnfolded};
-ghost use Rattle.history_files.specs.Edits.{IsEdit, EditsMake, EditsPass, name_count, as_edited, as_unread};
+ghost use Rattle.history_files.specs.Edits.{IsEdit, EditsMake, EditsPass, name_count, as_edited, as_opened, as_unread};
 ghost use Rattle.history_files.specs.declared.edits.EditError.TheVariants.{Failed, Memory};
 
+use crate::error::ReadError;
 use crate::names::names_of;
 use gix_hash::ObjectId;
 use gix_object_editor::tree::editor::{self, Editor};
@@ -55,6 +56,9 @@ pub enum EditError {
     /// Files stand below the path where a file is to be removed.
     #[error("files stand below a path where a file is to be removed")]
     IsFolder,
+    /// What is put, or the tree of a folder, has the null id, by which a tree names nothing.
+    #[error("an object has the null id")]
+    NullId,
     /// The store failed to look a tree up.
     #[error("a tree couldn't be looked up")]
     Failed,
@@ -79,6 +83,18 @@ impl From<editor::Error> for EditError {
             editor::Error::CannotRemoveNonLeaf { .. } => EditError::IsFolder,
             editor::Error::MalformedTree { oid } => EditError::Broken { oid },
             editor::Error::Memory => EditError::Memory,
+        }
+    }
+}
+
+impl From<ReadError> for EditError {
+    ghost from_gives = { λ error given. given ≡ as_opened error };
+
+    fn from(error: ReadError) -> EditError {
+        match error {
+            ReadError::Failed => EditError::Failed,
+            ReadError::Broken { oid } => EditError::Broken { oid },
+            ReadError::Memory => EditError::Memory,
         }
     }
 }

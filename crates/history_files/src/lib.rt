@@ -1,6 +1,7 @@
 //! Whole file maps over stores of trees: what stands at a path.
 #![tactic(auto)]
 
+mod editing;
 mod edits;
 mod error;
 mod found;
@@ -9,6 +10,7 @@ mod listing;
 mod names;
 mod opening;
 
+pub use editing::{EditedFiles, EditedTree, edit_files};
 pub use edits::{Change, Edit, EditError, make_edits};
 pub use error::ReadError;
 pub use found::{Found, entry_at};
