@@ -111,5 +111,5 @@ module _ (r : Repository) (order : CommitCommand) (times : Times) (h : HasTimes 
 
   pub good_actors : (is_bad_actor order.author ≡ false) × (is_bad_actor order.committer ≡ false)
   good_actors =
-      let actors = either_false (is_bad_actor order.author) (is_bad_actor order.committer || false) (none_of _ _ _ (none_of _ _ _ h.formed).1).0 in
+      let actors = either_false (is_bad_actor order.author) (is_bad_actor order.committer || false) (none_of _ _ _ (none_of _ _ _ (none_of _ _ _ h.formed).1).1).0 in
       (actors.0, (either_false (is_bad_actor order.committer) false actors.1).0)

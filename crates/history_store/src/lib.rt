@@ -14,7 +14,6 @@ mod objects;
 mod opening;
 mod parts;
 pub mod put;
-mod tree;
 mod way;
 mod written;
 
@@ -30,4 +29,3 @@ pub use object::NewObject;
 pub use objects::{Object, Objects, PutError};
 pub use opening::{ObjectsRefusal, OpenError, new_branch};
 pub use parts::{Part, Stray, survey};
-pub use tree::{Tree, TreeEntry};
