@@ -13,3 +13,11 @@ pub mod Lines
 pub mod Changes
 pub mod InOrder
 pub mod Opened
+pub mod Inside
+pub mod Parsed
+pub mod OneList
+pub mod Handed
+pub mod Named
+pub mod GivenTrees
+pub mod StandInEdits
+pub mod Faults

@@ -14,9 +14,10 @@ use Rattle.history_model.specs.FileMap.{FileMap, edit_path, edited_by, folders_o
 use Rattle.history_model.specs.Meaning.{put_bytes}
 use Rattle.history_model.specs.Objects as objects
 use Rattle.history_model.specs.Objects.{Value, StoredFolder, blob_id, folder_id, root}
+use Rattle.history_files.specs.Entries.{own_folders}
 use Rattle.history_files.specs.Reading.{IsRootOf}
-use Rattle.history_files.specs.declared.editing.EditedFiles.{EditedFiles}
-use Rattle.history_files.specs.declared.editing.EditedTree.{EditedTree}
+use Rattle.history_files.specs.declared.trees.EditedFiles.{EditedFiles}
+use Rattle.history_files.specs.declared.trees.EditedTree.{EditedTree}
 use Rattle.history_files.specs.declared.edits.Change.{Change}
 use Rattle.history_files.specs.declared.edits.Change.TheVariants.{Put, Remove, RemoveFile}
 use Rattle.history_files.specs.declared.edits.Edit.{Edit}
@@ -32,11 +33,6 @@ root_id root = option_map (λ root. id_of root.now) root
 abbrev pub IsBase : Table → Kind → Option Id → FileMap → Type 0
 IsBase table kind None files = files ≡ empty
 IsBase table kind (Some root) files = IsRootOf table kind files root
-
--- their folders whose trees stand there
-abbrev pub standing : Option Id → FileMap → List FileMap
-standing None files = []
-standing (Some root) files = folders_of files
 
 -- the change at this path is this edit of a file map, and the id is that of the bytes that are put
 abbrev pub Names : Kind → Bytes → Change → model.Edit → Type 0
@@ -81,7 +77,8 @@ HasTreeOf kind folders files = (folder : FileMap) × Contains folders folder × 
 abbrev pub IsClosed : Kind → List FileMap → List FileMap → FileMap → Type 0
 IsClosed kind stands given files = AllByRecursion (λ folder. Contains given folder ⊎ HasTreeOf kind stands folder) (folders_of files)
 
--- Trees of folders of these files, the files' own last, each behind those of its own folders that don't stand already.
+-- Trees of folders of these files, the files' own last, each behind those of its own folders that haven't the tree of one that
+-- stands.
 pub record AreGiven (kind : Kind) (stands : List FileMap) (files : FileMap) (trees : List EditedTree) : Type 0 where
   pub below : List FileMap
   pub own : AllByRecursion (Contains (folders_of files)) below
@@ -94,12 +91,12 @@ abbrev pub HaveIds : Kind → List model.Edit → Type 0
 HaveIds kind made = AllByRecursion (λ value. is_null (objects.id_of kind value) ≡ false) (flat_map put_bytes made)
 
 -- The edits are accepted, and these are the trees of what they make of the files.
-pub record AreEdited (kind : Kind) (stands : List FileMap) (files : FileMap) (made : List model.Edit) (edited : EditedFiles) : Type 0 where
+pub record AreEdited (kind : Kind) (files : FileMap) (made : List model.Edit) (edited : EditedFiles) : Type 0 where
   pub paths : HavePaths made
   pub accepted : IsFalse (some_refused files made)
   pub ids : HaveIds kind made
   pub root : id_of edited.root ≡ folder_id kind (edited_by files made)
-  pub trees : AreGiven kind stands (edited_by files made) edited.trees.items
+  pub trees : AreGiven kind (own_folders files) (edited_by files made) edited.trees.items
 
 -- ---- why there are none
 

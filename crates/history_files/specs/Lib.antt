@@ -3,3 +3,8 @@ pub mod Laws
 pub mod Reading
 pub mod Edits
 pub mod Editing
+pub mod Entries
+pub mod Handing
+pub mod TreeIds
+pub mod StandIns
+pub mod Opening

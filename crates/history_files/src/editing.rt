@@ -1,40 +1,32 @@
 //! The trees that edits make of a root's files.
 
-ghost use Rattle.std.specs.Prelude.{◌≡◌, ◌≤◌, ◌+◌, IfOk, IfErr, IsErrOf};
-ghost use Rattle.history_model.specs.FileMap.{FileMap};
+ghost use Rattle.std.specs.Prelude.{◌≡◌, ◌≤◌, ◌+◌, IfOk, IfErr, IsErrOf, map, not};
+ghost use Rattle.std.specs.List.{list_all, list_any};
+ghost use Rattle.gix_hash.specs.Id.{id_of};
+ghost use Rattle.gix_object_editor.specs.Editor.{IsAsRead};
+ghost use Rattle.gix_object_editor.specs.Files.{Trees, is_null};
+ghost use Rattle.gix_hash.specs.declared.kind.Kind.{Kind};
+ghost use Rattle.history_model.specs.Bytes.{is_empty};
+ghost use Rattle.history_model.specs.FileMap.{FileMap, components, is_path};
+ghost use Rattle.history_files.specs.StandIns.{puts_null, stand_in};
 ghost use Rattle.history_files.specs.Edits.{name_count};
-ghost use Rattle.history_files.specs.Editing.{OfEdits, AreEdited, EditsFault, root_id, standing};
-ghost use Rattle.history_files.specs.declared.edits.EditError.TheVariants.{Failed};
+ghost use Rattle.gix_object_entries.specs.Entry.{own_item};
+ghost use Rattle.gix_object_entries.specs.Writing.{tree_text};
+ghost use Rattle.history_files.specs.Editing.{OfEdits, AreEdited, EditsFault, IsBase, root_id};
+ghost use Rattle.history_files.specs.Opening.{EditsFiles, OpenFault};
+ghost use Rattle.history_files.specs.Handing.{HasWritten, KeepsTree};
+ghost use Rattle.history_files.specs.declared.edits.EditError.TheVariants.{Failed, Memory};
 
 use crate::edits::{Change, Edit, EditError, make_edits};
 use crate::opening::open_editor;
+use crate::trees::{EditedFiles, EditedTree};
 use gix_hash::{Kind, ObjectId};
 use gix_object_commit::compute_hash;
-use gix_object_editor::tree::editor::{Editor, write};
+use gix_object_editor::tree::editor::Editor;
 use gix_object_entries::Tree;
 use gix_object_find::Find;
 use gix_object_lines::{Kind as ObjectKind, WriteTo};
 use std::alloc::{AllocError, Global};
-
-/// A tree of edited files.
-#[derive(Debug, Drop)]
-pub struct EditedTree {
-    /// Its id.
-    pub id: ObjectId,
-    /// Its content.
-    pub content: Vec<u8>,
-}
-
-/// What edits made of a root's files.
-#[derive(Debug, Drop)]
-pub struct EditedFiles {
-    /// The id of the tree of all files.
-    pub root: ObjectId,
-    /// The trees that are to be stored, each behind those of its own folders. That of all files is the last.
-    pub trees: Vec<EditedTree>,
-    /// How many trees were asked of the store.
-    pub lookups: u64,
-}
 
 /// Makes the edits of a root's files in their order, and gives the trees that are to be stored for what they make of them: those on
 /// the edited paths, and always the root's, also where it has no entries. Without a root there are no files before. Nothing is
@@ -51,39 +43,48 @@ pub fn edit_files<S: Find>(
     root: Option<&ObjectId>,
     edits: &[Edit<'_>],
 ) -> Result<EditedFiles, EditError>
-    ensures edited { OfEdits (S.is_honest store.now) (S.table store.now) kind (root_id root) edits.now
-        (λ files made. IfOk result (AreEdited kind (standing (root_id root) files) files made)) }
-    ensures refused { OfEdits (S.is_honest store.now) (S.table store.now) kind (root_id root) edits.now
+    ensures edited { OfEdits (S.is_honest store.now) (S.table store.now) kind (root_id root.entry) edits.now
+        (λ files made. IfOk result (AreEdited kind files made)) }
+    ensures refused { OfEdits (S.is_honest store.now) (S.table store.now) kind (root_id root.entry) edits.now
         (λ files made. IfErr result (EditsFault (S.may_fail store.now) kind files made)) }
     ensures counted { IfOk result (λ edited. edited.lookups ≤ name_count edits.now + 1) }
     ensures failed { IsErrOf result Failed → S.may_fail store.now }
 {
-    check_paths(edits)?;
+    if !are_paths(edits) {
+        return Err(EditError::BadPath);
+    }
     let mut editor = editor_of(alloc, store, root)?;
     if has_null(edits) {
-        let tested = with_ids(alloc, kind, edits)?;
+        let tested = with_id(alloc, ObjectId::empty_blob(kind), edits)?;
         make_edits(alloc, &mut editor, tested.as_slice())?;
         return Err(EditError::NullId);
     }
     make_edits(alloc, &mut editor, edits)?;
-    written(alloc, kind, &editor)
-}
-
-// Refuses a path with an empty name or a zero byte.
-fn check_paths(edits: &[Edit<'_>]) -> Result<(), EditError> {
-    for edit in edits {
-        if !is_path(edit.path) {
-            return Err(EditError::BadPath);
-        }
+    let edited = written(alloc, kind, &editor)?;
+    if has_null_tree(edited.trees.as_slice()) {
+        return Err(EditError::NullId);
     }
-    Ok(())
+    Ok(edited)
 }
 
-fn is_path(path: &[u8]) -> bool {
-    !path.contains(&0)
-        && path
-            .split(|byte| *byte == b'/')
-            .all(|name| !name.is_empty())
+fn are_paths(edits: &[Edit<'_>]) -> bool
+    ensures { result ≡ list_all (λ edit. is_path edit.path.now) edits.now }
+{
+    edits.iter().all(|edit| is_path(edit.path))
+}
+
+// Whether no name is empty, and no byte is zero.
+fn is_path(path: &[u8]) -> bool
+    ensures { result ≡ is_path path.now }
+{
+    has_names(path) && !path.contains(&0)
+}
+
+fn has_names(path: &[u8]) -> bool
+    ensures { result ≡ not (list_any is_empty (components path.now)) }
+{
+    path.split(|byte| *byte == b'/')
+        .all(|name| !name.is_empty())
 }
 
 // An editor of the root's files, or of none.
@@ -91,7 +92,16 @@ fn editor_of<'a, S: Find>(
     alloc: Global,
     store: &'a S,
     root: Option<&ObjectId>,
-) -> Result<Editor<&'a S>, EditError> {
+) -> Result<Editor<&'a S>, EditError>
+    ensures base { S.is_honest store.now → (kind : Kind) (files : FileMap)
+        → IsBase (S.table store.now) kind (root_id root.entry) files → IfOk result (EditsFiles (S.table store.now) kind files files) }
+    ensures as_read { IfOk result (λ editor. (trees : Trees) → IsAsRead trees editor) }
+    ensures store { IfOk result (λ editor. editor.store ≡ store.entry) }
+    ensures uncounted { IfOk result (λ editor. editor.lookups ≡ 0) }
+    ensures own { S.is_honest store.now → (kind : Kind) (files : FileMap)
+        → IsBase (S.table store.now) kind (root_id root.entry) files → IfErr result (OpenFault (S.may_fail store.now)) }
+    ensures failed { IsErrOf result Failed → S.may_fail store.now }
+{
     match root {
         Some(root) => Ok(open_editor(alloc, store, root)?),
         None => {
@@ -102,36 +112,33 @@ fn editor_of<'a, S: Find>(
 }
 
 // Whether an edit puts what has the null id.
-fn has_null(edits: &[Edit<'_>]) -> bool {
+fn has_null(edits: &[Edit<'_>]) -> bool
+    ensures { result ≡ list_any (λ edit. puts_null edit.change) edits.now }
+{
     edits.iter().any(|edit| puts_null(&edit.change))
 }
 
-fn puts_null(change: &Change) -> bool {
+fn puts_null(change: &Change) -> bool
+    ensures { result ≡ puts_null change.now }
+{
     match change {
-        Change::Put { id, .. } => id.is_null(),
+        Change::Put { id, .. } => is_null(id),
         Change::Remove | Change::RemoveFile => false,
     }
 }
 
-// The edits, each `put` of the empty blob: an editor has no file where the id is null.
-fn with_ids<'a>(
-    alloc: Global,
-    kind: Kind,
-    edits: &[Edit<'a>],
-) -> Result<Vec<Edit<'a>>, AllocError> {
-    let mut tested = Vec::new(alloc);
-    for edit in edits {
-        tested.push(with_id(kind, edit))?;
-    }
-    Ok(tested)
+// The edits, by which what has this id is put: they are tested so, since an editor has no file where the id is null.
+fn with_id<'a>(alloc: Global, id: ObjectId, edits: &[Edit<'a>]) -> Result<Vec<Edit<'a>>, AllocError>
+    ensures { IfOk result (λ tested. tested.items ≡ map (stand_in id) edits.now) }
+{
+    edits.iter().map(|edit| stand_in(id, edit)).collect(alloc)
 }
 
-fn with_id<'a>(kind: Kind, edit: &Edit<'a>) -> Edit<'a> {
+fn stand_in<'a>(id: ObjectId, edit: &Edit<'a>) -> Edit<'a>
+    ensures { result ≡ stand_in id edit.now }
+{
     let change = match edit.change {
-        Change::Put { kind: file, .. } => Change::Put {
-            kind: file,
-            id: ObjectId::empty_blob(kind),
-        },
+        Change::Put { kind, .. } => Change::Put { kind, id },
         Change::Remove => Change::Remove,
         Change::RemoveFile => Change::RemoveFile,
     };
@@ -141,16 +148,30 @@ fn with_id<'a>(kind: Kind, edit: &Edit<'a>) -> Edit<'a> {
     }
 }
 
-// The trees of what the editor's edits made.
-fn written<S: Find>(
-    alloc: Global,
-    kind: Kind,
-    editor: &Editor<S>,
-) -> Result<EditedFiles, EditError> {
+fn has_null_tree(trees: &[EditedTree]) -> bool
+    ensures { result ≡ list_any (λ tree. is_null (id_of tree.id)) trees.now }
+{
+    trees.iter().any(|tree| is_null(&tree.id))
+}
+
+fn is_null(id: &ObjectId) -> bool
+    ensures { result ≡ is_null (id_of id.now) }
+{
+    id.is_null()
+}
+
+// The trees that the editor hands out.
+fn written<S: Find>(alloc: Global, kind: Kind, editor: &Editor<S>) -> Result<EditedFiles, EditError>
+    ensures trees { IfOk result (λ edited. HasWritten kind editor.now edited) }
+    ensures counted { IfOk result (λ edited. edited.lookups ≤ editor.now.lookups + 1) }
+    ensures refused { IfErr result (λ error. error ≡ Memory) }
+{
     let mut trees = Vec::new(alloc);
     let root = editor.write(
         alloc,
-        &mut |tree: &Tree| -> Result<ObjectId, EditError> { keep(alloc, kind, &mut trees, tree) },
+        &mut |tree: &Tree| -> Result<ObjectId, AllocError>
+            ensures { IfOk result (KeepsTree kind trees.entry.items tree.now trees.exit.items) }
+        { keep(alloc, kind, &mut trees, tree) },
     );
     match root {
         Ok(root) => Ok(EditedFiles {
@@ -158,8 +179,7 @@ fn written<S: Find>(
             trees,
             lookups: editor.lookups().saturating_add(1),
         }),
-        Err(write::Error::Out(error)) => Err(error),
-        Err(write::Error::Memory) => Err(EditError::Memory),
+        Err(_) => Err(EditError::Memory),
     }
 }
 
@@ -169,15 +189,22 @@ fn keep(
     kind: Kind,
     trees: &mut Vec<EditedTree>,
     tree: &Tree,
-) -> Result<ObjectId, EditError> {
-    let mut content = Vec::new(alloc);
-    if tree.write_to(&mut content).is_err() {
-        return Err(EditError::Memory);
-    }
+) -> Result<ObjectId, AllocError>
+    ensures { IfOk result (KeepsTree kind trees.old.items tree.now trees.new.items) }
+{
+    let content = content_of(alloc, tree)?;
     let id = compute_hash(kind, ObjectKind::Tree, content.as_slice());
-    if id.is_null() {
-        return Err(EditError::NullId);
-    }
     trees.push(EditedTree { id, content })?;
     Ok(id)
+}
+
+// The tree's text. Each name was tested, so that a byte that no tree has isn't the cause where none is given.
+fn content_of(alloc: Global, tree: &Tree) -> Result<Vec<u8>, AllocError>
+    ensures { IfOk result (λ content. content.items ≡ tree_text (map own_item tree.now.entries.items)) }
+{
+    let mut content = Vec::new(alloc);
+    match tree.write_to(&mut content) {
+        Ok(()) => Ok(content),
+        Err(_) => Err(AllocError),
+    }
 }

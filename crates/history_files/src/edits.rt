@@ -3,7 +3,9 @@
 ghost use Rattle.std.specs.Prelude.{◌≡◌, ◌≤◌, ◌+◌, length, OnOk, IsErrOf, IsFalse};
 ghost use Rattle.gix_hash.specs.declared.kind.Kind.{Kind};
 ghost use Rattle.gix_object_editor.specs.Files.{Trees, HasStored};
-ghost use Rattle.gix_object_editor.specs.Editor.{files_of};
+ghost use Rattle.gix_object_editor.specs.Editor.{files_of, EachEntryHas, IsAsRead};
+ghost use Rattle.gix_object_editor.specs.Entries.{Property, PassesDown};
+ghost use Rattle.history_files.specs.Entries.{MayPut, MayBeMade};
 ghost use Rattle.history_model.specs.FileMap as model;
 ghost use Rattle.history_model.specs.FileMap.{FileMap, components, edited, is_refused};
 ghost use Rattle.history_files.specs.Unfolding as unfolded;
@@ -141,6 +143,10 @@ pub fn make_edits<S: Find>(
     ensures accepted { S.is_honest editor.old.store
         → OnOk result (EditsPass (S.table editor.old.store) edits.now
         (λ trees. files_of trees editor.old)) }
+    ensures each { S.is_honest editor.old.store → (has : Property) → PassesDown (S.table editor.old.store) has → MayBeMade has edits.now
+        → EachEntryHas has editor.old → EachEntryHas has editor.new }
+    ensures as_read { S.is_honest editor.old.store → (trees : Trees) → HasStored (S.table editor.old.store) trees
+        → IsAsRead trees editor.old → IsAsRead trees editor.new }
     ensures counted { editor.new.lookups ≤ editor.old.lookups + name_count edits.now }
     ensures store { editor.new.store ≡ editor.old.store }
     ensures failed { IsErrOf result Failed → S.may_fail editor.old.store }
@@ -167,6 +173,10 @@ fn make_edit<S: Find>(
         → HasStored (S.table editor.old.store) trees → IsEdit kind edit.now made
         → IsUnfolded kind files (files_of trees editor.old)
         → IsFalse (is_refused files made)) }
+    ensures each { S.is_honest editor.old.store → (has : Property) → PassesDown (S.table editor.old.store) has
+        → MayPut has edit.now.path.now edit.now.change → EachEntryHas has editor.old → EachEntryHas has editor.new }
+    ensures as_read { S.is_honest editor.old.store → (trees : Trees) → HasStored (S.table editor.old.store) trees
+        → IsAsRead trees editor.old → IsAsRead trees editor.new }
     ensures counted { editor.new.lookups ≤ editor.old.lookups + length (components edit.now.path.now) }
     ensures store { editor.new.store ≡ editor.old.store }
     ensures failed { IsErrOf result Failed → S.may_fail editor.old.store }

@@ -9,10 +9,12 @@ pub mod laws;
 mod listing;
 mod names;
 mod opening;
+mod trees;
 
-pub use editing::{EditedFiles, EditedTree, edit_files};
+pub use editing::edit_files;
 pub use edits::{Change, Edit, EditError, make_edits};
 pub use error::ReadError;
 pub use found::{Found, entry_at};
 pub use listing::{File, files};
 pub use opening::open_editor;
+pub use trees::{EditedFiles, EditedTree};

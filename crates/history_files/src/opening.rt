@@ -3,8 +3,9 @@
 ghost use Rattle.std.specs.Prelude.{◌≡◌, IfOk, IfErr};
 ghost use Rattle.gix_hash.specs.Id.{id_of};
 ghost use Rattle.gix_object_editor.specs.Files.{Trees, HasStored};
-ghost use Rattle.gix_object_editor.specs.Editor.{files_of};
+ghost use Rattle.gix_object_editor.specs.Editor.{files_of, EachEntryHas, IsAsRead};
 ghost use Rattle.history_files.specs.Unfolding.{IsUnfolded};
+ghost use Rattle.history_files.specs.Entries.{names_only, own_folders};
 ghost use Rattle.history_files.specs.Reading.{OfFiles, RootFault, OwnFault};
 
 use crate::error::ReadError;
@@ -29,6 +30,9 @@ where
     ensures files { OfFiles (S.is_honest store) (S.table store) (id_of root.now)
         (λ kind files. IfOk result (λ editor. (trees : Trees) → HasStored (S.table store) trees
         → IsUnfolded kind files (files_of trees editor))) }
+    ensures each { OfFiles (S.is_honest store) (S.table store) (id_of root.now)
+        (λ kind files. IfOk result (EachEntryHas (names_only kind (own_folders files)))) }
+    ensures as_read { IfOk result (λ editor. (trees : Trees) → IsAsRead trees editor) }
     ensures own { OfFiles (S.is_honest store) (S.table store) (id_of root.now)
         (λ kind files. IfErr result (OwnFault (S.may_fail store))) }
     ensures store { IfOk result (λ editor. editor.store ≡ store) }

@@ -1,7 +1,9 @@
-use Rattle.std.proofs.Common.{◌∙◌, ap, subst}
+use Rattle.std.proofs.Common.{◌∙◌, ap, subst, sym}
 use Rattle.gix_object_editor.specs.Files as unfolded
 use Rattle.gix_object_editor.specs.Files.{SameFiles, HasNoneBelow}
 use Rattle.gix_object_editor.specs.Editor.{files_of, names_of, leaf_of_kind}
+use Rattle.gix_object_editor.specs.Entries.{MayStand}
+use Rattle.history_files.specs.Entries.{MayPut}
 use Rattle.history_files.specs.Unfolding.{entry_kind}
 use Rattle.history_files.specs.Edits.{IsChange}
 use Rattle.history_files.proofs.Changes.{put_made, remove_made, file_removed, none_refused}
@@ -40,3 +42,29 @@ returns-clause-accepted g c = λ honest trees kind files made stored edit is.
     let old = files_of trees c.args.editor.now in
     none_refused kind files old is path made (files_of trees c.remove_leaf.new.self) (subst (λ change. IsChange kind path change made) c.in-RemoveFile.is edit)
     (subst (λ ps. HasNoneBelow ps old) names (c.in_ok-remove_leaf-in-RemoveFile.ensures.leaf honest trees stored))
+
+pub returns-in_err-upsert-in-Put-clause-each : goal.returns-in_err-upsert-in-Put-clause-each
+returns-in_err-upsert-in-Put-clause-each g c = λ honest has down may each.
+    let names = ap names_of c.as_slice.ensures.value ∙ c.in_ok-names.ensures in
+    let put = subst (MayPut has c.args.edit.now.path.now) c.in-Put.is may in
+    c.upsert.ensures.each honest has down
+    (subst (λ k. MayStand has (names_of c.as_slice.result.now) (leaf_of_kind k c.in-Put.id)) (sym c.entry_kind.ensures) (subst (λ ps. MayStand has ps (leaf_of_kind (entry_kind c.in-Put.kind) c.in-Put.id)) (sym names) put)) each
+
+pub returns-in-Put-clause-each : goal.returns-in-Put-clause-each
+returns-in-Put-clause-each g c = λ honest has down may each.
+    let names = ap names_of c.as_slice.ensures.value ∙ c.in_ok-names.ensures in
+    let put = subst (MayPut has c.args.edit.now.path.now) c.in-Put.is may in
+    c.upsert.ensures.each honest has down
+    (subst (λ k. MayStand has (names_of c.as_slice.result.now) (leaf_of_kind k c.in-Put.id)) (sym c.entry_kind.ensures) (subst (λ ps. MayStand has ps (leaf_of_kind (entry_kind c.in-Put.kind) c.in-Put.id)) (sym names) put)) each
+
+pub returns-in_err-remove-in-Remove-clause-each : goal.returns-in_err-remove-in-Remove-clause-each
+returns-in_err-remove-in-Remove-clause-each g c = λ honest has down may each. c.remove.ensures.each honest has down each
+
+pub returns-in-Remove-clause-each : goal.returns-in-Remove-clause-each
+returns-in-Remove-clause-each g c = λ honest has down may each. c.remove.ensures.each honest has down each
+
+pub returns-in_err-remove_leaf-in-RemoveFile-clause-each : goal.returns-in_err-remove_leaf-in-RemoveFile-clause-each
+returns-in_err-remove_leaf-in-RemoveFile-clause-each g c = λ honest has down may each. c.remove_leaf.ensures.each honest has down each
+
+pub returns-clause-each : goal.returns-clause-each
+returns-clause-each g c = λ honest has down may each. c.remove_leaf.ensures.each honest has down each

@@ -1,6 +1,8 @@
 use Rattle.std.proofs.Common.{◌∙◌, ◌+◌, ap, sym, subst, drop, get_or, arith, Bor, List, ℕ, []}
 use Rattle.gix_object_editor.specs.Files.{HasStored}
 use Rattle.gix_object_editor.specs.Editor.{files_of}
+use Rattle.gix_object_editor.specs.Entries.{PassesDown}
+use Rattle.history_files.specs.Entries.{MayBeMade}
 use Rattle.history_files.specs.Edits.{name_count}
 use Rattle.gix_hash.specs.declared.object_id.ObjectId.TheVariants.{Sha1}
 use Rattle.history_model.specs.declared.FileKind.TheVariants.{File as PlainFile}
@@ -29,6 +31,12 @@ loop-edit-preserved g c =
           let here = subst (λ s. HasStored (g.S.Lookup.table s) trees) (sym kept) stored in
           one_done kind files made edit (drop (at + 1) edits) (files_of trees c.loop-edit.editor) (files_of trees c.make_edit.new.editor) left
           (λ now one is_edit unfolds. (c.in_ok-make_edit.ensures.files still trees kind now one here is_edit unfolds, c.in_ok-make_edit.ensures.accepted still trees kind now one here is_edit unfolds)),
+      λ honest trees stored read.
+          c.make_edit.ensures.as_read (subst (λ s. g.S.Lookup.is_honest s) (sym kept) honest) trees (subst (λ s. HasStored (g.S.Lookup.table s) trees) (sym kept) stored) (c.loop-edit.invariant.3 honest trees stored read),
+      λ honest has down may each.
+          let before = c.loop-edit.invariant.4 honest has down may each in
+          let here = subst (MayBeMade has) cut before.1 in
+          (c.make_edit.ensures.each (subst (λ s. g.S.Lookup.is_honest s) (sym kept) honest) has (subst (λ s. PassesDown (g.S.Lookup.table s) has) (sym kept) down) here.0 before.0, here.1),
     )
 
 pub returns-clause-files : goal.returns-clause-files
@@ -42,3 +50,21 @@ returns-clause-accepted g c = λ honest trees kind files made stored are is.
     let left = c.loop-edit.invariant.2 honest trees kind files made stored are is in
     let none = none_left c.args.edits.now c.loop-edit.edit-index c.loop-edit-test.false in
     (at_last kind files made (files_of trees c.loop-edit.editor) (subst (λ es. IsLeft kind files made es (files_of trees c.loop-edit.editor)) none left)).1
+
+pub returns-clause-each : goal.returns-clause-each
+returns-clause-each g c = λ honest has down may each. (c.loop-edit.invariant.4 honest has down may each).0
+
+pub returns-clause-as_read : goal.returns-clause-as_read
+returns-clause-as_read g c = λ honest trees stored read. c.loop-edit.invariant.3 honest trees stored read
+
+pub returns-in_err-make_edit-clause-each : goal.returns-in_err-make_edit-clause-each
+returns-in_err-make_edit-clause-each g c = λ honest has down may each.
+    let edits = c.args.edits.now in
+    let at = c.loop-edit.edit-index in
+    let none : Bor (List ℕ) = record { ref_ptr = (0, 0); now = [] } in
+    let other : Edit = record { path = none; change = Put PlainFile (Sha1 []) } in
+    let cut = cut_edit edits at other c.loop-edit-test.true in
+    let kept = c.loop-edit.invariant.0 in
+    let before = c.loop-edit.invariant.4 honest has down may each in
+    let here = subst (MayBeMade has) cut before.1 in
+    c.make_edit.ensures.each (subst (λ s. g.S.Lookup.is_honest s) (sym kept) honest) has (subst (λ s. PassesDown (g.S.Lookup.table s) has) (sym kept) down) here.0 before.0

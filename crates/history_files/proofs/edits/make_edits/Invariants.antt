@@ -1,7 +1,9 @@
 use Rattle.std.proofs.Common.{◌≡◌, ◌≤◌, ◌+◌, List, drop}
 use Rattle.gix_hash.specs.declared.kind.Kind.{Kind}
 use Rattle.gix_object_editor.specs.Files.{Trees, HasStored}
-use Rattle.gix_object_editor.specs.Editor.{files_of}
+use Rattle.gix_object_editor.specs.Editor.{EachEntryHas, IsAsRead, files_of}
+use Rattle.gix_object_editor.specs.Entries.{PassesDown, Property}
+use Rattle.history_files.specs.Entries.{MayBeMade}
 use Rattle.history_model.specs.FileMap as model
 use Rattle.history_model.specs.FileMap.{FileMap}
 use Rattle.history_files.specs.Unfolding.{IsUnfolded}
@@ -16,3 +18,6 @@ invariant-loop-edit g l =
     × (g.S.Lookup.is_honest l.fn.editor.store → (trees : Trees) (kind : Kind) (files : FileMap) (made : List model.Edit)
     → HasStored (g.S.Lookup.table l.fn.editor.store) trees → AreEdits kind l.edits made → IsUnfolded kind files (files_of trees l.fn.editor)
     → IsLeft kind files made (drop l.edit-index l.edits) (files_of trees l.editor))
+    × (g.S.Lookup.is_honest l.fn.editor.store → (trees : Trees) → HasStored (g.S.Lookup.table l.fn.editor.store) trees → IsAsRead trees l.fn.editor → IsAsRead trees l.editor)
+    × (g.S.Lookup.is_honest l.fn.editor.store → (has : Property) → PassesDown (g.S.Lookup.table l.fn.editor.store) has → MayBeMade has l.edits
+    → EachEntryHas has l.fn.editor → EachEntryHas has l.editor × MayBeMade has (drop l.edit-index l.edits))

@@ -5,12 +5,16 @@ use Rattle.gix_object_entries.specs.Entry.{item_of, own_item}
 use Rattle.gix_object_entries.specs.WellFormed.{IsWellFormed}
 use Rattle.gix_object_editor.specs.Files.{files_of_tree}
 use Rattle.gix_object_editor.specs.Editor.{files_of}
+use Rattle.gix_object_editor.specs.Entries.{ItemsHave}
 use Rattle.gix_object_lines.specs.declared.kind.Kind.TheVariants as objects
 use Rattle.gix_object_tree.specs.Object.{Tree}
 use Rattle.gix_object_find.specs.Existing.{StandsAs}
 use Rattle.history_model.proofs.WholeLists.{clash}
 use Rattle.history_model.proofs.WholeRoots.{has_all}
 use Rattle.history_files.specs.Unfolding.{IsInTable}
+use Rattle.history_files.specs.Entries.{names_only, own_folders}
+use Rattle.history_files.proofs.Inside.{own_among}
+use Rattle.history_files.proofs.Named.{items_have}
 use Rattle.history_files.proofs.Items.{items}
 use Rattle.history_files.proofs.AtNames.{tree_of_map}
 use Rattle.history_files.proofs.Changes.{same_unfolded}
@@ -54,3 +58,12 @@ pub returns-then-not-is_well_formed-clause-own : goal.returns-then-not-is_well_f
 returns-then-not-is_well_formed-clause-own g c = λ honest kind files is.
     own_root (g.S.Lookup.is_honest c.args.store) (g.S.Lookup.may_fail c.args.store) (g.S.Lookup.table c.args.store) kind files (id_of c.args.root.now) honest is (Broken c.args.root.now)
     (returns-then-not-is_well_formed-clause-refused g c)
+
+pub returns-clause-each : goal.returns-clause-each
+returns-clause-each g c = λ honest kind files is.
+    let table = g.S.Lookup.table c.args.store in
+    let here = subst (λ i. StandsAs table i objects.Tree (Tree (items kind files))) (sym is.id) (tree_of_map table kind files is.map (has_all (IsInTable table kind) files is.trees)) in
+    let own : map own_item c.in_ok-tree.tree.entries.items ≡ items kind files =
+    c.in_ok-tree.ensures ∙ same_tree table (id_of c.args.root.now) (map item_of c.in_ok-entries.entries.items) (items kind files) (c.in_ok-entries.ensures.read honest) here in
+    c.in_ok-new.ensures.each (names_only kind (own_folders files))
+    (subst (ItemsHave (names_only kind (own_folders files))) (sym own) (items_have kind (own_folders files) files is.map (λ name file. own_among files name file)))

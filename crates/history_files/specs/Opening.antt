@@ -1,0 +1,39 @@
+-- An editor of a file map's files over trees that stand, and why it isn't opened or an edit isn't made.
+use Rattle.std.specs.Prelude.{⊤, List, IsTrue}
+use Rattle.std.specs.List.{AllByRecursion}
+use Rattle.gix_hash.specs.declared.kind.Kind.{Kind}
+use Rattle.gix_object_editor.specs.Editor.{EachEntryHas, files_of}
+use Rattle.gix_object_editor.specs.Files.{HasStored, Trees}
+use Rattle.gix_object_editor.specs.declared.tree.editor.state.Editor.{Editor}
+use Rattle.gix_object_find.specs.Table.{Table}
+use Rattle.history_model.specs.FileMap as model
+use Rattle.history_model.specs.FileMap.{FileMap, IsFileMap, some_refused}
+use Rattle.history_files.specs.Entries.{names_only, own_folders}
+use Rattle.history_files.specs.Unfolding.{HasTrees, IsUnfolded}
+use Rattle.history_files.specs.declared.edits.EditError.{EditError}
+use Rattle.history_files.specs.declared.edits.EditError.TheVariants.{BadPath, IsFolder, NullId, Failed, Broken, Memory}
+
+-- The editor has the files. Each entry of its opened trees names a file or a folder of the base, whose trees stand in the table.
+pub record EditsFiles {S : Type 0} (table : Table) (kind : Kind) (base files : FileMap) (editor : Editor S) : Type 0 where
+  pub map : IsFileMap base
+  pub trees : AllByRecursion (HasTrees table kind) (own_folders base)
+  pub unfolds : (trees : Trees) → HasStored table trees → IsUnfolded kind files (files_of trees editor)
+  pub each : EachEntryHas (names_only kind (own_folders base)) editor
+
+-- why it isn't opened
+abbrev pub OpenFault : Type 0 → EditError → Type 0
+OpenFault may_fail BadPath = ⊥
+OpenFault may_fail IsFolder = ⊥
+OpenFault may_fail NullId = ⊥
+OpenFault may_fail Failed = may_fail
+OpenFault may_fail (Broken oid) = ⊥
+OpenFault may_fail Memory = ⊤
+
+-- why edits at paths aren't made
+abbrev pub MakingFault : Type 0 → FileMap → List model.Edit → EditError → Type 0
+MakingFault may_fail files made BadPath = ⊥
+MakingFault may_fail files made IsFolder = IsTrue (some_refused files made)
+MakingFault may_fail files made NullId = ⊥
+MakingFault may_fail files made Failed = may_fail
+MakingFault may_fail files made (Broken oid) = ⊥
+MakingFault may_fail files made Memory = ⊤

@@ -1,0 +1,26 @@
+//! The trees of edited files.
+
+ghost use Rattle.history_files.specs.TreeIds.{IsTreeId};
+
+use gix_hash::ObjectId;
+
+/// A tree of edited files.
+#[derive(Debug, Drop)]
+pub struct EditedTree {
+    /// Its id.
+    pub id: ObjectId,
+    /// Its content.
+    pub content: Vec<u8>,
+    pub ghost named: { IsTreeId id content.items },
+}
+
+/// What edits made of a root's files.
+#[derive(Debug, Drop)]
+pub struct EditedFiles {
+    /// The id of the tree of all files.
+    pub root: ObjectId,
+    /// The trees that are to be stored, each behind those of its own folders. That of all files is the last.
+    pub trees: Vec<EditedTree>,
+    /// How many trees were asked of the store.
+    pub lookups: u64,
+}
