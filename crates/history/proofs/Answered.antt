@@ -1,5 +1,5 @@
 -- What `files` and `show` answer, by what their word reads as.
-use Rattle.std.proofs.Common.{◌≡◌, ℕ, Bool, true, false, cond, ◌&&◌, ◌||◌, List, map, refl, sym, ◌∙◌, ap, subst, Option, Some, None, option_map, option_and_then, option_to_list, unwrap_or, is_none, codes, Vec, Result, Ok, Err}
+use Rattle.std.proofs.Common.{◌≡◌, ℕ, Bool, true, false, cond, ◌||◌, List, map, refl, sym, ◌∙◌, ap, subst, Option, Some, None, option_map, option_and_then, option_to_list, unwrap_or, is_none, codes, Vec, Result, Ok, Err}
 use Rattle.std.specs.FinMap.{get, entries, empty}
 use Rattle.std.specs.Result.{IsErrAnd}
 use Rattle.std.specs.declared.alloc.Global.{Global}
@@ -27,10 +27,11 @@ use Rattle.history_model.specs.declared.Cause.TheVariants.{UnknownWord, UnbornHe
 use Rattle.history_model.proofs.OfferedReads.{words_read_names, none_is_ambiguous, names_hold_commits}
 use Rattle.history_model.proofs.OfferedCauses.{first_offered_cause}
 use Rattle.history_model.proofs.OfferedFiles.{files_are_stored}
+use Rattle.history_model.proofs.WholeLists.{texts_differ}
 use Rattle.history_store.specs.Commits.{IsCommitOf}
 use Rattle.history_store.specs.declared.commit.Commit as commits
 use Rattle.gix_hash.specs.declared.object_id.ObjectId.{ObjectId}
-use Rattle.history.specs.Acts.{AnswersReading, ReadsWord, IsReadingFault, word_cause}
+use Rattle.history.specs.Acts.{AnswersReading, Gives, ReadsWord, IsReadingFault, word_cause}
 use Rattle.history.specs.Shown.{shown_commit, shown_content}
 use Rattle.history.specs.declared.stopped.Stopped.{Stopped}
 use Rattle.history.specs.declared.stopped.Stopped.TheVariants.{Refused, Fault}
@@ -50,6 +51,11 @@ unread MayFail r order word (Fault fault) told h = h
 pub handed_on : (MayFail : Type 0) (r : Repository) (order : Command) (result : Result (Vec ℕ Global) Stopped) (stopped : Stopped) → IsErrAnd result (λ other. other ≡ stopped) → AnswersReading MayFail r order (Err stopped) → AnswersReading MayFail r order result
 handed_on MayFail r order (Ok text) stopped same h = absurd same
 handed_on MayFail r order (Err other) stopped same h = subst (λ (x : Stopped). AnswersReading MayFail r order (Err x)) (sym same) h
+
+-- what is given answers the command
+pub given : (MayFail : Type 0) (P : Vec ℕ Global → Type 0) (r : Repository) (order : Command) (result : Result (Vec ℕ Global) Stopped) → Gives MayFail P result → ((text : Vec ℕ Global) → P text → AnswersReading MayFail r order (Ok text)) → AnswersReading MayFail r order result
+given MayFail P r order (Ok text) h answers = answers text h
+given MayFail P r order (Err stopped) h answers = reading_fault MayFail r order stopped h
 
 -- by a word that reads so, or for another cause
 abbrev by_word : WordReading → Option Cause → Option Cause
@@ -149,11 +155,11 @@ module _ (r : Repository) (o : IsOffered r) (w : HasWholeNames r) where
     pub no_path_refused : has_below commit.files path ≡ false → get commit.files path ≡ None → first_cause r (Show word (Some path)) ≡ Some NoSuchPath
     no_path_refused below none = no_folder below ∙ ap (λ found. cond (is_none found || false) (Some NoSuchPath) None) none
 
-    pub content_answered : (MayFail : Type 0) (kind : FileKind) (blob : ObjectId) (content : Content) (bytes : Bytes) (text : Vec ℕ Global) → has_below commit.files path ≡ false → get commit.files path ≡ Some content
-        → kind ≡ content.kind → id_of blob ≡ blob_id r.kind content.bytes → bytes ≡ content.bytes
-        → text.items ≡ reply_text (ShowsContent (shown_content kind blob bytes)) → AnswersReading MayFail r (Show word (Some path)) (Ok text)
-    content_answered MayFail kind blob content bytes text below found is_kind is_id is_bytes written =
-        let shown : shown_content kind blob bytes ≡ content_shown r content = λ i. record { kind = is_kind i; id = is_id i; bytes = is_bytes i } in
+    pub content_answered : (MayFail : Type 0) (kind : FileKind) (blob : ObjectId) (content : Content) (text : Vec ℕ Global) → has_below commit.files path ≡ false → get commit.files path ≡ Some content
+        → kind ≡ content.kind → id_of blob ≡ blob_id r.kind content.bytes
+        → text.items ≡ reply_text (ShowsContent (shown_content kind blob content.bytes)) → AnswersReading MayFail r (Show word (Some path)) (Ok text)
+    content_answered MayFail kind blob content text below found is_kind is_id written =
+        let shown : shown_content kind blob content.bytes ≡ content_shown r content = λ i. record { kind = is_kind i; id = is_id i; bytes = content.bytes } in
         let accepted : first_cause r (Show word (Some path)) ≡ None = no_folder below ∙ ap (λ found. cond (is_none found || false) (Some NoSuchPath) None) found in
         (ShowsContent (content_shown r content), written ∙ ap (λ shown. reply_text (ShowsContent shown)) shown, accepted, (id, commit, content, stands_for word id commit reads at, found, refl))
 
@@ -165,20 +171,20 @@ pub folder_at : (r : Repository) → IsWholeStore r → (id : Id) (value : Commi
 folder_at r store id value commit at is = ap (get r.objects) is.tree ∙ (store.closed id (StoredCommit value) at).1
 
 no_file_mode : {A : Type 0} (kind : FileKind) → mode_of kind ≡ codes "40000" → A
-no_file_mode File e = cc
-no_file_mode Exec e = cc
-no_file_mode Link e = cc
+no_file_mode File e = texts_differ _ _ refl e
+no_file_mode Exec e = texts_differ _ _ refl e
+no_file_mode Link e = texts_differ _ _ refl e
 
 one_mode : (a b : FileKind) → mode_of a ≡ mode_of b → a ≡ b
 one_mode File File e = refl
 one_mode Exec Exec e = refl
 one_mode Link Link e = refl
-one_mode File Exec e = cc
-one_mode File Link e = cc
-one_mode Exec File e = cc
-one_mode Exec Link e = cc
-one_mode Link File e = cc
-one_mode Link Exec e = cc
+one_mode File Exec e = texts_differ _ _ refl e
+one_mode File Link e = texts_differ _ _ refl e
+one_mode Exec File e = texts_differ _ _ refl e
+one_mode Exec Link e = texts_differ _ _ refl e
+one_mode Link File e = texts_differ _ _ refl e
+one_mode Link Exec e = texts_differ _ _ refl e
 
 module _ (kind : Kind) (files : FileMap) (path : Bytes) where
   -- what is found is what the files have at the path

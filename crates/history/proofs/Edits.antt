@@ -1,6 +1,8 @@
 -- The edits of a commit, as they are read, and as its lines tell them.
-use Rattle.std.proofs.Common.{◌≡◌, refl, sym, ◌∙◌, ap, subst, Bool, true, false, ◌&&◌, ◌||◌, List, [], ◌∷◌, ◌++◌, map}
-use Rattle.std.specs.List.{list_all, list_any, flat_map, AllZip}
+use Rattle.std.proofs.Common.{◌≡◌, ℕ, ◌+◌, ◌<◌, refl, sym, ◌∙◌, ap, subst, Bool, true, false, ◌&&◌, ◌||◌, List, [], ◌∷◌, ◌++◌, map, length, take, get_or, append-nil}
+use Rattle.std.specs.List.{list_any, flat_map, AllZip}
+use Rattle.std.proofs.lemmas.Grind.{flat_map-append}
+use Rattle.std.proofs.lemmas.List.{map-append, take_more}
 use Rattle.history_model.specs.Bytes.{Bytes}
 use Rattle.history_model.specs.FileMap as model
 use Rattle.history_model.specs.FileMap.{edit_path, is_path}
@@ -8,7 +10,7 @@ use Rattle.history_model.specs.Objects.{Value}
 use Rattle.history_model.specs.Repository as plain
 use Rattle.history_model.specs.Commands.{EditLine, PutLine, RemoveLine, RemoveFileLine}
 use Rattle.history_model.specs.CommandParts.{edit_paths, put_contents}
-use Rattle.history_model.specs.Meaning.{read_edit}
+use Rattle.history_model.specs.Meaning.{put_bytes, read_edit}
 use Rattle.history_model.specs.Causes.{is_bad_path}
 use Rattle.gix_hash.specs.declared.kind.Kind.{Kind}
 use Rattle.history_files.specs.Editing.{HavePaths, Names, NameEdits}
@@ -135,3 +137,29 @@ have_paths (edit ∷ edits) [] are good = absurd are
 have_paths (edit ∷ edits) (line ∷ lines) are good =
     let parts = no_paths is_bad_path edit_paths line lines good in
     λ i. one_path edit line are.0 parts.0 i && have_paths edits lines are.1 parts.1 i
+
+-- ---- changes, one after another
+
+pub parts_added : (changes : List PathChange) (i : ℕ) (change : PathChange) (old new : List FileEdit) (edit : FileEdit) → i < length changes → change ≡ get_or changes i change → edit_parts edit ≡ change_parts change
+    → map edit_parts old ≡ map change_parts (take i changes) → new ≡ old ++ edit ∷ [] → map edit_parts new ≡ map change_parts (take (i + 1) changes)
+parts_added changes i change old new edit less is parts so_far added =
+    ap (map edit_parts) added ∙ map-append edit_parts old (edit ∷ []) ∙ (λ j. so_far j ++ parts j ∷ [])
+    ∙ sym (ap (map change_parts) (take_more changes i change less ∙ ap (λ (x : PathChange). take i changes ++ x ∷ []) (sym is)) ∙ map-append change_parts (take i changes) (change ∷ []))
+
+-- the changes are these edits, and the objects those of what they put
+abbrev pub AreSoFar : Kind → List Edit → List PathChange → List NewObject → Type 0
+AreSoFar kind edits made blobs = AreChangesOf kind made (map kept_edit edits) × AreObjectsOf kind (flat_map put_bytes (map kept_edit edits)) blobs
+
+pub read_more : (kind : Kind) (edits : List Edit) (edit : Edit) (made more : List PathChange) (change : PathChange) (blobs others : List NewObject) (blob : List NewObject) → AreSoFar kind edits made blobs
+    → IsChangeOf kind change (kept_edit edit) → AreObjectsOf kind (put_bytes (kept_edit edit)) blob → more ≡ made ++ change ∷ [] → others ≡ blobs ++ blob → AreSoFar kind (edits ++ edit ∷ []) more others
+read_more kind edits edit made more change blobs others blob so_far is_change is_blob pushed extended =
+    let front = map kept_edit edits in
+    let all : map kept_edit (edits ++ edit ∷ []) ≡ front ++ kept_edit edit ∷ [] = map-append kept_edit edits (edit ∷ []) in
+    let values : flat_map put_bytes (front ++ kept_edit edit ∷ []) ≡ flat_map put_bytes front ++ put_bytes (kept_edit edit) =
+    flat_map-append put_bytes front (kept_edit edit ∷ []) ∙ ap (λ vs. flat_map put_bytes front ++ vs) (append-nil (put_bytes (kept_edit edit))) in
+    let changes = zipped_joined (IsChangeOf kind) made (change ∷ []) front (kept_edit edit ∷ []) so_far.0 (is_change, tt) in
+    let objects = objects_joined kind (flat_map put_bytes front) (put_bytes (kept_edit edit)) blobs blob so_far.1 is_blob in (
+      subst (λ (es : List model.Edit). AreChangesOf kind more es) (sym all) (subst (λ (cs : List PathChange). AreChangesOf kind cs (front ++ kept_edit edit ∷ [])) (sym pushed) changes),
+      subst (λ (es : List model.Edit). AreObjectsOf kind (flat_map put_bytes es) others) (sym all)
+          (subst (λ (vs : List Value). AreObjectsOf kind vs others) (sym values) (subst (AreObjectsOf kind (flat_map put_bytes front ++ put_bytes (kept_edit edit))) (sym extended) objects)),
+    )

@@ -1,6 +1,6 @@
 -- What the fields that are kept tell of those that were sent.
-use Rattle.std.proofs.Common.{◌≡◌, ℕ, ◌<◌, ◌≤◌, Bool, true, false, cond, not, ◌&&◌, ◌||◌, [], ◌∷◌, length, refl, sym, ◌∙◌, ap, nat_lt, nat_le, ◌==◌, arith}
-use Rattle.std.specs.List.{list_any, onto_first}
+use Rattle.std.proofs.Common.{◌≡◌, ℕ, ◌<◌, ◌≤◌, Bool, true, false, not, ◌&&◌, ◌||◌, [], ◌∷◌, length, refl, sym, ◌∙◌, ap, nat_lt, nat_le, ◌==◌, arith}
+use Rattle.std.specs.List.{list_any}
 use Rattle.std.proofs.lemmas.Bool.Decides.{nat_tests}
 use Rattle.history_model.specs.Bytes.{Bytes, begins, ends, has_byte, is_empty}
 use Rattle.history_model.specs.FileMap.{components, is_path}

@@ -1,22 +1,20 @@
 -- The folders whose trees edits give, as those that a commit is still to store.
-use Rattle.std.proofs.Common.{◌≡◌, ◌⊎◌, inl, inr, refl, sym, ◌∙◌, ap, subst, Bool, true, false, ◌||◌, List, [], ◌∷◌, ◌++◌, map, length, nat_lt}
-use Rattle.std.specs.Prelude.{Contains, Some}
+use Rattle.std.proofs.Common.{◌≡◌, ◌⊎◌, inl, inr, refl, sym, ◌∙◌, ap, subst, Bool, true, false, ◌||◌, List, [], ◌∷◌, ◌++◌, map, length}
+use Rattle.std.specs.Prelude.{Contains}
 use Rattle.std.specs.List.{AllByRecursion, list_any, flat_map}
-use Rattle.std.specs.FinMap.{get, values}
+use Rattle.std.specs.FinMap.{empty, get, values}
 use Rattle.gix_hash.specs.Id as object_id
 use Rattle.gix_hash.specs.Id.{Id, null_id}
 use Rattle.gix_hash.specs.Order.{id_eq}
 use Rattle.gix_hash.specs.declared.kind.Kind.{Kind}
-use Rattle.gix_object_editor.specs.Files.{is_null}
 use Rattle.gix_object_lines.specs.declared.kind.Kind.TheVariants as kinds
-use Rattle.history_model.specs.Bytes.{Bytes}
-use Rattle.history_model.specs.FileMap as model
-use Rattle.history_model.specs.FileMap.{FileMap, Content, edited_by, folders_of}
+use Rattle.history_model.specs.Bytes.{Bytes, by_bytes}
+use Rattle.history_model.specs.FileMap.{FileMap, Content, beginnings, folders_of, inside}
 use Rattle.history_model.specs.Forms.{max_content}
 use Rattle.history_model.specs.Objects.{Value, StoredCommit, StoredBytes, StoredFolder, content_of, digest, id_of, object_text, root, value_text}
 use Rattle.history_model.specs.Repository.{Repository, HoldsCommit, IsStored, IsWholeStore, file_values}
 use Rattle.history_model.specs.Commands.{Commit, CommitCommand}
-use Rattle.history_model.specs.Meaning.{edits_of, files_at, first_files, new_commit, parents_of, put_bytes, some_taken, stored_by, takes_id}
+use Rattle.history_model.specs.Meaning.{edits_of, first_files, new_commit, parents_of, some_taken, stored_by, takes_id}
 use Rattle.history_model.specs.Passing.{AreNewFolders}
 use Rattle.history_model.specs.TreeSteps.{HasText}
 use Rattle.history_model.specs.Wholeness.{IsSound}
@@ -25,14 +23,14 @@ use Rattle.history_model.proofs.WholeLists.{In, all_in, in_left, in_either, in_m
 use Rattle.history_model.proofs.WholeSteps.{contains_in, in_contains}
 use Rattle.history_model.proofs.WholeStores.{none_reserved}
 use Rattle.history_model.proofs.WholeTexts.{text_same}
+use Rattle.history_files.specs.Entries.{own_folders}
 use Rattle.history_files.specs.Editing.{AreGiven, AreTreesOf, HasTreeOf, HaveNull, values_of}
-use Rattle.history_files.specs.declared.editing.EditedTree.{EditedTree}
+use Rattle.history_files.specs.declared.trees.EditedTree.{EditedTree}
 use Rattle.history_store.specs.Stores.{AreObjectsOf}
 use Rattle.history_store.specs.declared.object.NewObject.{NewObject}
 use Rattle.history.specs.CommitCauses.{is_long}
-use Rattle.history.specs.Files.{folders_before}
 use Rattle.history.specs.Plans.{is_long_tree, object_parts, tree_parts}
-use Rattle.history.proofs.Befores.{held_commit, held_files}
+use Rattle.history.proofs.Befores.{entries-empty, held_commit, held_files}
 use Rattle.history.proofs.FieldLemmas.{within}
 
 -- ---- lists
@@ -44,28 +42,28 @@ none_pass p (x ∷ xs) h = none_or (p x) (list_any p xs) (h x (inl refl)) (none_
 -- ---- the folders that stood
 
 module _ (r : Repository) (whole : IsWholeStore r) where
-  -- each folder of the first commit's files is stored
-  pub stood : (ids : List Id) → AllByRecursion (HoldsCommit r) ids → (g : FileMap) → Contains (folders_before r ids) g → IsStored r (StoredFolder g)
-  stood [] hold g there = absurd (contains_in [] g there)
+  -- each folder in the first commit's files is stored
+  pub stood : (ids : List Id) → AllByRecursion (HoldsCommit r) ids → (g : FileMap) → In g (own_folders (first_files r ids)) → IsStored r (StoredFolder g)
+  stood [] hold g there = absurd (subst (λ (es : List (Bytes × Content)). In g (map (λ folder. inside folder (empty {R = by_bytes})) (flat_map beginnings (map (λ (e : Bytes × Content). e.0) es)))) entries-empty there)
   stood (id ∷ ids) hold g there =
       let held = held_commit r whole id hold.0 in
       let files = held.0.files in
-      let inside : In g (folders_of files) = contains_in (folders_of files) g (subst (λ (m : FileMap). Contains (folders_of m) g) (held_files r whole id hold.0) there) in
+      let inner : In g (folders_of files) = inr (subst (λ (m : FileMap). In g (own_folders m)) (held_files r whole id hold.0) there) in
       let stored = (whole.closed id (StoredCommit held.0) held.1).1 in
       all_in (IsStored r) (file_values files) (whole.closed (id_of r.kind (StoredFolder files)) (StoredFolder files) stored) (StoredFolder g)
-      (in_left (StoredFolder g) (map StoredFolder (folders_of files)) (map (λ (content : Content). StoredBytes content.bytes) (values files)) (in_map StoredFolder g (folders_of files) inside))
+      (in_left (StoredFolder g) (map StoredFolder (folders_of files)) (map (λ (content : Content). StoredBytes content.bytes) (values files)) (in_map StoredFolder g (folders_of files) inner))
 
   module _ (ids : List Id) (hold : AllByRecursion (HoldsCommit r) ids) where
-    has_text : (folder : FileMap) → HasTreeOf r.kind (folders_before r ids) folder → HasText r.kind r.objects (StoredFolder folder)
+    has_text : (folder : FileMap) → HasTreeOf r.kind (own_folders (first_files r ids)) folder → HasText r.kind r.objects (StoredFolder folder)
     has_text folder h =
         let same : value_text r.kind (StoredFolder h.0) ≡ value_text r.kind (StoredFolder folder) = ap (object_text kinds.Tree) h.2 in
-        (StoredFolder h.0, ap (λ text. get r.objects (digest r.kind text)) (sym same) ∙ stood ids hold h.0 h.1, same)
+        (StoredFolder h.0, ap (λ text. get r.objects (digest r.kind text)) (sym same) ∙ stood ids hold h.0 (contains_in (own_folders (first_files r ids)) h.0 h.1), same)
 
-    comes : (given : List FileMap) (folder : FileMap) → Contains given folder ⊎ HasTreeOf r.kind (folders_before r ids) folder → Contains given folder ⊎ HasText r.kind r.objects (StoredFolder folder)
+    comes : (given : List FileMap) (folder : FileMap) → Contains given folder ⊎ HasTreeOf r.kind (own_folders (first_files r ids)) folder → Contains given folder ⊎ HasText r.kind r.objects (StoredFolder folder)
     comes given folder (inl a) = inl a
     comes given folder (inr b) = inr (has_text folder b)
 
-    pub new_folders : (files : FileMap) (trees : List EditedTree) (given : AreGiven r.kind (folders_before r ids) files trees) → AreNewFolders r files (given.below ++ files ∷ [])
+    pub new_folders : (files : FileMap) (trees : List EditedTree) (given : AreGiven r.kind (own_folders (first_files r ids)) files trees) → AreNewFolders r files (given.below ++ files ∷ [])
     new_folders files trees given = record {
       among = λ folder there. elim (in_either folder given.below (files ∷ []) (contains_in (given.below ++ files ∷ []) folder there)) [
         | inl a ↦ all_in (Contains (folders_of files)) given.below given.own folder a
@@ -73,10 +71,10 @@ module _ (r : Repository) (whole : IsWholeStore r) where
         | inr (inr e) ↦ absurd e
       ];
       all = λ folder there. comes (given.below ++ files ∷ []) folder
-          (all_in (λ folder. Contains (given.below ++ files ∷ []) folder ⊎ HasTreeOf r.kind (folders_before r ids) folder) (folders_of files)
+          (all_in (λ folder. Contains (given.below ++ files ∷ []) folder ⊎ HasTreeOf r.kind (own_folders (first_files r ids)) folder) (folders_of files)
           (given.in_order given.below [] files refl) folder (contains_in (folders_of files) folder there));
       in_order = λ before after folder inner split there. comes (before ++ folder ∷ []) inner
-          (all_in (λ folder'. Contains (before ++ folder ∷ []) folder' ⊎ HasTreeOf r.kind (folders_before r ids) folder') (folders_of folder)
+          (all_in (λ folder'. Contains (before ++ folder ∷ []) folder' ⊎ HasTreeOf r.kind (own_folders (first_files r ids)) folder') (folders_of folder)
           (given.in_order before after folder split) inner (contains_in (folders_of folder) inner there));
     }
 

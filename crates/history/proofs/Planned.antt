@@ -1,5 +1,5 @@
 -- What a commit is to store, and how its name is to move, read from its command.
-use Rattle.std.proofs.Common.{◌≡◌, ◌⊎◌, inl, inr, ℕ, ◌<◌, ◌≤◌, refl, sym, ◌∙◌, ap, subst, Bool, true, false, cond, ◌||◌, List, [], ◌∷◌, ◌++◌, map, length}
+use Rattle.std.proofs.Common.{◌≡◌, ◌⊎◌, inl, inr, ◌<◌, ◌≤◌, refl, sym, ◌∙◌, ap, subst, Bool, true, false, cond, ◌||◌, List, [], ◌∷◌, ◌++◌, map, length}
 use Rattle.std.specs.Prelude.{Contains, Option, Some, None, option_map, unwrap_or, Result, Ok, Err}
 use Rattle.std.specs.List.{list_any, flat_map}
 use Rattle.std.proofs.lemmas.List.{map-append}
@@ -31,8 +31,9 @@ use Rattle.gix_object_lines.specs.declared.kind.Kind.TheVariants as kinds
 use Rattle.history_model.proofs.PassedStops.{commits_store_whole}
 use Rattle.history_model.proofs.WholeLists.{In, in_left, in_right, in_either, in_map, of_map}
 use Rattle.history_model.proofs.WholeSteps.{contains_in, in_contains}
-use Rattle.history_files.specs.Editing.{AreEdited, HaveNull}
-use Rattle.history_files.specs.declared.editing.EditedFiles.{EditedFiles}
+use Rattle.history_files.specs.Editing.{AreEdited, AreTreesOf, HaveNull}
+use Rattle.history_files.specs.declared.trees.EditedTree.{EditedTree}
+use Rattle.history_files.specs.declared.trees.EditedFiles.{EditedFiles}
 use Rattle.history_store.specs.Formats.{actor_of, entry_of}
 use Rattle.history_store.specs.Commits.{IsCommitOf}
 use Rattle.history_store.specs.Stores.{AreObjectsOf}
@@ -45,9 +46,9 @@ use Rattle.history_word.specs.declared.command.Edit.{Edit}
 use Rattle.history.specs.Acts.{IsReadingFault}
 use Rattle.history.specs.CommitCauses.{first_among, name_causes, path_causes, is_long, IsToldBy, Tests, HasTimes}
 use Rattle.history.specs.Bases.{IsBase}
-use Rattle.history.specs.Files.{EditsFiles, folders_before, kept_edit}
+use Rattle.history.specs.Files.{EditsFiles, kept_edit}
 use Rattle.history.specs.declared.base.Base.{Base}
-use Rattle.history.specs.Plans.{IsMade, IsMove, IsPlan, Plans}
+use Rattle.history.specs.Plans.{AddsTrees, IsMade, IsMove, IsPlan, Plans}
 use Rattle.history.specs.declared.causes.Times.{Times}
 use Rattle.history.specs.declared.planning.Plan.{Plan}
 use Rattle.history.specs.declared.stopped.Stopped.{Stopped}
@@ -55,7 +56,7 @@ use Rattle.history.specs.declared.stopped.Stopped.TheVariants.{Refused, Fault as
 use Rattle.history.proofs.Edits.{edits_alike, edits_same, objects_joined}
 use Rattle.history.proofs.FieldLemmas.{within, beyond}
 use Rattle.history.proofs.FirstCauses.{passed, here, refused_by_form, refused_by_name, refused_by_size, good_paths}
-use Rattle.history.proofs.NewFolders.{contents, null_taken}
+use Rattle.history.proofs.NewFolders.{contents, null_taken, some_long}
 use Rattle.history.proofs.Shapes.{refused_alike}
 use Rattle.history.proofs.Storing.{bytes_put}
 
@@ -149,6 +150,15 @@ module _ (r : plain.Repository) (order : CommitCommand) (o : IsOffered r) (w : H
         refused_by_size r order o w offered none h.formed
         ∙ here (is_too_large r (Commit order)) TooLarge None (sizes ∙ ap (λ b. b || (is_long (commit_content r.kind (new_commit r order)) || false)) large)
 
+    -- the trees are too large, or a fault was met
+    pub trees_planned : (MayFail : Type 0) → IsSound r → (folders : List FileMap) (trees : List EditedTree) → AreNewFolders r (new_commit r order).files folders → AreTreesOf r.kind folders trees
+        → (old new : List NewObject) (stopped : Stopped) → AddsTrees old trees new (Err stopped) → Plans MayFail r order (Err stopped)
+    trees_planned MayFail sound folders trees fresh are old new (Refused cause) told =
+        subst (λ (cause : Cause). first_cause r (Commit order) ≡ Some cause) (sym told.0) (folders_refused (some_long r sound (new_commit r order).files folders trees fresh are told.1))
+    trees_planned MayFail sound folders trees fresh are old new (ByFault Memory) told = tt
+    trees_planned MayFail sound folders trees fresh are old new (ByFault File) told = absurd told
+    trees_planned MayFail sound folders trees fresh are old new (ByFault IdTaken) told = absurd told
+
     pub commit_refused : max_content < length (commit_content r.kind (new_commit r order)) → first_cause r (Commit order) ≡ Some TooLarge
     commit_refused large =
         refused_by_size r order o w offered none h.formed
@@ -177,10 +187,10 @@ module _ (r : plain.Repository) (order : CommitCommand) (o : IsOffered r) (w : H
     -- the trees of what the edits make
     pub edited_so : (MayFail : Type 0) (edits : List Edit) → AreEdits edits order.edits → (ids : List Id) → ids ≡ parents_of r order
         → (edited : EditedFiles) → EditsFiles MayFail r ids (map kept_edit edits) (Ok (Some edited))
-        → AreEdited r.kind (folders_before r (parents_of r order)) (first_files r (parents_of r order)) (edits_of r order) edited
+        → AreEdited r.kind (first_files r (parents_of r order)) (edits_of r order) edited
     edited_so MayFail edits are ids same edited h' =
-        subst (λ made. AreEdited r.kind (folders_before r (parents_of r order)) (first_files r (parents_of r order)) made edited) (edits_same r edits order.edits are (good_paths r order times h) h.contents)
-        (subst (λ (ids : List Id). AreEdited r.kind (folders_before r ids) (first_files r ids) (map kept_edit edits) edited) same h')
+        subst (λ made. AreEdited r.kind (first_files r (parents_of r order)) made edited) (edits_same r edits order.edits are (good_paths r order times h) h.contents)
+        (subst (λ (ids : List Id). AreEdited r.kind (first_files r ids) (map kept_edit edits) edited) same h')
 
   -- ---- the commit and its move
 
@@ -235,30 +245,30 @@ module _ (r : plain.Repository) (order : CommitCommand) (o : IsOffered r) (w : H
   module _ (folders : List FileMap) (new : AreNewFolders r (new_commit r order).files folders) where
     puts_among : (value : Value) → Contains (commit_puts r order folders) value → Contains (stored_by r (Commit order)) value
     puts_among value there = in_contains (stored_by r (Commit order)) value (elim (in_either value (blobs ++ map StoredFolder folders) last (contains_in (commit_puts r order folders) value there)) [
-          | inl a ↦ in_left value (blobs ++ all) last (elim (in_either value blobs (map StoredFolder folders) a) [
-            | inl b ↦ in_left value blobs all b
-            | inr b ↦
-                let from = of_map StoredFolder value folders b in
-                in_right value blobs all (subst (λ v. In v all) (sym from.2) (in_map StoredFolder from.0 (folders_of (new_commit r order).files)
-                (contains_in (folders_of (new_commit r order).files) from.0 (new.among from.0 (in_contains folders from.0 from.1)))))
-          ])
-          | inr a ↦ in_right value (blobs ++ all) last a
-        ])
+      | inl a ↦ in_left value (blobs ++ all) last (elim (in_either value blobs (map StoredFolder folders) a) [
+        | inl b ↦ in_left value blobs all b
+        | inr b ↦
+            let from = of_map StoredFolder value folders b in
+            in_right value blobs all (subst (λ v. In v all) (sym from.2) (in_map StoredFolder from.0 (folders_of (new_commit r order).files)
+            (contains_in (folders_of (new_commit r order).files) from.0 (new.among from.0 (in_contains folders from.0 from.1)))))
+      ])
+      | inr a ↦ in_right value (blobs ++ all) last a
+    ])
 
     puts_all : (value : Value) → Contains (stored_by r (Commit order)) value → Contains (commit_puts r order folders) value ⊎ HasText r.kind r.objects value
     puts_all value there = elim (in_either value (blobs ++ all) last (contains_in (stored_by r (Commit order)) value there)) [
-          | inl a ↦ elim (in_either value blobs all a) [
-            | inl b ↦ inl (in_contains (commit_puts r order folders) value (in_left value (blobs ++ map StoredFolder folders) last (in_left value blobs (map StoredFolder folders) b)))
-            | inr b ↦
-                let from = of_map StoredFolder value (folders_of (new_commit r order).files) b in
-                elim (new.all from.0 (in_contains (folders_of (new_commit r order).files) from.0 from.1)) [
-                  | inl d ↦ inl (in_contains (commit_puts r order folders) value (in_left value (blobs ++ map StoredFolder folders) last (in_right value blobs (map StoredFolder folders)
-                      (subst (λ v. In v (map StoredFolder folders)) (sym from.2) (in_map StoredFolder from.0 folders (contains_in folders from.0 d))))))
-                  | inr d ↦ inr (subst (HasText r.kind r.objects) (sym from.2) d)
-                ]
-          ]
-          | inr a ↦ inl (in_contains (commit_puts r order folders) value (in_right value (blobs ++ map StoredFolder folders) last a))
-        ]
+      | inl a ↦ elim (in_either value blobs all a) [
+        | inl b ↦ inl (in_contains (commit_puts r order folders) value (in_left value (blobs ++ map StoredFolder folders) last (in_left value blobs (map StoredFolder folders) b)))
+        | inr b ↦
+            let from = of_map StoredFolder value (folders_of (new_commit r order).files) b in
+            elim (new.all from.0 (in_contains (folders_of (new_commit r order).files) from.0 from.1)) [
+              | inl d ↦ inl (in_contains (commit_puts r order folders) value (in_left value (blobs ++ map StoredFolder folders) last (in_right value blobs (map StoredFolder folders)
+                  (subst (λ v. In v (map StoredFolder folders)) (sym from.2) (in_map StoredFolder from.0 folders (contains_in folders from.0 d))))))
+              | inr d ↦ inr (subst (HasText r.kind r.objects) (sym from.2) d)
+            ]
+      ]
+      | inr a ↦ inl (in_contains (commit_puts r order folders) value (in_right value (blobs ++ map StoredFolder folders) last a))
+    ]
 
     pub is_plan : IsSound r → first_cause r (Commit order) ≡ None → (plan : Plan) → AreObjectsOf r.kind (commit_puts r order folders) plan.objects.items → IsMove r order plan.moves → IsPlan r order plan
     is_plan sound none plan objects moves = record {

@@ -1,5 +1,5 @@
 -- Whether edits are refused doesn't depend on the bytes that they put.
-use Rattle.std.proofs.Common.{◌≡◌, Bool, true, false, cond, not, ◌&&◌, ◌||◌, List, [], ◌∷◌, refl, sym, ◌∙◌, ap, Option, Some, None, bytes_eq}
+use Rattle.std.proofs.Common.{◌≡◌, Bool, true, false, cond, not, ◌&&◌, ◌||◌, List, [], ◌∷◌, refl, sym, ◌∙◌, ap, Some, None, bytes_eq}
 use Rattle.std.specs.Prelude.{is_some}
 use Rattle.std.specs.List.{list_all, list_any, AllZip}
 use Rattle.std.specs.FinMap.{keys, contains_key, get, insert, retain_keys}

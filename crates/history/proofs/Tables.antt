@@ -12,13 +12,12 @@ use Rattle.history_model.specs.FileMap.{FileMap}
 use Rattle.history_model.specs.Objects.{Value, StoredFolder, object_kind, content_of}
 use Rattle.history_model.specs.Forms.{max_content}
 use Rattle.history_model.specs.Meaning.{files_at, first_files}
-use Rattle.history_model.specs.Places.{file_at, object_place}
 use Rattle.history_model.specs.Repository as plain
-use Rattle.history_files.specs.Editing.{AreEdited, EditsFault, HavePaths, IsBase, NameEdits, OfEdits, standing}
+use Rattle.history_files.specs.Editing.{AreEdited, EditsFault, HavePaths, IsBase, NameEdits, OfEdits}
 use Rattle.history_files.specs.Laws as laws
 use Rattle.history_files.specs.Reading.{IsRootOf, OwnFault}
 use Rattle.history_files.specs.Unfolding.{HasTrees}
-use Rattle.history_files.specs.declared.editing.EditedFiles.{EditedFiles}
+use Rattle.history_files.specs.declared.trees.EditedFiles.{EditedFiles}
 use Rattle.history_files.specs.declared.edits.Edit.{Edit as FileEdit}
 use Rattle.history_files.specs.declared.edits.EditError.{EditError}
 use Rattle.history_files.specs.declared.edits.EditError.TheVariants as refused
@@ -31,7 +30,7 @@ use Rattle.history_store.proofs.TextObjects.{object_in-text}
 use Rattle.history.specs.Acts.{Gives, IsReadingFault}
 use Rattle.history.specs.Face.{objects_part, known_ids}
 use Rattle.history.specs.Faults.{read_fault}
-use Rattle.history.specs.Files.{EditsFiles, IsTreeBefore, edit_stop, folders_before}
+use Rattle.history.specs.Files.{EditsFiles, IsTreeBefore, unmade}
 use Rattle.history.specs.Stands.{Stands}
 use Rattle.history.specs.declared.repository.Repository.{Repository}
 use Rattle.history.specs.declared.stopped.Stopped.{Stopped}
@@ -99,11 +98,6 @@ module _ {F : Type 0} (IsHonest : F → Type 0) (history : F → History) (repos
   base_told (id ∷ ids) None is = absurd is
   base_told (id ∷ ids) (Some tree) is = root_of IsHonest history repository r stands (id_of tree) (files_at r id) is
 
-pub standing_told : (r : plain.Repository) (ids : List Id) (tree : Option ObjectId) → IsTreeBefore r ids tree → standing (option_map id_of tree) (first_files r ids) ≡ folders_before r ids
-standing_told r [] tree is = ap (λ (t : Option ObjectId). standing (option_map id_of t) (first_files r [])) is
-standing_told r (id ∷ ids) None is = absurd is
-standing_told r (id ∷ ids) (Some tree) is = refl
-
 -- What edits of these files come to, by the contract of the call that makes them.
 module _ {F : Type 0} (IsHonest : F → Type 0) (history : F → History) (repository : Repository F) (r : plain.Repository) (stands : Stands IsHonest history repository r) (MayFail : Type 0)
     (ids : List Id) (tree : Option ObjectId) (before : IsTreeBefore r ids tree) (edits : List FileEdit) (made : List model.Edit) (named : NameEdits r.kind edits made) (kind : Kind) (same : kind ≡ r.kind)
@@ -117,13 +111,10 @@ module _ {F : Type 0} (IsHonest : F → Type 0) (history : F → History) (repos
       let at_root : Of P r.kind (option_map id_of tree) = subst (λ (o : Option Id). Of P r.kind o) is_root at_kind in
       at_root (holds_known IsHonest history repository r stands) (first_files r ids) made (base_told IsHonest history repository r stands ids tree before) named
 
-  pub edited_told : Of (λ k o files made. IfOk result (AreEdited k (standing o files) files made)) kind root → (edited : EditedFiles) → result ≡ Ok edited
-      → AreEdited r.kind (folders_before r ids) (first_files r ids) made edited
+  pub edited_told : Of (λ k o files made. IfOk result (AreEdited k files made)) kind root → (edited : EditedFiles) → result ≡ Ok edited → AreEdited r.kind (first_files r ids) made edited
   edited_told told edited is =
-      let all : IfOk result (AreEdited r.kind (standing (option_map id_of tree) (first_files r ids)) (first_files r ids) made) = at_files (λ k o files made. IfOk result (AreEdited k (standing o files) files made)) told in
-      let this : AreEdited r.kind (standing (option_map id_of tree) (first_files r ids)) (first_files r ids) made edited =
-      subst (λ (x : Result EditedFiles EditError). IfOk x (AreEdited r.kind (standing (option_map id_of tree) (first_files r ids)) (first_files r ids) made)) is all in
-      subst (λ (folders : List FileMap). AreEdited r.kind folders (first_files r ids) made edited) (standing_told r ids tree before) this
+      subst (λ (x : Result EditedFiles EditError). IfOk x (AreEdited r.kind (first_files r ids) made)) is
+      (at_files (λ k o files made. IfOk result (AreEdited k files made)) told)
 
   pub refused_told : Of (λ k o files made. IfErr result (EditsFault MayFail k files made)) kind root → (error : EditError) → result ≡ Err error → EditsFault MayFail r.kind (first_files r ids) made error
   refused_told told error is =
@@ -131,11 +122,11 @@ module _ {F : Type 0} (IsHonest : F → Type 0) (history : F → History) (repos
       (at_files (λ k o files made. IfErr result (EditsFault MayFail k files made)) told)
 
 -- such an error, where all paths are paths, is told so
-pub stop_told : (r : plain.Repository) (MayFail : Type 0) (ids : List Id) (made : List model.Edit) → HavePaths made → (error : EditError) → (error ≡ refused.NullId → ⊥) → EditsFault MayFail r.kind (first_files r ids) made error
-    → EditsFiles MayFail r ids made (Err (edit_stop error))
-stop_told r MayFail ids made paths refused.BadPath some h = absurd (cc (sym paths ∙ h))
-stop_told r MayFail ids made paths refused.IsFolder some h = (refl, h.1)
-stop_told r MayFail ids made paths refused.NullId some h = absurd (some refl)
-stop_told r MayFail ids made paths refused.Failed some h = h
-stop_told r MayFail ids made paths (refused.Broken oid) some h = absurd h
-stop_told r MayFail ids made paths refused.Memory some h = tt
+pub unmade_told : (r : plain.Repository) (MayFail : Type 0) (ids : List Id) (made : List model.Edit) → HavePaths made → (error : EditError) → EditsFault MayFail r.kind (first_files r ids) made error
+    → EditsFiles MayFail r ids made (unmade error)
+unmade_told r MayFail ids made paths refused.BadPath h = absurd (cc (sym paths ∙ h))
+unmade_told r MayFail ids made paths refused.IsFolder h = (refl, h.1)
+unmade_told r MayFail ids made paths refused.NullId h = h
+unmade_told r MayFail ids made paths refused.Failed h = h
+unmade_told r MayFail ids made paths (refused.Broken oid) h = absurd h
+unmade_told r MayFail ids made paths refused.Memory h = tt

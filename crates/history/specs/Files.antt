@@ -1,5 +1,5 @@
 -- The files of a commit, as its parent's and its edits make them.
-use Rattle.std.specs.Prelude.{◌≡◌, ℕ, List, [], ◌∷◌, Option, Some, None, Result, Ok, Err, IsTrue}
+use Rattle.std.specs.Prelude.{◌≡◌, List, [], ◌∷◌, Option, Some, None, Result, Ok, Err, IsTrue}
 use Rattle.std.specs.List.{AllZip, flat_map}
 use Rattle.std.specs.FinMap.{get}
 use Rattle.gix_hash.specs.Id.{Id, id_of}
@@ -7,7 +7,7 @@ use Rattle.gix_hash.specs.declared.kind.Kind.{Kind}
 use Rattle.gix_hash.specs.declared.object_id.ObjectId.{ObjectId}
 use Rattle.history_model.specs.Bytes.{Bytes}
 use Rattle.history_model.specs.FileMap as model
-use Rattle.history_model.specs.FileMap.{FileMap, folders_of, some_refused}
+use Rattle.history_model.specs.FileMap.{some_refused}
 use Rattle.history_model.specs.Meaning.{files_at, first_files, put_bytes}
 use Rattle.history_model.specs.Objects.{StoredFolder}
 use Rattle.history_model.specs.Repository as plain
@@ -18,7 +18,7 @@ use Rattle.history_files.specs.declared.edits.Change.{Change}
 use Rattle.history_files.specs.declared.edits.Edit.{Edit as FileEdit}
 use Rattle.history_files.specs.declared.edits.EditError.{EditError}
 use Rattle.history_files.specs.declared.edits.EditError.TheVariants as refused
-use Rattle.history_files.specs.declared.editing.EditedFiles.{EditedFiles}
+use Rattle.history_files.specs.declared.trees.EditedFiles.{EditedFiles}
 use Rattle.history_store.specs.Stores.{AreObjectsOf}
 use Rattle.history_word.specs.declared.command.Edit.{Edit}
 use Rattle.history_word.specs.declared.command.Edit.TheVariants.{Put, Remove, RemoveFile}
@@ -64,23 +64,19 @@ IsTreeBefore r [] tree = tree ≡ None
 IsTreeBefore r (id ∷ ids) None = ⊥
 IsTreeBefore r (id ∷ ids) (Some tree) = get r.objects (id_of tree) ≡ Some (StoredFolder (files_at r id))
 
--- the folders of its files
-abbrev pub folders_before : plain.Repository → List Id → List FileMap
-folders_before r [] = []
-folders_before r (id ∷ ids) = folders_of (files_at r id)
-
-abbrev pub edit_stop : EditError → Stopped
-edit_stop refused.BadPath = Refused cause.BadPath
-edit_stop refused.IsFolder = Refused cause.IsFolder
-edit_stop refused.NullId = Fault fault.IdTaken
-edit_stop refused.Failed = Fault fault.File
-edit_stop (refused.Broken oid) = Fault fault.File
-edit_stop refused.Memory = Fault fault.Memory
+-- what is answered where edits aren't made
+abbrev pub unmade : EditError → Result (Option EditedFiles) Stopped
+unmade refused.BadPath = Err (Refused cause.BadPath)
+unmade refused.IsFolder = Err (Refused cause.IsFolder)
+unmade refused.NullId = Ok None
+unmade refused.Failed = Err (Fault fault.File)
+unmade (refused.Broken oid) = Err (Fault fault.File)
+unmade refused.Memory = Err (Fault fault.Memory)
 
 -- The trees of what the edits make of the first commit's files; or what is put or one of these would have the null id; or a folder
 -- is met where a file is to be removed; or a fault was met.
 abbrev pub EditsFiles : Type 0 → plain.Repository → List Id → List model.Edit → Result (Option EditedFiles) Stopped → Type 0
-EditsFiles MayFail r ids made (Ok (Some edited)) = AreEdited r.kind (folders_before r ids) (first_files r ids) made edited
+EditsFiles MayFail r ids made (Ok (Some edited)) = AreEdited r.kind (first_files r ids) made edited
 EditsFiles MayFail r ids made (Ok None) = HaveNull r.kind (first_files r ids) made
 EditsFiles MayFail r ids made (Err (Refused reason)) = (reason ≡ cause.IsFolder) × IsTrue (some_refused (first_files r ids) made)
 EditsFiles MayFail r ids made (Err (Fault reason)) = IsReadingFault MayFail (Fault reason)

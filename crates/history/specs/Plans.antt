@@ -23,7 +23,7 @@ use Rattle.history_model.specs.Passing.{StoresWhole}
 use Rattle.history_model.specs.TreeHalves.{HoldsValues}
 use Rattle.history_model.specs.declared.Cause.TheVariants.{TooLarge}
 use Rattle.history_model.specs.declared.Fault.TheVariants.{Memory, File, IdTaken}
-use Rattle.history_files.specs.declared.editing.EditedTree.{EditedTree}
+use Rattle.history_files.specs.declared.trees.EditedTree.{EditedTree}
 use Rattle.history_store.specs.Formats.{entry_of}
 use Rattle.history.specs.CommitCauses.{is_long}
 use Rattle.history.specs.declared.planning.Plan.{Plan}

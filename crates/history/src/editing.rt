@@ -10,7 +10,7 @@ ghost use Rattle.history_model.specs.Repository.{HoldsCommit};
 ghost use Rattle.history_files.specs.Editing.{HavePaths};
 ghost use Rattle.history_store.specs.Stores.{AreObjectsOf};
 ghost use Rattle.history.specs.Acts.{Gives};
-ghost use Rattle.history.specs.Files.{AreChangesOf, AreReadAs, EditsFiles, IsChangeOf, IsTreeBefore, change_parts, edit_parts, edit_stop, kept_edit};
+ghost use Rattle.history.specs.Files.{AreChangesOf, AreReadAs, EditsFiles, IsChangeOf, IsTreeBefore, change_parts, edit_parts, kept_edit, unmade};
 ghost use Rattle.history.specs.Stands.{Serves};
 
 use crate::fields::into_kept;
@@ -97,16 +97,16 @@ fn edits_of(
     Ok(edits)
 }
 
-/// Why edits aren't made.
-fn stopped_by(error: EditError) -> Stopped
-    ensures { result ≡ edit_stop error }
+/// What is answered where edits aren't made.
+fn unmade(error: EditError) -> Result<Option<EditedFiles>, Stopped>
+    ensures { result ≡ unmade error }
 {
     match error {
-        EditError::BadPath => Stopped::Refused(Cause::BadPath),
-        EditError::IsFolder => Stopped::Refused(Cause::IsFolder),
-        EditError::NullId => Stopped::Fault(Fault::IdTaken),
-        EditError::Failed | EditError::Broken { .. } => Stopped::Fault(Fault::File),
-        EditError::Memory => Stopped::Fault(Fault::Memory),
+        EditError::NullId => Ok(None),
+        EditError::BadPath => Err(Stopped::Refused(Cause::BadPath)),
+        EditError::IsFolder => Err(Stopped::Refused(Cause::IsFolder)),
+        EditError::Failed | EditError::Broken { .. } => Err(Stopped::Fault(Fault::File)),
+        EditError::Memory => Err(Stopped::Fault(Fault::Memory)),
     }
 }
 
@@ -149,8 +149,7 @@ impl<F: Files> Repository<F> {
             &edits,
         ) {
             Ok(edited) => Ok(Some(edited)),
-            Err(EditError::NullId) => Ok(None),
-            Err(error) => Err(stopped_by(error)),
+            Err(error) => unmade(error),
         }
     }
 }

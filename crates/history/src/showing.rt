@@ -134,8 +134,10 @@ impl<F: Files> Repository<F> {
     ghost use Rattle.history_model.specs.Commands.{Show as ShowOf};
     ghost use Rattle.history_word.specs.Commands.{IsPath, max_path};
     ghost use Rattle.history_word.specs.Fields.{Keeps};
-    ghost use Rattle.history.specs.Stands.{Serves};
-    ghost use Rattle.history.specs.Acts.{AnswersReading};
+    ghost use Rattle.std.specs.FinMap.{get};
+    ghost use Rattle.history_model.specs.Objects.{StoredBytes};
+    ghost use Rattle.history.specs.Stands.{Serves, Stands};
+    ghost use Rattle.history.specs.Acts.{AnswersReading, Gives};
 
     /// The reply to `show` of a commit.
     fn show_commit(&self, alloc: Global, id: &ObjectId) -> Result<Vec<u8>, Stopped>
@@ -145,6 +147,17 @@ impl<F: Files> Repository<F> {
     {
         let commit = self.read_commit(alloc, id)?;
         Ok(commit_text(alloc, id, &commit)?)
+    }
+
+    /// The text that shows a file whose content has this id.
+    fn show_file(&self, alloc: Global, kind: FileKind, id: &ObjectId) -> Result<Vec<u8>, Stopped>
+        ensures { (r : plain.Repository) (bytes : Bytes) → Stands F.is_honest F.history self.now r
+            → get r.objects (id_of id.now) ≡ Some (StoredBytes bytes)
+            → Gives F.reading_may_fail (λ text. text.items
+            ≡ reply_text (ShowsContent (shown_content kind id.now bytes))) result }
+    {
+        let content = self.content(alloc, ObjectKind::Blob, id)?;
+        Ok(content_text(alloc, kind, id, &content)?)
     }
 
     /// The reply to `show` of what a commit has at a path.
@@ -161,10 +174,7 @@ impl<F: Files> Repository<F> {
         match self.found_below(alloc, &commit.tree, kept(path))? {
             None => Err(Stopped::Refused(Cause::NoSuchPath)),
             Some(Found::Folder { .. }) => Err(Stopped::Refused(Cause::IsFolder)),
-            Some(Found::File { kind, id }) => {
-                let content = self.content(alloc, ObjectKind::Blob, &id)?;
-                Ok(content_text(alloc, kind, &id, &content)?)
-            }
+            Some(Found::File { kind, id }) => self.show_file(alloc, kind, &id),
         }
     }
 

@@ -11,8 +11,8 @@ use Rattle.history.proofs.listing.files_text.Goals as goal
 pub returns : goal.returns
 returns c =
     let files = map line_of c.args.files.now in
-    let written : c.format.result.now ≡ decimal c.len.result = c.format.ensures.text in
-    let count : c.as_bytes.result.now ≡ decimal (length files) = c.as_bytes.ensures.value ∙ written ∙ ap decimal (c.len.ensures ∙ sym (length-map c.args.files.now line_of)) in
+    let written : c.format.result.now ≡ decimal (length c.args.files.now) = c.format.ensures.text in
+    let count : c.as_bytes.result.now ≡ decimal (length files) = c.as_bytes.ensures.value ∙ written ∙ ap decimal (sym (length-map c.args.files.now line_of)) in
     let heading = same_line (c.as_slice.result.now ∷ c.as_slice-2.result.now ∷ c.as_bytes.result.now ∷ []) (codes "ok" ∷ codes "files" ∷ decimal (length files) ∷ []) c.new-text.result.items c.line.new.text.items c.in_ok-line.ensures (cc) in
     let start : c.line.new.text.items ≡ part_text (Line (codes "ok" ∷ codes "files" ∷ decimal (length files) ∷ [])) =
     heading ∙ ap (λ t. t ++ part_text (Line (codes "ok" ∷ codes "files" ∷ decimal (length files) ∷ []))) c.new-text.ensures.items in

@@ -8,5 +8,5 @@ returns g c = λ r below stands at.
 
 pub returns-in_err-files : goal.returns-in_err-files
 returns-in_err-files g c = λ r below stands at.
-    read_told g.F.Files.reading_may_fail _ c.from_residual.result c.in_err-files.field-0 c.from_residual.ensures.1
+    read_told g.F.Files.reading_may_fail _ c.from_residual.result c.in_err-files.field-0.0 c.from_residual.ensures.1
     (c.in_err-files.ensures.refused (holds_known _ _ c.args.self.now r stands) r.kind below (root_of _ _ c.args.self.now r stands (id_of c.args.tree.now) below at))
