@@ -1,11 +1,11 @@
 -- Which trees an edit changes.
-use Rattle.std.proofs.Common.{ℕ, ◌≡◌, ◌≢◌, ◌<◌, ◌≤◌, ◌⊎◌, true, false, List, [], ◌∷◌, ◌++◌, None, refl, sym, ap, subst, ◌∙◌, inl, inr, arith, length}
+use Rattle.std.proofs.Common.{ℕ, ◌≡◌, ◌≢◌, ◌<◌, ◌⊎◌, true, false, List, [], ◌∷◌, ◌++◌, None, refl, sym, ap, subst, ◌∙◌, inl, inr, arith, length}
 use Rattle.std.specs.Borrow.{Bor}
 use Rattle.std.proofs.lemmas.Bool.{cases_lt, cases_eq}
 use Rattle.gix_object_editor.proofs.Walked.{names}
 use Rattle.gix_object_editor.specs.Files.{Bytes, Path, Trees}
 use Rattle.gix_object_editor.specs.Nodes.{Slots, child_of, IsForest, Way, onto, LeadsTo}
-use Rattle.gix_object_editor.specs.Marks.{Mark, Marks, AreMarked, AreMarksKept, AreMarkedUp, IsMarkedFor, IsOnWay, AreOnPath, AreAsRead}
+use Rattle.gix_object_editor.specs.Marks.{Mark, Marks, AreMarksKept, AreMarkedUp, IsMarkedFor, IsOnWay, AreOnPath, AreAsRead}
 use Rattle.gix_object_editor.proofs.Marked.{not_yet, way_before, on_way_above, marks_none, edited_as_read}
 use Rattle.gix_object_editor.proofs.Edits.{less_forest}
 use Rattle.gix_object_editor.proofs.Folders.{taken_marks}

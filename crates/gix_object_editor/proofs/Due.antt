@@ -1,12 +1,11 @@
 -- Slots without the opened trees that no edit changed.
-use Rattle.std.proofs.Common.{ℕ, zero, suc, ◌≡◌, ◌<◌, ◌≤◌, ◌⊎◌, ◌||◌, Bool, true, false, cond, List, [], ◌∷◌, Option, Some, None, refl, sym, ap, subst, ◌∙◌, inl, inr, arith, map, nat_le, le-leb, leb-true, if◌then◌else◌}
+use Rattle.std.proofs.Common.{ℕ, ◌≡◌, ◌<◌, ◌≤◌, ◌||◌, Bool, true, false, cond, List, [], ◌∷◌, Option, Some, None, refl, sym, ap, ◌∙◌, inl, inr, arith, map, nat_le, le-leb, leb-true, if◌then◌else◌}
 use Rattle.std.specs.Map.{lookup, keys_of, values_of}
-use Rattle.gix_object_editor.specs.declared.tree.editor.node.Node.{Node}
 use Rattle.gix_object_editor.specs.declared.tree.editor.node.NodeId.{NodeId}
 use Rattle.gix_object_editor.specs.declared.tree.editor.node.Slot.{Slot}
 use Rattle.gix_object_editor.specs.Files.{Bytes, Path, Trees, through, files_of_entry}
-use Rattle.gix_object_editor.specs.Nodes.{Key, Slots, slots_of, child_or, child_of, leaf_in, files_of_slot, files_of_node, IsForest, Way}
-use Rattle.gix_object_editor.specs.Marks.{Marks, marks_of, changed_in, child_if, slot_if, slots_if, is_due, due, AreAsRead}
+use Rattle.gix_object_editor.specs.Nodes.{Key, Slots, child_or, child_of, leaf_in, files_of_slot, files_of_node, IsForest, Way}
+use Rattle.gix_object_editor.specs.Marks.{Marks, child_if, slot_if, slots_if, is_due, due, AreAsRead}
 use Rattle.gix_object_editor.proofs.Paths.{by_test}
 use Rattle.gix_object_editor.proofs.Opening.{fewer}
 use Rattle.gix_object_editor.proofs.Marked.{closed_files}

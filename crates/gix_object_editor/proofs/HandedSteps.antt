@@ -7,6 +7,7 @@ use Rattle.std.specs.Fn.{Mut}
 use Rattle.std.specs.List.{FoldsTo}
 use Rattle.std.proofs.lemmas.Bool.{cases_eq}
 use Rattle.std.proofs.lemmas.Fn.{FoldsTo-push}
+use Rattle.std.proofs.lemmas.List.{append-nil}
 use Rattle.std.proofs.lemmas.List.Elements.{All-push, All-weaker, All-contains, Contains-append_left, Contains-push, Contains-get_or}
 use Rattle.gix_hash.specs.Id.{Id, id_of}
 use Rattle.gix_hash.specs.declared.object_id.ObjectId.{ObjectId}
@@ -17,15 +18,15 @@ use Rattle.gix_object_editor.specs.declared.tree.editor.node.Node.{Node}
 use Rattle.gix_object_editor.specs.declared.tree.editor.write.error.Error.{Error}
 use Rattle.gix_object_editor.specs.declared.tree.editor.write.error.Error.TheVariants.{Out, Memory}
 use Rattle.gix_object_editor.specs.declared.tree.editor.state.Editor.{Editor}
-use Rattle.gix_object_editor.specs.Files.{Bytes, Path, Trees, is_null, through, behind, named, files_of_tree}
+use Rattle.gix_object_editor.specs.Files.{Bytes, Path, Trees, Begins, is_null, through, behind, named, files_of_tree}
 use Rattle.gix_object_editor.specs.Nodes.{Slots, slot_in, slots_of, Way, onto, LeadsTo, IsForest, files_of_node}
 use Rattle.gix_object_editor.specs.Writing.{Ids, ids_of, IsReached, written_item, HasEntries, IsTreeOf}
-use Rattle.gix_object_editor.specs.Written.{HandedOut, HasHandedOut, HandsOut, WriteFault, EachBehind, StandsUnopened, IsKnown, IsHandedOut, IsWritten}
+use Rattle.gix_object_editor.specs.Written.{HandedOut, HasHandedOut, HandsOut, StopsWriting, EachBehind, StandsUnopened, IsKnown, IsHandedOut, IsDueAt, IsWritten}
 use Rattle.gix_object_editor.specs.Below.{IsAnswered, IsDone, IsOneFrom, IsHandedOutFrom, Answered}
-use Rattle.gix_object_editor.specs.Editor.{IsChanged}
-use Rattle.gix_object_editor.specs.Marks.{marks_of, changed_in, slot_if, slots_if, due, due_in}
+use Rattle.gix_object_editor.specs.Marks.{marks_of, IsChangedIn, changed_in, slot_if, slots_if, due, due_in}
 use Rattle.gix_object_editor.proofs.Due.{due_forest, due_row, due_files, way_due, due_changed}
 use Rattle.gix_object_editor.proofs.HandedOrder.{not_above, each_more, entries_kept, all_known, all_stand, none_null}
+use Rattle.gix_object_editor.proofs.Paths.{onto-append}
 use Rattle.gix_object_editor.proofs.Slots.{node_at}
 use Rattle.gix_object_editor.proofs.WrittenFiles.{tree_files, files_below, no_entry}
 use Rattle.gix_object_editor.proofs.WrittenEntries.{once_named}
@@ -43,6 +44,15 @@ id_other (x ∷ oids) zero zero o ne = absurd (ne refl)
 id_other (x ∷ oids) zero (suc k) o ne = refl
 id_other (x ∷ oids) (suc i) zero o ne = refl
 id_other (x ∷ oids) (suc i) (suc k) o ne = id_other oids i k o (λ e. ne (ap suc e))
+
+-- ---- below a base
+
+onto_split : (way base q : Path) → onto (way ++ base) q ≡ onto base (onto way q)
+onto_split [] base q = refl
+onto_split (n ∷ way) base q = onto_split way base (n ∷ q)
+
+pub begins_below : (way base : Path) → Begins (onto base []) (onto (way ++ base) [])
+begins_below way base = (onto way [], sym (onto-append base [] (onto way [])) ∙ sym (onto_split way base []))
 
 -- ---- one more
 
@@ -134,6 +144,7 @@ module _ (slots : Slots) (base : Path) (bound : ℕ) (ok : IsForest slots bound)
       in_order = so.in_order;
       some = so.some;
       ones = ones_kept handed so.ones;
+      below = so.below;
       done = done_from handed (λ x h. h) so (λ reached. absurd (off reached));
     }
 
@@ -145,6 +156,7 @@ module _ (slots : Slots) (base : Path) (bound : ℕ) (ok : IsForest slots bound)
           in_order = so.in_order;
           some = so.some;
           ones = ones_kept handed so.ones;
+          below = so.below;
           done = done_from handed (λ x h. h) so (λ _. record {
             path = onto (reached.0 ++ base) [];
             items = items;
@@ -167,6 +179,7 @@ module _ (slots : Slots) (base : Path) (bound : ℕ) (ok : IsForest slots bound)
           in_order = each_more (IsHandedOut slots) [] handed one so.in_order (is_next so reached.0 path items reached.1 refl tree id);
           some = All-push (λ (t : HandedOut). t.items ≢ []) handed one so.some some;
           ones = All-push (IsOneFrom slots bound now i) handed one (ones_kept handed so.ones) (i, le, within, to, entries);
+          below = All-push (λ (t : HandedOut). Begins (onto base []) t.path) handed one so.below (begins_below reached.0 base);
           done = done_from (handed ++ one ∷ []) (λ x h. Contains-append_left handed (one ∷ []) x h) so (λ _. record {
             path = path;
             items = items;
@@ -189,22 +202,46 @@ tree_at ids nodes from ok i le d items lt is tree = record {
   well_formed = tree.well_formed;
 }
 
+-- a due tree of a greater number is changed
+pub changed_below : (nodes : List Node) (from : ℕ) (path : Path) (j : ℕ) → from < j → LeadsTo (due_in nodes from) path j [] → IsChangedIn nodes path
+changed_below nodes from path j lt to =
+    (j, (to.0, way_due (slots_of nodes) (marks_of nodes) from to.0 j to.1, to.2), due_changed (slots_of nodes) (marks_of nodes) from to.0 j lt to.1)
+
+pub due_all : (nodes : List Node) (from : ℕ) (base : Path) (ids : Ids) (handed : List HandedOut) (at : ℕ) → from < at → IsHandedOutFrom (due_in nodes from) base (length nodes) ids handed at
+    → All (IsDueAt nodes (onto base [])) handed
+due_all nodes from base ids handed at up so = λ k d lt.
+    let one = so.ones k d lt in
+    let less : from < one.0 = omega (arith, up, one.1) in
+    record { below = so.below k d lt; changed = inr (so.some k d lt, changed_below nodes from (get_or handed k d).path one.0 less one.3) }
+
+some_entries : (es : List Entry) → es ≢ [] → map own_item es ≢ []
+some_entries [] some e = some refl
+some_entries (x ∷ es) some e = absurd (cc e)
+
 module _ {F E : Type 0} (calls : Mut F (Bor Tree × Unit {0}) (Result ObjectId E)) where
-  module _ (slots : Slots) (base : Path) (bound : ℕ) (ok : IsForest slots bound) (oids : List (Option ObjectId)) (i : ℕ) (long : length oids ≡ bound) (within : i < bound) (out before after : F) where
-    pub fails_by : (handed : List HandedOut) → FoldsTo (HandsOut calls) out handed before → IsHandedOutFrom slots base bound (ids_of oids) handed (suc i) → IsReached slots base i
-        → (tree : Tree) → IsTreeOf (ids_of oids) (slots i) (map own_item tree.entries.items) → (error : Error E) → Answered calls before tree (Err error) after → WriteFault calls slots out error after
-    fails_by handed folds so reached tree is (Out error) fails = (
-      handed,
-      before,
-      record { calls_made = folds; in_order = so.in_order },
-      record {
-        shown = tree;
-        called = fails;
-        next = (onto (reached.0 ++ base) [], is_next slots base bound ok (ids_of oids) handed i so reached.0 (onto (reached.0 ++ base) []) (map own_item tree.entries.items) reached.1 refl is);
-      },
-    )
+  module _ (nodes : List Node) (from : ℕ) (base : Path) (ok : IsForest (due_in nodes from) (length nodes)) (oids : List (Option ObjectId)) (i : ℕ) (above : from < i) (out before after : F) where
+    pub fails_by : (handed : List HandedOut) → FoldsTo (HandsOut calls) out handed before → IsHandedOutFrom (due_in nodes from) base (length nodes) (ids_of oids) handed (suc i) → IsReached (due_in nodes from) base i
+        → (tree : Tree) → IsTreeOf (ids_of oids) (due_in nodes from i) (map own_item tree.entries.items) → (error : Error E) → Answered calls before tree (Err error) after
+        → StopsWriting calls nodes from (onto base []) out error after
+    fails_by handed folds so reached tree is (Out error) fails =
+        let path = onto (reached.0 ++ base) [] in (
+          handed,
+          before,
+          record { calls_made = folds; in_order = so.in_order; due = due_all nodes from base (ids_of oids) handed (suc i) (omega arith) so },
+          record {
+            shown = tree;
+            called = fails.1;
+            at = path;
+            next = is_next (due_in nodes from) base (length nodes) ok (ids_of oids) handed i so reached.0 path (map own_item tree.entries.items) reached.1 refl is;
+            due = λ id. record {
+              below = begins_below reached.0 base;
+              changed = inr (some_entries tree.entries.items fails.0, changed_below nodes from path i above (reached.0 ++ base, reached.1, refl));
+            };
+          },
+        )
     fails_by handed folds so reached tree is Memory fails = absurd fails
 
+  module _ (slots : Slots) (base : Path) (bound : ℕ) (ok : IsForest slots bound) (oids : List (Option ObjectId)) (i : ℕ) (long : length oids ≡ bound) (within : i < bound) (out before after : F) where
     pub step : (handed : List HandedOut) → FoldsTo (HandsOut calls) out handed before → IsHandedOutFrom slots base bound (ids_of oids) handed (suc i) → IsReached slots base i
         → (tree : Tree) → IsTreeOf (ids_of oids) (slots i) (map own_item tree.entries.items) → (o : Option ObjectId) → Answered calls before tree (Ok o) after
         → (more : List HandedOut) × FoldsTo (HandsOut calls) out more after × IsHandedOutFrom slots base bound (ids_of (slice_set oids i o)) more i
@@ -223,10 +260,6 @@ module _ {F E : Type 0} (calls : Mut F (Bor Tree × Unit {0}) (Result ObjectId E
           handed_more slots base bound ok (ids_of oids) handed i (ids_of (slice_set oids i (Some oid))) (λ k ne. id_other oids i k (Some oid) ne) so reached within
               (map own_item tree.entries.items) is (some_entries tree.entries.items answered.0) (id_of oid) (id_here oids i (Some oid) lt),
         )
-      where
-        some_entries : (es : List Entry) → es ≢ [] → map own_item es ≢ []
-        some_entries [] some e = some refl
-        some_entries (x ∷ es) some e = absurd (cc e)
 
 -- before any is handed out
 pub none_yet : (slots : Slots) (base : Path) (bound : ℕ) (ids : Ids) → IsHandedOutFrom slots base bound ids [] bound
@@ -234,6 +267,7 @@ none_yet slots base bound ids = record {
   in_order = tt;
   some = λ k d lt. absurd (omega arith);
   ones = λ k d lt. absurd (omega arith);
+  below = λ k d lt. absurd (omega arith);
   done = λ j le lt. absurd (omega arith);
 }
 
@@ -269,16 +303,10 @@ written editor base from w ids handed so items tree id =
     let ok = due_forest slots marks from bound editor.forest in
     record {
       in_order = last_behind (due slots marks from) base bound ok from w ids handed so items tree id;
-      last = (handed, items, refl, λ k d lt. (so.some k d lt, let one = so.ones k d lt in is_changed (get_or handed k d).path one.0 one.1 one.3));
+      due = All-push (IsDueAt editor.nodes.items (onto base [])) handed (record { path = onto base []; items = items; id = id })
+          (due_all editor.nodes.items from base ids handed (from + 1) (omega arith) so) (record { below = ([], append-nil (onto base [])); changed = inl refl });
+      last = (handed, items, refl, λ k d lt. (so.some k d lt, let one = so.ones k d lt in changed_below editor.nodes.items from (get_or handed k d).path one.0 (omega (arith, one.1)) one.3));
       files = λ trees has read q.
           last_files (due slots marks from) base bound ok from w ids handed so items tree id trees has q
           ∙ due_files trees slots marks from read (onto base [] ++ q) 0;
     }
-  where
-    is_changed : (path : Path) (j : ℕ) → from + 1 ≤ j → LeadsTo (due_in editor.nodes.items from) path j [] → IsChanged editor path
-    is_changed path j le to =
-        let lt : from < j = omega (arith, le) in (
-          j,
-          (to.0, way_due (slots_of editor.nodes.items) (marks_of editor.nodes.items) from to.0 j to.1, to.2),
-          due_changed (slots_of editor.nodes.items) (marks_of editor.nodes.items) from to.0 j lt to.1,
-        )

@@ -1,21 +1,22 @@
 -- Properties of entries, after a tree was opened and after an edit.
-use Rattle.std.proofs.Common.{ℕ, zero, suc, ◌≡◌, ◌≢◌, ◌<◌, ◌≤◌, ◌+◌, ◌-◌, Bool, true, false, List, [], ◌∷◌, Option, Some, None, refl, sym, ap, subst, ◌∙◌, ◌⊎◌, inl, inr, arith, length, get_or, drop}
+use Rattle.std.proofs.Common.{ℕ, zero, suc, ◌≡◌, ◌≢◌, ◌<◌, ◌≤◌, ◌+◌, ◌-◌, ◌++◌, if◌then◌else◌, true, false, List, [], ◌∷◌, Option, Some, None, refl, sym, ap, subst, ◌∙◌, ◌⊎◌, inl, inr, arith, length, get_or, drop}
 use Rattle.std.specs.Prelude.{bytes_eq}
 use Rattle.std.specs.List.{All, Contains}
 use Rattle.std.specs.Borrow.{Bor}
 use Rattle.gix_object_editor.proofs.Walked.{names}
 use Rattle.std.proofs.lemmas.Bool.{cases_eq, cases_lt, cases_order}
-use Rattle.std.proofs.lemmas.List.Elements.{All-contains}
-use Rattle.gix_hash.specs.Id.{Id, id_of}
+use Rattle.std.proofs.lemmas.List.Elements.{All-contains, All-push, All-weaker}
+use Rattle.gix_hash.specs.Id.{id_of}
+use Rattle.gix_hash.specs.declared.kind.Kind.{Kind}
 use Rattle.gix_object_entries.specs.Entry.{Item}
 use Rattle.gix_object_entries.specs.Mode.{is_tree_value}
 use Rattle.gix_object_find.specs.Table.{Table}
 use Rattle.gix_object_editor.specs.declared.tree.editor.node.Slot.{Slot}
-use Rattle.gix_object_editor.specs.Files.{Bytes, Path, Leaf, is_null, leaf_of, named}
+use Rattle.gix_object_editor.specs.Files.{Bytes, Path, Leaf, is_null, leaf_of, named, NamesAreFull}
 use Rattle.gix_object_editor.specs.declared.tree.editor.node.Node.{Node}
-use Rattle.gix_object_editor.specs.Nodes.{Slots, slot_in, slots_of, leaf_in, StandsFor}
+use Rattle.gix_object_editor.specs.Nodes.{Slots, slot_in, slots_of, leaf_in, IsRung, StandsFor}
 use Rattle.gix_object_editor.proofs.Loaded.{entries_stand}
-use Rattle.gix_object_editor.specs.Entries.{Property, EachHas, PassesDown, HoldsTree, MayStand, ItemsHave, made_leaf}
+use Rattle.gix_object_editor.specs.Entries.{Property, EachHas, PassesDown, HoldsTree, MayStand, MayStandMade, ItemsHave, made_leaf}
 use Rattle.gix_object_editor.proofs.Paths.{same_name, name_itself, by_test}
 use Rattle.gix_object_editor.proofs.Opening.{at_or_off}
 use Rattle.gix_object_editor.proofs.WrittenEntries.{named_found}
@@ -124,3 +125,87 @@ one_each node items has stands all zero m u is =
     let found = named_found items m entry.0 entry.1 in
     ap (has m) entry.2 ∙ ap (λ n. has n (leaf_of entry.0)) (sym found.1) ∙ All-contains (λ (item : Item). has item.name (leaf_of item) ≡ true) items entry.0 all found.0
 one_each node items has stands all (suc i) m u is = absurd (cc is)
+
+-- ---- folders that are made for a cursor
+
+-- of a node's names that are put behind the others, one behind the other, each is alone
+pub hung_names : (slots : Slots) (bound : ℕ) (tail : Path) (last : Slot) → ((k : ℕ) → k < length tail → IsRung slots bound tail last k)
+    → ((i : ℕ) (m : Bytes) → bound + length tail ≤ i → slots i m ≡ None) → (i : ℕ) (m : Bytes) (s : Slot) → bound ≤ i → slots i m ≡ Some s
+    → (i + 1 ≡ bound + length tail) ⊎ ((k : ℕ) × (suc k < length tail) × (m ≡ get_or tail k []))
+hung_names slots bound tail last rungs past i m s le is = elim (cases_lt i (bound + length tail)) [
+  | inr ge ↦ let none : slots i m ≡ None = past i m ge in absurd (cc (sym none ∙ is))
+  | inl lt ↦
+      let k : ℕ = i - bound in
+      let at : i ≡ bound + k = omega arith in
+      let inside : k < length tail = omega arith in
+      let rung = rungs k inside in
+      let there = only_there (slots (bound + k)) (get_or tail k []) m rung.slot s rung.only.0 rung.only.1 (ap (λ n. slots n m) (sym at) ∙ is) in
+      elim (cases_eq (suc k) (length tail)) [
+        | inl e ↦ inl (omega arith)
+        | inr ne ↦ inr (k, omega (arith, inside, ne), there.0)
+      ]
+]
+
+abbrev pub unless_empty : Property → Property
+unless_empty has name leaf = if bytes_eq name [] then true else has name leaf
+
+pub empty_fits : (has : Property) (leaf : Leaf) → unless_empty has [] leaf ≡ true
+empty_fits has leaf = refl
+
+pub fits_more : (has : Property) (name : Bytes) (leaf : Leaf) → has name leaf ≡ true → unless_empty has name leaf ≡ true
+fits_more has name leaf h = elim (by_test (bytes_eq name [])) [
+  | inl t ↦ ap (λ b. if b then true else has name leaf) t
+  | inr f ↦ ap (λ b. if b then true else has name leaf) f ∙ h
+]
+
+pub each_more_has : (has : Property) (slots : Slots) → EachHas has slots → EachHas (unless_empty has) slots
+each_more_has has slots each i m s is = fits_more has m (leaf_in s) (each i m s is)
+
+-- names may stand with an empty one behind them
+pub may_stand_more : (has : Property) (kind : Kind) (names : Path) → MayStandMade has kind names → MayStand (unless_empty has) (names ++ [] ∷ []) (made_leaf kind)
+may_stand_more has kind names fit = All-push (λ (n : Bytes). (unless_empty has n (made_leaf kind) ≡ true) × (unless_empty has n (made_leaf kind) ≡ true)) names []
+    (All-weaker (λ (n : Bytes). has n (made_leaf kind) ≡ true) (λ (n : Bytes). (unless_empty has n (made_leaf kind) ≡ true) × (unless_empty has n (made_leaf kind) ≡ true))
+    (λ n h. (fits_more has n (made_leaf kind) h, fits_more has n (made_leaf kind) h)) names fit) (refl, refl)
+
+-- folders are made, and the entry without a name in the last is taken out again
+pub made_each : (old mid new : Slots) (bound at end : ℕ) (names : Path) (first : Bytes) (has : Property) → All (λ name. name ≢ []) names → first ≢ []
+    → EachHas (unless_empty has) mid → new end [] ≡ None → ((i : ℕ) (m : Bytes) → ((i ≡ end) → (m ≡ []) → ⊥) → new i m ≡ mid i m)
+    → ((i : ℕ) (m : Bytes) → i < bound → ((i ≡ at) → (m ≡ first) → ⊥) → mid i m ≡ old i m)
+    → ((i : ℕ) (m : Bytes) (s : Slot) → bound ≤ i → mid i m ≡ Some s → (i ≡ end) ⊎ Contains names m) → EachHas has old → EachHas has new
+made_each old mid new bound at end names first has full named each_mid here others kept rungs each i m s is = elim (at_or_off i end m []) [
+  | inl x ↦ let none : new i m ≡ None = ap (λ k. new k m) x.0 ∙ ap (new end) x.1 ∙ here in absurd (cc (sym none ∙ is))
+  | inr off ↦
+      let stood : mid i m ≡ Some s = sym (others i m off) ∙ is in
+      elim (by_test (bytes_eq m [])) [
+        | inr f ↦ ap (λ b. if b then true else has m (leaf_in s)) (sym f) ∙ each_mid i m s stood
+        | inl t ↦
+            let empty : m ≡ [] = same_name m [] t in
+            elim (cases_lt i bound) [
+              | inl lt ↦ each i m s (sym (kept i m lt (λ _ e. named (sym e ∙ empty))) ∙ stood)
+              | inr ge ↦ elim (rungs i m s ge stood) [
+                | inl e ↦ absurd (off e empty)
+                | inr h ↦ absurd (All-contains (λ (name : Bytes). name ≢ []) names m full h empty)
+              ]
+            ]
+      ]
+]
+
+-- a name of the rest of a path
+pub in_front : (path : List (Bor (List ℕ))) (k : ℕ) → suc k < length (names (drop 1 path)) → get_or (names path) (suc k) [] ≡ get_or (names (drop 1 path)) k []
+in_front [] k lt = absurd (omega (arith, lt))
+in_front (p ∷ path) k lt = refl
+
+pub made_drop : (has : Property) (path : List (Bor (List ℕ))) (i : ℕ) (kind : Kind) → MayStandMade has kind (names path) → MayStandMade has kind (names (drop i path))
+made_drop has [] zero kind fit = fit
+made_drop has [] (suc i) kind fit = fit
+made_drop has (p ∷ path) zero kind fit = fit
+made_drop has (p ∷ path) (suc i) kind fit = made_drop has path i kind (λ k d lt. let more : suc k < length (names (p ∷ path)) = omega (arith, lt) in fit (suc k) d more)
+
+full_drop : (path : List (Bor (List ℕ))) (i : ℕ) → All (λ name. name ≢ []) (names path) → All (λ name. name ≢ []) (names (drop i path))
+full_drop [] zero full = full
+full_drop [] (suc i) full = full
+full_drop (p ∷ path) zero full = full
+full_drop (p ∷ path) (suc i) full = full_drop path i (λ k d lt. let more : suc k < length (names (p ∷ path)) = omega (arith, lt) in full (suc k) d more)
+
+pub full_rest : (path : List (Bor (List ℕ))) (i : ℕ) → NamesAreFull (names path) → All (λ name. name ≢ []) (names (drop i path))
+full_rest path i full = full_drop path i full.1

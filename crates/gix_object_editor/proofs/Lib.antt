@@ -17,3 +17,5 @@ pub mod WrittenFiles
 pub mod HandedSteps
 pub mod Folders
 pub mod Changes
+pub mod Asking
+pub mod Leafs

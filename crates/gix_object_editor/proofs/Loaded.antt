@@ -4,9 +4,6 @@ use Rattle.std.specs.Prelude.{bytes_eq, is_some, IsTrue, ◌↔◌}
 use Rattle.std.proofs.lemmas.List.{get_or-map, get_or_default, get_or-take, take-map, map-append, length-take}
 use Rattle.std.proofs.Math.Seq.{take-suc}
 use Rattle.gix_object_entries.specs.Entry.{Item}
-use Rattle.gix_object_entries.specs.Order.{name_cmp, is_tree}
-use Rattle.std.specs.declared.cmp.Ordering.TheVariants.{Less}
-use Rattle.std.specs.Ordering.{is_lt}
 use Rattle.gix_hash.specs.Id.{Id, null_id}
 use Rattle.gix_hash.specs.Order.{id_eq}
 use Rattle.gix_hash.specs.OrderLaws.{id_eq-same, id_eq-itself}
@@ -15,7 +12,6 @@ use Rattle.gix_object_editor.specs.declared.tree.editor.node.Slot.{Slot}
 use Rattle.gix_object_editor.specs.Files.{Bytes, Path, Trees, leaf_of, named, is_null, through, files_of_entry, files_of_tree}
 use Rattle.gix_object_editor.specs.Nodes.{Slots, StandsFor, leaf_in, child_of, child_or, files_of_slot, files_of_node, IsForest}
 use Rattle.gix_object_entries.specs.WellFormed.{IsWellFormed, HasNamesOnce}
-use Rattle.gix_object_lines.specs.Bytes.{Lacks}
 use Rattle.gix_object_editor.proofs.Paths.{same_name, name_itself, by_test, not_both}
 
 named-more : (xs : List Item) (x : Item) (m : Bytes) → named m xs ≡ None → bytes_eq m x.name ≡ true → named m (xs ++ x ∷ []) ≡ Some x

@@ -1,12 +1,12 @@
 -- Marks of opened trees, and what an edit leaves of those that it doesn't change.
-use Rattle.std.proofs.Common.{ℕ, zero, suc, ◌≡◌, ◌≢◌, ◌<◌, ◌≤◌, ◌⊎◌, Bool, true, false, List, [], ◌∷◌, ◌++◌, Option, Some, None, refl, sym, ap, subst, ◌∙◌, inl, inr, arith, length, get_or, slice_set, take, append-nil}
+use Rattle.std.proofs.Common.{ℕ, zero, suc, ◌≡◌, ◌≢◌, ◌<◌, ◌≤◌, ◌⊎◌, Bool, true, false, List, [], ◌∷◌, ◌++◌, Some, None, refl, sym, ap, subst, ◌∙◌, inl, inr, arith, length, get_or, slice_set, take}
 use Rattle.std.proofs.lemmas.Bool.{cases_eq, cases_lt}
 use Rattle.gix_object_editor.specs.declared.tree.editor.node.Node.{Node}
 use Rattle.gix_object_editor.specs.declared.tree.editor.node.Slot.{Slot}
 use Rattle.gix_object_editor.specs.Files.{Bytes, Path, Trees, through, files_of_entry}
 use Rattle.gix_object_editor.specs.Nodes.{Slots, slot_in, slots_of, child_or, child_of, leaf_in, files_of_slot, files_of_node, IsForest, Way, onto, LeadsTo}
-use Rattle.gix_object_editor.specs.Marks.{Mark, Marks, mark_below, mark_of, marks_of, AreMarkedBut, AreMarked, AreMarksKept, AreMarkedUp, IsMarkedFor, IsOnWay, AreOnPath, AreAsRead}
-use Rattle.gix_object_editor.proofs.Paths.{by_test, onto-append, onto-onto}
+use Rattle.gix_object_editor.specs.Marks.{Mark, Marks, mark_below, mark_of, marks_of, AreMarkedBut, AreMarked, AreMarksKept, AreMarkedUp, IsMarkedFor, IsOnWay, AreAsRead}
+use Rattle.gix_object_editor.proofs.Paths.{by_test, onto-append}
 use Rattle.gix_object_editor.proofs.Slots.{set_here, set_other, node_at}
 use Rattle.gix_object_editor.proofs.Opening.{at_or_off, same_through}
 use Rattle.gix_object_editor.proofs.Ways.{unique}

@@ -1,5 +1,5 @@
 -- An editor as its files.
-use Rattle.std.specs.Prelude.{ℕ, ◌≡◌, ◌≢◌, true, false, List, [], ◌∷◌, ◌++◌, map, Option, Some, None, IsTrue, ⊤}
+use Rattle.std.specs.Prelude.{ℕ, ◌≡◌, ◌≢◌, false, List, [], ◌∷◌, ◌++◌, map, Option, Some, None, Result, OnOk, OnErr, IsTrue, ⊤}
 use Rattle.std.specs.Borrow.{Bor}
 use Rattle.gix_hash.specs.Id.{Id, id_of}
 use Rattle.gix_hash.specs.declared.object_id.ObjectId.{ObjectId}
@@ -9,11 +9,12 @@ use Rattle.gix_object_find.specs.Table.{Table}
 use Rattle.gix_object_editor.specs.declared.tree.editor.state.Editor.{Editor}
 use Rattle.gix_object_editor.specs.declared.tree.editor.error.Error.{Error}
 use Rattle.gix_object_editor.specs.declared.tree.editor.error.Error.TheVariants.{EmptyPathComponent, FindExistingObject, CannotRemoveNonLeaf, MalformedTree, Memory}
-use Rattle.gix_object_editor.specs.Files.{Bytes, Path, Leaf, FileMap, Trees, NamesAreFull}
-use Rattle.gix_object_editor.specs.Nodes.{slots_of, files_of_node, AreFilled, LeadsTo}
-use Rattle.gix_object_editor.specs.Marks.{marks_of, AreAsRead}
+use Rattle.gix_object_editor.specs.Files.{Bytes, Path, Leaf, FileMap, Trees, HasStored, NamesAreFull}
+use Rattle.gix_object_editor.specs.Nodes.{slots_of, files_of_node, AreFilled}
+use Rattle.gix_object_editor.specs.Marks.{marks_of, IsChangedIn, AreAsRead}
 use Rattle.gix_object_editor.specs.Entries.{Property, EachHas}
 use Rattle.gix_object_editor.specs.Refusals.{OpeningFault}
+use Rattle.gix_object_editor.specs.Asked.{unopened_into}
 
 -- the files of the edited root, over a table of trees
 abbrev pub files_of : {S : Type 0} → Trees → Editor S → FileMap
@@ -21,7 +22,7 @@ files_of trees editor = files_of_node trees (slots_of editor.nodes.items) 0
 
 -- the tree at the path was opened, and an edit changed it, or one that lies in it
 abbrev pub IsChanged : {S : Type 0} → Editor S → Path → Type 0
-IsChanged editor path = (j : ℕ) × LeadsTo (slots_of editor.nodes.items) path j [] × ((marks_of editor.nodes.items j).changed ≡ true)
+IsChanged editor path = IsChangedIn editor.nodes.items path
 
 -- each opened tree that no edit changed has the files that the table has of its entry
 abbrev pub IsAsRead : {S : Type 0} → Trees → Editor S → Type 0
@@ -31,13 +32,33 @@ IsAsRead trees editor = AreAsRead trees (slots_of editor.nodes.items) (marks_of 
 abbrev pub EachEntryHas : {S : Type 0} → Property → Editor S → Type 0
 EachEntryHas has editor = EachHas has (slots_of editor.nodes.items)
 
+-- over each table of trees that has the stored ones, where the store answers by its table
+abbrev pub OverStored : Type 0 → Table → (Trees → Type 0) → Type 0
+OverStored honest table P = honest → (trees : Trees) → HasStored table trees → P trees
+
+-- the same where the call succeeds, and where it is refused
+abbrev pub OkOverStored : {X E : Type 0} → Type 0 → Table → Result X E → (Trees → Type 0) → Type 0
+OkOverStored honest table result P = honest
+    → OnOk result ((trees : Trees) → HasStored table trees → P trees)
+
+abbrev pub ErrOverStored : {X E : Type 0} → Type 0 → Table → Result X E → (Trees → Type 0) → Type 0
+ErrOverStored honest table result P = honest
+    → OnErr result ((trees : Trees) → HasStored table trees → P trees)
+
+-- the trees that aren't opened into which a path leads, over a table of trees
+abbrev pub asked_by : {S : Type 0} → Editor S → Path → Trees → List Id
+asked_by editor path trees = unopened_into trees (slots_of editor.nodes.items) 0 path
+
+abbrev pub IsNonLeaf : Error → Type 0
+IsNonLeaf EmptyPathComponent = ⊥
+IsNonLeaf (FindExistingObject error) = ⊥
+IsNonLeaf (CannotRemoveNonLeaf filename) = ⊤
+IsNonLeaf (MalformedTree oid) = ⊥
+IsNonLeaf Memory = ⊥
+
 -- what stands at the second path lies in the tree at the first
 abbrev pub IsAbove : Path → Path → Type 0
 IsAbove tree path = (rest : Path) × (rest ≢ []) × (tree ++ rest ≡ path)
-
--- the first path begins the second
-abbrev pub Begins : Path → Path → Type 0
-Begins tree path = (rest : Path) × (tree ++ rest ≡ path)
 
 abbrev pub names_of : List (Bor (List ℕ)) → Path
 names_of path = map (λ name. name.now) path
@@ -53,18 +74,22 @@ IsTreeNamed id (Some leaf) = (leaf.id ≡ id) × IsTrue (is_tree_value leaf.mode
 -- the path leads through the tree of this id: without that tree, its entry stands at a beginning of the path
 abbrev pub LeadsThrough : (Trees → FileMap) → Path → Id → Type 0
 LeadsThrough files path id =
-    (front : Path) × (name : Bytes) × (rest : Path) × (front ++ name ∷ rest ≡ path) × ((trees : Trees) → trees id ≡ None → IsTreeNamed id (files trees front))
+    (front : Path) × (name : Bytes) × (rest : Path) × (front ++ name ∷ rest ≡ path)
+    × ((trees : Trees) → trees id ≡ None → IsTreeNamed id (files trees front))
 
 -- the same, or the tree stands at the path's end
 abbrev pub LeadsInto : (Trees → FileMap) → Path → Id → Type 0
-LeadsInto files path id = (front : Path) × (rest : Path) × (front ++ rest ≡ path) × ((trees : Trees) → trees id ≡ None → IsTreeNamed id (files trees front))
+LeadsInto files path id = (front : Path) × (rest : Path) × (front ++ rest ≡ path)
+    × ((trees : Trees) → trees id ≡ None → IsTreeNamed id (files trees front))
 
 -- why an edit at a path is refused: a tree is told that the path leads through
 abbrev pub EditFault : Type 0 → Type 0 → Table → Path → (Id → Type 0) → Error → Type 0
 EditFault honest may_fail table path Through EmptyPathComponent = NamesAreFull path → ⊥
-EditFault honest may_fail table path Through (FindExistingObject error) = (id : Id) × Through id × OpeningFault honest may_fail table id (FindExistingObject error)
+EditFault honest may_fail table path Through (FindExistingObject error) = (id : Id) × Through id
+    × OpeningFault honest may_fail table id (FindExistingObject error)
 EditFault honest may_fail table path Through (CannotRemoveNonLeaf filename) = ⊥
-EditFault honest may_fail table path Through (MalformedTree oid) = (id : Id) × Through id × OpeningFault honest may_fail table id (MalformedTree oid)
+EditFault honest may_fail table path Through (MalformedTree oid) = (id : Id) × Through id
+    × OpeningFault honest may_fail table id (MalformedTree oid)
 EditFault honest may_fail table path Through Memory = ⊤
 
 -- each entry of an editor that isn't null has a file: none names a tree without files
@@ -73,12 +98,16 @@ IsFilled trees editor = AreFilled trees (slots_of editor.nodes.items)
 
 -- a folder stands at the path: each table of trees, where no entry names a tree without files, has a file below it
 abbrev pub IsFolder : (Trees → Type 0) → (Trees → FileMap) → Path → Type 0
-IsFolder Fit files path = (trees : Trees) → Fit trees → (name : Bytes) × (rest : Path) × (file : Leaf) × (files trees (path ++ name ∷ rest) ≡ Some file)
+IsFolder Fit files path = (trees : Trees) → Fit trees → (name : Bytes) × (rest : Path)
+    × (file : Leaf) × (files trees (path ++ name ∷ rest) ≡ Some file)
 
 -- why a file isn't removed
 abbrev pub LeafFault : Type 0 → Type 0 → Table → Path → (Id → Type 0) → Type 0 → Error → Type 0
 LeafFault honest may_fail table path Into Folder EmptyPathComponent = NamesAreFull path → ⊥
-LeafFault honest may_fail table path Into Folder (FindExistingObject error) = (id : Id) × Into id × OpeningFault honest may_fail table id (FindExistingObject error)
-LeafFault honest may_fail table path Into Folder (CannotRemoveNonLeaf filename) = ((front : Path) × (path ≡ front ++ filename ∷ [])) × Folder
-LeafFault honest may_fail table path Into Folder (MalformedTree oid) = (id : Id) × Into id × OpeningFault honest may_fail table id (MalformedTree oid)
+LeafFault honest may_fail table path Into Folder (FindExistingObject error) = (id : Id) × Into id
+    × OpeningFault honest may_fail table id (FindExistingObject error)
+LeafFault honest may_fail table path Into Folder (CannotRemoveNonLeaf filename) =
+    ((front : Path) × (path ≡ front ++ filename ∷ [])) × Folder
+LeafFault honest may_fail table path Into Folder (MalformedTree oid) = (id : Id) × Into id
+    × OpeningFault honest may_fail table id (MalformedTree oid)
 LeafFault honest may_fail table path Into Folder Memory = ⊤

@@ -30,10 +30,15 @@ FileMap = Path → Option Leaf
 abbrev pub Trees : Type 0
 Trees = Id → Option (List Item)
 
+-- the table without trees: over it an entry that isn't null is a file, unless a tree was opened for it
+abbrev pub no_trees : Trees
+no_trees id = None
+
 -- the table of trees has each stored tree
 abbrev pub HasStored : stored.Table → Trees → Type 0
 HasStored table trees =
-    (id : Id) (content : List ℕ) (items : List Item) → table id ≡ Some (record { kind = kinds.Tree; content = content })
+    (id : Id) (content : List ℕ) (items : List Item)
+    → table id ≡ Some (record { kind = kinds.Tree; content = content })
     → SpellsTree id.kind content items → trees id ≡ Some items
 
 -- ---- unfolding
@@ -64,15 +69,18 @@ unless_tree (Some tree) leaf = None
 
 -- the files of an entry, below it or itself; an entry with the null id has none
 abbrev pub files_of_entry : Trees → Path → Leaf → Option Leaf
-files_of_entry trees [] leaf = if is_null leaf.id then None else unless_tree (tree_under trees leaf) leaf
+files_of_entry trees [] leaf = if is_null leaf.id then None else unless_tree
+    (tree_under trees leaf) leaf
 files_of_entry trees (name ∷ rest) leaf =
     if is_null leaf.id then None
-    else through (tree_under trees leaf) (λ items. through (named name items) (λ item. files_of_entry trees rest (leaf_of item)))
+    else through (tree_under trees leaf)
+    (λ items. through (named name items) (λ item. files_of_entry trees rest (leaf_of item)))
 
 -- the files of a tree
 abbrev pub files_of_tree : Trees → List Item → FileMap
 files_of_tree trees items [] = None
-files_of_tree trees items (name ∷ rest) = through (named name items) (λ item. files_of_entry trees rest (leaf_of item))
+files_of_tree trees items (name ∷ rest) = through (named name items)
+    (λ item. files_of_entry trees rest (leaf_of item))
 
 -- the entry has a file: itself, or one below it
 abbrev pub HasFile : Trees → Leaf → Type 0
@@ -97,11 +105,16 @@ put_at trees leaf None old = old
 -- all at or below the path, and each file above it, is taken out, and what the entry has comes there: itself, or the files of the
 -- tree that it leads to
 abbrev pub put : Trees → Path → Leaf → FileMap → FileMap
-put trees p leaf files q = put_at trees leaf (behind p q) (if is_some (behind q p) then None else files q)
+put trees p leaf files q = put_at trees leaf (behind p q)
+    (if is_some (behind q p) then None else files q)
 
 -- each file at a beginning of the path, or at its end, is taken out
 abbrev pub cleared : Path → FileMap → FileMap
 cleared p files q = if is_some (behind q p) then None else files q
+
+-- the first path begins the second
+abbrev pub Begins : Path → Path → Type 0
+Begins front path = (rest : Path) × (front ++ rest ≡ path)
 
 abbrev pub SameFiles : FileMap → FileMap → Type 0
 SameFiles a b = (q : Path) → a q ≡ b q
@@ -109,6 +122,11 @@ SameFiles a b = (q : Path) → a q ≡ b q
 -- no file stands below the path
 abbrev pub HasNoneBelow : Path → FileMap → Type 0
 HasNoneBelow p files = (name : Bytes) (rest : Path) → files (p ++ name ∷ rest) ≡ None
+
+-- a file stands below the path
+abbrev pub HasSomeBelow : Path → FileMap → Type 0
+HasSomeBelow p files = (name : Bytes) × (rest : Path) × (file : Leaf)
+    × (files (p ++ name ∷ rest) ≡ Some file)
 
 -- a path has a name, and none of its names is empty
 abbrev pub NamesAreFull : Path → Type 0

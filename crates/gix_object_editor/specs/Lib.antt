@@ -2,6 +2,7 @@ pub mod Files
 pub mod Nodes
 pub mod Marks
 pub mod Refusals
+pub mod Asked
 pub mod Editor
 pub mod Writing
 pub mod Written

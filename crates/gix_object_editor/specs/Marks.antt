@@ -26,6 +26,11 @@ marks_of [] i = mark_below 0 false
 marks_of (node ∷ nodes) zero = mark_of node
 marks_of (node ∷ nodes) (suc i) = marks_of nodes i
 
+-- the tree at the path was opened, and an edit changed it, or one that lies in it
+abbrev pub IsChangedIn : List Node → Path → Type 0
+IsChangedIn nodes path = (j : ℕ) × LeadsTo (slots_of nodes) path j []
+    × ((marks_of nodes j).changed ≡ true)
+
 -- the way leads through the tree
 abbrev pub IsOnWay : Slots → Path → ℕ → Type 0
 IsOnWay slots way j = (below : Path) × (front : Path) × (way ≡ below ++ front) × Way slots front j
@@ -36,21 +41,26 @@ IsOnWay slots way j = (below : Path) × (front : Path) × (way ≡ below ++ fron
 pub record AreMarked (slots : Slots) (marks : Marks) (bound : ℕ) : Type 0 where
   pub before : (i : ℕ) → 0 < i → i < bound → (marks i).parent < i
   pub up : (i : ℕ) (name : Bytes) (c : ℕ) → child_of (slots i name) ≡ Some c → (marks c).parent ≡ i
-  pub closed : (i : ℕ) (name : Bytes) (c : ℕ) → child_of (slots i name) ≡ Some c → (marks c).changed ≡ true → (marks i).changed ≡ true
+  pub closed : (i : ℕ) (name : Bytes) (c : ℕ) → child_of (slots i name) ≡ Some c
+      → (marks c).changed ≡ true → (marks i).changed ≡ true
 
 -- the same, but that this tree may lack its mark
 pub record AreMarkedBut (at : ℕ) (slots : Slots) (marks : Marks) (bound : ℕ) : Type 0 where
   pub before : (i : ℕ) → 0 < i → i < bound → (marks i).parent < i
   pub up : (i : ℕ) (name : Bytes) (c : ℕ) → child_of (slots i name) ≡ Some c → (marks c).parent ≡ i
-  pub closed : (i : ℕ) (name : Bytes) (c : ℕ) → child_of (slots i name) ≡ Some c → (marks c).changed ≡ true → ((marks i).changed ≡ true) ⊎ (i ≡ at)
+  pub closed : (i : ℕ) (name : Bytes) (c : ℕ) → child_of (slots i name) ≡ Some c
+      → (marks c).changed ≡ true → ((marks i).changed ≡ true) ⊎ (i ≡ at)
 
 -- nodes are put behind the others, all changed or none, and no other mark changes
-pub record AreMarksKept (state : Bool) (old new : Slots) (was now : Marks) (bound more : ℕ) : Type 0 where
+pub record AreMarksKept (state : Bool) (old new : Slots) (was now : Marks)
+    (bound more : ℕ) : Type 0 where
   pub same : (i : ℕ) → i < bound → now i ≡ was i
   pub fresh : (i : ℕ) → bound ≤ i → i < more → (now i).changed ≡ state
   pub before : (i : ℕ) → bound ≤ i → i < more → (now i).parent < i
-  pub up : (i : ℕ) (name : Bytes) (c : ℕ) → child_of (new i name) ≡ Some c → bound ≤ c → (now c).parent ≡ i
-  pub links : (i : ℕ) (name : Bytes) (c : ℕ) → child_of (new i name) ≡ Some c → c < bound → new i name ≡ old i name
+  pub up : (i : ℕ) (name : Bytes) (c : ℕ) → child_of (new i name) ≡ Some c → bound ≤ c
+      → (now c).parent ≡ i
+  pub links : (i : ℕ) (name : Bytes) (c : ℕ) → child_of (new i name) ≡ Some c → c < bound
+      → new i name ≡ old i name
 
 -- an opened tree and those that it lies in are marked, and no other
 pub record AreMarkedUp (slots : Slots) (was now : Marks) (at bound : ℕ) : Type 0 where
@@ -76,14 +86,16 @@ rung_parent at first (suc k) = first + k
 -- the trees from this number on lie on the path, above its end
 abbrev pub AreOnPath : Slots → Path → ℕ → ℕ → Type 0
 AreOnPath slots path bound more =
-    (j : ℕ) → bound ≤ j → j < more → (front : Path) × (rest : Path) × (rest ≢ []) × (front ++ rest ≡ path) × LeadsTo slots front j []
+    (j : ℕ) → bound ≤ j → j < more → (front : Path) × (rest : Path) × (rest ≢ [])
+    × (front ++ rest ≡ path) × LeadsTo slots front j []
 
 -- ---- what the unchanged ones are
 
 -- each opened tree that no edit changed has the files that the table has of its entry
 abbrev pub AreAsRead : Trees → Slots → Marks → Type 0
 AreAsRead trees slots marks =
-    (i : ℕ) (name : Bytes) (s : Slot) (c : ℕ) → slots i name ≡ Some s → child_of (Some s) ≡ Some c → (marks c).changed ≡ false
+    (i : ℕ) (name : Bytes) (s : Slot) (c : ℕ) → slots i name ≡ Some s → child_of (Some s) ≡ Some c
+    → (marks c).changed ≡ false
     → (rest : Path) → files_of_slot trees slots rest s ≡ files_of_entry trees rest (leaf_in s)
 
 -- ---- without the unchanged ones

@@ -44,7 +44,8 @@ child_or (Some c) opened closed = opened c.0
 abbrev pub files_of_slot : Trees → Slots → Path → Slot → Option Leaf
 files_of_slot trees slots [] s = child_or s.child (λ c. None) (files_of_entry trees [] (leaf_in s))
 files_of_slot trees slots (name ∷ rest) s =
-    child_or s.child (λ c. through (slots c name) (files_of_slot trees slots rest)) (files_of_entry trees (name ∷ rest) (leaf_in s))
+    child_or s.child (λ c. through (slots c name) (files_of_slot trees slots rest))
+    (files_of_entry trees (name ∷ rest) (leaf_in s))
 
 -- the files of a node
 abbrev pub files_of_node : Trees → Slots → ℕ → FileMap
@@ -53,10 +54,12 @@ files_of_node trees slots i (name ∷ rest) = through (slots i name) (files_of_s
 
 -- each entry that isn't null has a file, where no tree was opened for it
 abbrev pub AreFilled : Trees → Slots → Type 0
-AreFilled trees slots = (i : ℕ) (m : Bytes) (s : Slot) → slots i m ≡ Some s → s.child ≡ None → is_null (id_of s.oid) ≡ false → HasFile trees (leaf_in s)
+AreFilled trees slots = (i : ℕ) (m : Bytes) (s : Slot) → slots i m ≡ Some s → s.child ≡ None
+    → is_null (id_of s.oid) ≡ false → HasFile trees (leaf_in s)
 
 abbrev pub HasFileBelow : Trees → Slots → ℕ → Type 0
-HasFileBelow trees slots i = (m : Bytes) × (rest : Path) × (file : Leaf) × (files_of_node trees slots i (m ∷ rest) ≡ Some file)
+HasFileBelow trees slots i = (m : Bytes) × (rest : Path) × (file : Leaf)
+    × (files_of_node trees slots i (m ∷ rest) ≡ Some file)
 
 -- an unopened slot stands for an entry, or none for none
 abbrev pub StandsFor : Option Slot → Option Item → Type 0
@@ -67,11 +70,14 @@ StandsFor (Some s) (Some item) = (leaf_in s ≡ leaf_of item) × (s.child ≡ No
 
 -- the entries are those of the tree that is stored under the id
 abbrev pub IsReadTree : Type 0 → Table → Id → List Item → Type 0
-IsReadTree honest table id items = (content : List ℕ) × (honest → Stands table id kinds.Tree content) × SpellsTree id.kind content items
+IsReadTree honest table id items = (content : List ℕ)
+    × (honest → Stands table id kinds.Tree content) × SpellsTree id.kind content items
 
 -- the node has the entries that each table of trees with the stored ones has under the id
 abbrev pub OpensTree : Table → Id → Node → Type 0
-OpensTree table id node = (items : List Item) × ((m : Bytes) → StandsFor (slot_in node m) (named m items)) × ((trees : Trees) → HasStored table trees → trees id ≡ Some items)
+OpensTree table id node = (items : List Item)
+    × ((m : Bytes) → StandsFor (slot_in node m) (named m items))
+    × ((trees : Trees) → HasStored table trees → trees id ≡ Some items)
 
 -- ---- the invariant
 
@@ -85,7 +91,8 @@ pub record IsForest (slots : Slots) (bound : ℕ) : Type 0 where
   pub rooted : 0 < bound
   pub forward : (i : ℕ) (name : Bytes) (c : ℕ) → child_of (slots i name) ≡ Some c → i < c
   pub within : (i : ℕ) (name : Bytes) (c : ℕ) → child_of (slots i name) ≡ Some c → c < bound
-  pub one : (i j c : ℕ) (name other : Bytes) → child_of (slots i name) ≡ Some c → child_of (slots j other) ≡ Some c → (i ≡ j) × (name ≡ other)
+  pub one : (i j c : ℕ) (name other : Bytes) → child_of (slots i name) ≡ Some c
+      → child_of (slots j other) ≡ Some c → (i ≡ j) × (name ≡ other)
 
 -- ---- walking down
 
@@ -105,18 +112,24 @@ LeadsTo slots path j rest = (way : Path) × Way slots way j × (onto way rest �
 
 -- the path's last name is one of this opened tree, to which the others lead down
 abbrev pub IsPutIn : Slots → Path → ℕ → Type 0
-IsPutIn slots path j = (front : Path) × (name : Bytes) × (path ≡ front ++ name ∷ []) × LeadsTo slots front j []
+IsPutIn slots path j = (front : Path) × (name : Bytes) × (path ≡ front ++ name ∷ [])
+    × LeadsTo slots front j []
 
 -- an opened tree's number, or that no file stands below the name
 abbrev pub IsFolderAt : Slots → ℕ → Bytes → Option NodeId → Type 0
 IsFolderAt slots at name (Some c) = child_of (slots at name) ≡ Some c.0
-IsFolderAt slots at name None = (trees : Trees) (m : Bytes) (rest : Path) → through (slots at name) (files_of_slot trees slots (m ∷ rest)) ≡ None
+IsFolderAt slots at name None = (trees : Trees) (m : Bytes) (rest : Path)
+    → through (slots at name) (files_of_slot trees slots (m ∷ rest)) ≡ None
 
 -- a tree's entry that no tree was opened for
 pub record IsUnopened (s : Slot) : Type 0 where
   pub closed : s.child ≡ None
   pub is_tree : is_tree_value s.mode.value ≡ true
   pub isnt_null : is_null (id_of s.oid) ≡ false
+
+-- this entry stands there, and no tree was opened for it
+abbrev pub IsEntry : Option Slot → Leaf → Type 0
+IsEntry o leaf = (s : Slot) × (o ≡ Some s) × (leaf_in s ≡ leaf) × (s.child ≡ None)
 
 -- the path leads through the unopened tree of this id, and on
 pub record IsStoppedAt (slots : Slots) (path : Path) (id : Id) : Type 0 where
@@ -131,11 +144,14 @@ pub record IsStoppedAt (slots : Slots) (path : Path) (id : Id) : Type 0 where
   pub id_is : id_of slot.oid ≡ id
 
 -- some trees were opened, and no file changed
-pub record IsOpened (honest : Type 0) (table : Table) (old new : Slots) (bound more : ℕ) : Type 0 where
+pub record IsOpened (honest : Type 0) (table : Table) (old new : Slots)
+    (bound more : ℕ) : Type 0 where
   pub longer : bound ≤ more
   pub forest : IsForest new more
-  pub links : (i : ℕ) (m : Bytes) (c : ℕ) → child_of (old i m) ≡ Some c → child_of (new i m) ≡ Some c
-  pub files : honest → (trees : Trees) → HasStored table trees → (q : Path) (i : ℕ) → i < bound → files_of_node trees new i q ≡ files_of_node trees old i q
+  pub links : (i : ℕ) (m : Bytes) (c : ℕ) → child_of (old i m) ≡ Some c
+      → child_of (new i m) ≡ Some c
+  pub files : honest → (trees : Trees) → HasStored table trees → (q : Path) (i : ℕ) → i < bound
+      → files_of_node trees new i q ≡ files_of_node trees old i q
 
 -- ---- trees with one slot each
 
@@ -161,4 +177,5 @@ entry_in name (Some s) = Some (record { mode = mode_of s.mode; name = name; id =
 abbrev pub entry_at : Slots → ℕ → Path → Option Item
 entry_at slots i [] = None
 entry_at slots i (name ∷ []) = entry_in name (slots i name)
-entry_at slots i (name ∷ next ∷ rest) = through (child_of (slots i name)) (λ c. entry_at slots c (next ∷ rest))
+entry_at slots i (name ∷ next ∷ rest) = through (child_of (slots i name))
+    (λ c. entry_at slots c (next ∷ rest))

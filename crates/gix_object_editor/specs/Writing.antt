@@ -45,7 +45,9 @@ object_item name object = record { mode = mode_of object.0; name = name; id = id
 
 -- the entry that a slot is written as
 abbrev pub written_item : Ids → Bytes → Slot → Option Item
-written_item ids name s = child_or s.child (λ c. through (ids c) (λ id. unless_null (folder_item name id))) (unless_null (slot_item name s))
+written_item ids name s = child_or s.child
+    (λ c. through (ids c) (λ id. unless_null (folder_item name id)))
+    (unless_null (slot_item name s))
 
 -- the entries are what these slots are written as
 abbrev pub HasEntries : Ids → (Bytes → Option Slot) → List Item → Type 0

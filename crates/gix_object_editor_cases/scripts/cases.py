@@ -191,10 +191,27 @@ def count_rows(git):
     leaf, nothing = "remove_leaf:" + path_word((b"a", b"b")), "remove:" + path_word((b"a", b"b", b"z"))
     row(git, nested, [], ["written", deep, "written", "written"], ["1", "ok", "3", "3"])
     row(git, nested, [], [leaf, "written", nothing, "written", flat, "written"], [f"CannotRemoveNonLeaf({b'b'.hex()})", "1", "ok", "1", "ok", "1"])
+    again = [upsert((b"a", b"b", b"e"), "100644", x), upsert((b"a", b"f"), "100644", y), upsert((b"h",), "40000", git.entry(nested, (b"h",)).split()[1])]
+    row(git, nested, [], again + ["written", upsert((b"a", b"f"), "100755", y), "written"], ["ok"] * 3 + ["1", "ok", "2"])
+    row(git, nested, [], [f"at:{path_word((b'a',))}:{upsert((b'f',), '100644', y)}", "written"], ["ok", "1"])
     row(git, nested, [], [f"at:{path_word((b'a',))}:get:{path_word((b'f',))}", "written"], [f"100644 {y}", "1"])
     row(git, nested, [], [f"at:{path_word((b'a',))}:remove:{path_word((b'f',))}", "written"], ["ok", "2"])
     row(git, nested, [], [f"at:{path_word((b'n', b'm'))}:{upsert((b'f',), '100644', x)}", "written"], ["ok", "3"])
     row(git, nested, [], [nothing.replace(b"z".hex(), b"e".hex()), "written", "write"], ["ok", "2", f"{git.tree({(b'a', b'f'): ('100644', y), (b'g',): ('100755', x), (b'h', b'i'): ('100755', y)})} known+"])
+
+
+def odd_rows(git, content, refusal):
+    """Edits through a folder `d` whose content is no well-formed tree, each in an editor of its own."""
+    x = git.blobs[0]
+    odd = git.run("hash-object", "-t", "tree", "--literally", "-w", "--stdin", data=content).decode().strip()
+    root = b"40000 d\0" + bytes.fromhex(odd)
+    whole = git.run("hash-object", "-t", "tree", "--literally", "-w", "--stdin", data=root).decode().strip()
+    at_end, below_it = path_word((b"d",)), path_word((b"d", b"e"))
+    for edit in [upsert((b"d", b"e"), "100644", x), "remove:" + below_it, "remove_leaf:" + below_it, "remove_leaf:" + at_end, f"at:{at_end}:get:{below_it}", f"at:{below_it}:remove:{at_end}"]:
+        rows.append((f"{git.kind} {root.hex()} {content.hex()} {edit} lookups write", f"{refusal.format(odd)} 1 asked 1 {whole} known+"))
+    for edit in ["remove:" + at_end, upsert((b"d",), "100644", x)]:
+        gone = git.tree({} if edit.startswith("remove") else {(b"d",): ("100644", x)})
+        rows.append((f"{git.kind} {root.hex()} {content.hex()} {edit} lookups write", f"ok 0 asked 0 {gone} known+"))
 
 
 def chosen_rows(git):
@@ -208,12 +225,10 @@ def chosen_rows(git):
         row(git, nested, [], [edit, "lookups", "write"], ["EmptyPathComponent", "0 asked 0", f"{nested} known+"])
     for path in [(b"a", b"b", b"c"), (b"a", b"b", b"c", b"d")]:
         rows.append((f"{git.kind} {git.content(nested).hex()} - {upsert(path, '100644', x)} write", f"FindExistingObject {nested} known-"))
-    a_tree = bytes.fromhex(git.run("ls-tree", nested, "a").split()[2].decode())
-    for content in [b"100644 b\0" + bytes.fromhex(x) + b"100644 a\0" + bytes.fromhex(y), b"100644 a\0" + bytes.fromhex(x) * 1 + b"100644 a\0" + bytes.fromhex(y), b"100644 a/b\0" + bytes.fromhex(x), b"100644 \0" + bytes.fromhex(x)]:
-        odd = git.run("hash-object", "-t", "tree", "--literally", "-w", "--stdin", data=content).decode().strip()
-        root = b"40000 d\0" + bytes.fromhex(odd)
-        whole = git.run("hash-object", "-t", "tree", "--literally", "-w", "--stdin", data=root).decode().strip()
-        rows.append((f"{git.kind} {root.hex()} {content.hex()} {upsert((b'd', b'e'), '100644', x)} lookups write", f"MalformedTree({odd}) 1 asked 1 {whole} known+"))
+    for content in [b"100644 b\0" + bytes.fromhex(x) + b"100644 a\0" + bytes.fromhex(y), b"100644 a\0" + bytes.fromhex(x) + b"100644 a\0" + bytes.fromhex(y), b"100644 a/b\0" + bytes.fromhex(x), b"100644 \0" + bytes.fromhex(x)]:
+        odd_rows(git, content, "MalformedTree({})")
+    for content in [b"100644 a" + bytes.fromhex(x).replace(b"\0", b"0"), b"100644 a\0" + bytes.fromhex(x)[:-1], b"00100644 a\0" + bytes.fromhex(x)]:
+        odd_rows(git, content, "FindExistingObject")
     many = git.tree({(b"a",): ("100644", x), (b"a-b",): ("100644", x), (b"a.b",): ("100644", x), (b"a0",): ("100644", x)})
     folder = git.tree({(b"a", b"z"): ("100644", y), (b"a-b",): ("100644", x), (b"a.b",): ("100644", x), (b"a0",): ("100644", x)})
     row(git, many, [], [upsert((b"a", b"z"), "100644", y), "write"], ["ok", f"{folder} known+"])

@@ -24,28 +24,30 @@ use Rattle.gix_object_editor.specs.declared.tree.editor.error.Error.TheVariants 
 use Rattle.gix_object_editor.specs.declared.tree.editor.node.NodeId.{NodeId}
 use Rattle.gix_object_editor.specs.declared.tree.editor.node.Slot.{Slot}
 use Rattle.gix_object_editor.specs.Entries.{EachHas}
-use Rattle.gix_object_editor.specs.Editor.{EditFault, IsTreeNamed, LeadsInto, LeadsThrough, LeafFault}
-use Rattle.gix_object_editor.specs.Files.{Path, Leaf, Trees, HasFile as HasEntryFile, HasStored, named, through, tree_under, unless_tree, files_of_entry, files_of_tree, leaf_of, is_null, NamesAreFull}
-use Rattle.gix_object_editor.specs.Nodes.{AreFilled, Slots, child_or, files_of_node, files_of_slot, leaf_in}
+use Rattle.gix_object_editor.specs.declared.tree.editor.state.Editor.{Editor}
+use Rattle.gix_object_editor.specs.Editor.{EachEntryHas, EditFault, IsFilled, IsFolder, IsTreeNamed, LeadsInto, LeadsThrough, LeafFault, files_of}
+use Rattle.gix_object_editor.specs.Files.{Path, Leaf, Trees, HasFile as HasEntryFile, HasStored, named, through, tree_under, unless_tree, files_of_entry, files_of_tree, leaf_of, is_null, NamesAreFull, SameFiles}
+use Rattle.gix_object_editor.specs.Nodes.{AreFilled, Slots, child_or, files_of_node, files_of_slot, leaf_in, slots_of}
 use Rattle.gix_object_editor.proofs.Marked.{closed_files}
 use Rattle.history_model.specs.Bytes.{Bytes}
 use Rattle.history_model.specs.FileMap as model
-use Rattle.history_model.specs.FileMap.{FileMap, components, inside, is_path, some_refused}
+use Rattle.history_model.specs.FileMap.{FileMap, components, has_below, inside, is_path, some_refused}
 use Rattle.history_model.specs.Objects.{folder_id, root}
 use Rattle.history_model.proofs.IdLemmas.{id_itself}
 use Rattle.history_model.proofs.WholeLists.{In, all_in, clash, either, none_is_some, some_inside}
 use Rattle.history_model.proofs.WholeRoots.{all_values, has_all}
 use Rattle.history_files.specs.Unfolding.{HasTrees, IsInTable, file_leaf}
 use Rattle.history_files.specs.Edits.{as_edited, as_unread, unless_memory}
-use Rattle.history_files.specs.Entries.{is_filename, names_only}
-use Rattle.history_files.specs.Opening.{MakingFault}
+use Rattle.history_files.specs.Entries.{is_filename, names_only, own_folders}
+use Rattle.history_files.specs.Opening.{EditsFiles, MakingFault}
 use Rattle.history_files.specs.declared.edits.EditError.TheVariants.{Broken}
 use Rattle.history_files.proofs.Components.{some_parts}
 use Rattle.history_files.proofs.Handed.{IsInner, NamesOne, file_no_tree, folder_files, names_one, of_all}
 use Rattle.history_files.proofs.InOrder.{root_well_formed}
 use Rattle.history_files.proofs.Inside.{HasFile}
 use Rattle.history_files.proofs.Items.{all_of, digest_kind, items, items_spelled}
-use Rattle.history_files.proofs.Named.{items_have, part_name}
+use Rattle.history_files.proofs.LawLemmas.{folders_agree}
+use Rattle.history_files.proofs.Named.{base_inner, items_have, own_deeper, part_name}
 use Rattle.history_files.proofs.OneList.{named_is}
 use Rattle.history_files.proofs.Parsed.{has_stored, trees_in}
 use Rattle.history_files.proofs.Unfolded.{plain_map, root_unfolds, tree_there}
@@ -246,5 +248,36 @@ pub full_path : (path : Bytes) → is_path path ≡ true → NamesAreFull (compo
 full_path path fine =
     let some = some_parts path in (
       λ e. cc (sym some.2 ∙ e),
-      all_of (λ (name : Bytes). name ≢ []) (components path) (λ name i e. clash (ap is_filename e) (sym (ap is_filename (sym e)) ∙ part_name path name fine i)),
+      all_of (λ (name : Bytes). name ≢ []) (components path) (λ name i e. clash (part_name path name fine i) (ap is_filename e)),
     )
+
+-- ---- an edit of an editor
+
+module _ {S : Type 0} (honest may_fail : Type 0) (answers : honest) (kind : Kind) (table : Table) (base files : FileMap) (made : List model.Edit) (old new : Editor S) (can : EditsFiles table kind base files old)
+    (each : EachEntryHas (names_only kind (own_folders base)) new) (path : Bytes) (fine : is_path path ≡ true) (names : Path) (are : names ≡ components path) where
+  inner_of : (g : FileMap) → In g (own_folders base) → IsInner kind table (own_folders base) g
+  inner_of = base_inner kind table base can.map can.trees
+
+  full : NamesAreFull names
+  full = subst NamesAreFull (sym are) (full_path path fine)
+
+  pub put_fault : (error : editor.Error) → EditFault honest may_fail table names (LeadsThrough (λ trees. files_of trees new) names) error → MakingFault may_fail files made (as_edited error)
+  put_fault error h =
+      edit_fault kind table (own_folders base) inner_of (own_deeper base) honest may_fail answers files made names (LeadsThrough (λ trees. files_of trees new) names) full
+      (λ id led. led_through kind table (own_folders base) inner_of (own_deeper base) id (slots_of new.nodes.items) each names led) error h
+
+  pub remove_fault : SameFiles (files_of (trees_in table) new) (files_of (trees_in table) old) → (has_below files path ≡ true → some_refused files made ≡ true) → (error : editor.Error)
+      → LeafFault honest may_fail table names (LeadsInto (λ trees. files_of trees new) names) (IsFolder (λ trees. IsFilled trees new) (λ trees. files_of trees new) names) error → MakingFault may_fail files made (as_edited error)
+  remove_fault same refused error h =
+      leaf_fault kind table (own_folders base) inner_of (own_deeper base) honest may_fail answers files made names (LeadsInto (λ trees. files_of trees new) names)
+      (IsFolder (λ trees. IsFilled trees new) (λ trees. files_of trees new) names) full
+      (λ id led. led_into kind table (own_folders base) inner_of (own_deeper base) id (slots_of new.nodes.items) each names led) folder error h
+    where
+      folder : IsFolder (λ trees. IsFilled trees new) (λ trees. files_of trees new) names → some_refused files made ≡ true
+      folder there =
+          let found = there (trees_in table) (all_filled kind table (own_folders base) inner_of (own_deeper base) (slots_of new.nodes.items) each) in
+          go (has_below files path) refl found.0 found.1 found.2 (ap (λ ps. files_of (trees_in table) old (ps ++ found.0 ∷ found.1)) (sym are) ∙ sym (same (names ++ found.0 ∷ found.1)) ∙ found.3)
+        where
+          go : (b : Bool) → has_below files path ≡ b → (name : Bytes) (rest : Path) (file : Leaf) → files_of (trees_in table) old (components path ++ name ∷ rest) ≡ Some file → some_refused files made ≡ true
+          go true e name rest file at = refused e
+          go false e name rest file at = none_is_some file (sym ((folders_agree kind files (files_of (trees_in table) old) path (can.unfolds (trees_in table) (has_stored table))).0 e name rest) ∙ at)

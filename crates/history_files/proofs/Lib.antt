@@ -21,3 +21,6 @@ pub mod Named
 pub mod GivenTrees
 pub mod StandInEdits
 pub mod Faults
+pub mod EmptyFiles
+pub mod Outcome
+pub mod Leftover

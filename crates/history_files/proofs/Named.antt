@@ -103,7 +103,7 @@ module _ (kind : Kind) (folders : List FileMap) where
   may_put path RemoveFile fine = tt
 
   path_of : (path : Bytes) (change : Change) (made : model.Edit) → Names kind path change made → edit_path made ≡ path
-  path_of path (Put file id) made (bytes, e, same) = ap edit_path e
+  path_of path (Put k id) made (bytes, e, same) = ap edit_path e
   path_of path Remove made e = ap edit_path e
   path_of path RemoveFile made e = ap edit_path e
 

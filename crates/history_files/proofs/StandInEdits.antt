@@ -2,6 +2,7 @@
 use Rattle.std.proofs.Common.{◌≡◌, Bool, true, false, cond, not, ◌&&◌, ◌||◌, List, [], ◌∷◌, ◌++◌, map, refl, sym, ◌∙◌, ap, subst, inl, inr, Option, Some, None, is_some, bytes_eq}
 use Rattle.std.specs.List.{AllByRecursion, flat_map, list_any}
 use Rattle.std.specs.FinMap.{get, retain_keys}
+use Rattle.std.specs.Fmt.{digits}
 use Rattle.gix_hash.specs.Hasher.{empty_blob_text, id_of_message}
 use Rattle.gix_hash.specs.Id.{Id, id_of, null_id}
 use Rattle.gix_hash.specs.declared.kind.Kind.{Kind}
@@ -95,7 +96,7 @@ emptied_refused files made = refused_by_keys files files made (λ q. refl)
 -- ---- the empty blob
 
 pub empty_id : (kind : Kind) → blob_id kind [] ≡ id_of_message kind empty_blob_text
-unfolding digest
+unfolding digest digits
 empty_id kind = refl
 
 pub empty_not_null : (kind : Kind) → is_null (blob_id kind []) ≡ false
@@ -115,7 +116,7 @@ module _ (kind : Kind) where
   stand_in_edits blank is (edit ∷ edits) (one ∷ made) are = (by_change edit.change are.0, stand_in_edits blank is edits made are.1)
     where
       by_change : (change : Change) → Names kind edit.path.now change one → IsChange kind edit.path.now (change_with blank change) (emptied one)
-      by_change (Put file id) (bytes, e, same) = ([], ap emptied e, is, ap is_null is ∙ empty_not_null kind)
+      by_change (Put k id) (bytes, e, same) = ([], ap emptied e, is, ap is_null is ∙ empty_not_null kind)
       by_change Remove e = ap emptied e
       by_change RemoveFile e = ap emptied e
 
@@ -128,7 +129,7 @@ module _ (kind : Kind) where
       (by_change edit.change are.0 both.0, named_edits edits made are.1 both.1)
     where
       by_change : (change : Change) → Names kind edit.path.now change one → puts_null change ≡ false → IsChange kind edit.path.now change one
-      by_change (Put file id) (bytes, e, same) f = (bytes, e, same, f)
+      by_change (Put k id) (bytes, e, same) f = (bytes, e, same, f)
       by_change Remove e f = e
       by_change RemoveFile e f = e
 
@@ -144,7 +145,7 @@ module _ (kind : Kind) where
   ]
     where
       here : (change : Change) → Names kind edit.path.now change one → puts_null change ≡ true → (value : Value) × In value (put_bytes one ++ flat_map put_bytes made) × (is_null (objects.id_of kind value) ≡ true)
-      here (Put file id) (bytes, e, same) null = (
+      here (Put k id) (bytes, e, same) null = (
         StoredBytes bytes,
         subst (λ x. In (StoredBytes bytes) (put_bytes x ++ flat_map put_bytes made)) (sym e) (inl refl),
         ap is_null (sym same) ∙ null,
@@ -161,6 +162,6 @@ module _ (kind : Kind) where
       by_change edit.change are.0 both.0 (have_ids edits made are.1 both.1)
     where
       by_change : (change : Change) → Names kind edit.path.now change one → puts_null change ≡ false → HaveIds kind made → HaveIds kind (one ∷ made)
-      by_change (Put file id) (bytes, e, same) f rest = subst (λ x. HaveIds kind (x ∷ made)) (sym e) (ap is_null (sym same) ∙ f, rest)
+      by_change (Put k id) (bytes, e, same) f rest = subst (λ x. HaveIds kind (x ∷ made)) (sym e) (ap is_null (sym same) ∙ f, rest)
       by_change Remove e f rest = subst (λ x. HaveIds kind (x ∷ made)) (sym e) rest
       by_change RemoveFile e f rest = subst (λ x. HaveIds kind (x ∷ made)) (sym e) rest

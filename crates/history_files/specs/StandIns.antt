@@ -8,7 +8,7 @@ use Rattle.history_files.specs.declared.edits.Change.TheVariants.{Put, Remove, R
 use Rattle.history_files.specs.declared.edits.Edit.{Edit}
 
 abbrev pub change_with : ObjectId → Change → Change
-change_with blank (Put file id) = Put file blank
+change_with blank (Put kind id) = Put kind blank
 change_with blank Remove = Remove
 change_with blank RemoveFile = RemoveFile
 
@@ -17,6 +17,6 @@ stand_in blank edit = record { path = edit.path; change = change_with blank edit
 
 -- whether the change puts what has the null id
 abbrev pub puts_null : Change → Bool
-puts_null (Put file id) = is_null (id_of id)
+puts_null (Put kind id) = is_null (id_of id)
 puts_null Remove = false
 puts_null RemoveFile = false

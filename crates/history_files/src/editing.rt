@@ -26,6 +26,7 @@ use gix_object_editor::tree::editor::Editor;
 use gix_object_entries::Tree;
 use gix_object_find::Find;
 use gix_object_lines::{Kind as ObjectKind, WriteTo};
+use history_model::laws::edits_keep;
 use std::alloc::{AllocError, Global};
 
 /// Makes the edits of a root's files in their order, and gives the trees that are to be stored for what they make of them: those on
@@ -50,6 +51,7 @@ pub fn edit_files<S: Find>(
     ensures counted { IfOk result (λ edited. edited.lookups ≤ name_count edits.now + 1) }
     ensures failed { IsErrOf result Failed → S.may_fail store.now }
 {
+    edits_keep();
     if !are_paths(edits) {
         return Err(EditError::BadPath);
     }

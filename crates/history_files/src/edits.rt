@@ -1,16 +1,18 @@
 //! Edits of a root's files.
 
-ghost use Rattle.std.specs.Prelude.{◌≡◌, ◌≤◌, ◌+◌, length, OnOk, IsErrOf, IsFalse};
+ghost use Rattle.std.specs.Prelude.{◌≡◌, ◌≤◌, ◌+◌, List, [], ◌∷◌, length, OnOk, IfErr, IsErrOf, IsFalse, IsTrue};
 ghost use Rattle.gix_hash.specs.declared.kind.Kind.{Kind};
 ghost use Rattle.gix_object_editor.specs.Files.{Trees, HasStored};
 ghost use Rattle.gix_object_editor.specs.Editor.{files_of, EachEntryHas, IsAsRead};
 ghost use Rattle.gix_object_editor.specs.Entries.{Property, PassesDown};
+ghost use Rattle.history_files.specs.Editing.{HavePaths};
 ghost use Rattle.history_files.specs.Entries.{MayPut, MayBeMade};
+ghost use Rattle.history_files.specs.Opening.{EditsFiles, MakingFault};
 ghost use Rattle.history_model.specs.FileMap as model;
-ghost use Rattle.history_model.specs.FileMap.{FileMap, components, edited, is_refused};
+ghost use Rattle.history_model.specs.FileMap.{FileMap, components, edited, is_path, is_refused};
 ghost use Rattle.history_files.specs.Unfolding as unfolded;
 ghost use Rattle.history_files.specs.Unfolding.{IsUnfolded};
-ghost use Rattle.history_files.specs.Edits.{IsEdit, EditsMake, EditsPass, name_count, as_edited, as_opened, as_unread};
+ghost use Rattle.history_files.specs.Edits.{AreEdits, IsEdit, EditsMake, EditsPass, name_count, as_edited, as_opened, as_unread};
 ghost use Rattle.history_files.specs.declared.edits.EditError.TheVariants.{Failed, Memory};
 
 use crate::error::ReadError;
@@ -143,6 +145,9 @@ pub fn make_edits<S: Find>(
     ensures accepted { S.is_honest editor.old.store
         → OnOk result (EditsPass (S.table editor.old.store) edits.now
         (λ trees. files_of trees editor.old)) }
+    ensures refused { S.is_honest editor.old.store → (kind : Kind) (base files : FileMap) (made : List model.Edit)
+        → EditsFiles (S.table editor.old.store) kind base files editor.old → HavePaths made → AreEdits kind edits.now made
+        → IfErr result (MakingFault (S.may_fail editor.old.store) files made) }
     ensures each { S.is_honest editor.old.store → (has : Property) → PassesDown (S.table editor.old.store) has → MayBeMade has edits.now
         → EachEntryHas has editor.old → EachEntryHas has editor.new }
     ensures as_read { S.is_honest editor.old.store → (trees : Trees) → HasStored (S.table editor.old.store) trees
@@ -173,6 +178,9 @@ fn make_edit<S: Find>(
         → HasStored (S.table editor.old.store) trees → IsEdit kind edit.now made
         → IsUnfolded kind files (files_of trees editor.old)
         → IsFalse (is_refused files made)) }
+    ensures refused { S.is_honest editor.old.store → (kind : Kind) (base files : FileMap) (made : model.Edit)
+        → EditsFiles (S.table editor.old.store) kind base files editor.old → IsTrue (is_path edit.now.path.now) → IsEdit kind edit.now made
+        → IfErr result (MakingFault (S.may_fail editor.old.store) files (made ∷ [])) }
     ensures each { S.is_honest editor.old.store → (has : Property) → PassesDown (S.table editor.old.store) has
         → MayPut has edit.now.path.now edit.now.change → EachEntryHas has editor.old → EachEntryHas has editor.new }
     ensures as_read { S.is_honest editor.old.store → (trees : Trees) → HasStored (S.table editor.old.store) trees

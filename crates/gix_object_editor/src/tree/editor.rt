@@ -1,11 +1,13 @@
 //! Edits of a tree and the trees below it.
 
-ghost use Rattle.std.specs.Prelude.{◌≡◌, ◌≤◌, ◌+◌, ◌⊎◌, length, map, option_map, IfOk, IfErr, OnOk, OnErr, IsFalse, IsTrue};
+ghost use Rattle.std.specs.Prelude.{◌≡◌, ◌≤◌, ◌+◌, ◌⊎◌, length, map, option_map, IfOk, IfErr, OnOk, OnErr, IsFalse, IsTrue, Some};
 ghost use Rattle.std.specs.Borrow.{sem};
 ghost use Rattle.gix_object_entries.specs.Entry.{item_of, own_item};
-ghost use Rattle.gix_object_editor.specs.Files.{Path, Trees, HasStored, SameFiles, NamesAreFull, HasNoneBelow, removed, put, files_of_tree};
+ghost use Rattle.gix_object_editor.specs.Files.{Path, Trees, HasStored, SameFiles, NamesAreFull, HasNoneBelow, HasSomeBelow, no_trees, removed, put, files_of_tree};
 ghost use Rattle.gix_object_editor.specs.Nodes.{slots_of, entry_at};
-ghost use Rattle.gix_object_editor.specs.Editor.{files_of, names_of, leaf_of_kind, LeadsThrough, LeadsInto, EditFault, LeafFault, IsFilled, IsFolder, IsChanged, IsAsRead, IsAbove, EachEntryHas};
+ghost use Rattle.gix_object_editor.specs.Editor.{files_of, names_of, leaf_of_kind, LeadsThrough, LeadsInto, EditFault, LeafFault, IsFilled, IsFolder, IsChanged, IsAsRead, IsAbove, EachEntryHas, IsNonLeaf, asked_by, ErrOverStored, OkOverStored, OverStored};
+ghost use Rattle.gix_object_editor.specs.Asked.{front_of, Asks};
+ghost use Rattle.gix_object_editor.specs.declared.tree.editor.error.Error.TheVariants.{EmptyPathComponent};
 ghost use Rattle.gix_object_editor.specs.Entries.{Property, PassesDown, MayStand, ItemsHave};
 ghost use Rattle.gix_object_entries.specs.WellFormed.{IsWellFormed};
 
@@ -42,9 +44,12 @@ impl<S: Find> Editor<S> {
     where
         S: Drop,
         requires { IsWellFormed (map own_item root.now.entries.items) }
-        ensures files { IfOk result (λ editor. (trees : Trees) → SameFiles (files_of trees editor) (files_of_tree trees (map own_item root.now.entries.items))) }
+        ensures files { IfOk result (λ editor. (trees : Trees)
+            → SameFiles (files_of trees editor) (files_of_tree trees
+            (map own_item root.now.entries.items))) }
         ensures store { IfOk result (λ editor. editor.store ≡ store) }
-        ensures each { IfOk result (λ editor. (has : Property) → ItemsHave has (map own_item root.now.entries.items) → EachEntryHas has editor) }
+        ensures each { IfOk result (λ editor. (has : Property)
+            → ItemsHave has (map own_item root.now.entries.items) → EachEntryHas has editor) }
         ensures as_read { IfOk result (λ editor. (trees : Trees) → IsAsRead trees editor) }
         ensures unchanged { IfOk result (λ editor. (tree : Path) → IsChanged editor tree → ⊥) }
         ensures uncounted { IfOk result (λ editor. editor.lookups ≡ 0) }
@@ -60,8 +65,11 @@ impl<S: Find> Editor<S> {
     /// Edits this tree from now on, and counts lookups from here. The tree is well-formed. Without memory nothing changes.
     pub fn set_root(&mut self, alloc: Global, root: &Tree) -> Result<(), AllocError>
         requires { IsWellFormed (map own_item root.now.entries.items) }
-        ensures files { OnOk result ((trees : Trees) → SameFiles (files_of trees self.new) (files_of_tree trees (map own_item root.now.entries.items))) }
-        ensures each { OnOk result ((has : Property) → ItemsHave has (map own_item root.now.entries.items) → EachEntryHas has self.new) }
+        ensures files { OnOk result ((trees : Trees)
+            → SameFiles (files_of trees self.new)
+            (files_of_tree trees (map own_item root.now.entries.items))) }
+        ensures each { OnOk result ((has : Property)
+            → ItemsHave has (map own_item root.now.entries.items) → EachEntryHas has self.new) }
         ensures as_read { OnOk result ((trees : Trees) → IsAsRead trees self.new) }
         ensures still { OnOk result ((tree : Path) → IsChanged self.new tree → ⊥) }
         ensures uncounted { OnOk result (self.new.lookups ≡ 0) }
@@ -91,7 +99,8 @@ impl<S: Find> Editor<S> {
     /// The entry at the path, as far as edits opened trees: `None` where none stands there, or where a tree above it isn't opened.
     /// The id of a tree is the one that it had before edits below it, the null id where it was made for them.
     pub fn get<'a>(&'a self, path: &[&'a [u8]]) -> Option<EntryRef<'a>>
-        ensures { option_map item_of result ≡ entry_at (slots_of self.now.nodes.items) 0 (names_of path.now) }
+        ensures { option_map item_of result ≡ entry_at (slots_of self.now.nodes.items) 0
+            (names_of path.now) }
     {
         entry_from(self.nodes.as_slice(), NodeId(0), path)
     }
@@ -101,18 +110,32 @@ impl<S: Find> Editor<S> {
     /// It is `EmptyPathComponent` where the path has no name or an empty one, `FindExistingObject` where a tree on the path can't
     /// be read, `MalformedTree` where one isn't well-formed, and `Memory` where no memory is left. The files are unchanged then.
     pub fn remove(&mut self, alloc: Global, path: &[&[u8]]) -> Result<(), Error>
-        ensures removed { S.is_honest self.old.store → OnOk result ((trees : Trees) → HasStored (S.table self.old.store) trees
-            → SameFiles (files_of trees self.new) (removed (names_of path.now) (files_of trees self.old))) }
-        ensures unchanged { S.is_honest self.old.store → OnErr result ((trees : Trees) → HasStored (S.table self.old.store) trees
-            → SameFiles (files_of trees self.new) (files_of trees self.old)) }
+        ensures removed { OkOverStored (S.is_honest self.old.store) (S.table self.old.store) result
+            (λ trees. SameFiles (files_of trees self.new)
+            (removed (names_of path.now) (files_of trees self.old))) }
+        ensures unchanged { ErrOverStored (S.is_honest self.old.store)
+            (S.table self.old.store) result
+            (λ trees. SameFiles (files_of trees self.new) (files_of trees self.old)) }
         ensures named { OnOk result (NamesAreFull (names_of path.now)) }
-        ensures refused { IfErr result (EditFault (S.is_honest self.old.store) (S.may_fail self.old.store) (S.table self.old.store) (names_of path.now)
+        ensures refused { IfErr result (EditFault (S.is_honest self.old.store)
+            (S.may_fail self.old.store) (S.table self.old.store) (names_of path.now)
             (LeadsThrough (λ trees. files_of trees self.new) (names_of path.now))) }
-        ensures each { S.is_honest self.old.store → (has : Property) → PassesDown (S.table self.old.store) has → EachEntryHas has self.old → EachEntryHas has self.new }
-        ensures as_read { S.is_honest self.old.store → (trees : Trees) → HasStored (S.table self.old.store) trees → IsAsRead trees self.old → IsAsRead trees self.new }
-        ensures changed { (tree : Path) → IsChanged self.new tree → IsChanged self.old tree ⊎ IsAbove tree (names_of path.now) }
-        ensures still { OnErr result ((tree : Path) → IsChanged self.new tree → IsChanged self.old tree) }
+        ensures each { S.is_honest self.old.store → (has : Property)
+            → PassesDown (S.table self.old.store) has → EachEntryHas has self.old
+            → EachEntryHas has self.new }
+        ensures as_read { OverStored (S.is_honest self.old.store) (S.table self.old.store)
+            (λ trees. IsAsRead trees self.old → IsAsRead trees self.new) }
+        ensures changed { (tree : Path) → IsChanged self.new tree → IsChanged self.old tree
+            ⊎ IsAbove tree (names_of path.now) }
+        ensures still { OnErr result ((tree : Path) → IsChanged self.new tree
+            → IsChanged self.old tree) }
+        ensures full { IfErr result (λ error. (error ≡ EmptyPathComponent)
+            ⊎ NamesAreFull (names_of path.now)) }
         ensures counted { self.new.lookups ≤ self.old.lookups + length path.now }
+        ensures asked { Asks (S.is_honest self.old.store) (S.may_fail self.old.store)
+            (S.table self.old.store)
+            (asked_by self.old
+            (front_of (names_of path.now))) self.old.lookups self.new.lookups result }
         ensures store { self.new.store ≡ self.old.store }
     {
         self.remove_from(alloc, NodeId(0), path)
@@ -123,20 +146,37 @@ impl<S: Find> Editor<S> {
     /// It is refused as `remove` is, of the trees on the path and of a folder at its end, and `CannotRemoveNonLeaf` with the last
     /// name where a file stands below the path.
     pub fn remove_leaf(&mut self, alloc: Global, path: &[&[u8]]) -> Result<(), Error>
-        ensures removed { S.is_honest self.old.store → OnOk result ((trees : Trees) → HasStored (S.table self.old.store) trees
-            → SameFiles (files_of trees self.new) (removed (names_of path.now) (files_of trees self.old))) }
-        ensures leaf { S.is_honest self.old.store → OnOk result ((trees : Trees) → HasStored (S.table self.old.store) trees
-            → HasNoneBelow (names_of path.now) (files_of trees self.old)) }
-        ensures unchanged { S.is_honest self.old.store → OnErr result ((trees : Trees) → HasStored (S.table self.old.store) trees
-            → SameFiles (files_of trees self.new) (files_of trees self.old)) }
+        ensures removed { OkOverStored (S.is_honest self.old.store) (S.table self.old.store) result
+            (λ trees. SameFiles (files_of trees self.new)
+            (removed (names_of path.now) (files_of trees self.old))) }
+        ensures leaf { OkOverStored (S.is_honest self.old.store) (S.table self.old.store) result
+            (λ trees. HasNoneBelow (names_of path.now) (files_of trees self.old)) }
+        ensures unchanged { ErrOverStored (S.is_honest self.old.store)
+            (S.table self.old.store) result
+            (λ trees. SameFiles (files_of trees self.new) (files_of trees self.old)) }
         ensures named { OnOk result (NamesAreFull (names_of path.now)) }
-        ensures refused { IfErr result (LeafFault (S.is_honest self.old.store) (S.may_fail self.old.store) (S.table self.old.store) (names_of path.now)
-            (LeadsInto (λ trees. files_of trees self.new) (names_of path.now)) (IsFolder (λ trees. IsFilled trees self.new) (λ trees. files_of trees self.new) (names_of path.now))) }
-        ensures each { S.is_honest self.old.store → (has : Property) → PassesDown (S.table self.old.store) has → EachEntryHas has self.old → EachEntryHas has self.new }
-        ensures as_read { S.is_honest self.old.store → (trees : Trees) → HasStored (S.table self.old.store) trees → IsAsRead trees self.old → IsAsRead trees self.new }
-        ensures changed { (tree : Path) → IsChanged self.new tree → IsChanged self.old tree ⊎ IsAbove tree (names_of path.now) }
-        ensures still { OnErr result ((tree : Path) → IsChanged self.new tree → IsChanged self.old tree) }
+        ensures refused { IfErr result (LeafFault (S.is_honest self.old.store)
+            (S.may_fail self.old.store) (S.table self.old.store) (names_of path.now)
+            (LeadsInto (λ trees. files_of trees self.new) (names_of path.now))
+            (IsFolder (λ trees. IsFilled trees self.new) (λ trees. files_of trees self.new)
+            (names_of path.now))) }
+        ensures each { S.is_honest self.old.store → (has : Property)
+            → PassesDown (S.table self.old.store) has → EachEntryHas has self.old
+            → EachEntryHas has self.new }
+        ensures as_read { OverStored (S.is_honest self.old.store) (S.table self.old.store)
+            (λ trees. IsAsRead trees self.old → IsAsRead trees self.new) }
+        ensures changed { (tree : Path) → IsChanged self.new tree → IsChanged self.old tree
+            ⊎ IsAbove tree (names_of path.now) }
+        ensures still { OnErr result ((tree : Path) → IsChanged self.new tree
+            → IsChanged self.old tree) }
+        ensures full { IfErr result (λ error. (error ≡ EmptyPathComponent)
+            ⊎ NamesAreFull (names_of path.now)) }
+        ensures folder { IfErr result (λ error. IsNonLeaf error
+            → HasSomeBelow (names_of path.now) (files_of no_trees self.new)) }
         ensures counted { self.new.lookups ≤ self.old.lookups + length path.now }
+        ensures asked { Asks (S.is_honest self.old.store) (S.may_fail self.old.store)
+            (S.table self.old.store)
+            (asked_by self.old (names_of path.now)) self.old.lookups self.new.lookups result }
         ensures store { self.new.store ≡ self.old.store }
     {
         self.remove_leaf_from(alloc, NodeId(0), path)
@@ -153,19 +193,37 @@ impl<S: Find> Editor<S> {
         kind: EntryKind,
         id: ObjectId,
     ) -> Result<(), Error>
-        ensures put { S.is_honest self.old.store → OnOk result ((trees : Trees) → HasStored (S.table self.old.store) trees
-            → SameFiles (files_of trees self.new) (put trees (names_of path.now) (leaf_of_kind kind id) (files_of trees self.old))) }
-        ensures unchanged { S.is_honest self.old.store → OnErr result ((trees : Trees) → HasStored (S.table self.old.store) trees
-            → SameFiles (files_of trees self.new) (files_of trees self.old)) }
+        ensures put { OkOverStored (S.is_honest self.old.store) (S.table self.old.store) result
+            (λ trees. SameFiles (files_of trees self.new)
+            (put trees (names_of path.now) (leaf_of_kind kind id) (files_of trees self.old))) }
+        ensures unchanged { ErrOverStored (S.is_honest self.old.store)
+            (S.table self.old.store) result
+            (λ trees. SameFiles (files_of trees self.new) (files_of trees self.old)) }
         ensures named { OnOk result (NamesAreFull (names_of path.now)) }
-        ensures refused { IfErr result (EditFault (S.is_honest self.old.store) (S.may_fail self.old.store) (S.table self.old.store) (names_of path.now)
+        ensures refused { IfErr result (EditFault (S.is_honest self.old.store)
+            (S.may_fail self.old.store) (S.table self.old.store) (names_of path.now)
             (LeadsThrough (λ trees. files_of trees self.new) (names_of path.now))) }
-        ensures each { S.is_honest self.old.store → (has : Property) → PassesDown (S.table self.old.store) has → MayStand has (names_of path.now) (leaf_of_kind kind id)
+        ensures each { S.is_honest self.old.store → (has : Property)
+            → PassesDown (S.table self.old.store) has
+            → MayStand has (names_of path.now) (leaf_of_kind kind id)
             → EachEntryHas has self.old → EachEntryHas has self.new }
-        ensures as_read { S.is_honest self.old.store → (trees : Trees) → HasStored (S.table self.old.store) trees → IsAsRead trees self.old → IsAsRead trees self.new }
-        ensures changed { (tree : Path) → IsChanged self.new tree → IsChanged self.old tree ⊎ IsAbove tree (names_of path.now) }
-        ensures still { OnErr result ((tree : Path) → IsChanged self.new tree → IsChanged self.old tree) }
+        ensures as_read { OverStored (S.is_honest self.old.store) (S.table self.old.store)
+            (λ trees. IsAsRead trees self.old → IsAsRead trees self.new) }
+        ensures changed { (tree : Path) → IsChanged self.new tree → IsChanged self.old tree
+            ⊎ IsAbove tree (names_of path.now) }
+        ensures same { S.is_honest self.old.store → (trees : Trees)
+            → HasStored (S.table self.old.store) trees
+            → files_of trees self.old (names_of path.now) ≡ Some (leaf_of_kind kind id)
+            → OnOk result ((tree : Path) → IsChanged self.new tree → IsChanged self.old tree) }
+        ensures still { OnErr result ((tree : Path) → IsChanged self.new tree
+            → IsChanged self.old tree) }
+        ensures full { IfErr result (λ error. (error ≡ EmptyPathComponent)
+            ⊎ NamesAreFull (names_of path.now)) }
         ensures counted { self.new.lookups ≤ self.old.lookups + length path.now }
+        ensures asked { Asks (S.is_honest self.old.store) (S.may_fail self.old.store)
+            (S.table self.old.store)
+            (asked_by self.old
+            (front_of (names_of path.now))) self.old.lookups self.new.lookups result }
         ensures store { self.new.store ≡ self.old.store }
     {
         self.upsert_from(alloc, NodeId(0), path, kind, id)

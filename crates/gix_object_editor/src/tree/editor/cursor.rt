@@ -1,14 +1,15 @@
 //! Edits below a folder.
 
-ghost use Rattle.std.specs.Prelude.{◌≡◌, ◌≢◌, ◌≤◌, ◌+◌, ◌++◌, ◌⊎◌, [], length, option_map, IfOk, IfErr, OnOk, OnErr, None};
+ghost use Rattle.std.specs.Prelude.{◌≡◌, ◌≢◌, ◌≤◌, ◌+◌, ◌++◌, ◌⊎◌, [], length, option_map, IfOk, IfErr, OnOk, OnErr, Some, None};
 ghost use Rattle.std.specs.Borrow.{sem};
 ghost use Rattle.gix_hash.specs.Id.{id_of};
 ghost use Rattle.gix_object_entries.specs.Entry.{item_of};
-ghost use Rattle.gix_object_editor.specs.Files.{Path, Trees, HasStored, SameFiles, NamesAreFull, HasNoneBelow, removed, put, cleared};
+ghost use Rattle.gix_object_editor.specs.Files.{Path, Trees, HasStored, SameFiles, Begins, NamesAreFull, HasNoneBelow, HasSomeBelow, no_trees, removed, put, cleared};
 ghost use Rattle.gix_object_editor.specs.Nodes.{slots_of, entry_at};
-ghost use Rattle.gix_object_editor.specs.Editor.{files_of, names_of, leaf_of_kind, LeadsThrough, LeadsInto, EditFault, LeafFault, IsFilled, IsFolder, IsChanged, IsAsRead, IsAbove, Begins, EachEntryHas};
-ghost use Rattle.gix_object_editor.specs.Entries.{Property, PassesDown, MayStand};
-ghost use Rattle.gix_object_editor.specs.Marks.{due_in};
+ghost use Rattle.gix_object_editor.specs.Editor.{files_of, names_of, leaf_of_kind, LeadsThrough, LeadsInto, EditFault, LeafFault, IsFilled, IsFolder, IsChanged, IsAsRead, IsAbove, EachEntryHas, IsNonLeaf, asked_by, ErrOverStored, OkOverStored, OverStored};
+ghost use Rattle.gix_object_editor.specs.Asked.{front_of, Asks, AsksAll};
+ghost use Rattle.gix_object_editor.specs.declared.tree.editor.error.Error.TheVariants.{EmptyPathComponent};
+ghost use Rattle.gix_object_editor.specs.Entries.{Property, PassesDown, MayStand, MayStandMade};
 ghost use Rattle.gix_object_editor.specs.Written.{WriteFault, Writes};
 ghost use Rattle.gix_object_editor.specs.Cursor.{StandsAt, IsLeft, LendsOrLeaves};
 
@@ -45,16 +46,29 @@ impl<S: Find> Editor<S> {
         hash: Kind,
     ) -> Result<Cursor<'_, S>, Error>
         ensures* left { sem 𝓛 (LendsOrLeaves S.row self.entry result (λ left.
-            IfErr result (IsLeft (S.is_honest self.old.store) (S.may_fail self.old.store) (S.table self.old.store) (names_of path.now) self.old left))) }
+            IfErr result (IsLeft (S.is_honest self.old.store) (S.may_fail self.old.store)
+            (S.table self.old.store) (names_of path.now) self.old left))) }
         ensures stands { IfOk result (λ cursor. StandsAt cursor (names_of path.now)) }
-        ensures cleared { S.is_honest self.old.store → IfOk result (λ cursor. (trees : Trees) → HasStored (S.table self.old.store) trees
-            → SameFiles (files_of trees cursor.editor.now) (cleared (names_of path.now) (files_of trees self.old))) }
+        ensures cleared { S.is_honest self.old.store
+            → IfOk result (λ cursor. (trees : Trees) → HasStored (S.table self.old.store) trees
+            → SameFiles (files_of trees cursor.editor.now)
+            (cleared (names_of path.now) (files_of trees self.old))) }
         ensures named { OnOk result (NamesAreFull (names_of path.now)) }
-        ensures as_read { S.is_honest self.old.store → IfOk result (λ cursor. (trees : Trees) → HasStored (S.table self.old.store) trees
+        ensures each { S.is_honest self.old.store
+            → IfOk result (λ cursor. (has : Property) → PassesDown (S.table self.old.store) has
+            → MayStandMade has hash (names_of path.now) → EachEntryHas has self.old
+            → EachEntryHas has cursor.editor.now) }
+        ensures as_read { S.is_honest self.old.store
+            → IfOk result (λ cursor. (trees : Trees) → HasStored (S.table self.old.store) trees
             → IsAsRead trees self.old → IsAsRead trees cursor.editor.now) }
         ensures changed { IfOk result (λ cursor. (tree : Path) → IsChanged cursor.editor.now tree
             → IsChanged self.old tree ⊎ Begins tree (names_of path.now)) }
-        ensures counted { IfOk result (λ cursor. cursor.editor.now.lookups ≤ self.old.lookups + length path.now) }
+        ensures counted { IfOk result
+            (λ cursor. cursor.editor.now.lookups ≤ self.old.lookups + length path.now) }
+        ensures asked { S.is_honest self.old.store
+            → IfOk result (λ cursor. (trees : Trees) → HasStored (S.table self.old.store) trees
+            → AsksAll (S.table self.old.store) (asked_by self.old
+            (names_of path.now) trees) self.old.lookups cursor.editor.now.lookups) }
         ensures store { IfOk result (λ cursor. cursor.editor.now.store ≡ self.old.store) }
         ensures lent { IfOk result (λ cursor. cursor.editor.ghost_name ≡ self.entry.ghost_name) }
     {
@@ -67,7 +81,8 @@ impl<'c, S: Find> Cursor<'c, S> {
     /// The entry at the path below the cursor, as `Editor::get` answers it.
     pub fn get<'a>(&'a self, path: &[&'a [u8]]) -> Option<EntryRef<'a>>
         ensures entry { (base : Path) → StandsAt self.now base → path.now ≢ []
-            → option_map item_of result ≡ entry_at (slots_of self.now.editor.now.nodes.items) 0 (base ++ names_of path.now) }
+            → option_map item_of result ≡ entry_at (slots_of self.now.editor.now.nodes.items) 0
+            (base ++ names_of path.now) }
         ensures none { path.now ≡ [] → result ≡ None }
     {
         entry_from(self.editor.nodes.as_slice(), self.at, path)
@@ -75,21 +90,42 @@ impl<'c, S: Find> Cursor<'c, S> {
 
     /// Takes out what stands at or below the path, which begins at the cursor, as `Editor::remove` does.
     pub fn remove(&mut self, alloc: Global, path: &[&[u8]]) -> Result<(), Error>
-        ensures removed { (base : Path) → StandsAt self.old base → S.is_honest self.old.editor.now.store → OnOk result ((trees : Trees) → HasStored (S.table self.old.editor.now.store) trees
-            → SameFiles (files_of trees self.new.editor.now) (removed (base ++ names_of path.now) (files_of trees self.old.editor.now))) }
-        ensures unchanged { S.is_honest self.old.editor.now.store → OnErr result ((trees : Trees) → HasStored (S.table self.old.editor.now.store) trees
-            → SameFiles (files_of trees self.new.editor.now) (files_of trees self.old.editor.now)) }
+        ensures removed { (base : Path) → StandsAt self.old base
+            → OkOverStored (S.is_honest self.old.editor.now.store)
+            (S.table self.old.editor.now.store) result
+            (λ trees. SameFiles (files_of trees self.new.editor.now)
+            (removed (base ++ names_of path.now) (files_of trees self.old.editor.now))) }
+        ensures unchanged { ErrOverStored (S.is_honest self.old.editor.now.store)
+            (S.table self.old.editor.now.store) result
+            (λ trees. SameFiles (files_of trees self.new.editor.now)
+            (files_of trees self.old.editor.now)) }
         ensures stands { (base : Path) → StandsAt self.old base → StandsAt self.new base }
         ensures named { OnOk result (NamesAreFull (names_of path.now)) }
-        ensures refused { (base : Path) → StandsAt self.old base → IfErr result (EditFault (S.is_honest self.old.editor.now.store) (S.may_fail self.old.editor.now.store) (S.table self.old.editor.now.store) (names_of path.now)
-            (LeadsThrough (λ trees. files_of trees self.new.editor.now) (base ++ names_of path.now))) }
-        ensures each { S.is_honest self.old.editor.now.store → (has : Property) → PassesDown (S.table self.old.editor.now.store) has → EachEntryHas has self.old.editor.now → EachEntryHas has self.new.editor.now }
-        ensures as_read { S.is_honest self.old.editor.now.store → (trees : Trees) → HasStored (S.table self.old.editor.now.store) trees
-            → IsAsRead trees self.old.editor.now → IsAsRead trees self.new.editor.now }
-        ensures changed { (base : Path) → StandsAt self.old base → (tree : Path) → IsChanged self.new.editor.now tree
+        ensures refused { (base : Path) → StandsAt self.old base
+            → IfErr result (EditFault (S.is_honest self.old.editor.now.store)
+            (S.may_fail self.old.editor.now.store) (S.table self.old.editor.now.store)
+            (names_of path.now)
+            (LeadsThrough (λ trees. files_of trees self.new.editor.now)
+            (base ++ names_of path.now))) }
+        ensures each { S.is_honest self.old.editor.now.store → (has : Property)
+            → PassesDown (S.table self.old.editor.now.store) has
+            → EachEntryHas has self.old.editor.now → EachEntryHas has self.new.editor.now }
+        ensures as_read { OverStored (S.is_honest self.old.editor.now.store)
+            (S.table self.old.editor.now.store)
+            (λ trees. IsAsRead trees self.old.editor.now → IsAsRead trees self.new.editor.now) }
+        ensures changed { (base : Path) → StandsAt self.old base → (tree : Path)
+            → IsChanged self.new.editor.now tree
             → IsChanged self.old.editor.now tree ⊎ IsAbove tree (base ++ names_of path.now) }
-        ensures still { OnErr result ((tree : Path) → IsChanged self.new.editor.now tree → IsChanged self.old.editor.now tree) }
+        ensures still { OnErr result ((tree : Path) → IsChanged self.new.editor.now tree
+            → IsChanged self.old.editor.now tree) }
+        ensures full { IfErr result (λ error. (error ≡ EmptyPathComponent)
+            ⊎ NamesAreFull (names_of path.now)) }
         ensures counted { self.new.editor.now.lookups ≤ self.old.editor.now.lookups + length path.now }
+        ensures asked { (base : Path) → StandsAt self.old base
+            → Asks (S.is_honest self.old.editor.now.store)
+            (S.may_fail self.old.editor.now.store) (S.table self.old.editor.now.store)
+            (asked_by self.old.editor.now (base ++ front_of
+            (names_of path.now))) self.old.editor.now.lookups self.new.editor.now.lookups result }
         ensures store { self.new.editor.now.store ≡ self.old.editor.now.store }
         ensures lent { self.new.editor.ghost_name ≡ self.old.editor.ghost_name }
     {
@@ -98,24 +134,51 @@ impl<'c, S: Find> Cursor<'c, S> {
 
     /// Takes out the file at the path, which begins at the cursor, as `Editor::remove_leaf` does.
     pub fn remove_leaf(&mut self, alloc: Global, path: &[&[u8]]) -> Result<(), Error>
-        ensures removed { (base : Path) → StandsAt self.old base → S.is_honest self.old.editor.now.store → OnOk result ((trees : Trees) → HasStored (S.table self.old.editor.now.store) trees
-            → SameFiles (files_of trees self.new.editor.now) (removed (base ++ names_of path.now) (files_of trees self.old.editor.now))) }
-        ensures leaf { (base : Path) → StandsAt self.old base → S.is_honest self.old.editor.now.store → OnOk result ((trees : Trees) → HasStored (S.table self.old.editor.now.store) trees
-            → HasNoneBelow (base ++ names_of path.now) (files_of trees self.old.editor.now)) }
-        ensures unchanged { S.is_honest self.old.editor.now.store → OnErr result ((trees : Trees) → HasStored (S.table self.old.editor.now.store) trees
-            → SameFiles (files_of trees self.new.editor.now) (files_of trees self.old.editor.now)) }
+        ensures removed { (base : Path) → StandsAt self.old base
+            → OkOverStored (S.is_honest self.old.editor.now.store)
+            (S.table self.old.editor.now.store) result
+            (λ trees. SameFiles (files_of trees self.new.editor.now)
+            (removed (base ++ names_of path.now) (files_of trees self.old.editor.now))) }
+        ensures leaf { (base : Path) → StandsAt self.old base
+            → OkOverStored (S.is_honest self.old.editor.now.store)
+            (S.table self.old.editor.now.store) result
+            (λ trees. HasNoneBelow (base ++ names_of path.now)
+            (files_of trees self.old.editor.now)) }
+        ensures unchanged { ErrOverStored (S.is_honest self.old.editor.now.store)
+            (S.table self.old.editor.now.store) result
+            (λ trees. SameFiles (files_of trees self.new.editor.now)
+            (files_of trees self.old.editor.now)) }
         ensures stands { (base : Path) → StandsAt self.old base → StandsAt self.new base }
         ensures named { OnOk result (NamesAreFull (names_of path.now)) }
-        ensures refused { (base : Path) → StandsAt self.old base → IfErr result (LeafFault (S.is_honest self.old.editor.now.store) (S.may_fail self.old.editor.now.store) (S.table self.old.editor.now.store) (names_of path.now)
+        ensures refused { (base : Path) → StandsAt self.old base
+            → IfErr result (LeafFault (S.is_honest self.old.editor.now.store)
+            (S.may_fail self.old.editor.now.store) (S.table self.old.editor.now.store)
+            (names_of path.now)
             (LeadsInto (λ trees. files_of trees self.new.editor.now) (base ++ names_of path.now))
-            (IsFolder (λ trees. IsFilled trees self.new.editor.now) (λ trees. files_of trees self.new.editor.now) (base ++ names_of path.now))) }
-        ensures each { S.is_honest self.old.editor.now.store → (has : Property) → PassesDown (S.table self.old.editor.now.store) has → EachEntryHas has self.old.editor.now → EachEntryHas has self.new.editor.now }
-        ensures as_read { S.is_honest self.old.editor.now.store → (trees : Trees) → HasStored (S.table self.old.editor.now.store) trees
-            → IsAsRead trees self.old.editor.now → IsAsRead trees self.new.editor.now }
-        ensures changed { (base : Path) → StandsAt self.old base → (tree : Path) → IsChanged self.new.editor.now tree
+            (IsFolder (λ trees. IsFilled trees self.new.editor.now)
+            (λ trees. files_of trees self.new.editor.now) (base ++ names_of path.now))) }
+        ensures each { S.is_honest self.old.editor.now.store → (has : Property)
+            → PassesDown (S.table self.old.editor.now.store) has
+            → EachEntryHas has self.old.editor.now → EachEntryHas has self.new.editor.now }
+        ensures as_read { OverStored (S.is_honest self.old.editor.now.store)
+            (S.table self.old.editor.now.store)
+            (λ trees. IsAsRead trees self.old.editor.now → IsAsRead trees self.new.editor.now) }
+        ensures changed { (base : Path) → StandsAt self.old base → (tree : Path)
+            → IsChanged self.new.editor.now tree
             → IsChanged self.old.editor.now tree ⊎ IsAbove tree (base ++ names_of path.now) }
-        ensures still { OnErr result ((tree : Path) → IsChanged self.new.editor.now tree → IsChanged self.old.editor.now tree) }
+        ensures still { OnErr result ((tree : Path) → IsChanged self.new.editor.now tree
+            → IsChanged self.old.editor.now tree) }
+        ensures full { IfErr result (λ error. (error ≡ EmptyPathComponent)
+            ⊎ NamesAreFull (names_of path.now)) }
+        ensures folder { (base : Path) → StandsAt self.old base
+            → IfErr result (λ error. IsNonLeaf error
+            → HasSomeBelow (base ++ names_of path.now) (files_of no_trees self.new.editor.now)) }
         ensures counted { self.new.editor.now.lookups ≤ self.old.editor.now.lookups + length path.now }
+        ensures asked { (base : Path) → StandsAt self.old base
+            → Asks (S.is_honest self.old.editor.now.store)
+            (S.may_fail self.old.editor.now.store) (S.table self.old.editor.now.store)
+            (asked_by self.old.editor.now
+            (base ++ names_of path.now)) self.old.editor.now.lookups self.new.editor.now.lookups result }
         ensures store { self.new.editor.now.store ≡ self.old.editor.now.store }
         ensures lent { self.new.editor.ghost_name ≡ self.old.editor.ghost_name }
     {
@@ -130,22 +193,51 @@ impl<'c, S: Find> Cursor<'c, S> {
         kind: EntryKind,
         id: ObjectId,
     ) -> Result<(), Error>
-        ensures put { (base : Path) → StandsAt self.old base → S.is_honest self.old.editor.now.store → OnOk result ((trees : Trees) → HasStored (S.table self.old.editor.now.store) trees
-            → SameFiles (files_of trees self.new.editor.now) (put trees (base ++ names_of path.now) (leaf_of_kind kind id) (files_of trees self.old.editor.now))) }
-        ensures unchanged { S.is_honest self.old.editor.now.store → OnErr result ((trees : Trees) → HasStored (S.table self.old.editor.now.store) trees
-            → SameFiles (files_of trees self.new.editor.now) (files_of trees self.old.editor.now)) }
+        ensures put { (base : Path) → StandsAt self.old base
+            → OkOverStored (S.is_honest self.old.editor.now.store)
+            (S.table self.old.editor.now.store) result
+            (λ trees. SameFiles (files_of trees self.new.editor.now)
+            (put trees (base ++ names_of path.now) (leaf_of_kind kind id)
+            (files_of trees self.old.editor.now))) }
+        ensures unchanged { ErrOverStored (S.is_honest self.old.editor.now.store)
+            (S.table self.old.editor.now.store) result
+            (λ trees. SameFiles (files_of trees self.new.editor.now)
+            (files_of trees self.old.editor.now)) }
         ensures stands { (base : Path) → StandsAt self.old base → StandsAt self.new base }
         ensures named { OnOk result (NamesAreFull (names_of path.now)) }
-        ensures refused { (base : Path) → StandsAt self.old base → IfErr result (EditFault (S.is_honest self.old.editor.now.store) (S.may_fail self.old.editor.now.store) (S.table self.old.editor.now.store) (names_of path.now)
-            (LeadsThrough (λ trees. files_of trees self.new.editor.now) (base ++ names_of path.now))) }
-        ensures each { S.is_honest self.old.editor.now.store → (has : Property) → PassesDown (S.table self.old.editor.now.store) has → MayStand has (names_of path.now) (leaf_of_kind kind id)
+        ensures refused { (base : Path) → StandsAt self.old base
+            → IfErr result (EditFault (S.is_honest self.old.editor.now.store)
+            (S.may_fail self.old.editor.now.store) (S.table self.old.editor.now.store)
+            (names_of path.now)
+            (LeadsThrough (λ trees. files_of trees self.new.editor.now)
+            (base ++ names_of path.now))) }
+        ensures each { S.is_honest self.old.editor.now.store → (has : Property)
+            → PassesDown (S.table self.old.editor.now.store) has
+            → MayStand has (names_of path.now) (leaf_of_kind kind id)
             → EachEntryHas has self.old.editor.now → EachEntryHas has self.new.editor.now }
-        ensures as_read { S.is_honest self.old.editor.now.store → (trees : Trees) → HasStored (S.table self.old.editor.now.store) trees
-            → IsAsRead trees self.old.editor.now → IsAsRead trees self.new.editor.now }
-        ensures changed { (base : Path) → StandsAt self.old base → (tree : Path) → IsChanged self.new.editor.now tree
+        ensures as_read { OverStored (S.is_honest self.old.editor.now.store)
+            (S.table self.old.editor.now.store)
+            (λ trees. IsAsRead trees self.old.editor.now → IsAsRead trees self.new.editor.now) }
+        ensures changed { (base : Path) → StandsAt self.old base → (tree : Path)
+            → IsChanged self.new.editor.now tree
             → IsChanged self.old.editor.now tree ⊎ IsAbove tree (base ++ names_of path.now) }
-        ensures still { OnErr result ((tree : Path) → IsChanged self.new.editor.now tree → IsChanged self.old.editor.now tree) }
+        ensures same { (base : Path) → StandsAt self.old base
+            → S.is_honest self.old.editor.now.store
+            → (trees : Trees) → HasStored (S.table self.old.editor.now.store) trees
+            → files_of trees self.old.editor.now (base ++ names_of path.now) ≡ Some
+            (leaf_of_kind kind id)
+            → OnOk result ((tree : Path) → IsChanged self.new.editor.now tree
+            → IsChanged self.old.editor.now tree) }
+        ensures still { OnErr result ((tree : Path) → IsChanged self.new.editor.now tree
+            → IsChanged self.old.editor.now tree) }
+        ensures full { IfErr result (λ error. (error ≡ EmptyPathComponent)
+            ⊎ NamesAreFull (names_of path.now)) }
         ensures counted { self.new.editor.now.lookups ≤ self.old.editor.now.lookups + length path.now }
+        ensures asked { (base : Path) → StandsAt self.old base
+            → Asks (S.is_honest self.old.editor.now.store)
+            (S.may_fail self.old.editor.now.store) (S.table self.old.editor.now.store)
+            (asked_by self.old.editor.now (base ++ front_of
+            (names_of path.now))) self.old.editor.now.lookups self.new.editor.now.lookups result }
         ensures store { self.new.editor.now.store ≡ self.old.editor.now.store }
         ensures lent { self.new.editor.ghost_name ≡ self.old.editor.ghost_name }
     {
@@ -160,9 +252,12 @@ impl<'c, S: Find> Cursor<'c, S> {
         out: &mut F,
     ) -> Result<ObjectId, write::Error<E>>
         requires { F.IsAlwaysCallable out.old }
-        ensures written { (base : Path) → StandsAt self.now base → IfOk result (λ id. Writes F.FnMut self.now.editor.now self.now.at.0 base out.old (id_of id) out.new) }
-        ensures refused { (base : Path) → StandsAt self.now base → IfErr result (λ error.
-            WriteFault F.FnMut (due_in self.now.editor.now.nodes.items self.now.at.0) out.old error out.new) }
+        ensures written { (base : Path) → StandsAt self.now base
+            → IfOk result (λ id. Writes F.FnMut self.now.editor.now self.now.at.0 base out.old
+            (id_of id) out.new) }
+        ensures refused { (base : Path) → StandsAt self.now base
+            → IfErr result
+            (λ error. WriteFault F.FnMut self.now.editor.now self.now.at.0 base out.old error out.new) }
         ensures callable { F.IsAlwaysCallable out.new }
     {
         self.editor.write_from(alloc, self.at, out)

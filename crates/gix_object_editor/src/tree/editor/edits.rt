@@ -1,12 +1,14 @@
 //! Edits below an opened tree.
 
-ghost use Rattle.std.specs.Prelude.{◌≡◌, ◌<◌, ◌≤◌, ◌+◌, ◌⊎◌, length, IfErr, OnOk, OnErr, IfOk, []};
-ghost use Rattle.gix_object_editor.specs.Files.{Path, Trees, HasStored, SameFiles, NamesAreFull, HasNoneBelow, removed, put, cleared};
+ghost use Rattle.std.specs.Prelude.{◌≡◌, ◌<◌, ◌≤◌, ◌+◌, ◌⊎◌, length, IfErr, OnOk, OnErr, IfOk, Some, []};
+ghost use Rattle.gix_object_editor.specs.Files.{Path, Trees, HasStored, SameFiles, Begins, NamesAreFull, HasNoneBelow, removed, put, cleared};
 ghost use Rattle.gix_object_editor.specs.Nodes.{slots_of, Way, onto, LeadsTo};
-ghost use Rattle.gix_object_editor.specs.Editor.{files_of, names_of, leaf_of_kind, LeadsThrough, LeadsInto, EditFault, LeafFault, IsFilled, IsFolder, IsChanged, IsAsRead, IsAbove, Begins, EachEntryHas};
-ghost use Rattle.gix_object_editor.specs.Entries.{Property, PassesDown, MayStand};
+ghost use Rattle.gix_object_editor.specs.Editor.{files_of, names_of, leaf_of_kind, LeadsThrough, LeadsInto, EditFault, LeafFault, IsFilled, IsFolder, IsChanged, IsAsRead, IsAbove, EachEntryHas, ErrOverStored, OkOverStored, OverStored};
+ghost use Rattle.gix_object_editor.specs.Asked.{front_of, unopened_into, Asks};
+ghost use Rattle.gix_object_editor.specs.Entries.{Property, PassesDown, MayStand, MayStandMade};
 ghost use Rattle.gix_object_editor.specs.declared.tree.editor.error.Error.TheVariants.{EmptyPathComponent};
 
+use crate::tree::editor::entry::stands_already;
 use crate::tree::editor::filled::refuse_folder;
 use crate::tree::editor::forest::{folder_below, walk};
 use crate::tree::editor::graft::{graft, make_folders};
@@ -27,21 +29,38 @@ impl<S: Find> Editor<S> {
         path: &[&[u8]],
     ) -> Result<(), Error>
         requires { from.0 < length self.old.nodes.items }
-        ensures removed { (way : Path) → Way (slots_of self.old.nodes.items) way from.0 → S.is_honest self.old.store → OnOk result ((trees : Trees) → HasStored (S.table self.old.store) trees
-            → SameFiles (files_of trees self.new) (removed (onto way (names_of path.now)) (files_of trees self.old))) }
-        ensures unchanged { S.is_honest self.old.store → OnErr result ((trees : Trees) → HasStored (S.table self.old.store) trees
-            → SameFiles (files_of trees self.new) (files_of trees self.old)) }
-        ensures kept { (way : Path) → Way (slots_of self.old.nodes.items) way from.0 → Way (slots_of self.new.nodes.items) way from.0 }
+        ensures removed { (way : Path) → Way (slots_of self.old.nodes.items) way from.0
+            → OkOverStored (S.is_honest self.old.store) (S.table self.old.store) result
+            (λ trees. SameFiles (files_of trees self.new)
+            (removed (onto way (names_of path.now)) (files_of trees self.old))) }
+        ensures unchanged { ErrOverStored (S.is_honest self.old.store)
+            (S.table self.old.store) result
+            (λ trees. SameFiles (files_of trees self.new) (files_of trees self.old)) }
+        ensures kept { (way : Path) → Way (slots_of self.old.nodes.items) way from.0
+            → Way (slots_of self.new.nodes.items) way from.0 }
         ensures within { from.0 < length self.new.nodes.items }
         ensures named { OnOk result (NamesAreFull (names_of path.now)) }
-        ensures refused { (way : Path) → Way (slots_of self.old.nodes.items) way from.0 → IfErr result (EditFault (S.is_honest self.old.store) (S.may_fail self.old.store) (S.table self.old.store) (names_of path.now)
+        ensures refused { (way : Path) → Way (slots_of self.old.nodes.items) way from.0
+            → IfErr result (EditFault (S.is_honest self.old.store) (S.may_fail self.old.store)
+            (S.table self.old.store) (names_of path.now)
             (LeadsThrough (λ trees. files_of trees self.new) (onto way (names_of path.now)))) }
+        ensures full { IfErr result (λ error. (error ≡ EmptyPathComponent)
+            ⊎ NamesAreFull (names_of path.now)) }
         ensures counted { self.new.lookups ≤ self.old.lookups + length path.now }
-        ensures each { S.is_honest self.old.store → (has : Property) → PassesDown (S.table self.old.store) has → EachEntryHas has self.old → EachEntryHas has self.new }
-        ensures as_read { S.is_honest self.old.store → (trees : Trees) → HasStored (S.table self.old.store) trees → IsAsRead trees self.old → IsAsRead trees self.new }
-        ensures changed { (way : Path) → Way (slots_of self.old.nodes.items) way from.0 → (tree : Path) → IsChanged self.new tree
+        ensures asked { Asks (S.is_honest self.old.store) (S.may_fail self.old.store)
+            (S.table self.old.store)
+            (λ trees. unopened_into trees (slots_of self.old.nodes.items) from.0
+            (front_of (names_of path.now))) self.old.lookups self.new.lookups result }
+        ensures each { S.is_honest self.old.store → (has : Property)
+            → PassesDown (S.table self.old.store) has → EachEntryHas has self.old
+            → EachEntryHas has self.new }
+        ensures as_read { OverStored (S.is_honest self.old.store) (S.table self.old.store)
+            (λ trees. IsAsRead trees self.old → IsAsRead trees self.new) }
+        ensures changed { (way : Path) → Way (slots_of self.old.nodes.items) way from.0
+            → (tree : Path) → IsChanged self.new tree
             → IsChanged self.old tree ⊎ IsAbove tree (onto way (names_of path.now)) }
-        ensures still { OnErr result ((tree : Path) → IsChanged self.new tree → IsChanged self.old tree) }
+        ensures still { OnErr result ((tree : Path) → IsChanged self.new tree
+            → IsChanged self.old tree) }
         ensures store { self.new.store ≡ self.old.store }
     {
         check_names(path)?;
@@ -67,23 +86,43 @@ impl<S: Find> Editor<S> {
         path: &[&[u8]],
     ) -> Result<(), Error>
         requires { from.0 < length self.old.nodes.items }
-        ensures removed { (way : Path) → Way (slots_of self.old.nodes.items) way from.0 → S.is_honest self.old.store → OnOk result ((trees : Trees) → HasStored (S.table self.old.store) trees
-            → SameFiles (files_of trees self.new) (removed (onto way (names_of path.now)) (files_of trees self.old))) }
-        ensures leaf { (way : Path) → Way (slots_of self.old.nodes.items) way from.0 → S.is_honest self.old.store → OnOk result ((trees : Trees) → HasStored (S.table self.old.store) trees
-            → HasNoneBelow (onto way (names_of path.now)) (files_of trees self.old)) }
-        ensures unchanged { S.is_honest self.old.store → OnErr result ((trees : Trees) → HasStored (S.table self.old.store) trees
-            → SameFiles (files_of trees self.new) (files_of trees self.old)) }
-        ensures kept { (way : Path) → Way (slots_of self.old.nodes.items) way from.0 → Way (slots_of self.new.nodes.items) way from.0 }
+        ensures removed { (way : Path) → Way (slots_of self.old.nodes.items) way from.0
+            → OkOverStored (S.is_honest self.old.store) (S.table self.old.store) result
+            (λ trees. SameFiles (files_of trees self.new)
+            (removed (onto way (names_of path.now)) (files_of trees self.old))) }
+        ensures leaf { (way : Path) → Way (slots_of self.old.nodes.items) way from.0
+            → OkOverStored (S.is_honest self.old.store) (S.table self.old.store) result
+            (λ trees. HasNoneBelow (onto way (names_of path.now)) (files_of trees self.old)) }
+        ensures unchanged { ErrOverStored (S.is_honest self.old.store)
+            (S.table self.old.store) result
+            (λ trees. SameFiles (files_of trees self.new) (files_of trees self.old)) }
+        ensures kept { (way : Path) → Way (slots_of self.old.nodes.items) way from.0
+            → Way (slots_of self.new.nodes.items) way from.0 }
         ensures within { from.0 < length self.new.nodes.items }
         ensures named { OnOk result (NamesAreFull (names_of path.now)) }
-        ensures refused { (way : Path) → Way (slots_of self.old.nodes.items) way from.0 → IfErr result (LeafFault (S.is_honest self.old.store) (S.may_fail self.old.store) (S.table self.old.store) (names_of path.now)
-            (LeadsInto (λ trees. files_of trees self.new) (onto way (names_of path.now))) (IsFolder (λ trees. IsFilled trees self.new) (λ trees. files_of trees self.new) (onto way (names_of path.now)))) }
+        ensures refused { (way : Path) → Way (slots_of self.old.nodes.items) way from.0
+            → IfErr result (LeafFault (S.is_honest self.old.store) (S.may_fail self.old.store)
+            (S.table self.old.store) (names_of path.now)
+            (LeadsInto (λ trees. files_of trees self.new) (onto way (names_of path.now)))
+            (IsFolder (λ trees. IsFilled trees self.new) (λ trees. files_of trees self.new)
+            (onto way (names_of path.now)))) }
+        ensures full { IfErr result (λ error. (error ≡ EmptyPathComponent)
+            ⊎ NamesAreFull (names_of path.now)) }
         ensures counted { self.new.lookups ≤ self.old.lookups + length path.now }
-        ensures each { S.is_honest self.old.store → (has : Property) → PassesDown (S.table self.old.store) has → EachEntryHas has self.old → EachEntryHas has self.new }
-        ensures as_read { S.is_honest self.old.store → (trees : Trees) → HasStored (S.table self.old.store) trees → IsAsRead trees self.old → IsAsRead trees self.new }
-        ensures changed { (way : Path) → Way (slots_of self.old.nodes.items) way from.0 → (tree : Path) → IsChanged self.new tree
+        ensures asked { Asks (S.is_honest self.old.store) (S.may_fail self.old.store)
+            (S.table self.old.store)
+            (λ trees. unopened_into trees (slots_of self.old.nodes.items) from.0
+            (names_of path.now)) self.old.lookups self.new.lookups result }
+        ensures each { S.is_honest self.old.store → (has : Property)
+            → PassesDown (S.table self.old.store) has → EachEntryHas has self.old
+            → EachEntryHas has self.new }
+        ensures as_read { OverStored (S.is_honest self.old.store) (S.table self.old.store)
+            (λ trees. IsAsRead trees self.old → IsAsRead trees self.new) }
+        ensures changed { (way : Path) → Way (slots_of self.old.nodes.items) way from.0
+            → (tree : Path) → IsChanged self.new tree
             → IsChanged self.old tree ⊎ IsAbove tree (onto way (names_of path.now)) }
-        ensures still { OnErr result ((tree : Path) → IsChanged self.new tree → IsChanged self.old tree) }
+        ensures still { OnErr result ((tree : Path) → IsChanged self.new tree
+            → IsChanged self.old tree) }
         ensures store { self.new.store ≡ self.old.store }
     {
         check_names(path)?;
@@ -119,22 +158,45 @@ impl<S: Find> Editor<S> {
         id: ObjectId,
     ) -> Result<(), Error>
         requires { from.0 < length self.old.nodes.items }
-        ensures put { (way : Path) → Way (slots_of self.old.nodes.items) way from.0 → S.is_honest self.old.store → OnOk result ((trees : Trees) → HasStored (S.table self.old.store) trees
-            → SameFiles (files_of trees self.new) (put trees (onto way (names_of path.now)) (leaf_of_kind kind id) (files_of trees self.old))) }
-        ensures unchanged { S.is_honest self.old.store → OnErr result ((trees : Trees) → HasStored (S.table self.old.store) trees
-            → SameFiles (files_of trees self.new) (files_of trees self.old)) }
-        ensures kept { (way : Path) → Way (slots_of self.old.nodes.items) way from.0 → Way (slots_of self.new.nodes.items) way from.0 }
+        ensures put { (way : Path) → Way (slots_of self.old.nodes.items) way from.0
+            → OkOverStored (S.is_honest self.old.store) (S.table self.old.store) result
+            (λ trees. SameFiles (files_of trees self.new)
+            (put trees (onto way (names_of path.now)) (leaf_of_kind kind id)
+            (files_of trees self.old))) }
+        ensures unchanged { ErrOverStored (S.is_honest self.old.store)
+            (S.table self.old.store) result
+            (λ trees. SameFiles (files_of trees self.new) (files_of trees self.old)) }
+        ensures kept { (way : Path) → Way (slots_of self.old.nodes.items) way from.0
+            → Way (slots_of self.new.nodes.items) way from.0 }
         ensures within { from.0 < length self.new.nodes.items }
         ensures named { OnOk result (NamesAreFull (names_of path.now)) }
-        ensures refused { (way : Path) → Way (slots_of self.old.nodes.items) way from.0 → IfErr result (EditFault (S.is_honest self.old.store) (S.may_fail self.old.store) (S.table self.old.store) (names_of path.now)
+        ensures refused { (way : Path) → Way (slots_of self.old.nodes.items) way from.0
+            → IfErr result (EditFault (S.is_honest self.old.store) (S.may_fail self.old.store)
+            (S.table self.old.store) (names_of path.now)
             (LeadsThrough (λ trees. files_of trees self.new) (onto way (names_of path.now)))) }
+        ensures full { IfErr result (λ error. (error ≡ EmptyPathComponent)
+            ⊎ NamesAreFull (names_of path.now)) }
         ensures counted { self.new.lookups ≤ self.old.lookups + length path.now }
-        ensures each { S.is_honest self.old.store → (has : Property) → PassesDown (S.table self.old.store) has → MayStand has (names_of path.now) (leaf_of_kind kind id)
+        ensures asked { Asks (S.is_honest self.old.store) (S.may_fail self.old.store)
+            (S.table self.old.store)
+            (λ trees. unopened_into trees (slots_of self.old.nodes.items) from.0
+            (front_of (names_of path.now))) self.old.lookups self.new.lookups result }
+        ensures each { S.is_honest self.old.store → (has : Property)
+            → PassesDown (S.table self.old.store) has
+            → MayStand has (names_of path.now) (leaf_of_kind kind id)
             → EachEntryHas has self.old → EachEntryHas has self.new }
-        ensures as_read { S.is_honest self.old.store → (trees : Trees) → HasStored (S.table self.old.store) trees → IsAsRead trees self.old → IsAsRead trees self.new }
-        ensures changed { (way : Path) → Way (slots_of self.old.nodes.items) way from.0 → (tree : Path) → IsChanged self.new tree
+        ensures as_read { OverStored (S.is_honest self.old.store) (S.table self.old.store)
+            (λ trees. IsAsRead trees self.old → IsAsRead trees self.new) }
+        ensures changed { (way : Path) → Way (slots_of self.old.nodes.items) way from.0
+            → (tree : Path) → IsChanged self.new tree
             → IsChanged self.old tree ⊎ IsAbove tree (onto way (names_of path.now)) }
-        ensures still { OnErr result ((tree : Path) → IsChanged self.new tree → IsChanged self.old tree) }
+        ensures same { (way : Path) → Way (slots_of self.old.nodes.items) way from.0
+            → S.is_honest self.old.store → (trees : Trees)
+            → HasStored (S.table self.old.store) trees
+            → files_of trees self.old (onto way (names_of path.now)) ≡ Some (leaf_of_kind kind id)
+            → OnOk result ((tree : Path) → IsChanged self.new tree → IsChanged self.old tree) }
+        ensures still { OnErr result ((tree : Path) → IsChanged self.new tree
+            → IsChanged self.old tree) }
         ensures store { self.new.store ≡ self.old.store }
     {
         check_names(path)?;
@@ -151,6 +213,9 @@ impl<S: Find> Editor<S> {
             oid: id,
             child: None,
         };
+        if stands_already(self.nodes.as_slice(), at, &path[depth..], slot) {
+            return Ok(());
+        }
         graft(&mut self.nodes, alloc, at, &path[depth..], slot)?;
         mark_changed(self.nodes.as_mut_slice(), at);
         Ok(())
@@ -163,19 +228,36 @@ impl<S: Find> Editor<S> {
         path: &[&[u8]],
         hash: Kind,
     ) -> Result<NodeId, Error>
-        ensures cleared { S.is_honest self.old.store → OnOk result ((trees : Trees) → HasStored (S.table self.old.store) trees
-            → SameFiles (files_of trees self.new) (cleared (names_of path.now) (files_of trees self.old))) }
-        ensures unchanged { S.is_honest self.old.store → OnErr result ((trees : Trees) → HasStored (S.table self.old.store) trees
-            → SameFiles (files_of trees self.new) (files_of trees self.old)) }
-        ensures leads { IfOk result (λ end. LeadsTo (slots_of self.new.nodes.items) (names_of path.now) end.0 []) }
+        ensures cleared { OkOverStored (S.is_honest self.old.store) (S.table self.old.store) result
+            (λ trees. SameFiles (files_of trees self.new)
+            (cleared (names_of path.now) (files_of trees self.old))) }
+        ensures unchanged { ErrOverStored (S.is_honest self.old.store)
+            (S.table self.old.store) result
+            (λ trees. SameFiles (files_of trees self.new) (files_of trees self.old)) }
+        ensures leads { IfOk result (λ end. LeadsTo (slots_of self.new.nodes.items)
+            (names_of path.now) end.0 []) }
         ensures within { IfOk result (λ end. end.0 < length self.new.nodes.items) }
         ensures named { OnOk result (NamesAreFull (names_of path.now)) }
-        ensures refused { IfErr result (EditFault (S.is_honest self.old.store) (S.may_fail self.old.store) (S.table self.old.store) (names_of path.now)
+        ensures refused { IfErr result (EditFault (S.is_honest self.old.store)
+            (S.may_fail self.old.store) (S.table self.old.store) (names_of path.now)
             (LeadsInto (λ trees. files_of trees self.new) (names_of path.now))) }
+        ensures full { IfErr result (λ error. (error ≡ EmptyPathComponent)
+            ⊎ NamesAreFull (names_of path.now)) }
         ensures counted { self.new.lookups ≤ self.old.lookups + length path.now }
-        ensures as_read { S.is_honest self.old.store → (trees : Trees) → HasStored (S.table self.old.store) trees → IsAsRead trees self.old → IsAsRead trees self.new }
-        ensures changed { (tree : Path) → IsChanged self.new tree → IsChanged self.old tree ⊎ Begins tree (names_of path.now) }
-        ensures still { OnErr result ((tree : Path) → IsChanged self.new tree → IsChanged self.old tree) }
+        ensures asked { Asks (S.is_honest self.old.store) (S.may_fail self.old.store)
+            (S.table self.old.store)
+            (λ trees. unopened_into trees (slots_of self.old.nodes.items) 0
+            (names_of path.now)) self.old.lookups self.new.lookups result }
+        ensures each { S.is_honest self.old.store → (has : Property)
+            → PassesDown (S.table self.old.store) has
+            → MayStandMade has hash (names_of path.now) → EachEntryHas has self.old
+            → EachEntryHas has self.new }
+        ensures as_read { OverStored (S.is_honest self.old.store) (S.table self.old.store)
+            (λ trees. IsAsRead trees self.old → IsAsRead trees self.new) }
+        ensures changed { (tree : Path) → IsChanged self.new tree → IsChanged self.old tree
+            ⊎ Begins tree (names_of path.now) }
+        ensures still { OnErr result ((tree : Path) → IsChanged self.new tree
+            → IsChanged self.old tree) }
         ensures store { self.new.store ≡ self.old.store }
     {
         check_names(path)?;
@@ -209,7 +291,8 @@ impl<S: Find> Editor<S> {
 // Refuses a path without a name, or with an empty one.
 fn check_names(path: &[&[u8]]) -> Result<(), Error>
     ensures ok { OnOk result (NamesAreFull (names_of path.now)) }
-    ensures refused { IfErr result (λ error. (error ≡ EmptyPathComponent) × (NamesAreFull (names_of path.now) → ⊥)) }
+    ensures refused { IfErr result (λ error. (error ≡ EmptyPathComponent)
+        × (NamesAreFull (names_of path.now) → ⊥)) }
 {
     if path.is_empty() {
         return Err(Error::EmptyPathComponent);

@@ -1,10 +1,10 @@
 //! Entries of opened trees.
 
-ghost use Rattle.std.specs.Prelude.{◌≡◌, ◌<◌, length, map, option_map};
+ghost use Rattle.std.specs.Prelude.{◌≡◌, ◌<◌, length, map, option_map, slice_index_or, IsTrue, IsFalse, None, []};
 ghost use Rattle.gix_object_entries.specs.Entry.{item_of};
-ghost use Rattle.gix_object_editor.specs.Nodes.{slot_in, slots_of, child_of, entry_at, entry_in, IsForest};
+ghost use Rattle.gix_object_editor.specs.Nodes.{slot_in, slots_of, child_of, leaf_in, entry_at, entry_in, IsForest, IsEntry};
 
-use crate::tree::editor::node::{Node, NodeId, slot_at};
+use crate::tree::editor::node::{Node, NodeId, Slot, slot_at};
 use bstr::BStr;
 use gix_object_entries::tree::EntryRef;
 
@@ -17,7 +17,8 @@ pub(crate) fn entry_from<'a>(
 ) -> Option<EntryRef<'a>>
     requires forest { IsForest (slots_of nodes.now) (length nodes.now) }
     requires within { from.0 < length nodes.now }
-    ensures { option_map item_of result ≡ entry_at (slots_of nodes.now) from.0 (map (λ n. n.now) path.now) }
+    ensures { option_map item_of result ≡ entry_at (slots_of nodes.now) from.0
+        (map (λ n. n.now) path.now) }
 {
     if path.is_empty() {
         return None;
@@ -29,6 +30,34 @@ pub(crate) fn entry_from<'a>(
         depth += 1;
     }
     entry_of(&nodes[at.0], path[depth])
+}
+
+/// Whether this is the entry of a lone name in an opened tree already, and no tree was opened for it.
+pub(crate) fn stands_already(nodes: &[Node], at: NodeId, names: &[&[u8]], slot: Slot) -> bool
+    requires within { at.0 < length nodes.now }
+    requires named { 0 < length names.now }
+    ensures so { IsTrue result → (length names.now ≡ 1)
+        × IsEntry (slots_of nodes.now at.0 (slice_index_or (map (λ n. n.now) names.now) 0 []))
+        (leaf_in slot) }
+    ensures otherwise { IsFalse result → length names.now ≡ 1
+        → IsEntry (slots_of nodes.now at.0 (slice_index_or (map (λ n. n.now) names.now) 0 []))
+        (leaf_in slot) → ⊥ }
+{
+    if names.len() > 1 {
+        return false;
+    }
+    match slot_at(nodes, at, names[0]) {
+        Some(there) => is_entry(there, slot),
+        None => false,
+    }
+}
+
+// Whether two slots are the same entry, and no tree was opened for the first.
+fn is_entry(there: Slot, slot: Slot) -> bool
+    ensures so { IsTrue result → (leaf_in there ≡ leaf_in slot) × (there.child ≡ None) }
+    ensures otherwise { IsFalse result → leaf_in there ≡ leaf_in slot → there.child ≡ None → ⊥ }
+{
+    there.child.is_none() && there.mode == slot.mode && there.oid == slot.oid
 }
 
 // The opened tree of a name in another.

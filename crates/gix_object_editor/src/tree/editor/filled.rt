@@ -1,11 +1,12 @@
 //! Folders with files.
 
-ghost use Rattle.std.specs.Prelude.{◌≡◌, ◌<◌, ◌≤◌, ◌+◌, ◌∷◌, length, IsTrue, IsFalse, IfErr, OnOk, None, false};
+ghost use Rattle.std.specs.Prelude.{◌≡◌, ◌<◌, ◌≤◌, ◌+◌, ◌∷◌, [], length, IsTrue, IsFalse, IfErr, OnOk, None, false};
 ghost use Rattle.gix_object_editor.specs.Files.{Bytes, Path, Trees, HasStored};
 ghost use Rattle.gix_object_editor.specs.Entries.{Property, EachHas, PassesDown};
 ghost use Rattle.gix_object_editor.specs.Marks.{marks_of, AreMarksKept, AreAsRead};
 ghost use Rattle.gix_object_editor.specs.Nodes.{slots_of, files_of_node, IsForest, AreFilled, HasFileBelow, IsOpened, IsFolderAt};
 ghost use Rattle.gix_object_editor.specs.Refusals.{FolderFault};
+ghost use Rattle.gix_object_editor.specs.Asked.{unopened_into, Asks};
 
 use crate::tree::editor::Error;
 use crate::tree::editor::forest::open;
@@ -25,14 +26,24 @@ pub(crate) fn refuse_folder<S: Find>(
 ) -> Result<(), Error>
     requires forest { IsForest (slots_of nodes.old.items) (length nodes.old.items) }
     requires within { at.0 < length nodes.old.items }
-    ensures opened { IsOpened (S.is_honest store.now) (S.table store.now) (slots_of nodes.old.items) (slots_of nodes.new.items) (length nodes.old.items) (length nodes.new.items) }
-    ensures marks { AreMarksKept false (slots_of nodes.old.items) (slots_of nodes.new.items) (marks_of nodes.old.items) (marks_of nodes.new.items) (length nodes.old.items) (length nodes.new.items) }
+    ensures opened { IsOpened (S.is_honest store.now) (S.table store.now)
+        (slots_of nodes.old.items) (slots_of nodes.new.items) (length nodes.old.items)
+        (length nodes.new.items) }
+    ensures marks { AreMarksKept false (slots_of nodes.old.items) (slots_of nodes.new.items)
+        (marks_of nodes.old.items) (marks_of nodes.new.items) (length nodes.old.items)
+        (length nodes.new.items) }
     ensures as_read { S.is_honest store.now → (trees : Trees) → HasStored (S.table store.now) trees
-        → AreAsRead trees (slots_of nodes.old.items) (marks_of nodes.old.items) → AreAsRead trees (slots_of nodes.new.items) (marks_of nodes.new.items) }
-    ensures each { S.is_honest store.now → (has : Property) → PassesDown (S.table store.now) has → EachHas has (slots_of nodes.old.items) → EachHas has (slots_of nodes.new.items) }
+        → AreAsRead trees (slots_of nodes.old.items) (marks_of nodes.old.items)
+        → AreAsRead trees (slots_of nodes.new.items) (marks_of nodes.new.items) }
+    ensures each { S.is_honest store.now → (has : Property) → PassesDown (S.table store.now) has
+        → EachHas has (slots_of nodes.old.items) → EachHas has (slots_of nodes.new.items) }
     ensures plain { OnOk result (IsFolderAt (slots_of nodes.new.items) at.0 name.now None) }
     ensures counted { lookups.new ≤ lookups.old + 1 }
-    ensures refused { IfErr result (FolderFault (S.is_honest store.now) (S.may_fail store.now) (S.table store.now) (slots_of nodes.new.items) at.0 name.now) }
+    ensures asked { Asks (S.is_honest store.now) (S.may_fail store.now) (S.table store.now)
+        (λ trees. unopened_into trees (slots_of nodes.old.items) at.0
+        (name.now ∷ [])) lookups.old lookups.new result }
+    ensures refused { IfErr result (FolderFault (S.is_honest store.now) (S.may_fail store.now)
+        (S.table store.now) (slots_of nodes.new.items) at.0 name.now) }
 {
     let Some(folder) = open(store, nodes, lookups, alloc, at, name)? else {
         return Ok(());
@@ -48,8 +59,10 @@ pub(crate) fn refuse_folder<S: Find>(
 fn has_file(nodes: &[Node], at: NodeId) -> bool
     requires forest { IsForest (slots_of nodes.now) (length nodes.now) }
     requires within { at.0 < length nodes.now }
-    ensures found { IsTrue result → (trees : Trees) → AreFilled trees (slots_of nodes.now) → HasFileBelow trees (slots_of nodes.now) at.0 }
-    ensures none { IsFalse result → (trees : Trees) (m : Bytes) (rest : Path) → files_of_node trees (slots_of nodes.now) at.0 (m ∷ rest) ≡ None }
+    ensures found { IsTrue result → (trees : Trees) → AreFilled trees (slots_of nodes.now)
+        → HasFileBelow trees (slots_of nodes.now) at.0 }
+    ensures none { IsFalse result → (trees : Trees) (m : Bytes) (rest : Path)
+        → files_of_node trees (slots_of nodes.now) at.0 (m ∷ rest) ≡ None }
 {
     let node = &nodes[at.0];
     for slot in node.slots.values() {

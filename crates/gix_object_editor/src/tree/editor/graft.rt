@@ -1,11 +1,12 @@
 //! Putting an entry below an opened tree, in folders that are made for it.
 
 ghost use Rattle.std.specs.Prelude.{◌≡◌, ◌≢◌, ◌<◌, ◌≤◌, ◌+◌, ◌++◌, ◌∷◌, ◌⊎◌, ℕ, length, map, slice_index_or, IfOk, OnOk, OnErr, Some, None, [], true};
-ghost use Rattle.std.specs.List.{Contains};
+ghost use Rattle.std.specs.List.{All, Contains};
 ghost use Rattle.gix_hash.specs.Id.{id_of};
 ghost use Rattle.gix_object_editor.specs.declared.tree.editor.node.Slot.{Slot};
 ghost use Rattle.gix_object_editor.specs.Files.{Bytes, Path, Trees, SameFiles, put, cleared};
-ghost use Rattle.gix_object_editor.specs.Entries.{Property, EachHas, MayStand, made_leaf};
+ghost use Rattle.gix_object_editor.specs.Asked.{front_of};
+ghost use Rattle.gix_object_editor.specs.Entries.{Property, EachHas, MayStand, MayStandMade, made_leaf};
 ghost use Rattle.gix_object_editor.specs.Marks.{mark_of, marks_of, mark_below, rung_parent, AreMarksKept, AreOnPath};
 ghost use Rattle.gix_object_editor.specs.Nodes.{slot_in, slots_of, child_of, leaf_in, files_of_node, Way, onto, IsForest, IsFolderAt, IsRung, IsPutIn, LeadsTo};
 
@@ -27,21 +28,37 @@ pub(crate) fn graft(
     requires within { at.0 < length nodes.old.items }
     requires named { 0 < length names.now }
     requires unopened { slot.child ≡ None }
-    requires plain { 1 < length names.now → IsFolderAt (slots_of nodes.old.items) at.0 (slice_index_or (map (λ n. n.now) names.now) 0 []) None }
+    requires plain { 1 < length names.now
+        → IsFolderAt (slots_of nodes.old.items) at.0
+        (slice_index_or (map (λ n. n.now) names.now) 0 []) None }
     ensures forest { IsForest (slots_of nodes.new.items) (length nodes.new.items) }
     ensures longer { length nodes.old.items ≤ length nodes.new.items }
-    ensures put { OnOk result ((trees : Trees) (way : Path) → Way (slots_of nodes.old.items) way at.0
-        → SameFiles (files_of_node trees (slots_of nodes.new.items) 0) (put trees (onto way (map (λ n. n.now) names.now)) (leaf_in slot) (files_of_node trees (slots_of nodes.old.items) 0))) }
+    ensures put { OnOk result ((trees : Trees) (way : Path)
+        → Way (slots_of nodes.old.items) way at.0
+        → SameFiles (files_of_node trees (slots_of nodes.new.items) 0)
+        (put trees (onto way (map (λ n. n.now) names.now)) (leaf_in slot)
+        (files_of_node trees (slots_of nodes.old.items) 0))) }
     ensures end { IfOk result (λ end. (way : Path) → Way (slots_of nodes.old.items) way at.0
         → IsPutIn (slots_of nodes.new.items) (onto way (map (λ n. n.now) names.now)) end.0) }
     ensures within { IfOk result (λ end. end.0 < length nodes.new.items) }
-    ensures others { (i : ℕ) (m : Bytes) → i < length nodes.old.items → (i ≡ at.0 → m ≡ slice_index_or (map (λ n. n.now) names.now) 0 [] → ⊥) → slots_of nodes.new.items i m ≡ slots_of nodes.old.items i m }
-    ensures err { OnErr result ((i : ℕ) (m : Bytes) → slots_of nodes.new.items i m ≡ slots_of nodes.old.items i m) }
-    ensures each { (has : Property) → MayStand has (map (λ n. n.now) names.now) (leaf_in slot) → EachHas has (slots_of nodes.old.items) → EachHas has (slots_of nodes.new.items) }
-    ensures marks { AreMarksKept true (slots_of nodes.old.items) (slots_of nodes.new.items) (marks_of nodes.old.items) (marks_of nodes.new.items) (length nodes.old.items) (length nodes.new.items) }
-    ensures last { IfOk result (λ end. 1 < length names.now → (end.0 + 1 ≡ length nodes.new.items) × (length nodes.old.items ≤ end.0)) }
+    ensures others { (i : ℕ) (m : Bytes) → i < length nodes.old.items
+        → (i ≡ at.0 → m ≡ slice_index_or (map (λ n. n.now) names.now) 0 [] → ⊥)
+        → slots_of nodes.new.items i m ≡ slots_of nodes.old.items i m }
+    ensures err { OnErr result ((i : ℕ) (m : Bytes)
+        → slots_of nodes.new.items i m ≡ slots_of nodes.old.items i m) }
+    ensures each { (has : Property) → MayStand has (map (λ n. n.now) names.now) (leaf_in slot)
+        → EachHas has (slots_of nodes.old.items) → EachHas has (slots_of nodes.new.items) }
+    ensures marks { AreMarksKept true (slots_of nodes.old.items) (slots_of nodes.new.items)
+        (marks_of nodes.old.items) (marks_of nodes.new.items) (length nodes.old.items)
+        (length nodes.new.items) }
+    ensures last { IfOk result (λ end. 1 < length names.now → (end.0 + 1 ≡ length nodes.new.items)
+        × (length nodes.old.items ≤ end.0)) }
+    ensures rungs { IfOk result (λ end. (i : ℕ) (m : Bytes) (s : Slot) → length nodes.old.items ≤ i
+        → slots_of nodes.new.items i m ≡ Some s → (i ≡ end.0)
+        ⊎ Contains (front_of (map (λ n. n.now) names.now)) m) }
     ensures made { OnOk result ((way : Path) → Way (slots_of nodes.old.items) way at.0
-        → AreOnPath (slots_of nodes.new.items) (onto way (map (λ n. n.now) names.now)) (length nodes.old.items) (length nodes.new.items)) }
+        → AreOnPath (slots_of nodes.new.items) (onto way (map (λ n. n.now) names.now))
+        (length nodes.old.items) (length nodes.new.items)) }
 {
     if names.len() == 1 {
         put_at(nodes.as_mut_slice(), alloc, at, names[0], slot)?;
@@ -69,19 +86,33 @@ pub(crate) fn make_folders(
     requires forest { IsForest (slots_of nodes.old.items) (length nodes.old.items) }
     requires within { at.0 < length nodes.old.items }
     requires named { 0 < length names.now }
-    requires plain { IsFolderAt (slots_of nodes.old.items) at.0 (slice_index_or (map (λ n. n.now) names.now) 0 []) None }
+    requires plain { IsFolderAt (slots_of nodes.old.items) at.0
+        (slice_index_or (map (λ n. n.now) names.now) 0 []) None }
+    requires full { All (λ name. name ≢ []) (map (λ n. n.now) names.now) }
     ensures forest { IsForest (slots_of nodes.new.items) (length nodes.new.items) }
     ensures longer { length nodes.old.items ≤ length nodes.new.items }
-    ensures cleared { OnOk result ((trees : Trees) (way : Path) → Way (slots_of nodes.old.items) way at.0
-        → SameFiles (files_of_node trees (slots_of nodes.new.items) 0) (cleared (onto way (map (λ n. n.now) names.now)) (files_of_node trees (slots_of nodes.old.items) 0))) }
+    ensures each { OnOk result ((has : Property)
+        → MayStandMade has hash (map (λ n. n.now) names.now)
+        → EachHas has (slots_of nodes.old.items) → EachHas has (slots_of nodes.new.items)) }
+    ensures cleared { OnOk result ((trees : Trees) (way : Path)
+        → Way (slots_of nodes.old.items) way at.0
+        → SameFiles (files_of_node trees (slots_of nodes.new.items) 0)
+        (cleared (onto way (map (λ n. n.now) names.now))
+        (files_of_node trees (slots_of nodes.old.items) 0))) }
     ensures leads { IfOk result (λ end. (way : Path) → Way (slots_of nodes.old.items) way at.0
         → LeadsTo (slots_of nodes.new.items) (onto way (map (λ n. n.now) names.now)) end.0 []) }
     ensures within { IfOk result (λ end. end.0 < length nodes.new.items) }
-    ensures err { OnErr result ((i : ℕ) (m : Bytes) → slots_of nodes.new.items i m ≡ slots_of nodes.old.items i m) }
-    ensures others { (i : ℕ) (m : Bytes) → i < length nodes.old.items → (i ≡ at.0 → m ≡ slice_index_or (map (λ n. n.now) names.now) 0 [] → ⊥) → slots_of nodes.new.items i m ≡ slots_of nodes.old.items i m }
-    ensures marks { AreMarksKept true (slots_of nodes.old.items) (slots_of nodes.new.items) (marks_of nodes.old.items) (marks_of nodes.new.items) (length nodes.old.items) (length nodes.new.items) }
+    ensures err { OnErr result ((i : ℕ) (m : Bytes)
+        → slots_of nodes.new.items i m ≡ slots_of nodes.old.items i m) }
+    ensures others { (i : ℕ) (m : Bytes) → i < length nodes.old.items
+        → (i ≡ at.0 → m ≡ slice_index_or (map (λ n. n.now) names.now) 0 [] → ⊥)
+        → slots_of nodes.new.items i m ≡ slots_of nodes.old.items i m }
+    ensures marks { AreMarksKept true (slots_of nodes.old.items) (slots_of nodes.new.items)
+        (marks_of nodes.old.items) (marks_of nodes.new.items) (length nodes.old.items)
+        (length nodes.new.items) }
     ensures made { OnOk result ((way : Path) → Way (slots_of nodes.old.items) way at.0
-        → AreOnPath (slots_of nodes.new.items) (onto way (map (λ n. n.now) names.now) ++ [] ∷ []) (length nodes.old.items) (length nodes.new.items)) }
+        → AreOnPath (slots_of nodes.new.items) (onto way (map (λ n. n.now) names.now) ++ [] ∷ [])
+        (length nodes.old.items) (length nodes.new.items)) }
 {
     // An entry in the last folder, which is taken out again: then nothing is left to fail where the folders stand.
     let no_name: &[u8] = &[];
@@ -109,22 +140,39 @@ fn hang(
     requires within { at.0 < length nodes.old.items }
     requires named { 1 < length names.now }
     requires unopened { slot.child ≡ None }
-    requires plain { IsFolderAt (slots_of nodes.old.items) at.0 (slice_index_or (map (λ n. n.now) names.now) 0 []) None }
+    requires plain { IsFolderAt (slots_of nodes.old.items) at.0
+        (slice_index_or (map (λ n. n.now) names.now) 0 []) None }
     ensures forest { OnOk result (IsForest (slots_of nodes.new.items) (length nodes.new.items)) }
     ensures longer { length nodes.old.items ≤ length nodes.new.items }
-    ensures put { OnOk result ((trees : Trees) (way : Path) → Way (slots_of nodes.old.items) way at.0
-        → SameFiles (files_of_node trees (slots_of nodes.new.items) 0) (put trees (onto way (map (λ n. n.now) names.now)) (leaf_in slot) (files_of_node trees (slots_of nodes.old.items) 0))) }
+    ensures put { OnOk result ((trees : Trees) (way : Path)
+        → Way (slots_of nodes.old.items) way at.0
+        → SameFiles (files_of_node trees (slots_of nodes.new.items) 0)
+        (put trees (onto way (map (λ n. n.now) names.now)) (leaf_in slot)
+        (files_of_node trees (slots_of nodes.old.items) 0))) }
     ensures end { IfOk result (λ end. (way : Path) → Way (slots_of nodes.old.items) way at.0
         → IsPutIn (slots_of nodes.new.items) (onto way (map (λ n. n.now) names.now)) end.0) }
     ensures within { IfOk result (λ end. end.0 < length nodes.new.items) }
-    ensures others { (i : ℕ) (m : Bytes) → i < length nodes.old.items → (i ≡ at.0 → m ≡ slice_index_or (map (λ n. n.now) names.now) 0 [] → ⊥) → slots_of nodes.new.items i m ≡ slots_of nodes.old.items i m }
-    ensures err { OnErr result ((i : ℕ) (m : Bytes) → i < length nodes.old.items → slots_of nodes.new.items i m ≡ slots_of nodes.old.items i m) }
-    ensures each { OnOk result ((has : Property) → MayStand has (map (λ n. n.now) names.now) (leaf_in slot) → EachHas has (slots_of nodes.old.items) → EachHas has (slots_of nodes.new.items)) }
-    ensures marks { OnOk result (AreMarksKept true (slots_of nodes.old.items) (slots_of nodes.new.items) (marks_of nodes.old.items) (marks_of nodes.new.items) (length nodes.old.items) (length nodes.new.items)) }
-    ensures front { (i : ℕ) → i < length nodes.old.items → marks_of nodes.new.items i ≡ marks_of nodes.old.items i }
-    ensures last { IfOk result (λ end. (end.0 + 1 ≡ length nodes.new.items) × (length nodes.old.items ≤ end.0)) }
+    ensures others { (i : ℕ) (m : Bytes) → i < length nodes.old.items
+        → (i ≡ at.0 → m ≡ slice_index_or (map (λ n. n.now) names.now) 0 [] → ⊥)
+        → slots_of nodes.new.items i m ≡ slots_of nodes.old.items i m }
+    ensures err { OnErr result ((i : ℕ) (m : Bytes) → i < length nodes.old.items
+        → slots_of nodes.new.items i m ≡ slots_of nodes.old.items i m) }
+    ensures each { OnOk result ((has : Property)
+        → MayStand has (map (λ n. n.now) names.now) (leaf_in slot)
+        → EachHas has (slots_of nodes.old.items) → EachHas has (slots_of nodes.new.items)) }
+    ensures marks { OnOk result (AreMarksKept true (slots_of nodes.old.items)
+        (slots_of nodes.new.items) (marks_of nodes.old.items) (marks_of nodes.new.items)
+        (length nodes.old.items) (length nodes.new.items)) }
+    ensures front { (i : ℕ) → i < length nodes.old.items
+        → marks_of nodes.new.items i ≡ marks_of nodes.old.items i }
+    ensures last { IfOk result (λ end. (end.0 + 1 ≡ length nodes.new.items)
+        × (length nodes.old.items ≤ end.0)) }
+    ensures rungs { IfOk result (λ end. (i : ℕ) (m : Bytes) (s : Slot) → length nodes.old.items ≤ i
+        → slots_of nodes.new.items i m ≡ Some s → (i ≡ end.0)
+        ⊎ Contains (front_of (map (λ n. n.now) names.now)) m) }
     ensures made { OnOk result ((way : Path) → Way (slots_of nodes.old.items) way at.0
-        → AreOnPath (slots_of nodes.new.items) (onto way (map (λ n. n.now) names.now)) (length nodes.old.items) (length nodes.new.items)) }
+        → AreOnPath (slots_of nodes.new.items) (onto way (map (λ n. n.now) names.now))
+        (length nodes.old.items) (length nodes.new.items)) }
 {
     let first = NodeId(nodes.len());
     push_ladder(nodes, alloc, at, &names[1..], slot)?;
@@ -149,14 +197,22 @@ fn push_ladder(
     slot: Slot,
 ) -> Result<(), AllocError>
     requires { 0 < length names.now }
-    ensures front { (i : ℕ) (m : Bytes) → i < length nodes.old.items → slots_of nodes.new.items i m ≡ slots_of nodes.old.items i m }
-    ensures rungs { OnOk result ((k : ℕ) → k < length names.now → IsRung (slots_of nodes.new.items) (length nodes.old.items) (map (λ n. n.now) names.now) slot k) }
+    ensures front { (i : ℕ) (m : Bytes) → i < length nodes.old.items
+        → slots_of nodes.new.items i m ≡ slots_of nodes.old.items i m }
+    ensures rungs { OnOk result ((k : ℕ) → k < length names.now
+        → IsRung (slots_of nodes.new.items) (length nodes.old.items)
+        (map (λ n. n.now) names.now) slot k) }
     ensures len { OnOk result (length nodes.new.items ≡ length nodes.old.items + length names.now) }
     ensures longer { length nodes.old.items ≤ length nodes.new.items }
-    ensures leaves { (i : ℕ) (m : Bytes) (s : Slot) → length nodes.old.items ≤ i → slots_of nodes.new.items i m ≡ Some s
-        → Contains (map (λ n. n.now) names.now) m × ((leaf_in s ≡ leaf_in slot) ⊎ (leaf_in s ≡ made_leaf (id_of slot.oid).kind)) }
-    ensures marks { (i : ℕ) → i < length nodes.old.items → marks_of nodes.new.items i ≡ marks_of nodes.old.items i }
-    ensures changed { OnOk result ((k : ℕ) → k < length names.now → marks_of nodes.new.items (length nodes.old.items + k) ≡ mark_below (rung_parent at.0 (length nodes.old.items) k) true) }
+    ensures leaves { (i : ℕ) (m : Bytes) (s : Slot) → length nodes.old.items ≤ i
+        → slots_of nodes.new.items i m ≡ Some s
+        → Contains (map (λ n. n.now) names.now) m
+        × ((leaf_in s ≡ leaf_in slot) ⊎ (leaf_in s ≡ made_leaf (id_of slot.oid).kind)) }
+    ensures marks { (i : ℕ) → i < length nodes.old.items
+        → marks_of nodes.new.items i ≡ marks_of nodes.old.items i }
+    ensures changed { OnOk result ((k : ℕ) → k < length names.now
+        → marks_of nodes.new.items (length nodes.old.items + k) ≡ mark_below
+        (rung_parent at.0 (length nodes.old.items) k) true) }
 {
     let mut above = at;
     for (i, name) in names.iter().enumerate() {

@@ -22,10 +22,13 @@ use std::alloc::{AllocError, Global};
 
 /// The stored tree of this id, opened.
 pub(crate) fn load<S: Find>(store: &S, alloc: Global, oid: ObjectId) -> Result<Node, Error>
-    ensures opened { S.is_honest store.now → IfOk result (OpensTree (S.table store.now) (id_of oid)) }
-    ensures holds { S.is_honest store.now → IfOk result (λ node. HoldsTree (S.table store.now) (id_of oid) (slot_in node)) }
+    ensures opened { S.is_honest store.now
+        → IfOk result (OpensTree (S.table store.now) (id_of oid)) }
+    ensures holds { S.is_honest store.now
+        → IfOk result (λ node. HoldsTree (S.table store.now) (id_of oid) (slot_in node)) }
     ensures fresh { IfOk result (λ node. (m : Bytes) → child_of (slot_in node m) ≡ None) }
-    ensures refused { IfErr result (OpeningFault (S.is_honest store.now) (S.may_fail store.now) (S.table store.now) (id_of oid)) }
+    ensures refused { IfErr result (OpeningFault (S.is_honest store.now) (S.may_fail store.now)
+        (S.table store.now) (id_of oid)) }
 {
     let mut buffer = Vec::new(alloc);
     let tree = read_tree(store, alloc, oid, &mut buffer)?;
@@ -42,8 +45,10 @@ fn read_tree<'a, S: Find>(
     oid: ObjectId,
     buffer: &'a mut Vec<u8>,
 ) -> Result<TreeRef<'a>, existing_object::Error>
-    ensures read { IfOk result (λ tree. IsReadTree (S.is_honest store.now) (S.table store.now) (id_of oid) (map item_of tree.entries.items)) }
-    ensures refused { IfErr result (TreeIsUnread (S.is_honest store.now) (S.may_fail store.now) (S.table store.now) (id_of oid)) }
+    ensures read { IfOk result (λ tree. IsReadTree (S.is_honest store.now) (S.table store.now)
+        (id_of oid) (map item_of tree.entries.items)) }
+    ensures refused { IfErr result (TreeIsUnread (S.is_honest store.now) (S.may_fail store.now)
+        (S.table store.now) (id_of oid)) }
 {
     let content = content_of(store, oid, buffer)?;
     match TreeRef::from_bytes(alloc, content, oid.kind()) {
@@ -58,8 +63,10 @@ fn content_of<'a, S: Find>(
     oid: ObjectId,
     buffer: &'a mut Vec<u8>,
 ) -> Result<&'a [u8], existing_object::Error>
-    ensures found { S.is_honest store.now → IfOk result (λ content. Stands (S.table store.now) (id_of oid) kinds.Tree content.now) }
-    ensures refused { IfErr result (TreeIsUnread (S.is_honest store.now) (S.may_fail store.now) (S.table store.now) (id_of oid)) }
+    ensures found { S.is_honest store.now
+        → IfOk result (λ content. Stands (S.table store.now) (id_of oid) kinds.Tree content.now) }
+    ensures refused { IfErr result (TreeIsUnread (S.is_honest store.now) (S.may_fail store.now)
+        (S.table store.now) (id_of oid)) }
 {
     let Some(found) = store.try_find(oid.as_oid(), buffer)? else {
         return Err(existing_object::Error::NotFound { oid });
@@ -77,7 +84,8 @@ fn content_of<'a, S: Find>(
 // The node of a well-formed tree of these entries.
 fn node_of(alloc: Global, entries: &[EntryRef<'_>]) -> Result<Node, AllocError>
     requires { IsWellFormed (map item_of entries.now) }
-    ensures { IfOk result (λ node. (m : Bytes) → StandsFor (slot_in node m) (named m (map item_of entries.now))) }
+    ensures { IfOk result (λ node. (m : Bytes)
+        → StandsFor (slot_in node m) (named m (map item_of entries.now))) }
 {
     let mut node = Node::empty(alloc);
     for (i, entry) in entries.iter().enumerate() {

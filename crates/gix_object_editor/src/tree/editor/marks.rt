@@ -13,8 +13,10 @@ pub(crate) fn cut(nodes: &mut [Node], at: NodeId, name: &[u8])
     requires forest { IsForest (slots_of nodes.old) (length nodes.old) }
     requires marked { AreMarked (slots_of nodes.old) (marks_of nodes.old) (length nodes.old) }
     ensures here { slots_of nodes.new at.0 name.now ≡ None }
-    ensures others { (i : ℕ) (m : Bytes) → (i ≡ at.0 → m ≡ name.now → ⊥) → slots_of nodes.new i m ≡ slots_of nodes.old i m }
-    ensures marks { IsMarkedFor (slots_of nodes.old) (slots_of nodes.new) (marks_of nodes.old) (marks_of nodes.new) at.0 (length nodes.old) (length nodes.old) }
+    ensures others { (i : ℕ) (m : Bytes) → (i ≡ at.0 → m ≡ name.now → ⊥)
+        → slots_of nodes.new i m ≡ slots_of nodes.old i m }
+    ensures marks { IsMarkedFor (slots_of nodes.old) (slots_of nodes.new) (marks_of nodes.old)
+        (marks_of nodes.new) at.0 (length nodes.old) (length nodes.old) }
 {
     if slot_at(nodes, at, name).is_none() {
         return;
@@ -27,9 +29,11 @@ pub(crate) fn cut(nodes: &mut [Node], at: NodeId, name: &[u8])
 pub(crate) fn mark_changed(nodes: &mut [Node], at: NodeId)
     requires within { at.0 < length nodes.old }
     requires forest { IsForest (slots_of nodes.old) (length nodes.old) }
-    requires marked { AreMarkedBut at.0 (slots_of nodes.old) (marks_of nodes.old) (length nodes.old) }
+    requires marked { AreMarkedBut at.0 (slots_of nodes.old) (marks_of nodes.old)
+        (length nodes.old) }
     ensures slots { (i : ℕ) (m : Bytes) → slots_of nodes.new i m ≡ slots_of nodes.old i m }
-    ensures marked { AreMarkedUp (slots_of nodes.old) (marks_of nodes.old) (marks_of nodes.new) at.0 (length nodes.old) }
+    ensures marked { AreMarkedUp (slots_of nodes.old) (marks_of nodes.old)
+        (marks_of nodes.new) at.0 (length nodes.old) }
 {
     let mut above = at;
     'trees: while above.0 > 0 {

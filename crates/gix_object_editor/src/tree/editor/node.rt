@@ -69,7 +69,8 @@ impl Node {
     ) -> Result<Option<Slot>, AllocError>
         ensures before { IfOk result (λ before. before ≡ slot_in self.old name.now) }
         ensures here { OnOk result (slot_in self.new name.now ≡ Some slot) }
-        ensures others { (other : Bytes) → other ≢ name.now → slot_in self.new other ≡ slot_in self.old other }
+        ensures others { (other : Bytes) → other ≢ name.now
+            → slot_in self.new other ≡ slot_in self.old other }
         ensures err { OnErr result (slot_in self.new name.now ≡ slot_in self.old name.now) }
         ensures mark { mark_of self.new ≡ mark_of self.old }
     {
@@ -79,7 +80,8 @@ impl Node {
     /// Takes the entry of a name out.
     pub(crate) fn take(&mut self, name: &[u8])
         ensures here { slot_in self.new name.now ≡ None }
-        ensures others { (other : Bytes) → other ≢ name.now → slot_in self.new other ≡ slot_in self.old other }
+        ensures others { (other : Bytes) → other ≢ name.now
+            → slot_in self.new other ≡ slot_in self.old other }
         ensures mark { mark_of self.new ≡ mark_of self.old }
     {
         self.slots.remove(name);
@@ -104,8 +106,10 @@ pub(crate) fn put_at(
 ) -> Result<(), AllocError>
     requires { at.0 < length nodes.old }
     ensures here { OnOk result (slots_of nodes.new at.0 name.now ≡ Some slot) }
-    ensures others { (i : ℕ) (m : Bytes) → (i ≡ at.0 → m ≡ name.now → ⊥) → slots_of nodes.new i m ≡ slots_of nodes.old i m }
-    ensures err { OnErr result (slots_of nodes.new at.0 name.now ≡ slots_of nodes.old at.0 name.now) }
+    ensures others { (i : ℕ) (m : Bytes) → (i ≡ at.0 → m ≡ name.now → ⊥)
+        → slots_of nodes.new i m ≡ slots_of nodes.old i m }
+    ensures err { OnErr result
+        (slots_of nodes.new at.0 name.now ≡ slots_of nodes.old at.0 name.now) }
     ensures marks { (i : ℕ) → marks_of nodes.new i ≡ marks_of nodes.old i }
 {
     let node = &mut nodes[at.0];
@@ -117,7 +121,8 @@ pub(crate) fn put_at(
 pub(crate) fn take_at(nodes: &mut [Node], at: NodeId, name: &[u8])
     requires { at.0 < length nodes.old }
     ensures here { slots_of nodes.new at.0 name.now ≡ None }
-    ensures others { (i : ℕ) (m : Bytes) → (i ≡ at.0 → m ≡ name.now → ⊥) → slots_of nodes.new i m ≡ slots_of nodes.old i m }
+    ensures others { (i : ℕ) (m : Bytes) → (i ≡ at.0 → m ≡ name.now → ⊥)
+        → slots_of nodes.new i m ≡ slots_of nodes.old i m }
     ensures marks { (i : ℕ) → marks_of nodes.new i ≡ marks_of nodes.old i }
 {
     let node = &mut nodes[at.0];

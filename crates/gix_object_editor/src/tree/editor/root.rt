@@ -16,11 +16,17 @@ use std::alloc::{AllocError, Global};
 pub(crate) fn opened_root(alloc: Global, root: &Tree) -> Result<Vec<Node>, AllocError>
     requires { IsWellFormed (map own_item root.now.entries.items) }
     ensures forest { IfOk result (λ nodes. IsForest (slots_of nodes.items) (length nodes.items)) }
-    ensures marked { IfOk result (λ nodes. AreMarked (slots_of nodes.items) (marks_of nodes.items) (length nodes.items)) }
+    ensures marked { IfOk result (λ nodes. AreMarked (slots_of nodes.items) (marks_of nodes.items)
+        (length nodes.items)) }
     ensures unchanged { IfOk result (λ nodes. (i : ℕ) → (marks_of nodes.items i).changed ≡ false) }
-    ensures closed { IfOk result (λ nodes. (i : ℕ) (m : Bytes) → child_of (slots_of nodes.items i m) ≡ None) }
-    ensures each { IfOk result (λ nodes. (has : Property) → ItemsHave has (map own_item root.now.entries.items) → EachHas has (slots_of nodes.items)) }
-    ensures files { IfOk result (λ nodes. (trees : Trees) (q : Path) → files_of_node trees (slots_of nodes.items) 0 q ≡ files_of_tree trees (map own_item root.now.entries.items) q) }
+    ensures closed { IfOk result (λ nodes. (i : ℕ) (m : Bytes)
+        → child_of (slots_of nodes.items i m) ≡ None) }
+    ensures each { IfOk result (λ nodes. (has : Property)
+        → ItemsHave has (map own_item root.now.entries.items)
+        → EachHas has (slots_of nodes.items)) }
+    ensures files { IfOk result (λ nodes. (trees : Trees) (q : Path)
+        → files_of_node trees (slots_of nodes.items) 0 q ≡ files_of_tree trees
+        (map own_item root.now.entries.items) q) }
 {
     let mut node = node_of(alloc, root)?;
     node.place(NodeId(0), false);
@@ -32,7 +38,8 @@ pub(crate) fn opened_root(alloc: Global, root: &Tree) -> Result<Vec<Node>, Alloc
 // The node of a tree's entries.
 fn node_of(alloc: Global, tree: &Tree) -> Result<Node, AllocError>
     requires { IsWellFormed (map own_item tree.now.entries.items) }
-    ensures { IfOk result (λ node. (m : Bytes) → StandsFor (slot_in node m) (named m (map own_item tree.now.entries.items))) }
+    ensures { IfOk result (λ node. (m : Bytes)
+        → StandsFor (slot_in node m) (named m (map own_item tree.now.entries.items))) }
 {
     let entries = tree.entries.as_slice();
     let mut node = Node::empty(alloc);

@@ -4,7 +4,6 @@ ghost use Rattle.std.specs.Prelude.{◌<◌, [], length, IfOk, IfErr};
 ghost use Rattle.gix_hash.specs.Id.{id_of};
 ghost use Rattle.gix_object_editor.specs.Files.{Path};
 ghost use Rattle.gix_object_editor.specs.Nodes.{slots_of, Way, onto};
-ghost use Rattle.gix_object_editor.specs.Marks.{due_in};
 ghost use Rattle.gix_object_editor.specs.Written.{WriteFault, Writes};
 
 mod below;
@@ -35,9 +34,10 @@ impl<S> Editor<S> {
         out: &mut F,
     ) -> Result<ObjectId, Error<E>>
         requires { F.IsAlwaysCallable out.old }
-        ensures written { IfOk result (λ root. Writes F.FnMut self.now 0 [] out.old (id_of root) out.new) }
-        ensures refused { IfErr result (λ error.
-            WriteFault F.FnMut (due_in self.now.nodes.items 0) out.old error out.new) }
+        ensures written { IfOk result (λ root. Writes F.FnMut self.now 0 [] out.old
+            (id_of root) out.new) }
+        ensures refused { IfErr result
+            (λ error. WriteFault F.FnMut self.now 0 [] out.old error out.new) }
         ensures callable { F.IsAlwaysCallable out.new }
     {
         self.write_from(alloc, NodeId(0), out)
@@ -53,10 +53,11 @@ impl<S> Editor<S> {
         requires callable { F.IsAlwaysCallable out.old }
         requires within { from.0 < length self.now.nodes.items }
         ensures written { (base : Path) → Way (slots_of self.now.nodes.items) base from.0
-            → IfOk result (λ id. Writes F.FnMut self.now from.0 (onto base []) out.old (id_of id) out.new) }
+            → IfOk result (λ id. Writes F.FnMut self.now from.0 (onto base []) out.old
+            (id_of id) out.new) }
         ensures refused { (base : Path) → Way (slots_of self.now.nodes.items) base from.0
-            → IfErr result (λ error.
-            WriteFault F.FnMut (due_in self.now.nodes.items from.0) out.old error out.new) }
+            → IfErr result (λ error. WriteFault F.FnMut self.now from.0
+            (onto base []) out.old error out.new) }
         ensures callable { F.IsAlwaysCallable out.new }
     {
         let nodes = self.nodes.as_slice();

@@ -1,12 +1,12 @@
-use Rattle.std.proofs.Common.{◌≡◌, ◌∙◌, ap, sym, subst, refl, arith, None, Some, []}
-use Rattle.std.specs.FinMap.{empty, get}
-use Rattle.gix_hash.specs.Id.{id_of}
-use Rattle.gix_object_editor.specs.Editor.{EachEntryHas, files_of}
-use Rattle.history_model.proofs.WholeLists.{none_is_some}
-use Rattle.history_model.proofs.WholeReads.{empty_written}
+use Rattle.std.proofs.Common.{◌≡◌, ◌∙◌, ap, sym, subst, arith, List, map}
+use Rattle.std.specs.FinMap.{empty}
+use Rattle.gix_object_entries.specs.Entry.{own_item}
+use Rattle.gix_object_editor.specs.Entries.{ItemsHave}
+use Rattle.gix_object_editor.specs.Files.{files_of_tree}
 use Rattle.history_files.specs.Editing.{IsBase, root_id}
 use Rattle.history_files.specs.Entries.{names_only, own_folders}
 use Rattle.history_files.specs.Opening.{EditsFiles}
+use Rattle.history_files.proofs.EmptyFiles.{empty_map, empty_trees, empty_unfolds, no_entries}
 use Rattle.history_files.proofs.Named.{own_trees}
 use Rattle.history_files.proofs.editing.editor_of.Goals as goal
 
@@ -25,9 +25,10 @@ pub returns-in_ok-new-in-None-clause-base : goal.returns-in_ok-new-in-None-claus
 returns-in_ok-new-in-None-clause-base g c = λ honest kind files base.
     let table = g.S.Lookup.table c.args.store.now in
     let is = subst (λ root. IsBase table kind (root_id root) files) c.in-None.is base in
+    let none = c.new-entries.ensures.items in
     subst (λ m. EditsFiles table kind m m c.in_ok-new-in-None.field-0) (sym is) (record {
-      map = empty_written.map;
-      trees = tt;
-      unfolds = λ trees stored. record { at = λ path. ?; only = λ names leaf e. ? };
-      each = ?;
+      map = empty_map;
+      trees = empty_trees kind table;
+      unfolds = λ trees stored. empty_unfolds kind _ (λ q. c.in_ok-new-in-None.ensures.files trees q ∙ ap (λ es. files_of_tree trees (map own_item es) q) none ∙ no_entries trees q);
+      each = c.in_ok-new-in-None.ensures.each (names_only kind (own_folders empty)) (subst (λ es. ItemsHave (names_only kind (own_folders empty)) (map own_item es)) (sym none) (λ k d within. absurd (omega arith)));
     })

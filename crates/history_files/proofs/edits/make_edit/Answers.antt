@@ -1,9 +1,14 @@
-use Rattle.std.proofs.Common.{◌∙◌, ap, subst, sym}
+use Rattle.std.proofs.Common.{◌∙◌, ap, subst, sym, false, ◌||◌, [], ◌∷◌}
 use Rattle.gix_object_editor.specs.Files as unfolded
 use Rattle.gix_object_editor.specs.Files.{SameFiles, HasNoneBelow}
 use Rattle.gix_object_editor.specs.Editor.{files_of, names_of, leaf_of_kind}
 use Rattle.gix_object_editor.specs.Entries.{MayStand}
-use Rattle.history_files.specs.Entries.{MayPut}
+use Rattle.std.proofs.lemmas.Result.{err_from_is_err_and}
+use Rattle.history_model.specs.FileMap.{some_refused}
+use Rattle.history_files.specs.Entries.{MayPut, names_only, own_folders}
+use Rattle.history_files.proofs.Faults.{put_fault, remove_fault}
+use Rattle.history_files.proofs.Named.{base_inner, may_put, own_deeper, passes_down}
+use Rattle.history_files.proofs.Parsed.{has_stored, trees_in}
 use Rattle.history_files.specs.Unfolding.{entry_kind}
 use Rattle.history_files.specs.Edits.{IsChange}
 use Rattle.history_files.proofs.Changes.{put_made, remove_made, file_removed, none_refused}
@@ -68,3 +73,34 @@ returns-in_err-remove_leaf-in-RemoveFile-clause-each g c = λ honest has down ma
 
 pub returns-clause-each : goal.returns-clause-each
 returns-clause-each g c = λ honest has down may each. c.remove_leaf.ensures.each honest has down each
+
+pub returns-in_err-upsert-in-Put-clause-refused : goal.returns-in_err-upsert-in-Put-clause-refused
+returns-in_err-upsert-in-Put-clause-refused g c = λ honest kind base files made can fine edit.
+    let table = g.S.Lookup.table c.args.editor.now.store in
+    let down = passes_down kind (own_folders base) table (own_folders base) (base_inner kind table base can.map can.trees) (own_deeper base) in
+    let each = (returns-in_err-upsert-in-Put-clause-each g c) honest (names_only kind (own_folders base)) down (may_put kind (own_folders base) c.args.edit.now.path.now c.args.edit.now.change fine) can.each in
+    let p = err_from_is_err_and c.from_residual-in_err-upsert-in-Put.result c.from_residual-in_err-upsert-in-Put.ensures.1 in
+    rw (p.1, p.2) (put_fault (g.S.Lookup.is_honest c.args.editor.now.store) (g.S.Lookup.may_fail c.args.editor.now.store) honest kind table base files (made ∷ []) c.args.editor.now c.upsert.new.self can each
+    c.args.edit.now.path.now fine (names_of c.as_slice.result.now) (ap names_of c.as_slice.ensures.value ∙ c.in_ok-names.ensures) _ c.in_err-upsert-in-Put.ensures.refused)
+
+pub returns-in_err-remove-in-Remove-clause-refused : goal.returns-in_err-remove-in-Remove-clause-refused
+returns-in_err-remove-in-Remove-clause-refused g c = λ honest kind base files made can fine edit.
+    let table = g.S.Lookup.table c.args.editor.now.store in
+    let down = passes_down kind (own_folders base) table (own_folders base) (base_inner kind table base can.map can.trees) (own_deeper base) in
+    let each = (returns-in_err-remove-in-Remove-clause-each g c) honest (names_only kind (own_folders base)) down (may_put kind (own_folders base) c.args.edit.now.path.now c.args.edit.now.change fine) can.each in
+    let p = err_from_is_err_and c.from_residual-in_err-remove-in-Remove.result c.from_residual-in_err-remove-in-Remove.ensures.1 in
+    rw (p.1, p.2) (put_fault (g.S.Lookup.is_honest c.args.editor.now.store) (g.S.Lookup.may_fail c.args.editor.now.store) honest kind table base files (made ∷ []) c.args.editor.now c.remove.new.self can each
+    c.args.edit.now.path.now fine (names_of c.as_slice-in-Remove.result.now) (ap names_of c.as_slice-in-Remove.ensures.value ∙ c.in_ok-names.ensures) _ c.in_err-remove-in-Remove.ensures.refused)
+
+pub returns-in_err-remove_leaf-in-RemoveFile-clause-refused : goal.returns-in_err-remove_leaf-in-RemoveFile-clause-refused
+returns-in_err-remove_leaf-in-RemoveFile-clause-refused g c = λ honest kind base files made can fine edit.
+    let table = g.S.Lookup.table c.args.editor.now.store in
+    let down = passes_down kind (own_folders base) table (own_folders base) (base_inner kind table base can.map can.trees) (own_deeper base) in
+    let each = (returns-in_err-remove_leaf-in-RemoveFile-clause-each g c) honest (names_only kind (own_folders base)) down (may_put kind (own_folders base) c.args.edit.now.path.now c.args.edit.now.change fine) can.each in
+    let path = c.args.edit.now.path.now in
+    let is = subst (λ change. IsChange kind path change made) c.in-RemoveFile.is edit in
+    let p = err_from_is_err_and c.from_residual-in_err-remove_leaf-in-RemoveFile.result c.from_residual-in_err-remove_leaf-in-RemoveFile.ensures.1 in
+    rw (p.1, p.2) (remove_fault (g.S.Lookup.is_honest c.args.editor.now.store) (g.S.Lookup.may_fail c.args.editor.now.store) honest kind table base files (made ∷ []) c.args.editor.now c.remove_leaf.new.self can each
+    path fine (names_of c.as_slice-in-RemoveFile.result.now) (ap names_of c.as_slice-in-RemoveFile.ensures.value ∙ c.in_ok-names.ensures)
+    (c.in_err-remove_leaf-in-RemoveFile.ensures.unchanged honest (trees_in table) (has_stored table))
+    (λ below. ap (λ e. some_refused files (e ∷ [])) is ∙ ap (λ b. b || false) below) _ c.in_err-remove_leaf-in-RemoveFile.ensures.refused)

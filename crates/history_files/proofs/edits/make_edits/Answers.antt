@@ -1,14 +1,19 @@
-use Rattle.std.proofs.Common.{◌∙◌, ◌+◌, ap, sym, subst, drop, get_or, arith, Bor, List, ℕ, []}
+use Rattle.std.proofs.Common.{◌∙◌, ◌+◌, ap, sym, subst, refl, drop, get_or, arith, Bor, List, ℕ, [], ◌∷◌}
 use Rattle.gix_object_editor.specs.Files.{HasStored}
 use Rattle.gix_object_editor.specs.Editor.{files_of}
 use Rattle.gix_object_editor.specs.Entries.{PassesDown}
-use Rattle.history_files.specs.Entries.{MayBeMade}
+use Rattle.std.proofs.lemmas.Result.{err_from_is_err_and}
+use Rattle.history_files.specs.Entries.{MayBeMade, names_only, own_folders}
+use Rattle.history_files.specs.Opening.{EditsFiles, MakingFault}
+use Rattle.history_files.proofs.Leftover.{IsLeftOver, left_fault, left_next}
+use Rattle.history_files.proofs.Named.{base_inner, may_put, own_deeper, passes_down}
+use Rattle.history_files.proofs.Parsed.{has_stored, trees_in}
 use Rattle.history_files.specs.Edits.{name_count}
 use Rattle.gix_hash.specs.declared.object_id.ObjectId.TheVariants.{Sha1}
 use Rattle.history_model.specs.declared.FileKind.TheVariants.{File as PlainFile}
 use Rattle.history_files.specs.declared.edits.Change.TheVariants.{Put}
 use Rattle.history_files.specs.declared.edits.Edit.{Edit}
-use Rattle.history_files.proofs.Changes.{IsLeft, at_last, one_done, cut_edit, none_left}
+use Rattle.history_files.proofs.Changes.{IsLeft, at_first, at_last, one_done, cut_edit, none_left}
 use Rattle.history_files.proofs.edits.make_edits.Goals as goal
 
 pub loop-edit-preserved : goal.loop-edit-preserved
@@ -37,7 +42,46 @@ loop-edit-preserved g c =
           let before = c.loop-edit.invariant.4 honest has down may each in
           let here = subst (MayBeMade has) cut before.1 in
           (c.make_edit.ensures.each (subst (λ s. g.S.Lookup.is_honest s) (sym kept) honest) has (subst (λ s. PassesDown (g.S.Lookup.table s) has) (sym kept) down) here.0 before.0, here.1),
+      λ honest kind base files made can paths are.
+          let table = g.S.Lookup.table c.args.editor.now.store in
+          let left = subst (λ es. IsLeftOver table kind base files made es c.loop-edit.editor) cut (c.loop-edit.invariant.5 honest kind base files made can paths are) in
+          let still = subst (λ s. g.S.Lookup.is_honest s) (sym kept) honest in
+          let has = names_only kind (own_folders base) in
+          let down = passes_down kind (own_folders base) table (own_folders base) (base_inner kind table base can.map can.trees) (own_deeper base) in
+          left_next table kind base files made edit (drop (at + 1) edits) c.loop-edit.editor c.make_edit.new.editor left
+          (λ now one there fine is_edit. (
+            λ trees stored. c.in_ok-make_edit.ensures.files still trees kind now one (subst (λ s. HasStored (g.S.Lookup.table s) trees) (sym kept) stored) is_edit (there.unfolds trees stored),
+            c.make_edit.ensures.each still has (subst (λ s. PassesDown (g.S.Lookup.table s) has) (sym kept) down) (may_put kind (own_folders base) edit.path.now edit.change fine) there.each,
+            c.in_ok-make_edit.ensures.accepted still (trees_in table) kind now one (subst (λ s. HasStored (g.S.Lookup.table s) (trees_in table)) (sym kept) (has_stored table)) is_edit (there.unfolds (trees_in table) (has_stored table)),
+          )),
     )
+
+pub loop-edit-init : goal.loop-edit-init
+loop-edit-init g c = (
+  refl,
+  omega arith,
+  λ honest trees kind files made stored are is. at_first kind files made c.args.edits.now (files_of trees c.args.editor.now) are is,
+  λ honest trees stored read. read,
+  λ honest has down may each. (each, may),
+  λ honest kind base files made can paths are. record { now = files; more = made; can = can; paths = paths; edits_are = are; refused = refl },
+)
+
+pub returns-in_err-make_edit-clause-refused : goal.returns-in_err-make_edit-clause-refused
+returns-in_err-make_edit-clause-refused g c = λ honest kind base files made can paths are.
+    let edits = c.args.edits.now in
+    let at = c.loop-edit.edit-index in
+    let none : Bor (List ℕ) = record { ref_ptr = (0, 0); now = [] } in
+    let other : Edit = record { path = none; change = Put PlainFile (Sha1 []) } in
+    let edit = get_or edits at other in
+    let cut = cut_edit edits at other c.loop-edit-test.true in
+    let kept = c.loop-edit.invariant.0 in
+    let table = g.S.Lookup.table c.args.editor.now.store in
+    let still = subst (λ s. g.S.Lookup.is_honest s) (sym kept) honest in
+    let left = subst (λ es. IsLeftOver table kind base files made es c.loop-edit.editor) cut (c.loop-edit.invariant.5 honest kind base files made can paths are) in
+    let p = err_from_is_err_and c.from_residual.result c.from_residual.ensures.1 in
+    rw (p.1, p.2) (left_fault table kind base files made edit (drop (at + 1) edits) c.loop-edit.editor (g.S.Lookup.may_fail c.args.editor.now.store) c.in_err-make_edit.field-0.0 left
+    (λ now one there fine is_edit. subst (λ s. MakingFault (g.S.Lookup.may_fail s) now (one ∷ []) c.in_err-make_edit.field-0.0) kept
+    (c.in_err-make_edit.ensures.refused still kind base now one (subst (λ s. EditsFiles (g.S.Lookup.table s) kind base now c.loop-edit.editor) (sym kept) there) fine is_edit)))
 
 pub returns-clause-files : goal.returns-clause-files
 returns-clause-files g c = λ honest trees kind files made stored are is.

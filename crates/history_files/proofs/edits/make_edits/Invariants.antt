@@ -3,7 +3,10 @@ use Rattle.gix_hash.specs.declared.kind.Kind.{Kind}
 use Rattle.gix_object_editor.specs.Files.{Trees, HasStored}
 use Rattle.gix_object_editor.specs.Editor.{EachEntryHas, IsAsRead, files_of}
 use Rattle.gix_object_editor.specs.Entries.{PassesDown, Property}
+use Rattle.history_files.specs.Editing.{HavePaths}
 use Rattle.history_files.specs.Entries.{MayBeMade}
+use Rattle.history_files.specs.Opening.{EditsFiles}
+use Rattle.history_files.proofs.Leftover.{IsLeftOver}
 use Rattle.history_model.specs.FileMap as model
 use Rattle.history_model.specs.FileMap.{FileMap}
 use Rattle.history_files.specs.Unfolding.{IsUnfolded}
@@ -21,3 +24,5 @@ invariant-loop-edit g l =
     × (g.S.Lookup.is_honest l.fn.editor.store → (trees : Trees) → HasStored (g.S.Lookup.table l.fn.editor.store) trees → IsAsRead trees l.fn.editor → IsAsRead trees l.editor)
     × (g.S.Lookup.is_honest l.fn.editor.store → (has : Property) → PassesDown (g.S.Lookup.table l.fn.editor.store) has → MayBeMade has l.edits
     → EachEntryHas has l.fn.editor → EachEntryHas has l.editor × MayBeMade has (drop l.edit-index l.edits))
+    × (g.S.Lookup.is_honest l.fn.editor.store → (kind : Kind) (base files : FileMap) (made : List model.Edit) → EditsFiles (g.S.Lookup.table l.fn.editor.store) kind base files l.fn.editor
+    → HavePaths made → AreEdits kind l.edits made → IsLeftOver (g.S.Lookup.table l.fn.editor.store) kind base files made (drop l.edit-index l.edits) l.editor)

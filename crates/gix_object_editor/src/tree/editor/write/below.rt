@@ -1,12 +1,12 @@
 //! Handing out the trees below an opened one.
 
-ghost use Rattle.std.specs.Prelude.{◌≡◌, ◌<◌, ◌+◌, List, length, IfOk, IfErr};
+ghost use Rattle.std.specs.Prelude.{◌≡◌, ◌<◌, ◌+◌, List, [], length, IfOk, IfErr};
 ghost use Rattle.std.specs.List.{FoldsTo};
 ghost use Rattle.gix_object_editor.specs.Files.{Path};
-ghost use Rattle.gix_object_editor.specs.Nodes.{slots_of, IsForest, Way};
+ghost use Rattle.gix_object_editor.specs.Nodes.{slots_of, onto, IsForest, Way};
 ghost use Rattle.gix_object_editor.specs.Marks.{due_in};
 ghost use Rattle.gix_object_editor.specs.Writing.{ids_of};
-ghost use Rattle.gix_object_editor.specs.Written.{HandedOut, HandsOut, WriteFault};
+ghost use Rattle.gix_object_editor.specs.Written.{HandedOut, HandsOut, StopsWriting};
 ghost use Rattle.gix_object_editor.specs.Below.{IsHandedOutFrom, Answered};
 
 use crate::tree::editor::node::{Node, NodeId};
@@ -29,11 +29,14 @@ pub(crate) fn write_below<E, F: FnMut(&Tree) -> Result<ObjectId, E>>(
     requires forest { IsForest (slots_of nodes.now) (length nodes.now) }
     requires within { from.0 < length nodes.now }
     ensures written { (base : Path) → Way (due_in nodes.now from.0) base from.0
-        → IfOk result (λ ids. (handed : List HandedOut) × FoldsTo (HandsOut F.FnMut) out.old handed out.new
-        × IsHandedOutFrom (due_in nodes.now from.0) base (length nodes.now) (ids_of ids.items) handed (from.0 + 1)) }
+        → IfOk result (λ ids. (handed : List HandedOut)
+        × FoldsTo (HandsOut F.FnMut) out.old handed out.new
+        × IsHandedOutFrom (due_in nodes.now from.0) base (length nodes.now)
+        (ids_of ids.items) handed (from.0 + 1)) }
     ensures len { IfOk result (λ ids. length ids.items ≡ length nodes.now) }
     ensures refused { (base : Path) → Way (due_in nodes.now from.0) base from.0
-        → IfErr result (λ error. WriteFault F.FnMut (due_in nodes.now from.0) out.old error out.new) }
+        → IfErr result (λ error. StopsWriting F.FnMut nodes.now from.0
+        (onto base []) out.old error out.new) }
     ensures callable { F.IsAlwaysCallable out.new }
 {
     let reached = reached(nodes, from, alloc)?;

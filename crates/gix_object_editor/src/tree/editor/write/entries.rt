@@ -24,9 +24,12 @@ pub(crate) fn tree_of(
     ids: &[Option<ObjectId>],
     alloc: Global,
 ) -> Result<Tree, AllocError>
-    requires opened { (m : Bytes) (c : ℕ) → child_of (slot_in node.now m) ≡ Some c → c < length nodes.now }
-    requires within { (m : Bytes) (c : ℕ) → child_of (slot_in node.now m) ≡ Some c → c < length ids.now }
-    ensures { IfOk result (λ tree. IsTreeOf (ids_of ids.now) (slots_if (changed_in nodes.now) (slot_in node.now)) (map own_item tree.entries.items)) }
+    requires opened { (m : Bytes) (c : ℕ) → child_of (slot_in node.now m) ≡ Some c
+        → c < length nodes.now }
+    requires within { (m : Bytes) (c : ℕ) → child_of (slot_in node.now m) ≡ Some c
+        → c < length ids.now }
+    ensures { IfOk result (λ tree. IsTreeOf (ids_of ids.now)
+        (slots_if (changed_in nodes.now) (slot_in node.now)) (map own_item tree.entries.items)) }
 {
     let mut entries = Vec::new(alloc);
     for (name, slot) in &node.slots {
@@ -48,7 +51,8 @@ fn entry_of(
 ) -> Result<Option<Entry>, AllocError>
     requires opened { (c : ℕ) → child_of (Some slot.now) ≡ Some c → c < length nodes.now }
     requires within { (c : ℕ) → child_of (Some slot.now) ≡ Some c → c < length ids.now }
-    ensures { IfOk result (λ entry. option_map own_item entry ≡ written_item (ids_of ids.now) name.now (slot_if (changed_in nodes.now) slot.now)) }
+    ensures { IfOk result (λ entry. option_map own_item entry ≡ written_item
+        (ids_of ids.now) name.now (slot_if (changed_in nodes.now) slot.now)) }
 {
     let Some((mode, oid)) = object_of(slot, nodes, ids) else {
         return Ok(None);
@@ -65,7 +69,8 @@ fn entry_of(
 fn object_of(slot: &Slot, nodes: &[Node], ids: &[Option<ObjectId>]) -> Option<(EntryMode, ObjectId)>
     requires opened { (c : ℕ) → child_of (Some slot.now) ≡ Some c → c < length nodes.now }
     requires within { (c : ℕ) → child_of (Some slot.now) ≡ Some c → c < length ids.now }
-    ensures { (name : Bytes) → option_map (object_item name) result ≡ written_item (ids_of ids.now) name (slot_if (changed_in nodes.now) slot.now) }
+    ensures { (name : Bytes) → option_map (object_item name) result ≡ written_item
+        (ids_of ids.now) name (slot_if (changed_in nodes.now) slot.now) }
 {
     let Some(child) = changed_child(nodes, slot) else {
         return named_object(slot.mode, slot.oid);
@@ -84,7 +89,8 @@ fn id_at(ids: &[Option<ObjectId>], tree: NodeId) -> Option<ObjectId>
 
 // Nothing is named by the null id.
 fn named_object(mode: EntryMode, oid: ObjectId) -> Option<(EntryMode, ObjectId)>
-    ensures { (name : Bytes) → option_map (object_item name) result ≡ unless_null (object_item name (mode, oid)) }
+    ensures { (name : Bytes) → option_map (object_item name) result ≡ unless_null
+        (object_item name (mode, oid)) }
 {
     if oid.is_null() {
         return None;

@@ -16,7 +16,8 @@ pub(crate) fn reached(nodes: &[Node], from: NodeId, alloc: Global) -> Result<Vec
     requires within { from.0 < length nodes.now }
     ensures len { IfOk result (λ marks. length marks.items ≡ length nodes.now) }
     ensures leads { IfOk result (λ marks. (base : Path) → Way (due_in nodes.now from.0) base from.0
-        → (j : ℕ) → (slice_index_or marks.items j false ≡ true) ↔ IsReached (due_in nodes.now from.0) base j) }
+        → (j : ℕ) → (slice_index_or marks.items j false ≡ true) ↔ IsReached
+        (due_in nodes.now from.0) base j) }
 {
     let mut marks = vec![in alloc; false; nodes.len()]?;
     marks[from.0] = true;
@@ -30,12 +31,19 @@ pub(crate) fn reached(nodes: &[Node], from: NodeId, alloc: Global) -> Result<Vec
 
 // Marks the changed trees that lie in a tree.
 fn mark(nodes: &[Node], node: &Node, marks: &mut [bool])
-    requires opened { (m : Bytes) (c : ℕ) → child_of (slot_in node.now m) ≡ Some c → c < length nodes.now }
-    requires within { (m : Bytes) (c : ℕ) → child_of (slot_in node.now m) ≡ Some c → c < length marks.old }
-    ensures kept { (j : ℕ) → slice_index_or marks.old j false ≡ true → slice_index_or marks.new j false ≡ true }
-    ensures children { (m : Bytes) (c : ℕ) → child_of (slots_if (changed_in nodes.now) (slot_in node.now) m) ≡ Some c → slice_index_or marks.new c false ≡ true }
+    requires opened { (m : Bytes) (c : ℕ) → child_of (slot_in node.now m) ≡ Some c
+        → c < length nodes.now }
+    requires within { (m : Bytes) (c : ℕ) → child_of (slot_in node.now m) ≡ Some c
+        → c < length marks.old }
+    ensures kept { (j : ℕ) → slice_index_or marks.old j false ≡ true
+        → slice_index_or marks.new j false ≡ true }
+    ensures children { (m : Bytes) (c : ℕ)
+        → child_of (slots_if (changed_in nodes.now) (slot_in node.now) m) ≡ Some c
+        → slice_index_or marks.new c false ≡ true }
     ensures others { (j : ℕ) → slice_index_or marks.new j false ≡ true
-        → (slice_index_or marks.old j false ≡ true) ⊎ ((m : Bytes) × (child_of (slots_if (changed_in nodes.now) (slot_in node.now) m) ≡ Some j)) }
+        → (slice_index_or marks.old j false ≡ true)
+        ⊎ ((m : Bytes)
+        × (child_of (slots_if (changed_in nodes.now) (slot_in node.now) m) ≡ Some j)) }
 {
     for slot in node.slots.values() {
         if let Some(child) = changed_child(nodes, slot) {

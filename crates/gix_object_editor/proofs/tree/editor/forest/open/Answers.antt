@@ -1,4 +1,4 @@
-use Rattle.std.proofs.Common.{refl, ◌≡◌, ◌∙◌, ◌≤◌, ap, sym, subst, arith, true, length, suc, rules, None, Some}
+use Rattle.std.proofs.Common.{inl, inr, false, refl, ◌≡◌, ◌∙◌, ◌≤◌, ap, sym, subst, arith, true, length, suc, rules, None, Some, [], ◌∷◌}
 use Rattle.std.specs.Prelude.{is_ok}
 use Rattle.std.proofs.lemmas.Result.{err_from_is_err_and}
 use Rattle.gix_hash.specs.Id.{id_of}
@@ -6,12 +6,15 @@ use Rattle.gix_object_entries.specs.Mode.{is_tree_value}
 use Rattle.gix_object_editor.specs.declared.tree.editor.node.Slot.{Slot}
 use Rattle.gix_object_editor.specs.Files.{Bytes, named}
 use Rattle.gix_object_editor.specs.Nodes.{slots_of, slot_in, leaf_in, child_of, StandsFor, IsUnopened}
-use Rattle.gix_object_editor.proofs.Loaded.{not_null, no_child}
+use Rattle.gix_object_editor.proofs.Loaded.{not_null, null_by_test, no_child}
 use Rattle.gix_object_editor.proofs.Opening.{opened_one, as_function}
 use Rattle.gix_object_editor.specs.Marks.{marks_of}
 use Rattle.gix_object_editor.proofs.Kept.{opened_each}
 use Rattle.gix_object_editor.proofs.Marked.{marks_one, read_one, read_same}
 use Rattle.gix_object_editor.proofs.Slots.{none_past}
+use Rattle.gix_object_editor.specs.Asked.{leads_on, unopened_into}
+use Rattle.gix_object_editor.proofs.Asking.{is_tree, isnt_tree, plain_split, folder_split, loaded_split, stops_opening, asks_one, asks_same}
+use Rattle.gix_object_editor.proofs.tree.editor.forest.open.Goals.{then-not-is_tree-via-then-not-is_tree, then-not-is_tree-via-else-not-is_tree+then-is_null}
 use Rattle.gix_object_editor.proofs.tree.editor.forest.open.Goals as goal
 
 pub returns-in_err-tree-clause-refused : goal.returns-in_err-tree-clause-refused
@@ -114,3 +117,55 @@ returns-clause-each g c = λ honest has down each.
 
 pub returns-in_err-attach-clause-each : goal.returns-in_err-attach-clause-each
 returns-in_err-attach-clause-each g c = λ honest has down each i m s is. each i m s (sym (c.in_err-attach.ensures.err i m) ∙ is)
+
+pub returns-in_err-tree-clause-stops : goal.returns-in_err-tree-clause-stops
+returns-in_err-tree-clause-stops g c = λ honest.
+    let s : Slot = c.in-Some.slot in
+    let stood : slots_of c.args.nodes.now.items c.args.at.0 c.args.name.now ≡ Some s = ap (λ ns. slots_of ns c.args.at.0 c.args.name.now) (sym c.as_slice.ensures.value) ∙ sym c.slot_at.ensures ∙ c.in-Some.is in
+    let closed : s.child ≡ None = no_child s.child (sym c.is_some.ensures ∙ c.if-is_some.false) in
+    let tree_mode : is_tree_value (leaf_in s).mode.value ≡ true = search rules in
+    let folder = is_tree (leaf_in s) tree_mode (not_null (id_of s.oid) c.is_null.result c.is_null.ensures c.if-is_null.false) in
+    let p = err_from_is_err_and c.from_residual.result c.from_residual.ensures.1 in
+    rw (p.1, p.2) (λ trees has rest.
+    let split = folder_split trees (slots_of c.args.nodes.now.items) c.args.at.0 c.args.name.now rest s stood closed folder in
+    stops_opening (g.S.Lookup.is_honest c.args.store.now) (g.S.Lookup.may_fail c.args.store.now) (g.S.Lookup.table c.args.store.now) (id_of s.oid) _ split.0 c.args.lookups.now _ c.in_err-tree.field-0.0 split.1 (search rules) c.in_err-tree.ensures.refused)
+
+pub returns-in_err-attach-clause-stops : goal.returns-in_err-attach-clause-stops
+returns-in_err-attach-clause-stops g c = λ honest.
+    let s : Slot = c.in-Some.slot in
+    let stood : slots_of c.args.nodes.now.items c.args.at.0 c.args.name.now ≡ Some s = ap (λ ns. slots_of ns c.args.at.0 c.args.name.now) (sym c.as_slice.ensures.value) ∙ sym c.slot_at.ensures ∙ c.in-Some.is in
+    let closed : s.child ≡ None = no_child s.child (sym c.is_some.ensures ∙ c.if-is_some.false) in
+    let tree_mode : is_tree_value (leaf_in s).mode.value ≡ true = search rules in
+    let folder = is_tree (leaf_in s) tree_mode (not_null (id_of s.oid) c.is_null.result c.is_null.ensures c.if-is_null.false) in
+    let p = err_from_is_err_and c.from_residual-in_err-attach.result c.from_residual-in_err-attach.ensures.1 in
+    rw (p.1, p.2) (λ trees has rest.
+    let split = folder_split trees (slots_of c.args.nodes.now.items) c.args.at.0 c.args.name.now rest s stood closed folder in
+    record { front = id_of s.oid ∷ []; rest = split.0; split = sym split.1; counted = search rules })
+
+pub returns-clause-asked : goal.returns-clause-asked
+returns-clause-asked g c = λ honest trees has rest.
+    let old = c.args.nodes.now.items in
+    let new = c.attach.new.nodes.items in
+    let s : Slot = c.in-Some.slot in
+    let stood : slots_of old c.args.at.0 c.args.name.now ≡ Some s = ap (λ ns. slots_of ns c.args.at.0 c.args.name.now) (sym c.as_slice.ensures.value) ∙ sym c.slot_at.ensures ∙ c.in-Some.is in
+    let closed : s.child ≡ None = no_child s.child (sym c.is_some.ensures ∙ c.if-is_some.false) in
+    let tree_mode : is_tree_value (leaf_in s).mode.value ≡ true = search rules in
+    let folder = is_tree (leaf_in s) tree_mode (not_null (id_of s.oid) c.is_null.result c.is_null.ensures c.if-is_null.false) in
+    let at : (m : Bytes) → slots_of new (length old) m ≡ slot_in c.in_ok-tree.tree m = c.in_ok-attach.ensures.behind in
+    let tree = c.in_ok-tree.ensures.opened honest in
+    let holds = c.in_ok-tree.ensures.holds honest in
+    let split = loaded_split trees (slots_of old) (slots_of new) c.args.at.0 c.args.name.now rest s (length old) tree.0 stood closed folder (tree.2 trees has) (λ m. subst (λ o. StandsFor o (named m tree.0)) (sym (at m)) (tree.1 m)) in
+    asks_one (g.S.Lookup.table c.args.store.now) (id_of s.oid) _ _ c.args.lookups.now _ (split ∙ ap (λ k. id_of s.oid ∷ unopened_into trees (slots_of new) k rest) (sym c.in_ok-attach.ensures.number))
+    (holds.0, holds.1, holds.2, holds.3, holds.4) (search rules)
+
+pub returns-then-not-is_tree-clause-asked : goal.returns-then-not-is_tree-clause-asked
+returns-then-not-is_tree-clause-asked g c = λ honest trees has rest.
+    let old = c.args.nodes.now.items in
+    let s : Slot = c.in-Some.slot in
+    let stood : slots_of old c.args.at.0 c.args.name.now ≡ Some s = ap (λ ns. slots_of ns c.args.at.0 c.args.name.now) (sym c.as_slice.ensures.value) ∙ sym c.slot_at.ensures ∙ c.in-Some.is in
+    let closed : s.child ≡ None = no_child s.child (sym c.is_some.ensures ∙ c.if-is_some.false) in
+    let plain : leads_on (leaf_in s) ≡ false = elim c.then-not-is_tree.branch [
+      | then-not-is_tree-via-then-not-is_tree w ↦ isnt_tree (leaf_in s) (inl (search rules))
+      | then-not-is_tree-via-else-not-is_tree+then-is_null w ↦ isnt_tree (leaf_in s) (inr (null_by_test (id_of s.oid) w.is_null.result w.is_null.ensures w.if-is_null.true))
+    ] in
+    asks_same (g.S.Lookup.table c.args.store.now) _ [] c.args.lookups.now c.args.lookups.now (plain_split trees (slots_of old) c.args.at.0 c.args.name.now rest s stood closed plain) refl

@@ -1,10 +1,13 @@
-use Rattle.std.proofs.Common.{ℕ, List, [], ◌∷◌, ◌<◌, ◌∙◌, ap, subst, arith, length, drop, refl, false}
+use Rattle.std.proofs.Common.{ℕ, List, ◌++◌, [], ◌∷◌, ◌<◌, ◌∙◌, ap, subst, arith, length, drop, refl, false}
 use Rattle.std.specs.Borrow.{Bor}
 use Rattle.std.proofs.lemmas.List.{get_or-map}
 use Rattle.std.proofs.lemmas.Result.{err_from_is_err_and}
 use Rattle.gix_hash.specs.Id.{id_of}
 use Rattle.gix_object_editor.specs.Nodes.{slots_of, onto, LeadsTo}
 use Rattle.gix_object_editor.specs.Marks.{marks_of}
+use Rattle.gix_object_editor.specs.Files.{Path}
+use Rattle.gix_object_editor.specs.Asked.{front_of, unopened_into, AsksUpTo}
+use Rattle.gix_object_editor.proofs.Asking.{front_ends, asks_none, walk_step, walk_ends, walk_stops}
 use Rattle.gix_object_editor.proofs.Opening.{opened_none, opened_then}
 use Rattle.gix_object_editor.proofs.Marked.{marks_none, marks_then}
 use Rattle.gix_object_editor.proofs.Edits.{two_names}
@@ -32,6 +35,8 @@ names-preserved g c =
       each = λ h has down was. c.in_ok-child.ensures.each h has down (c.names.invariant.each h has down was);
       leads = λ way w. leads_on (slots_of old) (slots_of new) (onto way (names c.args.path.now)) c.args.path.now c.names.at.0 c.names.depth _ c.in-Some.child.0 lt c.in_ok-child.ensures.opened.links found (c.names.invariant.leads way w);
       counted = let n = c.in_ok-child.ensures.counted in let m = c.names.invariant.counted in omega arith;
+      asked = λ h trees has more. walk_step (g.S.Lookup.table c.args.store.now) trees (slots_of old) (slots_of new) c.names.at.0 c.args.path.now c.names.depth _ more _ c.args.lookups.now c.names.lookups c.open.new.lookups
+          c.names-test.true (c.names.invariant.asked h trees has more) c.in_ok-child.field-0 c.in-Some.child c.in-Some.is (c.in_ok-child.ensures.asked h trees has);
     }
 
 pub names-init : goal.names-init
@@ -45,6 +50,7 @@ names-init g c = record {
   each = λ h has down was. was;
   leads = λ way w. (way, w, refl);
   counted = omega arith;
+  asked = λ h trees has more. asks_none (g.S.Lookup.table c.args.store.now) (unopened_into trees (slots_of c.args.nodes.now.items) c.args.from.0 (front_of (names c.args.path.now) ++ more)) c.args.lookups.now;
 }
 
 pub returns-in_err-child-clause-refused : goal.returns-in_err-child-clause-refused
@@ -75,3 +81,21 @@ returns-in_err-child-clause-each g c = λ honest has down each. c.in_err-child.e
 
 pub returns-in_default-clause-each : goal.returns-in_default-clause-each
 returns-in_default-clause-each g c = λ honest has down each. c.in_ok-child.ensures.each honest has down (c.names.invariant.each honest has down each)
+
+pub returns-in_err-child-clause-stops : goal.returns-in_err-child-clause-stops
+returns-in_err-child-clause-stops g c = λ honest.
+    let p = err_from_is_err_and c.from_residual.result c.from_residual.ensures.1 in
+    let told = c.in_err-child.ensures.refused in
+    rw (p.1, p.2) (λ trees has more.
+    walk_stops (g.S.Lookup.table c.args.store.now) trees (slots_of c.names.nodes.items) (slots_of c.open.new.nodes.items) c.names.at.0 c.args.path.now c.names.depth _ more _ c.args.lookups.now c.names.lookups c.open.new.lookups
+    c.names-test.true (c.names.invariant.asked honest trees has more) (g.S.Lookup.is_honest c.args.store.now) (g.S.Lookup.may_fail c.args.store.now) (id_of told.0.oid) c.in_err-child.field-0.0 told.3 (c.in_err-child.ensures.stops honest trees has))
+
+pub returns-clause-asked : goal.returns-clause-asked
+returns-clause-asked g c = λ honest trees has more e.
+    subst (λ (p : Path). AsksUpTo (g.S.Lookup.table c.args.store.now) (unopened_into trees (slots_of c.args.nodes.now.items) c.args.from.0 (front_of (names c.args.path.now) ++ more)) (unopened_into trees (slots_of c.names.nodes.items) c.names.at.0 p) c.args.lookups.now c.names.lookups)
+    (front_ends c.args.path.now c.names.depth more e) (c.names.invariant.asked honest trees has more)
+
+pub returns-in_default-clause-asked_all : goal.returns-in_default-clause-asked_all
+returns-in_default-clause-asked_all g c = λ honest trees has more lt.
+    walk_ends (g.S.Lookup.table c.args.store.now) trees (slots_of c.names.nodes.items) (slots_of c.open.new.nodes.items) c.names.at.0 c.args.path.now c.names.depth _ more _ c.args.lookups.now c.names.lookups c.open.new.lookups
+    c.names-test.true (c.names.invariant.asked honest trees has more) c.in_ok-child.field-0 c.in_default.is (c.in_ok-child.ensures.asked honest trees has)

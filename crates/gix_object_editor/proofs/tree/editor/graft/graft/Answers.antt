@@ -1,11 +1,11 @@
-use Rattle.std.proofs.Common.{true, ℕ, List, ◌≡◌, ◌∙◌, ◌<◌, ◌≤◌, ap, sym, subst, arith, length, map, []}
+use Rattle.std.proofs.Common.{Some, None, true, ℕ, List, ◌≡◌, ◌∙◌, ◌<◌, ◌≤◌, ap, sym, subst, arith, length, map, []}
 use Rattle.std.specs.Borrow.{Bor}
 use Rattle.std.proofs.lemmas.Result.{err_from_is_err_and}
 use Rattle.std.proofs.lemmas.List.{get_or-map, length-take}
 use Rattle.gix_object_editor.specs.declared.tree.editor.node.Node.{Node}
 use Rattle.gix_object_editor.specs.Files.{Bytes}
 use Rattle.gix_object_editor.specs.Nodes.{slots_of, leaf_in, files_of_node, child_of, onto, IsForest, IsPutIn}
-use Rattle.gix_object_editor.proofs.Slots.{back, all_slots, cut_back}
+use Rattle.gix_object_editor.proofs.Slots.{back, all_slots, cut_back, none_past}
 use Rattle.gix_object_editor.proofs.Opening.{fewer}
 use Rattle.gix_object_editor.proofs.Ladder.{put_forest, put_files, put_end, put_marks}
 use Rattle.gix_object_editor.specs.Marks.{marks_of, AreMarksKept, AreOnPath}
@@ -169,3 +169,13 @@ returns-then-names-eq1-clause-each c = λ has fit each.
 
 pub returns-in-Err-clause-each : goal.returns-in-Err-clause-each
 returns-in-Err-clause-each c = λ has fit each i m s is. each i m s (sym (returns-in-Err-clause-err c i m) ∙ is)
+
+pub returns-then-names-eq1-clause-rungs : goal.returns-then-names-eq1-clause-rungs
+returns-then-names-eq1-clause-rungs c = λ i m s le is.
+    let old = c.args.nodes.now.items in
+    let new = c.put_at.new.nodes in
+    let n : c.args.nodes.now.len ≡ length new = omega (arith, c.put_at.auto.nodes, c.as_mut_slice.ensures.len) in
+    let len : length old ≡ length new = omega (arith, c.args.nodes.now.ok.0) in
+    let whole = back c.args.nodes.now.len new _ n in
+    let none : slots_of new i m ≡ None = none_past new i m (omega (arith, le, len)) in
+    absurd (let so : None ≡ Some s = sym none ∙ sym (ap (λ (ns : List Node). slots_of ns i m) whole) ∙ is in cc)

@@ -1,16 +1,18 @@
-use Rattle.std.proofs.Common.{ℕ, true, List, Some, None, rules, ◌≡◌, ◌∙◌, ◌<◌, ◌≤◌, ◌+◌, ◌-◌, suc, map, ap, sym, subst, arith, length, drop, take, []}
+use Rattle.std.proofs.Common.{ℕ, inl, inr, get_or, true, List, Some, None, rules, ◌≡◌, ◌∙◌, ◌<◌, ◌≤◌, ◌+◌, ◌-◌, suc, map, ap, sym, subst, arith, length, drop, take, []}
 use Rattle.std.specs.Borrow.{Bor}
 use Rattle.std.proofs.lemmas.Result.{err_from_is_err_and}
 use Rattle.std.proofs.lemmas.List.{get_or-map, length-drop, take_all}
 use Rattle.gix_object_editor.specs.declared.tree.editor.node.Node.{Node}
 use Rattle.gix_object_editor.specs.Nodes.{slots_of, leaf_in, files_of_node, child_or, onto, IsForest, IsPutIn}
-use Rattle.gix_object_editor.proofs.Slots.{back, all_slots}
+use Rattle.gix_object_editor.proofs.Slots.{back, all_slots, none_past}
 use Rattle.gix_object_editor.proofs.Ladder.{hung_forest, hung_files, hung_end, hung_marks, hung_ways}
 use Rattle.gix_object_editor.specs.Marks.{marks_of, AreMarksKept, AreOnPath}
 use Rattle.std.specs.List.{Contains}
 use Rattle.gix_object_editor.specs.Entries.{EachHas}
 use Rattle.gix_object_editor.proofs.Walked.{names_length}
-use Rattle.gix_object_editor.proofs.Kept.{hung_each, in_tail}
+use Rattle.gix_object_editor.specs.Asked.{front_of}
+use Rattle.gix_object_editor.proofs.Asking.{front_has}
+use Rattle.gix_object_editor.proofs.Kept.{hung_each, hung_names, in_tail, in_front}
 use Rattle.gix_object_editor.proofs.tree.editor.graft.hang.Goals as goal
 
 pub returns-clause-forest : goal.returns-clause-forest
@@ -176,3 +178,28 @@ returns-clause-each c = λ has fit each.
     (λ m h. in_tail path m (subst (λ (xs : List (Bor (List ℕ))). Contains (map (λ x. x.now) xs) m) tail_is h))
     c.in_ok-put_at.ensures.here c.folder.ensures.leaf (λ i m off. c.in_ok-put_at.ensures.others i m off ∙ ap (λ ns. slots_of ns i m) c.as_mut_slice.ensures.value) fit
     (omega (arith, names_length path, some)) (get_or-map (λ (x : Bor (List ℕ)). x.now) path 0 _ [] some) each)
+
+pub returns-clause-rungs : goal.returns-clause-rungs
+returns-clause-rungs c = λ i m s le is.
+    let old = c.args.nodes.now.items in
+    let mid = c.push_ladder.new.nodes.items in
+    let new = c.put_at.new.nodes in
+    let path = c.args.names.now in
+    let n : c.push_ladder.new.nodes.len ≡ length new = omega (arith, c.put_at.auto.nodes, c.as_mut_slice.ensures.len) in
+    let tail : List (Bor (List ℕ)) = take (length path - 1) (drop 1 path) in
+    let less : length (drop 1 path) ≤ length path - 1 = omega (arith, length-drop 1 path) in
+    let tail_is : tail ≡ drop 1 path = take_all (length path - 1) (drop 1 path) less in
+    let len : length mid ≡ length old + length tail = c.in_ok-push_ladder.ensures.len in
+    let same_len : length new ≡ length mid = omega (arith, c.push_ladder.new.nodes.ok.0) in
+    let whole = back c.push_ladder.new.nodes.len new _ n in
+    let stood : slots_of mid i m ≡ Some s =
+    ap (λ (ns : List Node). slots_of ns i m) (sym c.as_mut_slice.ensures.value) ∙ sym (c.in_ok-put_at.ensures.others i m (λ e _. absurd (omega (arith, e, le, c.requires.within)))) ∙ sym (ap (λ (ns : List Node). slots_of ns i m) whole) ∙ is in
+    let above : 0 < length mid = omega (arith, c.requires.within, c.push_ladder.ensures.longer) in
+    let end : c.len-2.result - 1 + 1 ≡ length mid = omega (arith, above, c.len-2.ensures, c.push_ladder.new.nodes.ok.0) in
+    let long : length (map (λ x. x.now) tail) ≡ length tail = names_length tail in
+    elim (hung_names (slots_of mid) (length old) (map (λ x. x.now) tail) c.args.slot (λ k lt. c.in_ok-push_ladder.ensures.rungs k (omega (arith, lt, long)))
+    (λ j name past. none_past mid j name (omega (arith, past, len, long))) i m s le stood) [
+      | inl e ↦ inl (omega (arith, e, end, len, long))
+      | inr h ↦ inr (subst (Contains (front_of (map (λ x. x.now) path))) (in_front path h.0 (subst (λ (xs : List (Bor (List ℕ))). suc h.0 < length (map (λ x. x.now) xs)) tail_is h.1) ∙ ap (λ (xs : List (Bor (List ℕ))). get_or (map (λ x. x.now) xs) h.0 []) (sym tail_is) ∙ sym h.2)
+          (front_has (map (λ x. x.now) path) (suc h.0) (omega (arith, h.1, long, ap length tail_is, length-drop 1 path, names_length path))))
+    ]

@@ -1,9 +1,14 @@
-use Rattle.std.proofs.Common.{ℕ, List, ◌≡◌, ◌∙◌, ◌<◌, ◌++◌, ◌∷◌, [], ap, sym, subst, arith, rules, length, true, get_or}
+use Rattle.std.proofs.Common.{ℕ, inl, inr, List, ◌≡◌, ◌∙◌, ◌<◌, ◌++◌, ◌∷◌, [], ap, sym, subst, arith, rules, length, true, get_or}
 use Rattle.std.specs.Prelude.{is_ok}
 use Rattle.gix_object_editor.specs.declared.tree.editor.node.Node.{Node}
 use Rattle.gix_hash.specs.Id.{id_of}
 use Rattle.gix_object_entries.specs.ModeText.{mode_of}
-use Rattle.gix_object_editor.specs.Files.{Bytes, Leaf, put}
+use Rattle.std.specs.List.{Contains}
+use Rattle.gix_object_editor.specs.Asked.{front_of}
+use Rattle.gix_object_editor.specs.Entries.{EachHas, MayStand, made_leaf}
+use Rattle.gix_object_editor.proofs.Asking.{front_pushed}
+use Rattle.gix_object_editor.proofs.Kept.{unless_empty, may_stand_more, each_more_has, made_each}
+use Rattle.gix_object_editor.specs.Files.{Bytes, Path, Leaf, put}
 use Rattle.gix_object_editor.specs.Nodes.{slots_of, files_of_node, child_of, onto, IsForest, LeadsTo, IsPutIn}
 use Rattle.gix_object_editor.proofs.Paths.{onto-append}
 use Rattle.gix_object_editor.proofs.Slots.{back}
@@ -124,3 +129,32 @@ returns-clause-others c = λ i m lt off.
     ap (λ (ns : List Node). slots_of ns i m) (back c.graft.new.nodes.len new _ n)
     ∙ others i m (λ e _. absurd (omega (arith, e, lt, last.1)))
     ∙ c.graft.ensures.others i m lt (λ e first. off e (first ∙ ap (λ p. get_or p 0 []) longer ∙ same_first_name (names path) ([] ∷ []) some))
+
+pub returns-clause-each : goal.returns-clause-each
+returns-clause-each c = λ has fit each.
+    let old = c.args.nodes.now.items in
+    let mid = c.graft.new.nodes.items in
+    let new = c.take_at.new.nodes in
+    let path = c.args.names.now in
+    let kind = c.args.hash in
+    let n : c.graft.new.nodes.len ≡ length new = omega (arith, c.take_at.auto.nodes, c.as_mut_slice.ensures.len) in
+    let others : (i : ℕ) (m : Bytes) → ((i ≡ c.in_ok-end.end.0) → (m ≡ []) → ⊥) → slots_of new i m ≡ slots_of mid i m = λ i m off.
+    c.take_at.ensures.others i m off ∙ ap (λ ns. slots_of ns i m) c.as_mut_slice.ensures.value in
+    let ok : is_ok c.push.result ≡ true = search rules in
+    let same : c.in_ok-path.path.items ≡ path = search rules in
+    let longer : names c.as_slice.result.now ≡ names path ++ [] ∷ [] =
+    ap names c.as_slice.ensures.value ∙ names_pushed _ c.in_ok-path.path.items c.push.new.self.items _ ok c.push.ensures.items ∙ ap (λ xs. names xs ++ [] ∷ []) same in
+    let leaf : Leaf = record { mode = mode_of c.from.result; id = id_of c.null.result } in
+    let made : leaf ≡ made_leaf kind = search rules in
+    let fits : MayStand (unless_empty has) (names c.as_slice.result.now) leaf =
+    subst (λ (p : Path). MayStand (unless_empty has) p leaf) (sym longer) (subst (MayStand (unless_empty has) (names path ++ [] ∷ [])) (sym made) (may_stand_more has kind (names path) fit)) in
+    let some : 0 < length (names path) = omega (arith, names_length path) in
+    let first = get_or (names path) 0 [] in
+    subst (λ (ns : List Node). EachHas has (slots_of ns)) (sym (back c.graft.new.nodes.len new _ n))
+    (made_each (slots_of old) (slots_of mid) (slots_of new) (length old) c.args.at.0 c.in_ok-end.end.0 (names path) first has c.requires.full (c.requires.full 0 [] some)
+    (c.graft.ensures.each (unless_empty has) fits (each_more_has has (slots_of old) each)) c.take_at.ensures.here others
+    (λ i m lt off. c.graft.ensures.others i m lt (λ e is. off e (is ∙ ap (λ p. get_or p 0 []) longer ∙ same_first_name (names path) ([] ∷ []) some)))
+    (λ i m s le is. elim (c.in_ok-end.ensures.rungs i m s le is) [
+      | inl e ↦ inl e
+      | inr h ↦ inr (subst (λ (p : Path). Contains p m) (ap front_of longer ∙ front_pushed (names path) []) h)
+    ]) each)

@@ -1,4 +1,4 @@
-use Rattle.std.proofs.Common.{List, ap, sym, subst, map}
+use Rattle.std.proofs.Common.{List, sym, subst, map}
 use Rattle.gix_hash.specs.Id.{id_of}
 use Rattle.gix_object_entries.specs.Entry.{item_of, SpellsTree}
 use Rattle.gix_object_entries.specs.WellFormed.{IsWellFormed}

@@ -1,5 +1,4 @@
-use Rattle.std.proofs.Common.{ℕ, ◌≡◌, ◌∙◌, refl, ap, sym, subst, inl, length}
-use Rattle.gix_object_editor.specs.Files.{Bytes}
+use Rattle.std.proofs.Common.{◌≡◌, ◌∙◌, ap, sym, subst, length}
 use Rattle.gix_object_editor.specs.Nodes.{slots_of, child_of}
 use Rattle.gix_object_editor.specs.Marks.{marks_of, AreMarkedBut}
 use Rattle.gix_object_editor.proofs.Opening.{as_function}

@@ -1,4 +1,4 @@
-use Rattle.std.proofs.Common.{ℕ, ◌≡◌, ◌∙◌, ◌<◌, refl, ap, sym, subst, arith, length}
+use Rattle.std.proofs.Common.{◌≡◌, ◌∙◌, ◌<◌, refl, ap, sym, subst, arith, length}
 use Rattle.gix_object_editor.specs.Nodes.{slots_of}
 use Rattle.gix_object_editor.specs.Marks.{marks_of}
 use Rattle.gix_object_editor.proofs.Marked.{IsClimbing, climb_first, climb_more, climb_end}

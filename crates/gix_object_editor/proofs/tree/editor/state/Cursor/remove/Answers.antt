@@ -1,7 +1,11 @@
-use Rattle.std.proofs.Common.{inl, inr, ◌∙◌, subst, OnOk, IfErr}
+use Rattle.std.proofs.Common.{List, inl, inr, ◌∙◌, subst, OnOk, IfErr}
 use Rattle.gix_object_editor.specs.Editor.{files_of, names_of, LeadsThrough, EditFault}
 use Rattle.gix_object_editor.specs.Files.{Trees, HasStored, SameFiles, removed}
 use Rattle.gix_object_editor.proofs.Folders.{below_base}
+use Rattle.gix_hash.specs.Id.{Id}
+use Rattle.gix_object_editor.specs.Nodes.{slots_of}
+use Rattle.gix_object_editor.specs.Asked.{front_of, Asks}
+use Rattle.gix_object_editor.proofs.Asking.{asked_below}
 use Rattle.gix_object_editor.proofs.tree.editor.state.Cursor.remove.Goals as goal
 
 pub returns-clause-removed : goal.returns-clause-removed
@@ -19,3 +23,8 @@ returns-clause-changed g c = λ base stands tree is. elim (c.remove_from.ensures
   | inl was ↦ inl was
   | inr above ↦ inr (above.0, above.1, above.2 ∙ below_base stands.0 base (names_of c.args.path.now) stands.2)
 ]
+
+pub returns-clause-asked : goal.returns-clause-asked
+returns-clause-asked g c = λ base stands.
+    subst (λ (ids : Trees → List Id). Asks (g.S.Lookup.is_honest c.args.self.now.editor.now.store) (g.S.Lookup.may_fail c.args.self.now.editor.now.store) (g.S.Lookup.table c.args.self.now.editor.now.store) ids c.args.self.now.editor.now.lookups c.remove_from.new.self.lookups c.remove_from.result)
+    (asked_below (slots_of c.args.self.now.editor.now.nodes.items) base c.args.self.now.at.0 (front_of (names_of c.args.path.now)) stands) c.remove_from.ensures.asked

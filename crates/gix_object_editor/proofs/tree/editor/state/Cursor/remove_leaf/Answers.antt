@@ -1,7 +1,12 @@
-use Rattle.std.proofs.Common.{inl, inr, ◌∙◌, subst, OnOk, IfErr}
+use Rattle.std.proofs.Common.{List, inl, inr, ◌++◌, ◌∙◌, subst, OnOk, IfErr}
 use Rattle.gix_object_editor.specs.Editor.{files_of, names_of, LeadsInto, LeafFault, IsFilled, IsFolder}
 use Rattle.gix_object_editor.specs.Files.{Trees, HasStored, SameFiles, HasNoneBelow, removed}
 use Rattle.gix_object_editor.proofs.Folders.{below_base}
+use Rattle.gix_object_editor.proofs.Leafs.{leaf_fault_folder}
+use Rattle.gix_hash.specs.Id.{Id}
+use Rattle.gix_object_editor.specs.Nodes.{slots_of}
+use Rattle.gix_object_editor.specs.Asked.{Asks}
+use Rattle.gix_object_editor.proofs.Asking.{asked_below}
 use Rattle.gix_object_editor.proofs.tree.editor.state.Cursor.remove_leaf.Goals as goal
 
 pub returns-clause-removed : goal.returns-clause-removed
@@ -24,3 +29,13 @@ returns-clause-changed g c = λ base stands tree is. elim (c.remove_leaf_from.en
   | inl was ↦ inl was
   | inr above ↦ inr (above.0, above.1, above.2 ∙ below_base stands.0 base (names_of c.args.path.now) stands.2)
 ]
+
+pub returns-clause-asked : goal.returns-clause-asked
+returns-clause-asked g c = λ base stands.
+    subst (λ (ids : Trees → List Id). Asks (g.S.Lookup.is_honest c.args.self.now.editor.now.store) (g.S.Lookup.may_fail c.args.self.now.editor.now.store) (g.S.Lookup.table c.args.self.now.editor.now.store) ids c.args.self.now.editor.now.lookups c.remove_leaf_from.new.self.lookups c.remove_leaf_from.result)
+    (asked_below (slots_of c.args.self.now.editor.now.nodes.items) base c.args.self.now.at.0 (names_of c.args.path.now) stands) c.remove_leaf_from.ensures.asked
+
+pub returns-clause-folder : goal.returns-clause-folder
+returns-clause-folder g c = λ base stands.
+    leaf_fault_folder (g.S.Lookup.is_honest c.args.self.now.editor.now.store) (g.S.Lookup.may_fail c.args.self.now.editor.now.store) (g.S.Lookup.table c.args.self.now.editor.now.store) (names_of c.args.path.now)
+    (LeadsInto (λ trees. files_of trees c.remove_leaf_from.new.self) (base ++ names_of c.args.path.now)) (base ++ names_of c.args.path.now) c.remove_leaf_from.new.self c.remove_leaf_from.result (returns-clause-refused g c base stands)

@@ -1,7 +1,11 @@
-use Rattle.std.proofs.Common.{inl, inr, ◌∙◌, subst, OnOk, IfErr}
+use Rattle.std.proofs.Common.{List, inl, inr, ap, ◌∙◌, subst, OnOk, IfErr}
 use Rattle.gix_object_editor.specs.Editor.{files_of, names_of, leaf_of_kind, LeadsThrough, EditFault}
 use Rattle.gix_object_editor.specs.Files.{Trees, HasStored, SameFiles, put}
 use Rattle.gix_object_editor.proofs.Folders.{below_base}
+use Rattle.gix_hash.specs.Id.{Id}
+use Rattle.gix_object_editor.specs.Nodes.{slots_of}
+use Rattle.gix_object_editor.specs.Asked.{front_of, Asks}
+use Rattle.gix_object_editor.proofs.Asking.{asked_below}
 use Rattle.gix_object_editor.proofs.tree.editor.state.Cursor.upsert.Goals as goal
 
 pub returns-clause-put : goal.returns-clause-put
@@ -19,3 +23,12 @@ returns-clause-changed g c = λ base stands tree is. elim (c.upsert_from.ensures
   | inl was ↦ inl was
   | inr above ↦ inr (above.0, above.1, above.2 ∙ below_base stands.0 base (names_of c.args.path.now) stands.2)
 ]
+
+pub returns-clause-asked : goal.returns-clause-asked
+returns-clause-asked g c = λ base stands.
+    subst (λ (ids : Trees → List Id). Asks (g.S.Lookup.is_honest c.args.self.now.editor.now.store) (g.S.Lookup.may_fail c.args.self.now.editor.now.store) (g.S.Lookup.table c.args.self.now.editor.now.store) ids c.args.self.now.editor.now.lookups c.upsert_from.new.self.lookups c.upsert_from.result)
+    (asked_below (slots_of c.args.self.now.editor.now.nodes.items) base c.args.self.now.at.0 (front_of (names_of c.args.path.now)) stands) c.upsert_from.ensures.asked
+
+pub returns-clause-same : goal.returns-clause-same
+returns-clause-same g c = λ base stands honest trees has is.
+    c.upsert_from.ensures.same stands.0 stands.1 honest trees has (ap (files_of trees c.args.self.now.editor.now) (below_base stands.0 base (names_of c.args.path.now) stands.2) ∙ is)

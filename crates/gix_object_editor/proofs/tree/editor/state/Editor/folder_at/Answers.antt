@@ -1,22 +1,28 @@
-use Rattle.std.proofs.Common.{ℕ, List, ◌⊎◌, ◌++◌, inl, inr, true, false, ◌≡◌, ◌∙◌, ◌<◌, ◌+◌, ◌-◌, ◌∷◌, [], None, arith, ap, sym, subst, refl, rules, length, drop, take, get_or, if◌then◌else◌}
+use Rattle.std.proofs.Common.{◌≢◌, ℕ, List, ◌⊎◌, ◌++◌, inl, inr, true, false, ◌≡◌, ◌∙◌, ◌<◌, ◌+◌, ◌-◌, ◌∷◌, [], None, arith, ap, sym, subst, refl, rules, length, drop, take, get_or, if◌then◌else◌}
 use Rattle.std.specs.Prelude.{is_some}
 use Rattle.std.proofs.lemmas.Result.{err_from_is_err_and}
 use Rattle.std.proofs.lemmas.List.{length-drop}
 use Rattle.gix_hash.specs.Id.{id_of}
-use Rattle.gix_object_editor.specs.Editor.{names_of, LeadsInto, IsChanged, Begins}
-use Rattle.gix_object_editor.specs.Files.{behind, cleared}
+use Rattle.gix_object_editor.specs.Editor.{names_of, LeadsInto, IsChanged}
+use Rattle.gix_object_editor.specs.Files.{Begins, behind, cleared}
 use Rattle.gix_object_editor.specs.Nodes.{slots_of, files_of_node, LeadsTo, IsFolderAt, IsForest, Way}
 use Rattle.gix_object_editor.specs.declared.tree.editor.node.Node.{Node}
 use Rattle.gix_object_editor.specs.Marks.{marks_of, AreMarked, AreMarkedBut, AreMarkedUp, AreAsRead, AreOnPath}
 use Rattle.gix_object_editor.proofs.Slots.{back}
 use Rattle.gix_object_editor.proofs.Paths.{onto-append}
 use Rattle.gix_object_editor.proofs.Ways.{way_above}
-use Rattle.gix_object_editor.proofs.Marked.{opened_marked, grafted_marked, failed_marked, read_same, marks_then}
+use Rattle.gix_object_editor.proofs.Marked.{opened_marked, grafted_marked, read_same, marks_then}
 use Rattle.gix_object_editor.proofs.Changes.{opened_changed, failed_changed, graft_as_read, graft_changed, one_more_left, begins}
 use Rattle.gix_object_editor.proofs.Opening.{opened_then, as_function}
 use Rattle.gix_object_editor.proofs.Edits.{rest_is, first_left, stopped_tree, end_tree, leads_into, edit_fault}
 use Rattle.gix_object_editor.proofs.Walked.{names, names_length, leads_kept, folder_found}
 use Rattle.gix_object_editor.proofs.Folders.{lone_rest, folder_leads, folder_clear}
+use Rattle.std.specs.List.{All}
+use Rattle.std.specs.Borrow.{Bor}
+use Rattle.gix_object_editor.specs.Entries.{EachHas, MayStandMade}
+use Rattle.gix_object_editor.proofs.Kept.{made_drop, full_rest}
+use Rattle.gix_object_editor.specs.Asked.{front_of}
+use Rattle.gix_object_editor.proofs.Asking.{into_asked, into_stops, walk_into_stops, some_names, no_empty_opening, last_whole, some_all}
 use Rattle.gix_object_editor.proofs.tree.editor.state.Editor.folder_at.Goals as goal
 
 pub returns-in_err-at-clause-refused : goal.returns-in_err-at-clause-refused
@@ -294,3 +300,96 @@ folder_below-requires-clause-stopped g c = λ more.
     let lt : i + 1 < length path = omega (arith, ap length cut, length-drop i path) in
     let some : i < length path = omega arith in
     subst (λ n. IsFolderAt (slots_of c.walk.new.nodes.items) c.in_ok-at.at.0 n None) (sym (ap (λ p. get_or (names p) 0 []) cut ∙ first_left path i some)) (c.in_ok-at.ensures.stopped lt)
+
+-- ---- what was asked for
+
+pub returns-in_err-at-clause-asked : goal.returns-in_err-at-clause-asked
+returns-in_err-at-clause-asked g c =
+    let p = err_from_is_err_and c.from_residual-in_err-at.result c.from_residual-in_err-at.ensures.1 in
+    rw (p.1, p.2) (λ honest trees has. walk_into_stops (g.S.Lookup.is_honest c.args.self.now.store) (g.S.Lookup.may_fail c.args.self.now.store) (g.S.Lookup.table c.args.self.now.store) trees (slots_of c.args.self.now.nodes.items) 0 c.args.path.now c.args.self.now.lookups c.walk.new.lookups c.in_err-at.field-0.0 (c.in_err-at.ensures.stops honest trees has) (some_names c.args.path.now c.in_ok-check_names.ensures.ok.0))
+
+pub returns-in_err-found-clause-asked : goal.returns-in_err-found-clause-asked
+returns-in_err-found-clause-asked g c =
+    let p = err_from_is_err_and c.from_residual-in_err-found.result c.from_residual-in_err-found.ensures.1 in
+    let path = c.args.path.now in
+    let i = c.in_ok-at.depth in
+    let cut : take (length path - i) (drop i path) ≡ drop i path = rest_is path i in
+    let last : i + 1 ≡ length path = omega (arith, c.in_err-found.ensures.alone, ap length cut, length-drop i path, c.in_ok-at.ensures.within.1) in
+    let name : get_or (names (take (length path - i) (drop i path))) 0 [] ≡ get_or (names path) i [] = ap (λ p. get_or (names p) 0 []) cut ∙ first_left path i c.in_ok-at.ensures.within.1 in
+    rw (p.1, p.2) (λ honest trees has. into_stops (g.S.Lookup.table c.args.self.now.store) trees (slots_of c.args.self.now.nodes.items) (slots_of c.walk.new.nodes.items) 0 c.in_ok-at.at.0 c.args.path.now c.in_ok-at.depth c.args.self.now.lookups c.walk.new.lookups c.folder_below.new.lookups c.in_ok-at.ensures.within.1 (c.in_ok-at.ensures.asked honest trees has) (c.in_ok-at.ensures.asked_all honest trees has)
+    (g.S.Lookup.is_honest c.args.self.now.store) (g.S.Lookup.may_fail c.args.self.now.store) c.in_err-found.field-0.0
+    (no_empty_opening (g.S.Lookup.is_honest c.args.self.now.store) (g.S.Lookup.may_fail c.args.self.now.store) (g.S.Lookup.table c.args.self.now.store) (id_of c.in_err-found.ensures.refused.0.oid) c.in_err-found.field-0.0 c.in_err-found.ensures.refused.3)
+    (get_or (names (take (length path - i) (drop i path))) 0 []) last (ap (λ n. front_of (names path) ++ n ∷ []) name ∙ last_whole path i last) (c.in_err-found.ensures.stops honest trees has))
+
+pub returns-in-Some-clause-asked : goal.returns-in-Some-clause-asked
+returns-in-Some-clause-asked g c = λ honest trees has.
+    let path = c.args.path.now in
+    let i = c.in_ok-at.depth in
+    let cut : take (length path - i) (drop i path) ≡ drop i path = rest_is path i in
+    let n = length-drop i path in
+    let name : get_or (names (take (length path - i) (drop i path))) 0 [] ≡ get_or (names path) i [] = ap (λ p. get_or (names p) 0 []) cut ∙ first_left path i c.in_ok-at.ensures.within.1 in
+    let all = into_asked (g.S.Lookup.table c.args.self.now.store) trees (slots_of c.args.self.now.nodes.items) (slots_of c.walk.new.nodes.items) 0 c.in_ok-at.at.0 c.args.path.now c.in_ok-at.depth c.args.self.now.lookups c.walk.new.lookups c.folder_below.new.lookups c.in_ok-at.ensures.within.1 (c.in_ok-at.ensures.asked honest trees has) (c.in_ok-at.ensures.asked_all honest trees has)
+    (get_or (names (take (length path - i) (drop i path))) 0 [])
+    (λ last. (ap (λ n. front_of (names path) ++ n ∷ []) name ∙ last_whole path i last, c.in_ok-found.ensures.asked honest trees has (omega (arith, last, ap length cut, n))))
+    (λ lt. c.in_ok-found.ensures.unasked (omega (arith, lt, ap length cut, n))) in
+    all
+
+pub returns-in_ok-made-in-None-clause-asked : goal.returns-in_ok-made-in-None-clause-asked
+returns-in_ok-made-in-None-clause-asked g c = λ honest trees has.
+    let path = c.args.path.now in
+    let i = c.in_ok-at.depth in
+    let cut : take (length path - i) (drop i path) ≡ drop i path = rest_is path i in
+    let n = length-drop i path in
+    let name : get_or (names (take (length path - i) (drop i path))) 0 [] ≡ get_or (names path) i [] = ap (λ p. get_or (names p) 0 []) cut ∙ first_left path i c.in_ok-at.ensures.within.1 in
+    let all = into_asked (g.S.Lookup.table c.args.self.now.store) trees (slots_of c.args.self.now.nodes.items) (slots_of c.walk.new.nodes.items) 0 c.in_ok-at.at.0 c.args.path.now c.in_ok-at.depth c.args.self.now.lookups c.walk.new.lookups c.folder_below.new.lookups c.in_ok-at.ensures.within.1 (c.in_ok-at.ensures.asked honest trees has) (c.in_ok-at.ensures.asked_all honest trees has)
+    (get_or (names (take (length path - i) (drop i path))) 0 [])
+    (λ last. (ap (λ n. front_of (names path) ++ n ∷ []) name ∙ last_whole path i last, c.in_ok-found.ensures.asked honest trees has (omega (arith, last, ap length cut, n))))
+    (λ lt. c.in_ok-found.ensures.unasked (omega (arith, lt, ap length cut, n))) in
+    all
+
+pub returns-in_err-made-in-None-clause-asked : goal.returns-in_err-made-in-None-clause-asked
+returns-in_err-made-in-None-clause-asked g c =
+    let p = err_from_is_err_and c.from_residual-in_err-made-in-None.result c.from_residual-in_err-made-in-None.ensures.1 in
+    rw (p.1, p.2) (λ honest trees has.
+    let path = c.args.path.now in
+    let i = c.in_ok-at.depth in
+    let cut : take (length path - i) (drop i path) ≡ drop i path = rest_is path i in
+    let n = length-drop i path in
+    let name : get_or (names (take (length path - i) (drop i path))) 0 [] ≡ get_or (names path) i [] = ap (λ p. get_or (names p) 0 []) cut ∙ first_left path i c.in_ok-at.ensures.within.1 in
+    let all = into_asked (g.S.Lookup.table c.args.self.now.store) trees (slots_of c.args.self.now.nodes.items) (slots_of c.walk.new.nodes.items) 0 c.in_ok-at.at.0 c.args.path.now c.in_ok-at.depth c.args.self.now.lookups c.walk.new.lookups c.folder_below.new.lookups c.in_ok-at.ensures.within.1 (c.in_ok-at.ensures.asked honest trees has) (c.in_ok-at.ensures.asked_all honest trees has)
+    (get_or (names (take (length path - i) (drop i path))) 0 [])
+    (λ last. (ap (λ n. front_of (names path) ++ n ∷ []) name ∙ last_whole path i last, c.in_ok-found.ensures.asked honest trees has (omega (arith, last, ap length cut, n))))
+    (λ lt. c.in_ok-found.ensures.unasked (omega (arith, lt, ap length cut, n))) in
+    some_all (g.S.Lookup.table c.args.self.now.store) _ c.args.self.now.lookups c.folder_below.new.lookups all)
+
+pub make_folders-requires-clause-full : goal.make_folders-requires-clause-full
+make_folders-requires-clause-full g c =
+    let path = c.args.path.now in
+    let i = c.in_ok-at.depth in
+    subst (λ (xs : List (Bor (List ℕ))). All (λ name. name ≢ []) (names xs)) (sym (rest_is path i)) (full_rest path i c.in_ok-check_names.ensures.ok)
+
+pub returns-in-Some-clause-each : goal.returns-in-Some-clause-each
+returns-in-Some-clause-each g c = λ honest has down fit each. c.in_ok-found.ensures.each honest has down (c.in_ok-at.ensures.each honest has down each)
+
+pub returns-in_ok-made-in-None-clause-each : goal.returns-in_ok-made-in-None-clause-each
+returns-in_ok-made-in-None-clause-each g c = λ honest has down fit each.
+    let path = c.args.path.now in
+    let i = c.in_ok-at.depth in
+    let mk = c.make_folders.new.nodes.items in
+    let fin = c.mark_changed.new.nodes in
+    let n : c.make_folders.new.nodes.len ≡ length fin = omega (arith, c.mark_changed.auto.nodes, c.as_mut_slice.ensures.len) in
+    let whole = back c.make_folders.new.nodes.len fin _ n in
+    let same_slots : slots_of fin ≡ slots_of mk = as_function (slots_of fin) (slots_of mk) (λ i m. c.mark_changed.ensures.slots i m ∙ ap (λ (ns : List Node). slots_of ns i m) c.as_mut_slice.ensures.value) in
+    let left : MayStandMade has c.args.hash (names (take (length path - i) (drop i path))) = subst (λ (xs : List (Bor (List ℕ))). MayStandMade has c.args.hash (names xs)) (sym (rest_is path i)) (made_drop has path i c.args.hash fit) in
+    subst (λ (ns : List Node). EachHas has (slots_of ns)) (sym whole) (subst (EachHas has) (sym same_slots)
+    (c.in_ok-made-in-None.ensures.each has left (c.in_ok-found.ensures.each honest has down (c.in_ok-at.ensures.each honest has down each))))
+
+pub returns-in_err-made-in-None-clause-each : goal.returns-in_err-made-in-None-clause-each
+returns-in_err-made-in-None-clause-each g c = λ honest has down fit each i m s is.
+    c.in_ok-found.ensures.each honest has down (c.in_ok-at.ensures.each honest has down each) i m s (sym (c.in_err-made-in-None.ensures.err i m) ∙ is)
+
+pub returns-in_err-at-clause-each : goal.returns-in_err-at-clause-each
+returns-in_err-at-clause-each g c = λ honest has down fit each. c.in_err-at.ensures.each honest has down each
+
+pub returns-in_err-found-clause-each : goal.returns-in_err-found-clause-each
+returns-in_err-found-clause-each g c = λ honest has down fit each. c.in_err-found.ensures.each honest has down (c.in_ok-at.ensures.each honest has down each)

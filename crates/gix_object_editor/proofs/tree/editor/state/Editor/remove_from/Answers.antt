@@ -1,4 +1,4 @@
-use Rattle.std.proofs.Common.{ℕ, ◌⊎◌, inl, inr, true, false, drop, [], ◌≡◌, ◌∙◌, ◌<◌, ◌+◌, ap, sym, subst, arith, length}
+use Rattle.std.proofs.Common.{ℕ, ◌⊎◌, inl, true, false, drop, [], ◌≡◌, ◌∙◌, ◌<◌, ◌+◌, ap, sym, subst, arith, length}
 use Rattle.std.proofs.lemmas.Result.{err_from_is_err_and}
 use Rattle.gix_object_editor.specs.declared.tree.editor.state.Editor.{Editor}
 use Rattle.gix_object_editor.specs.Editor.{files_of, names_of, LeadsThrough}
@@ -15,6 +15,8 @@ use Rattle.gix_object_editor.proofs.Edits.{two_names, removes_at, removes_none, 
 use Rattle.gix_object_editor.proofs.Walked.{names, last_name}
 use Rattle.gix_object_editor.proofs.Ways.{way_kept}
 use Rattle.gix_object_editor.proofs.Folders.{still_way}
+use Rattle.gix_object_editor.specs.Asked.{front_of, unopened_into, AsksAll}
+use Rattle.gix_object_editor.proofs.Asking.{through_asked, through_stops}
 use Rattle.gix_object_editor.proofs.tree.editor.state.Editor.remove_from.Goals.{then-depth-path, else-depth-path}
 use Rattle.gix_object_editor.proofs.tree.editor.state.Editor.remove_from.Goals as goal
 
@@ -163,4 +165,18 @@ returns-clause-each g c = λ honest has down each.
           (subst (λ ns. EachHas has (slots_of ns)) (sym (back c.walk.new.nodes.len new _ n))
           (cut_each (slots_of mid) (slots_of new) c.in_ok-at.at.0 _ has t.cut.ensures.here (λ i m off. t.cut.ensures.others i m off ∙ ap (λ ns. slots_of ns i m) t.as_mut_slice.ensures.value) start))
       | else-depth-path t ↦ subst (λ (e : Editor _). EachEntryHas has e) (sym t.self-is) start
+    ]
+
+pub returns-in_err-at-clause-asked : goal.returns-in_err-at-clause-asked
+returns-in_err-at-clause-asked g c =
+    let p = err_from_is_err_and c.from_residual-in_err-at.result c.from_residual-in_err-at.ensures.1 in
+    rw (p.1, p.2) (λ honest trees has. through_stops (g.S.Lookup.is_honest c.args.self.now.store) (g.S.Lookup.may_fail c.args.self.now.store) (g.S.Lookup.table c.args.self.now.store) trees (slots_of c.args.self.now.nodes.items) c.args.from.0 c.args.path.now c.args.self.now.lookups c.walk.new.lookups c.in_err-at.field-0.0 (c.in_err-at.ensures.stops honest trees has))
+
+pub returns-clause-asked : goal.returns-clause-asked
+returns-clause-asked g c = λ honest trees has.
+    let ids = unopened_into trees (slots_of c.args.self.now.nodes.items) c.args.from.0 (front_of (names_of c.args.path.now)) in
+    let all = through_asked (g.S.Lookup.table c.args.self.now.store) trees (slots_of c.args.self.now.nodes.items) (slots_of c.walk.new.nodes.items) c.args.from.0 c.in_ok-at.at.0 c.args.path.now c.in_ok-at.depth c.args.self.now.lookups c.walk.new.lookups c.walk.new.lookups c.in_ok-at.ensures.within.1 (c.in_ok-at.ensures.asked honest trees has) (c.in_ok-at.ensures.asked_all honest trees has) in
+    elim c.if-depth-path.branch [
+      | then-depth-path t ↦ subst (λ (e : Editor _). AsksAll (g.S.Lookup.table c.args.self.now.store) ids c.args.self.now.lookups e.lookups) (sym t.self-is) all
+      | else-depth-path t ↦ subst (λ (e : Editor _). AsksAll (g.S.Lookup.table c.args.self.now.store) ids c.args.self.now.lookups e.lookups) (sym t.self-is) all
     ]

@@ -1,4 +1,4 @@
-use Rattle.std.proofs.Common.{◌⊎◌, inl, inr, true, false, ℕ, List, ◌≡◌, ◌∙◌, ◌<◌, ◌+◌, [], ◌∷◌, ap, sym, subst, arith, length, drop, get_or}
+use Rattle.std.proofs.Common.{refl, ◌⊎◌, inl, true, false, ℕ, List, ◌≡◌, ◌∙◌, ◌<◌, ◌+◌, [], ◌∷◌, ap, sym, subst, arith, length, drop, get_or}
 use Rattle.std.specs.Borrow.{Bor}
 use Rattle.std.proofs.lemmas.Result.{err_from_is_err_and}
 use Rattle.gix_object_editor.specs.declared.tree.editor.state.Editor.{Editor}
@@ -17,6 +17,8 @@ use Rattle.gix_object_editor.proofs.Edits.{two_names, removes_at, removes_none, 
 use Rattle.gix_object_editor.proofs.Walked.{names, last_name, leads_kept}
 use Rattle.gix_object_editor.proofs.Ways.{way_kept}
 use Rattle.gix_object_editor.proofs.Folders.{still_way}
+use Rattle.gix_object_editor.specs.Asked.{unopened_into, AsksAll}
+use Rattle.gix_object_editor.proofs.Asking.{into_asked, into_stops, walk_into_stops, some_names, no_empty_folder, front_whole}
 use Rattle.gix_object_editor.proofs.tree.editor.state.Editor.remove_leaf_from.Goals.{then-depth-path+in_ok-refuse_folder, else-depth-path}
 use Rattle.gix_object_editor.proofs.tree.editor.state.Editor.remove_leaf_from.Goals as goal
 
@@ -239,4 +241,32 @@ returns-clause-each g c = λ honest has down each.
           (cut_each (slots_of mid) (slots_of new) c.in_ok-at.at.0 _ has t.cut.ensures.here (λ i m off. t.cut.ensures.others i m off ∙ ap (λ ns. slots_of ns i m) t.as_mut_slice.ensures.value)
           (t.in_ok-refuse_folder.ensures.each honest has down start)))
       | else-depth-path t ↦ subst (λ (e : Editor _). EachEntryHas has e) (sym t.self-is) start
+    ]
+
+pub returns-in_err-at-clause-asked : goal.returns-in_err-at-clause-asked
+returns-in_err-at-clause-asked g c =
+    let p = err_from_is_err_and c.from_residual-in_err-at.result c.from_residual-in_err-at.ensures.1 in
+    rw (p.1, p.2) (λ honest trees has. walk_into_stops (g.S.Lookup.is_honest c.args.self.now.store) (g.S.Lookup.may_fail c.args.self.now.store) (g.S.Lookup.table c.args.self.now.store) trees (slots_of c.args.self.now.nodes.items) c.args.from.0 c.args.path.now c.args.self.now.lookups c.walk.new.lookups c.in_err-at.field-0.0 (c.in_err-at.ensures.stops honest trees has) (some_names c.args.path.now c.in_ok-check_names.ensures.ok.0))
+
+pub returns-in_err-refuse_folder-clause-asked : goal.returns-in_err-refuse_folder-clause-asked
+returns-in_err-refuse_folder-clause-asked g c =
+    let p = err_from_is_err_and c.from_residual-in_err-refuse_folder.result c.from_residual-in_err-refuse_folder.ensures.1 in
+    let none : Bor (List ℕ) = record { ref_ptr = (0, 0); now = [] } in
+    rw (p.1, p.2) (λ honest trees has. into_stops (g.S.Lookup.table c.args.self.now.store) trees (slots_of c.args.self.now.nodes.items) (slots_of c.walk.new.nodes.items) c.args.from.0 c.in_ok-at.at.0 c.args.path.now c.in_ok-at.depth c.args.self.now.lookups c.walk.new.lookups c.refuse_folder.new.lookups c.in_ok-at.ensures.within.1 (c.in_ok-at.ensures.asked honest trees has) (c.in_ok-at.ensures.asked_all honest trees has)
+    (g.S.Lookup.is_honest c.args.self.now.store) (g.S.Lookup.may_fail c.args.self.now.store) c.in_err-refuse_folder.field-0.0
+    (no_empty_folder (g.S.Lookup.is_honest c.args.self.now.store) (g.S.Lookup.may_fail c.args.self.now.store) (g.S.Lookup.table c.args.self.now.store) (slots_of c.refuse_folder.new.nodes.items) c.in_ok-at.at.0 (get_or c.args.path.now c.in_ok-at.depth none).now c.in_err-refuse_folder.field-0.0 c.in_err-refuse_folder.ensures.refused)
+    (get_or c.args.path.now c.in_ok-at.depth none).now c.if-depth-path.true (front_whole c.args.path.now c.in_ok-at.depth none c.if-depth-path.true) (c.in_err-refuse_folder.ensures.asked honest trees has))
+
+pub returns-clause-asked : goal.returns-clause-asked
+returns-clause-asked g c = λ honest trees has.
+    let none : Bor (List ℕ) = record { ref_ptr = (0, 0); now = [] } in
+    let name : List ℕ = (get_or c.args.path.now c.in_ok-at.depth none).now in
+    let ids = unopened_into trees (slots_of c.args.self.now.nodes.items) c.args.from.0 (names_of c.args.path.now) in
+    elim c.if-depth-path.branch [
+      | then-depth-path+in_ok-refuse_folder t ↦ subst (λ (e : Editor _). AsksAll (g.S.Lookup.table c.args.self.now.store) ids c.args.self.now.lookups e.lookups) (sym t.self-is)
+          (into_asked (g.S.Lookup.table c.args.self.now.store) trees (slots_of c.args.self.now.nodes.items) (slots_of c.walk.new.nodes.items) c.args.from.0 c.in_ok-at.at.0 c.args.path.now c.in_ok-at.depth c.args.self.now.lookups c.walk.new.lookups t.refuse_folder.new.lookups c.in_ok-at.ensures.within.1 (c.in_ok-at.ensures.asked honest trees has) (c.in_ok-at.ensures.asked_all honest trees has)
+          name (λ e. (front_whole c.args.path.now c.in_ok-at.depth none e, t.in_ok-refuse_folder.ensures.asked honest trees has)) (λ lt. absurd (omega (arith, lt, t.if-depth-path.true))))
+      | else-depth-path t ↦ subst (λ (e : Editor _). AsksAll (g.S.Lookup.table c.args.self.now.store) ids c.args.self.now.lookups e.lookups) (sym t.self-is)
+          (into_asked (g.S.Lookup.table c.args.self.now.store) trees (slots_of c.args.self.now.nodes.items) (slots_of c.walk.new.nodes.items) c.args.from.0 c.in_ok-at.at.0 c.args.path.now c.in_ok-at.depth c.args.self.now.lookups c.walk.new.lookups c.walk.new.lookups c.in_ok-at.ensures.within.1 (c.in_ok-at.ensures.asked honest trees has) (c.in_ok-at.ensures.asked_all honest trees has)
+          name (λ e. absurd (t.if-depth-path.false e)) (λ lt. refl))
     ]

@@ -12,3 +12,6 @@ returns-clause-refused g c = c.upsert_from.ensures.refused [] refl
 
 pub returns-clause-changed : goal.returns-clause-changed
 returns-clause-changed g c = c.upsert_from.ensures.changed [] refl
+
+pub returns-clause-same : goal.returns-clause-same
+returns-clause-same g c = c.upsert_from.ensures.same [] refl

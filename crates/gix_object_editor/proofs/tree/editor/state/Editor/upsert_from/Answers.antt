@@ -1,4 +1,4 @@
-use Rattle.std.proofs.Common.{List, ◌⊎◌, inl, inr, true, false, ℕ, Bool, ◌≡◌, ◌∙◌, ◌<◌, ◌+◌, ◌-◌, ap, sym, subst, arith, length, drop, take, None, get_or, []}
+use Rattle.std.proofs.Common.{refl, Some, List, ◌⊎◌, inl, true, false, ℕ, Bool, ◌≡◌, ◌∙◌, ◌<◌, ◌+◌, ◌-◌, ap, sym, subst, arith, length, drop, take, None, get_or, []}
 use Rattle.std.proofs.lemmas.List.{length-drop}
 use Rattle.gix_hash.specs.Id.{id_of}
 use Rattle.gix_object_entries.specs.Mode.{kind_value}
@@ -11,13 +11,15 @@ use Rattle.std.specs.Borrow.{Bor}
 use Rattle.gix_object_editor.specs.Entries.{EachHas, MayStand}
 use Rattle.gix_object_editor.proofs.Kept.{may_drop}
 use Rattle.gix_object_editor.proofs.Slots.{back}
-use Rattle.gix_object_editor.proofs.Marked.{opened_marked, grafted_marked, failed_marked, read_same}
+use Rattle.gix_object_editor.proofs.Marked.{opened_marked, grafted_marked, read_same}
 use Rattle.gix_object_editor.proofs.Changes.{opened_changed, failed_changed, graft_as_read, graft_changed, some_left}
 use Rattle.gix_object_editor.specs.Files.{Leaf, put}
 use Rattle.std.proofs.lemmas.Result.{err_from_is_err_and}
 use Rattle.gix_object_editor.specs.Editor.{names_of, leaf_of_kind, LeadsThrough}
-use Rattle.gix_object_editor.specs.Nodes.{slots_of, files_of_node, child_of, onto, LeadsTo, IsFolderAt, IsForest, Way}
-use Rattle.gix_object_editor.proofs.Edits.{rest_is, first_left, upserts_at, stopped_tree, edit_fault}
+use Rattle.gix_object_editor.specs.Nodes.{slots_of, files_of_node, child_of, onto, LeadsTo, IsFolderAt, IsForest, IsEntry, Way}
+use Rattle.gix_object_editor.proofs.Edits.{rest_is, first_left, upserts_at, same_entry, stopped_tree, edit_fault}
+use Rattle.gix_object_editor.proofs.Ladder.{put_files}
+use Rattle.gix_object_editor.proofs.Asking.{through_asked, through_stops, some_all}
 use Rattle.gix_object_editor.proofs.Walked.{names}
 use Rattle.gix_object_editor.proofs.Ways.{way_kept, way_above}
 use Rattle.gix_object_editor.proofs.Folders.{still_way}
@@ -218,3 +220,84 @@ returns-clause-each g c = λ honest has down fit each.
 
 pub returns-in_err-at-clause-each : goal.returns-in_err-at-clause-each
 returns-in_err-at-clause-each g c = λ honest has down fit each. c.in_err-at.ensures.each honest has down each
+
+-- ---- the entry stands already
+
+pub returns-then-stands_already-clause-put : goal.returns-then-stands_already-clause-put
+returns-then-stands_already-clause-put g c = λ way w honest trees has q.
+    let path = c.args.path.now in
+    let i = c.in_ok-at.depth in
+    let at = c.in_ok-at.at.0 in
+    let mid = c.walk.new.nodes.items in
+    let left = take (length path - i) (drop i path) in
+    let cut : left ≡ drop i path = rest_is path i in
+    let leads = subst (LeadsTo (slots_of mid) (onto way (names path)) at) (sym (ap names cut)) (c.in_ok-at.ensures.leads way w) in
+    let leaf : Leaf = record { mode = mode_of c.from.result; id = id_of c.args.id } in
+    let same : leaf ≡ leaf_of_kind c.args.kind c.args.id =
+    ap (λ (v : ℕ). let l : Leaf = record { mode = record { value = v; padded = c.from.result.padded }; id = id_of c.args.id } in l) c.from.ensures.0
+    ∙ ap (λ (b : Bool). let l : Leaf = record { mode = record { value = kind_value c.args.kind; padded = b }; id = id_of c.args.id } in l) c.from.ensures.1 in
+    let so = c.stands_already.ensures.so c.if-stands_already.true in
+    let stood = subst (λ (ns : List Node). slots_of ns at (get_or (names left) 0 []) ≡ Some so.1.0) c.as_slice.ensures.value so.1.1 in
+    upserts_at _ _ (slots_of c.args.self.now.nodes.items) (slots_of mid) (length c.args.self.now.nodes.items) (length mid) c.args.self.now.forest c.in_ok-at.ensures.opened (onto way (names path)) at
+    (slots_of mid) leaf (names left) leads
+    (λ ts v r p. put_files mid mid c.in_ok-at.ensures.opened.forest left so.0 so.1.0 so.1.3 refl at (get_or (names left) 0 []) refl stood (λ j m off. refl) ts v r p
+    ∙ ap (λ l. put ts (onto v (names left)) l (files_of_node ts (slots_of mid) 0) p) so.1.2) honest trees has q
+    ∙ ap (λ l. put trees (onto way (names path)) l (files_of_node trees (slots_of c.args.self.now.nodes.items) 0) q) same
+
+pub returns-then-stands_already-clause-kept : goal.returns-then-stands_already-clause-kept
+returns-then-stands_already-clause-kept g c = λ way w. way_kept (slots_of c.args.self.now.nodes.items) (slots_of c.walk.new.nodes.items) c.in_ok-at.ensures.opened.links way c.args.from.0 w
+
+pub returns-then-stands_already-clause-changed : goal.returns-then-stands_already-clause-changed
+returns-then-stands_already-clause-changed g c = λ way w tree is. inl (opened_changed (slots_of c.args.self.now.nodes.items) (slots_of c.walk.new.nodes.items) (marks_of c.args.self.now.nodes.items) (marks_of c.walk.new.nodes.items)
+    (length c.args.self.now.nodes.items) (length c.walk.new.nodes.items) c.in_ok-at.ensures.opened.forest c.in_ok-at.ensures.marks tree is.0 is.1 is.2)
+
+pub returns-then-stands_already-clause-same : goal.returns-then-stands_already-clause-same
+returns-then-stands_already-clause-same g c = λ way w honest trees has stands tree is. opened_changed (slots_of c.args.self.now.nodes.items) (slots_of c.walk.new.nodes.items) (marks_of c.args.self.now.nodes.items) (marks_of c.walk.new.nodes.items)
+    (length c.args.self.now.nodes.items) (length c.walk.new.nodes.items) c.in_ok-at.ensures.opened.forest c.in_ok-at.ensures.marks tree is.0 is.1 is.2
+
+pub returns-then-stands_already-clause-each : goal.returns-then-stands_already-clause-each
+returns-then-stands_already-clause-each g c = λ honest has down fit each. c.in_ok-at.ensures.each honest has down each
+
+pub returns-then-stands_already-clause-asked : goal.returns-then-stands_already-clause-asked
+returns-then-stands_already-clause-asked g c = λ honest trees has. through_asked (g.S.Lookup.table c.args.self.now.store) trees (slots_of c.args.self.now.nodes.items) (slots_of c.walk.new.nodes.items) c.args.from.0 c.in_ok-at.at.0 c.args.path.now c.in_ok-at.depth c.args.self.now.lookups c.walk.new.lookups c.walk.new.lookups c.in_ok-at.ensures.within.1 (c.in_ok-at.ensures.asked honest trees has) (c.in_ok-at.ensures.asked_all honest trees has)
+
+-- ---- what was asked for
+
+pub returns-in_err-at-clause-asked : goal.returns-in_err-at-clause-asked
+returns-in_err-at-clause-asked g c =
+    let p = err_from_is_err_and c.from_residual-in_err-at.result c.from_residual-in_err-at.ensures.1 in
+    rw (p.1, p.2) (λ honest trees has. through_stops (g.S.Lookup.is_honest c.args.self.now.store) (g.S.Lookup.may_fail c.args.self.now.store) (g.S.Lookup.table c.args.self.now.store) trees (slots_of c.args.self.now.nodes.items) c.args.from.0 c.args.path.now c.args.self.now.lookups c.walk.new.lookups c.in_err-at.field-0.0 (c.in_err-at.ensures.stops honest trees has))
+
+pub returns-in_err-graft-clause-asked : goal.returns-in_err-graft-clause-asked
+returns-in_err-graft-clause-asked g c =
+    let p = err_from_is_err_and c.from_residual-in_err-graft.result c.from_residual-in_err-graft.ensures.1 in
+    rw (p.1, p.2) (λ honest trees has. some_all (g.S.Lookup.table c.args.self.now.store) _ c.args.self.now.lookups c.walk.new.lookups (through_asked (g.S.Lookup.table c.args.self.now.store) trees (slots_of c.args.self.now.nodes.items) (slots_of c.walk.new.nodes.items) c.args.from.0 c.in_ok-at.at.0 c.args.path.now c.in_ok-at.depth c.args.self.now.lookups c.walk.new.lookups c.walk.new.lookups c.in_ok-at.ensures.within.1 (c.in_ok-at.ensures.asked honest trees has) (c.in_ok-at.ensures.asked_all honest trees has)))
+
+pub returns-clause-asked : goal.returns-clause-asked
+returns-clause-asked g c = λ honest trees has. through_asked (g.S.Lookup.table c.args.self.now.store) trees (slots_of c.args.self.now.nodes.items) (slots_of c.walk.new.nodes.items) c.args.from.0 c.in_ok-at.at.0 c.args.path.now c.in_ok-at.depth c.args.self.now.lookups c.walk.new.lookups c.walk.new.lookups c.in_ok-at.ensures.within.1 (c.in_ok-at.ensures.asked honest trees has) (c.in_ok-at.ensures.asked_all honest trees has)
+
+pub returns-clause-same : goal.returns-clause-same
+returns-clause-same g c = λ way w honest trees has stands tree is.
+    let path = c.args.path.now in
+    let i = c.in_ok-at.depth in
+    let at = c.in_ok-at.at.0 in
+    let mid = c.walk.new.nodes.items in
+    let left = take (length path - i) (drop i path) in
+    let cut : left ≡ drop i path = rest_is path i in
+    let leads = subst (LeadsTo (slots_of mid) (onto way (names path)) at) (sym (ap names cut)) (c.in_ok-at.ensures.leads way w) in
+    let leaf : Leaf = record { mode = mode_of c.from.result; id = id_of c.args.id } in
+    let same : leaf ≡ leaf_of_kind c.args.kind c.args.id =
+    ap (λ (v : ℕ). let l : Leaf = record { mode = record { value = v; padded = c.from.result.padded }; id = id_of c.args.id } in l) c.from.ensures.0
+    ∙ ap (λ (b : Bool). let l : Leaf = record { mode = record { value = kind_value c.args.kind; padded = b }; id = id_of c.args.id } in l) c.from.ensures.1 in
+    let there = same_entry trees (slots_of mid) (onto way (names path)) at path i left leaf c.in_ok-at.ensures.within.1 cut leads c.in_ok-at.ensures.stopped
+    (c.in_ok-at.ensures.opened.files honest trees has (onto way (names path)) 0 c.args.self.now.forest.rooted ∙ stands ∙ ap Some (sym same)) in
+    absurd (c.stands_already.ensures.otherwise c.if-stands_already.false there.0 (subst (λ (ns : List Node). IsEntry (slots_of ns at (get_or (names left) 0 [])) leaf) (sym c.as_slice.ensures.value) there.1))
+
+pub returns-in_err-graft-clause-unchanged : goal.returns-in_err-graft-clause-unchanged
+returns-in_err-graft-clause-unchanged g c = λ honest.
+    let p = err_from_is_err_and c.from_residual-in_err-graft.result c.from_residual-in_err-graft.ensures.1 in
+    let mid = c.walk.new.nodes.items in
+    let gr = c.graft.new.nodes.items in
+    rw p.1 (λ trees has q.
+    ap (λ f. files_of_node trees f 0 q) (as_function (slots_of gr) (slots_of mid) c.in_err-graft.ensures.err)
+    ∙ c.in_ok-at.ensures.opened.files honest trees has q 0 c.args.self.now.forest.rooted)

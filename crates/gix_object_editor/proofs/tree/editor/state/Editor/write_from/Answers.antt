@@ -1,18 +1,19 @@
-use Rattle.std.proofs.Common.{ℕ, Some, ◌≡◌, ◌∙◌, ◌<◌, ◌++◌, ◌∷◌, [], List, Option, ap, sym, subst, refl, arith, length, map, get_or, ◌+◌}
+use Rattle.std.proofs.Common.{ℕ, inl, Some, ◌≡◌, ◌∙◌, ◌<◌, ◌++◌, ◌∷◌, [], List, Option, ap, sym, subst, refl, arith, length, map, get_or, ◌+◌}
 use Rattle.std.proofs.lemmas.Result.{err_from_is_err_and}
 use Rattle.std.proofs.lemmas.Fn.{called_at, FoldsTo-push}
+use Rattle.std.proofs.lemmas.List.{append-nil}
 use Rattle.gix_hash.specs.Id.{id_of}
 use Rattle.gix_hash.specs.declared.object_id.ObjectId.{ObjectId}
 use Rattle.gix_object_entries.specs.Entry.{own_item}
 use Rattle.gix_object_editor.specs.Nodes.{slots_of, slot_in, child_of, IsForest, Way, onto}
 use Rattle.gix_object_editor.specs.Writing.{ids_of, IsTreeOf}
-use Rattle.gix_object_editor.specs.Written.{HandedOut, HandsOut, WriteFault}
+use Rattle.gix_object_editor.specs.Written.{HandedOut, HandsOut, StopsWriting}
 use Rattle.gix_object_editor.specs.Below.{IsHandedOutFrom}
 use Rattle.gix_object_editor.specs.Files.{Bytes}
 use Rattle.gix_object_editor.specs.Marks.{marks_of, changed_in, slots_if, due_in}
 use Rattle.gix_object_editor.proofs.Due.{due_forest, due_way}
 use Rattle.gix_object_editor.proofs.Slots.{node_at}
-use Rattle.gix_object_editor.proofs.HandedSteps.{tree_at, last_next, written}
+use Rattle.gix_object_editor.proofs.HandedSteps.{tree_at, due_all, last_next, written}
 use Rattle.gix_object_editor.proofs.tree.editor.state.Editor.write_from.Goals as goal
 
 pub tree_of-requires : goal.tree_of-requires
@@ -59,7 +60,7 @@ returns-in_err-ids-clause-refused g c = λ base way.
     let down = due_way (slots_of editor.nodes.items) (marks_of editor.nodes.items) from (length editor.nodes.items) editor.forest base from (omega arith) way in
     let back : Way (due_in c.as_slice-nodes.result.now from) base from = subst (λ ns. Way (due_in ns from) base from) (sym same) down in
     let p = err_from_is_err_and c.from_residual.result c.from_residual.ensures.1 in
-    rw (p.1, p.2) (subst (λ ns. WriteFault g.F.FnMut (due_in ns from) c.args.out.now c.in_err-ids.field-0.0 c.write_below.new.out) same (c.in_err-ids.ensures.refused base back))
+    rw (p.1, p.2) (subst (λ ns. StopsWriting g.F.FnMut ns from (onto base []) c.args.out.now c.in_err-ids.field-0.0 c.write_below.new.out) same (c.in_err-ids.ensures.refused base back))
 
 pub returns-in_err-tree-clause-refused : goal.returns-in_err-tree-clause-refused
 returns-in_err-tree-clause-refused g c = λ base way.
@@ -71,7 +72,14 @@ returns-in_err-tree-clause-refused g c = λ base way.
     let p = err_from_is_err_and c.from_residual-in_err-tree.result c.from_residual-in_err-tree.ensures.1 in
     let so = c.in_ok-ids.ensures.written base back in
     let handed = subst (λ ns. IsHandedOutFrom (due_in ns from) base (length ns) (ids_of c.in_ok-ids.ids.items) so.0 (from + 1)) same so.2 in
-    rw (p.1, p.2) (so.0, record { calls_made = so.1; in_order = handed.in_order })
+    rw (p.1, p.2) (
+      so.0,
+      record {
+        calls_made = so.1;
+        in_order = handed.in_order;
+        due = due_all editor.nodes.items from base (ids_of c.in_ok-ids.ids.items) so.0 (from + 1) (omega arith) handed;
+      },
+    )
 
 pub returns-clause-refused : goal.returns-clause-refused
 returns-clause-refused g c = λ base way.
@@ -93,10 +101,12 @@ returns-clause-refused g c = λ base way.
     let ok = due_forest (slots_of editor.nodes.items) (marks_of editor.nodes.items) from (length editor.nodes.items) editor.forest in (
       so.0,
       c.write_below.new.out,
-      record { calls_made = so.1; in_order = handed.in_order },
+      record { calls_made = so.1; in_order = handed.in_order; due = due_all editor.nodes.items from base (ids_of ids) so.0 (from + 1) (omega arith) handed },
       record {
         shown = root;
         called = called_at g.F.FnMut c.out.ensures c.in-Err.is;
-        next = (onto base [], last_next (due_in editor.nodes.items from) base (length editor.nodes.items) ok from down (ids_of ids) so.0 handed items tree);
+        at = onto base [];
+        next = last_next (due_in editor.nodes.items from) base (length editor.nodes.items) ok from down (ids_of ids) so.0 handed items tree;
+        due = λ id. record { below = ([], append-nil (onto base [])); changed = inl refl };
       },
     )

@@ -10,3 +10,11 @@ returns-in-Ok-clause-answered g c = (
       not_both c.is_empty.result (c.is_empty.ensures ∙ eq-eqb c.args.tree.now.entries.len 0 none) c.if-is_empty.false,
   called_at g.F.FnMut c.out.ensures c.in-Ok.is,
 )
+
+pub returns-in-Err-clause-answered : goal.returns-in-Err-clause-answered
+returns-in-Err-clause-answered g c = (
+  λ e.
+      let none : c.args.tree.now.entries.len ≡ 0 = omega (arith, c.args.tree.now.entries.ok.0, ap length e) in
+      not_both c.is_empty.result (c.is_empty.ensures ∙ eq-eqb c.args.tree.now.entries.len 0 none) c.if-is_empty.false,
+  called_at g.F.FnMut c.out.ensures c.in-Err.is,
+)

@@ -11,7 +11,7 @@ use Rattle.gix_object_editor.specs.Marks.{marks_of, changed_in, slots_if, due_in
 use Rattle.gix_object_editor.proofs.Due.{due_forest}
 use Rattle.gix_object_editor.proofs.Slots.{node_at}
 use Rattle.gix_object_editor.proofs.ReachedTrees.{is_set}
-use Rattle.gix_object_editor.proofs.HandedSteps.{tree_at, fails_by, step, skipped, none_yet}
+use Rattle.gix_object_editor.proofs.HandedSteps.{tree_at, due_all, fails_by, step, skipped, none_yet}
 use Rattle.gix_object_editor.proofs.tree.editor.write.below.write_below.Goals as goal
 
 pub nodes-init : goal.nodes-init
@@ -53,24 +53,31 @@ returns-in_err-ids-2-clause-refused g c = λ base w.
     let tree : IsTreeOf (ids_of oids) (slots i) (map own_item c.in_ok-tree.tree.entries.items) =
     tree_at (ids_of oids) nodes c.args.from.0 c.requires.forest i above c.index-nodes-at.result (map own_item c.in_ok-tree.tree.entries.items) within c.index-nodes-at.is
     (subst (λ (xs : List (Option ObjectId)). IsTreeOf (ids_of xs) (slots_if (changed_in nodes) (slot_in c.index-nodes-at.result)) (map own_item c.in_ok-tree.tree.entries.items)) c.as_slice.ensures.value c.in_ok-tree.ensures) in
-    rw (p.1, p.2) (fails_by g.F.FnMut slots base (length nodes) forest oids i c.nodes.invariant.len within c.args.out.now c.nodes.out c.hand_out.new.out so.0 so.1
+    rw (p.1, p.2) (fails_by g.F.FnMut nodes c.args.from.0 base forest oids i (omega (arith, next, c.nodes-test.true)) c.args.out.now c.nodes.out c.hand_out.new.out so.0 so.1
     (subst (λ n. IsHandedOutFrom slots base (length nodes) (ids_of oids) so.0 n) next so.2) reached c.in_ok-tree.tree tree c.in_err-ids-2.field-0.0 c.in_err-ids-2.ensures.answered)
 
 pub returns-in_err-reached-clause-refused : goal.returns-in_err-reached-clause-refused
 returns-in_err-reached-clause-refused g c = λ base w.
     let p = err_from_is_err_and c.from_residual.result c.from_residual.ensures.1 in
-    rw (p.1, p.2) ([], record { calls_made = refl; in_order = tt })
+    rw (p.1, p.2) ([], record { calls_made = refl; in_order = tt; due = λ k d lt. absurd (omega arith) })
 
 pub returns-in_err-ids-clause-refused : goal.returns-in_err-ids-clause-refused
 returns-in_err-ids-clause-refused g c = λ base w.
     let p = err_from_is_err_and c.from_residual-in_err-ids.result c.from_residual-in_err-ids.ensures.1 in
-    rw (p.1, p.2) ([], record { calls_made = refl; in_order = tt })
+    rw (p.1, p.2) ([], record { calls_made = refl; in_order = tt; due = λ k d lt. absurd (omega arith) })
 
 pub returns-in_err-tree-clause-refused : goal.returns-in_err-tree-clause-refused
 returns-in_err-tree-clause-refused g c = λ base w.
     let p = err_from_is_err_and c.from_residual-in_err-tree.result c.from_residual-in_err-tree.ensures.1 in
     let so = c.nodes.invariant.written base w in
-    rw (p.1, p.2) (so.0, record { calls_made = so.1; in_order = so.2.in_order })
+    rw (p.1, p.2) (
+      so.0,
+      record {
+        calls_made = so.1;
+        in_order = so.2.in_order;
+        due = due_all c.args.nodes.now c.args.from.0 base (ids_of c.nodes.ids.items) so.0 c.nodes.at (omega (arith, c.nodes.invariant.some)) so.2;
+      },
+    )
 
 pub nodes-preserved-then-index : goal.nodes-preserved-then-index
 nodes-preserved-then-index g c =

@@ -9,9 +9,9 @@ use Rattle.gix_object_entries.specs.declared.tree.entry.Entry.{Entry}
 use Rattle.gix_object_editor.specs.declared.tree.editor.node.Slot.{Slot}
 use Rattle.gix_object_editor.specs.Files.{through}
 use Rattle.gix_object_editor.specs.Nodes.{Key}
-use Rattle.gix_object_editor.specs.Marks.{changed_in, slot_if, slots_if}
+use Rattle.gix_object_editor.specs.Marks.{changed_in, slot_if}
 use Rattle.gix_object_editor.proofs.Due.{entry_if, keys_kept, lookup_kept}
-use Rattle.gix_object_editor.specs.Writing.{ids_of, written_item, IsTreeOf}
+use Rattle.gix_object_editor.specs.Writing.{ids_of, written_item}
 use Rattle.gix_object_editor.proofs.Slots.{key_cmp, is_named}
 use Rattle.gix_object_editor.proofs.ReachedTrees.{AreWithin, all_within}
 use Rattle.gix_object_editor.proofs.WrittenEntries.{entries_of, tree_is}
