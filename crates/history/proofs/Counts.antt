@@ -1,7 +1,9 @@
 -- The counts of failed calls, over one step after another.
-use Rattle.std.proofs.Common.{inl, inr, ℕ, ◌≤◌, arith}
+use Rattle.std.proofs.Common.{◌≡◌, ◌∙◌, inl, inr, ℕ, ◌≤◌, refl, ap, arith, Result, Ok, Err}
+use Rattle.std.specs.Prelude.{OnOk}
 use Rattle.gix_ref_file.specs.History.{HasRisen}
-use Rattle.history.specs.Acts.{HasFailedCall, CountsRise}
+use Rattle.history.specs.Acts.{HasFailedCall, CountsRise, CountsStay}
+use Rattle.history.specs.Face.{objects_part, names_part}
 use Rattle.history.specs.declared.repository.Repository.{Repository}
 
 pub risen_later : (a b c : ℕ) → HasRisen a b → b ≤ c → HasRisen a c
@@ -16,6 +18,17 @@ module _ {F : Type 0} (failures : F → ℕ) where
 
   pub counts_joined : (a b c : Repository F) → CountsRise failures a b → CountsRise failures b c → CountsRise failures a c
   counts_joined a b c h k = record { objects = omega arith; names = omega arith }
+
+  pub stay_same : (a b : Repository F) → b ≡ a → CountsStay failures a b
+  stay_same a b same = record { objects = ap (λ s. failures (objects_part s)) same; names = ap (λ s. failures (names_part s)) same }
+
+  pub stay_joined : (a b c : Repository F) → CountsStay failures a b → CountsStay failures b c → CountsStay failures a c
+  stay_joined a b c h k = record { objects = k.objects ∙ h.objects; names = k.names ∙ h.names }
+
+  -- a command that reads leaves the counts, whatever it answers
+  pub idle_stays : {T E : Type 0} (result : Result T E) (a : Repository F) → OnOk result (CountsStay failures a a)
+  idle_stays (Ok value) a = stay_same a a refl
+  idle_stays (Err error) a = tt
 
   pub failed_later : (MayFail : Type 0) (a b c : Repository F) → HasFailedCall failures MayFail a b → CountsRise failures b c → HasFailedCall failures MayFail a c
   failed_later MayFail a b c (inl h) k = inl (risen_later _ _ _ h k.objects)

@@ -58,14 +58,19 @@ no_goes failed false e f = refl
 module _ (objects names : History) (MayFail : Type 0) (StandsNow RecoversNow : Repository → Type 0) (start finish : Moment) (r : Repository) (order : Command) (answer : Answer) (failed : Bool)
     (a : IsAnswer objects names MayFail StandsNow RecoversNow start finish failed r order answer) where
   abbrev CallFailed : Type 0
-  CallFailed = Failed MayFail start finish
+  CallFailed = HasRisen start.object_failures finish.object_failures ⊎ HasRisen start.name_failures finish.name_failures ⊎ MayFail
+
+  failed_so : Failed MayFail order start finish → CallFailed
+  failed_so (inl (changing, inl objects)) = inl objects
+  failed_so (inl (changing, inr names)) = inr (inl names)
+  failed_so (inr may) = inr (inr may)
 
   abbrev Traced : List Command → List Reply → Repository → Type 0
   Traced commands replies left = Traces objects names MayFail r start commands replies finish left
 
   answer_ran : (taken rest : Bytes) → Spells taken order → Ran CallFailed r (order ∷ []) (a.reply ∷ []) (taken ++ rest) (text_of answer) rest [] failed a.left
   answer_ran taken rest k =
-      ran_one CallFailed r a.left (taken ++ rest) (text_of answer) order a.reply rest failed (ap (λ xs. xs ++ rest) k.1) (told_text answer a.reply a.tells) k.0 (a.acted).step (a.fails ∙ only_fails (goes_on order a.reply)) (a.acted).failure
+      ran_one CallFailed r a.left (taken ++ rest) (text_of answer) order a.reply rest failed (ap (λ xs. xs ++ rest) k.1) (told_text answer a.reply a.tells) k.0 (a.acted).step (a.fails ∙ only_fails (goes_on order a.reply)) (λ is. failed_so ((a.acted).failure is))
 
   traced : Traced (order ∷ []) (a.reply ∷ []) a.left
   traced = record { moments = finish ∷ []; acts = (a.left, a.acted, inr refl, refl); ends = refl }
@@ -141,7 +146,7 @@ module _ (objects names : History) (MayFail : Type 0) (StandsNow RecoversNow : R
         ap (λ xs. xs ++ rest) k.1,
         (a.acted).step,
         a.fails ∙ only_fails (goes_on order a.reply),
-        (a.acted).failure,
+        λ is. failed_so ((a.acted).failure is),
         subst (λ xs. IsTrue (begins front xs)) (sym e ∙ told_text answer a.reply a.tells) (begins_front front back),
       );
     };

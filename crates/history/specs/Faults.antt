@@ -6,8 +6,8 @@ use Rattle.history_model.specs.declared.Fault.{Fault}
 use Rattle.history_model.specs.declared.Fault.TheVariants.{Memory, File, IdTaken}
 use Rattle.history_files.specs.declared.error.ReadError.{ReadError}
 use Rattle.history_files.specs.declared.error.ReadError.TheVariants as read
-use Rattle.history_store.specs.declared.objects.PutError.{PutError}
-use Rattle.history_store.specs.declared.objects.PutError.TheVariants as put
+use Rattle.history_store.specs.declared.objects.PutMadeError.{PutMadeError}
+use Rattle.history_store.specs.declared.objects.PutMadeError.TheVariants as put
 use Rattle.history.specs.declared.stopped.Stopped.{Stopped}
 use Rattle.history.specs.declared.stopped.Stopped.TheVariants as stopped
 
@@ -21,7 +21,7 @@ read_fault read.Failed = File
 read_fault (read.Broken oid) = File
 read_fault read.Memory = Memory
 
-abbrev pub put_fault : PutError → Fault
+abbrev pub put_fault : PutMadeError → Fault
 put_fault (put.IdTaken id) = IdTaken
 put_fault put.File = File
 put_fault put.Memory = Memory

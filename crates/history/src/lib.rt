@@ -28,9 +28,16 @@ pub mod files {
     pub use gix_ref_file::{FileError, Files, Fuse, MemoryFiles, Place};
 }
 
-pub use gix_hash::Kind;
+/// How a store of objects answers: what stands under an id.
+pub mod lookups {
+    pub use gix_object::{Data, Exists, Find, FindHeader, Header, Lookup, find};
+}
+
+pub use gix_hash::{Kind, ObjectId, oid};
 pub use history_model::{Cause, End, Fault};
-pub use history_store::{CreateError, OpenError, create};
+pub use history_store::{
+    CreateError, IdIter, Object, ObjectKind, Objects, ObjectsRefusal, OpenError, PutError, create,
+};
 pub use history_word::{Broken, Bytes, Collected, Sink, Source, Stream};
 pub use open::OpenRefusal;
 pub use repository::Repository;

@@ -8,7 +8,7 @@ ghost use Rattle.history.specs.Faults.{file_fault, put_fault, read_fault};
 use gix_ref_file::FileError;
 use history_files::ReadError;
 use history_model::{Cause, Fault};
-use history_store::PutError;
+use history_store::PutMadeError;
 use std::alloc::{AllocError, AllocFailed};
 
 /// Why a command isn't done.
@@ -72,14 +72,14 @@ impl From<ReadError> for Stopped {
     }
 }
 
-impl From<PutError> for Stopped {
+impl From<PutMadeError> for Stopped {
     ghost from_gives = { λ error stopped. stopped ≡ ByFault (put_fault error) };
 
-    fn from(error: PutError) -> Stopped {
+    fn from(error: PutMadeError) -> Stopped {
         Stopped::Fault(match error {
-            PutError::IdTaken(_) => Fault::IdTaken,
-            PutError::File => Fault::File,
-            PutError::Memory => Fault::Memory,
+            PutMadeError::IdTaken(_) => Fault::IdTaken,
+            PutMadeError::File => Fault::File,
+            PutMadeError::Memory => Fault::Memory,
         })
     }
 }

@@ -47,9 +47,16 @@ abbrev pub IsRunPair : History → History → Moment → List Moment → Pair �
 IsRunPair objects names begin moments pair = IsPairAt objects names begin pair ⊎ IsCommandPair objects names begin moments pair
 
 -- a failed call was counted between two moments
-abbrev pub HasFailedCall : Type 0 → Moment → Moment → Type 0
-HasFailedCall ReadingMayFail begin finish =
-    HasRisen begin.object_failures finish.object_failures ⊎ HasRisen begin.name_failures finish.name_failures ⊎ ReadingMayFail
+abbrev pub HasCountedFailure : Moment → Moment → Type 0
+HasCountedFailure begin finish = HasRisen begin.object_failures finish.object_failures ⊎ HasRisen begin.name_failures finish.name_failures
+
+-- both parts count as many failed calls as before
+abbrev pub CountsStay : Moment → Moment → Type 0
+CountsStay begin finish = (finish.object_failures ≡ begin.object_failures) × (finish.name_failures ≡ begin.name_failures)
+
+-- Why a command meets a failed call: it changes files and one was counted meanwhile; or, of any command, a reading may fail.
+abbrev pub HasFailedCall : Type 0 → Command → Moment → Moment → Type 0
+HasFailedCall ReadingMayFail command begin finish = (IsTrue (is_changing command) × HasCountedFailure begin finish) ⊎ ReadingMayFail
 
 -- What stood at a moment stands for a whole repository; where a changing command had failed, what recovery makes of it does.
 abbrev pub StandsAt : History → History → Moment → Bool → Repository → Type 0
@@ -74,12 +81,13 @@ pub record ActedOn (objects names : History) (ReadingMayFail : Type 0) (old : Re
     (command : Command) (reply : Reply) (finish : Moment) (new : Repository) : Type 0 where
   pub step : Step old command reply new
   pub later : (begin.objects ≤ finish.objects) × (begin.names ≤ finish.names)
-  -- the counts of failed calls never fall, so each call that failed is counted during one command
+  -- no count falls, and one rises only in a command that changes files and has a fault: the run then acts on no more
   pub counts : (begin.object_failures ≤ finish.object_failures) × (begin.name_failures ≤ finish.name_failures)
+  pub uncounted : IsTrue (goes_on command reply) → CountsStay begin finish
   pub unchanged : IsTrue (leaves_files command reply) → IsUnchanged begin finish
   pub stands : StandsAt objects names finish (not (goes_on command reply)) new
   pub stops : (pair : Pair) → IsStepPair objects names begin finish pair → LeavesStopped old command pair
-  pub failure : reply ≡ Faulted File → HasFailedCall ReadingMayFail begin finish
+  pub failure : reply ≡ Faulted File → HasFailedCall ReadingMayFail command begin finish
 
 -- These commands are acted on in a row, each between two moments; after each but the last the run goes on.
 abbrev pub ActsOn : History → History → Type 0 → Repository → Moment → List Command → List Reply → List Moment → Repository → Type 0

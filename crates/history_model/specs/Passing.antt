@@ -24,7 +24,7 @@ use Rattle.history_model.specs.Stops.{NameBetween, IsNotLost, deletes, is_changi
 use Rattle.gix_ref_file.specs.History.{History, Adds, trees, moment}
 use Rattle.history_model.specs.Replies.{Reply, Faulted}
 use Rattle.history_model.specs.Steps.{some_failed}
-use Rattle.history_model.specs.Moments.{LeavesStopped, Moment, ActsOn, Traces, last_moment}
+use Rattle.history_model.specs.Moments.{LeavesStopped, Moment, ActsOn, Traces, CountsStay, HasCountedFailure, last_moment}
 use Rattle.history_model.specs.Wholeness.{IsSound}
 use Rattle.gix_hash.specs.declared.kind.Kind.{Kind}
 use Rattle.history_model.specs.declared.Fault.TheVariants.{File}
@@ -162,6 +162,31 @@ pub record IsUncounted (begin finish : Moment) : Type 0 where
 abbrev pub FaultsAreCounted : Type 0
 FaultsAreCounted = (objects names : History) (old : Repository) (begin : Moment) (commands : List Command) (replies : List Reply) (finish : Moment) (new : Repository)
     → Traces objects names ⊥ old begin commands replies finish new → IsUncounted begin finish → AllByRecursion (λ reply. reply ≢ Faulted File) replies
+
+-- A run met a failed call in its last command, which changes files: until then the counts stayed as they began, and then one rose.
+pub record EndsByFailedCall (begin : Moment) (commands : List Command) (replies : List Reply) (moments : List Moment) (finish : Moment) : Type 0 where
+  pub done : List Command
+  pub answered : List Reply
+  pub between : List Moment
+  pub last : Command
+  pub commands_are : commands ≡ done ++ last ∷ []
+  pub replies_are : replies ≡ answered ++ Faulted File ∷ []
+  pub moments_are : moments ≡ between ++ finish ∷ []
+  pub unfaulted : AllByRecursion (λ reply. reply ≢ Faulted File) answered
+  pub uncounted : AllByRecursion (CountsStay begin) between
+  pub changing : IsTrue (is_changing last)
+  pub counted : HasCountedFailure begin finish
+
+-- So a reply `fault File` is told, over files of which no reading may fail.
+abbrev pub FaultsComeLast : Type 0
+FaultsComeLast = (objects names : History) (old : Repository) (begin : Moment) (commands : List Command) (replies : List Reply) (finish : Moment) (new : Repository)
+    → (traces : Traces objects names ⊥ old begin commands replies finish new) → Contains replies (Faulted File)
+    → EndsByFailedCall begin commands replies traces.moments finish
+
+-- Without a fault in a command that changes files a run counts no failed call.
+abbrev pub UnfailedCountNone : Type 0
+UnfailedCountNone = (objects names : History) (old : Repository) (begin : Moment) (commands : List Command) (replies : List Reply) (finish : Moment) (new : Repository)
+    → Traces objects names (Unit {0}) old begin commands replies finish new → IsFalse (some_failed commands replies) → CountsStay begin finish
 
 -- ---- in any order
 

@@ -1,5 +1,5 @@
 -- When a content is put as an object, and why it isn't.
-use Rattle.std.specs.Prelude.{◌≡◌, ⊤, ◌<◌, ◌≤◌, Bool, true, false, List, length, Some, Contains}
+use Rattle.std.specs.Prelude.{◌≡◌, ⊤, ◌<◌, ◌≤◌, Bool, true, false, List, ◌∷◌, ◌++◌, length, Some}
 use Rattle.std.specs.List.{All}
 use Rattle.gix_hash.specs.Id.{Id, id_of}
 use Rattle.gix_hash.specs.declared.kind.Kind.{Kind}
@@ -13,10 +13,10 @@ use Rattle.history_model.specs.Forms.{max_content}
 use Rattle.history_store.specs.ObjectTexts.{object_id}
 use Rattle.history_store.specs.Stores.{IsIdTaken}
 use Rattle.history_store.specs.Written.{IsMalformed, NamesObjects, Naming}
-use Rattle.history_store.specs.declared.objects.PutError.{PutError}
-use Rattle.history_store.specs.declared.objects.PutError.TheVariants as made
-use Rattle.history_store.specs.declared.put.Error.{Error}
-use Rattle.history_store.specs.declared.put.Error.TheVariants.{TooLarge, Malformed, Missing, IdTaken, File, Memory}
+use Rattle.history_store.specs.declared.objects.PutMadeError.{PutMadeError}
+use Rattle.history_store.specs.declared.objects.PutMadeError.TheVariants as made
+use Rattle.history_store.specs.declared.put.PutError.{PutError}
+use Rattle.history_store.specs.declared.put.PutError.TheVariants.{TooLarge, Malformed, Missing, IdTaken, File, Memory}
 
 -- an object of this id stands in the table, and is of this kind
 abbrev pub IsStoredAs : Table → Naming → Type 0
@@ -29,38 +29,43 @@ pub record Fits (digests : Kind) (table : Table) (kind : ObjectKind) (content : 
   pub names : NamesObjects digests kind content named
   pub stored : All (IsStoredAs table) named
 
--- one of these is an object of this id, and isn't stored in the right kind
-pub record IsMissing (table : Table) (named : List Naming) (id : Id) : Type 0 where
+-- the first of these that isn't stored in the right kind is an object of this id
+pub record IsFirstMissing (table : Table) (named : List Naming) (id : Id) : Type 0 where
+  pub before : List Naming
   pub kind : ObjectKind
-  pub asked : Contains named (id, kind)
+  pub behind : List Naming
+  pub named_are : named ≡ before ++ (id, kind) ∷ behind
+  pub stored : All (IsStoredAs table) before
   pub missing : ¬ IsStoredAs table (id, kind)
 
 -- why some named objects are refused: one is missing, or it couldn't be read whether it is
-abbrev pub IsGap : Table → List Naming → Error → Type 0
+abbrev pub IsGap : Table → List Naming → PutError → Type 0
 IsGap table named TooLarge = ⊥
 IsGap table named Malformed = ⊥
-IsGap table named (Missing id) = IsMissing table named (id_of id)
+IsGap table named (Missing id) = IsFirstMissing table named (id_of id)
 IsGap table named (IdTaken id) = ⊥
 IsGap table named File = ⊤
 IsGap table named Memory = ⊤
 
--- the content is in written form, and names such an object
+-- the content is within the limit and in written form, and this is the first object that it names and that is missing
 pub record NamesMissing (digests : Kind) (table : Table) (kind : ObjectKind) (content : Bytes) (id : Id) : Type 0 where
+  pub within : length content ≤ max_content
   pub named : List Naming
   pub names : NamesObjects digests kind content named
-  pub lacks : IsMissing table named id
+  pub lacks : IsFirstMissing table named id
 
--- why the content isn't put
-abbrev pub IsRefusal : Kind → Table → Tree → ObjectKind → Bytes → Error → Type 0
+-- Why the content isn't put: the first cause that holds, in this order, or a fault.
+abbrev pub IsRefusal : Kind → Table → Tree → ObjectKind → Bytes → PutError → Type 0
 IsRefusal digests table tree kind content TooLarge = max_content < length content
-IsRefusal digests table tree kind content Malformed = IsMalformed digests kind content
+IsRefusal digests table tree kind content Malformed = (length content ≤ max_content) × IsMalformed digests kind content
 IsRefusal digests table tree kind content (Missing id) = NamesMissing digests table kind content (id_of id)
-IsRefusal digests table tree kind content (IdTaken id) = (id_of id ≡ object_id digests kind content) × IsIdTaken (id_of id) kind content tree
+IsRefusal digests table tree kind content (IdTaken id) =
+    Fits digests table kind content × (id_of id ≡ object_id digests kind content) × IsIdTaken (id_of id) kind content tree
 IsRefusal digests table tree kind content File = ⊤
 IsRefusal digests table tree kind content Memory = ⊤
 
 -- a fault may leave the object's file, its folder or an unfinished one
-abbrev pub is_fault : Error → Bool
+abbrev pub is_fault : PutError → Bool
 is_fault TooLarge = false
 is_fault Malformed = false
 is_fault (Missing id) = false
@@ -68,11 +73,11 @@ is_fault (IdTaken id) = false
 is_fault File = true
 is_fault Memory = true
 
-abbrev pub of_put : PutError → Error
-of_put (made.IdTaken id) = IdTaken id
-of_put made.File = File
-of_put made.Memory = Memory
+abbrev pub of_made : PutMadeError → PutError
+of_made (made.IdTaken id) = IdTaken id
+of_made made.File = File
+of_made made.Memory = Memory
 
-abbrev pub of_find : find.Error → Error
+abbrev pub of_find : find.Error → PutError
 of_find found.Failed = File
 of_find found.Memory = Memory

@@ -12,8 +12,8 @@ use Rattle.gix_hash.specs.Id.{Id, id_of}
 use Rattle.gix_hash.specs.declared.kind.Kind.{Kind}
 use Rattle.gix_object_lines.specs.declared.kind.Kind.{Kind as ObjectKind}
 use Rattle.history_store.specs.declared.object.NewObject.{NewObject}
-use Rattle.history_store.specs.declared.objects.PutError.{PutError}
-use Rattle.history_store.specs.declared.objects.PutError.TheVariants as errors
+use Rattle.history_store.specs.declared.objects.PutMadeError.{PutMadeError}
+use Rattle.history_store.specs.declared.objects.PutMadeError.TheVariants as errors
 use Rattle.history_store.specs.ObjectTexts.{IsNoObject, is_reserved}
 use Rattle.history_model.specs.Forms.{is_id}
 use Rattle.history_model.specs.Places.{file_at, object_place, unfinished_place, is_object_folder}
@@ -127,6 +127,6 @@ IsIdTaken id kind content tree =
 abbrev pub IsTaken : NewObject → Tree → Type 0
 IsTaken object tree = IsIdTaken (id_of object.id) object.kind object.content.items tree
 
-abbrev pub put_fault : FileError → PutError
+abbrev pub put_fault : FileError → PutMadeError
 put_fault files.Failed = errors.File
 put_fault files.Memory = errors.Memory

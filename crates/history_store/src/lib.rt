@@ -13,7 +13,7 @@ mod object;
 mod objects;
 mod opening;
 mod parts;
-pub mod put;
+mod put;
 mod way;
 mod written;
 
@@ -26,6 +26,7 @@ pub use ids::IdIter;
 pub use log_entry::LogEntry;
 pub use names::Names;
 pub use object::NewObject;
-pub use objects::{Object, Objects, PutError};
+pub use objects::{Object, Objects, PutMadeError};
 pub use opening::{ObjectsRefusal, OpenError, new_branch};
 pub use parts::{Part, Stray, survey};
+pub use put::PutError;

@@ -11,13 +11,13 @@ ghost use Rattle.history_model.specs.Places.{file_at, object_place};
 ghost use Rattle.history_store.specs.Face.{files_of_objects, kind_of_objects};
 ghost use Rattle.history_store.specs.KnownObjects.{HoldsKnown, table_of};
 ghost use Rattle.history_store.specs.ObjectTexts.{object_id};
-ghost use Rattle.history_store.specs.Puts.{Fits, IsGap, IsRefusal, IsStoredAs, is_fault, of_find, of_put};
+ghost use Rattle.history_store.specs.Puts.{Fits, IsGap, IsRefusal, IsStoredAs, is_fault, of_find, of_made};
 ghost use Rattle.history_store.specs.Stores.{HoldsFile, IsFinished, IsIdTaken, IsObjectPart, KeepsFiles, MayHold};
 ghost use Rattle.history_store.specs.Written.{naming_of};
-ghost use Rattle.history_store.specs.declared.put.Error.TheVariants.{File, Memory, TooLarge};
+ghost use Rattle.history_store.specs.declared.put.PutError.TheVariants.{File, Memory, TooLarge};
 
 use crate::object::NewObject;
-use crate::objects::{Objects, PutError};
+use crate::objects::{Objects, PutMadeError};
 use crate::written::{Named, named_by};
 use gix_hash::ObjectId;
 use gix_object::{FindHeader, Kind as ObjectKind, find};
@@ -29,14 +29,14 @@ const MAX_CONTENT: usize = 16_777_216;
 
 /// Why a content isn't put as an object. The ids that are known are then as before.
 #[derive(Clone, Copy, PartialEq, Eq, Debug, thiserror::Error)]
-pub enum Error {
+pub enum PutError {
     /// The content has more than 16,777,216 bytes. No file is changed.
     #[error("the content is too large")]
     TooLarge,
     /// The content isn't in the written form of a tree, a commit or a tag. No file is changed.
     #[error("the content isn't in written form")]
     Malformed,
-    /// The content names an object of this id, and none is stored in the right kind. No file is changed.
+    /// The first object that the content names and that isn't stored in the right kind. No file is changed.
     #[error("an object that is named isn't stored")]
     Missing(ObjectId),
     /// The id is null, is the empty tree's and the object isn't, or names other bytes. No file is changed.
@@ -50,33 +50,33 @@ pub enum Error {
     Memory,
 }
 
-impl From<AllocError> for Error {
+impl From<AllocError> for PutError {
     ghost from_gives = { λ _ given. given ≡ Memory };
 
-    fn from(_: AllocError) -> Error {
-        Error::Memory
+    fn from(_: AllocError) -> PutError {
+        PutError::Memory
     }
 }
 
-impl From<find::Error> for Error {
+impl From<find::Error> for PutError {
     ghost from_gives = { λ error given. given ≡ of_find error };
 
-    fn from(error: find::Error) -> Error {
+    fn from(error: find::Error) -> PutError {
         match error {
-            find::Error::Failed => Error::File,
-            find::Error::Memory => Error::Memory,
+            find::Error::Failed => PutError::File,
+            find::Error::Memory => PutError::Memory,
         }
     }
 }
 
-impl From<PutError> for Error {
-    ghost from_gives = { λ error given. given ≡ of_put error };
+impl From<PutMadeError> for PutError {
+    ghost from_gives = { λ error given. given ≡ of_made error };
 
-    fn from(error: PutError) -> Error {
+    fn from(error: PutMadeError) -> PutError {
         match error {
-            PutError::IdTaken(id) => Error::IdTaken(id),
-            PutError::File => Error::File,
-            PutError::Memory => Error::Memory,
+            PutMadeError::IdTaken(id) => PutError::IdTaken(id),
+            PutMadeError::File => PutError::File,
+            PutMadeError::Memory => PutError::Memory,
         }
     }
 }
@@ -88,13 +88,13 @@ impl<F: Files> Objects<F> {
     /// folders that aren't empty; of a commit or a tag with whole actors, ids in lower case and nothing further, the tag of a commit,
     /// within the limits that commands have for parents, names, titles and messages.
     /// All that it names must be stored: the tree of a commit and its parents, the blobs and trees of a tree, the commit of a tag.
-    /// Else the error says why, and what it leaves.
-    pub fn store(
+    /// Else the error is the first of `TooLarge`, `Malformed`, `Missing`, `IdTaken` that has its cause, or a fault.
+    pub fn put(
         &mut self,
         alloc: Global,
         kind: ObjectKind,
         content: Vec<u8>,
-    ) -> Result<ObjectId, Error>
+    ) -> Result<ObjectId, PutError>
         ensures honest { F.is_honest (files_of_objects self.old)
             → F.is_honest (files_of_objects self.new) }
         ensures kind { kind_of_objects self.new ≡ kind_of_objects self.old }
@@ -112,7 +112,7 @@ impl<F: Files> Objects<F> {
             → OnErr result (IsAsBefore (table_of F.history self.old)
             (table_of F.history self.new)) }
 
-        // What is put is in written form and names what is stored, and each error has its cause.
+        // What is put is in written form and names what is stored, and each error has its cause, where those before it have none.
         ensures fits { HoldsKnown F.is_honest F.history self.old
             → OnOk result (Fits (kind_of_objects self.old) (table_of F.history self.old) kind
             content.items) }
@@ -153,6 +153,8 @@ impl<F: Files> Objects<F> {
         // In a part of objects a call of the files fails only of itself.
         ensures later { F.failures (files_of_objects self.old)
             ≤ F.failures (files_of_objects self.new) }
+        ensures unfailed { OnOk result (F.failures (files_of_objects self.new)
+            ≡ F.failures (files_of_objects self.old)) }
         ensures failed { F.is_honest (files_of_objects self.old)
             → IsObjectPart (F.history (files_of_objects self.old)).tree → IsErrOf result File
             → HasFault F.failures F.reading_may_fail
@@ -160,12 +162,12 @@ impl<F: Files> Objects<F> {
     {
         self.check(alloc, kind, &content)?;
         let object = NewObject::new(self.kind(), kind, content);
-        self.put(alloc, &object)?;
+        self.put_made(alloc, &object)?;
         Ok(object.id)
     }
 
     // Answers `Ok` where the content may be put.
-    fn check(&self, alloc: Global, kind: ObjectKind, content: &[u8]) -> Result<(), Error>
+    fn check(&self, alloc: Global, kind: ObjectKind, content: &[u8]) -> Result<(), PutError>
         ensures fits { HoldsKnown F.is_honest F.history self.now
             → OnOk result (Fits (kind_of_objects self.now) (table_of F.history self.now) kind
             content.now) }
@@ -176,16 +178,16 @@ impl<F: Files> Objects<F> {
         ensures failed { IsErrOf result File → F.reading_may_fail }
     {
         if content.len() > MAX_CONTENT {
-            return Err(Error::TooLarge);
+            return Err(PutError::TooLarge);
         }
         match named_by(alloc, self.kind(), kind, content)? {
             Some(named) => self.refuse_missing(&named),
-            None => Err(Error::Malformed),
+            None => Err(PutError::Malformed),
         }
     }
 
     // Answers `Ok` where each of these is stored.
-    fn refuse_missing(&self, named: &[Named]) -> Result<(), Error>
+    fn refuse_missing(&self, named: &[Named]) -> Result<(), PutError>
         ensures stored { HoldsKnown F.is_honest F.history self.now
             → OnOk result (All (IsStoredAs (table_of F.history self.now))
             (map naming_of named.now)) }
@@ -196,7 +198,7 @@ impl<F: Files> Objects<F> {
     {
         for object in named {
             if !self.is_stored(*object)? {
-                return Err(Error::Missing(object.id));
+                return Err(PutError::Missing(object.id));
             }
         }
         Ok(())

@@ -20,6 +20,7 @@ pub fn make_way<F: Files>(alloc: Global, files: &mut F, path: &[u8]) -> Result<(
     ensures folders { Passes F.is_honest F.history files.old files.new (FoldersAbove path.now) }
     ensures stay { Passes F.is_honest F.history files.old files.new (KeepsOtherFolders path.now) }
     ensures later { F.failures files.old ≤ F.failures files.new }
+    ensures unfailed { OnOk result (F.failures files.new ≡ F.failures files.old) }
     ensures room { F.is_honest files.old → IsTrue (is_path path.now)
         → HasWay path.now (F.history files.old).tree
         → OnOk result (IsTrue (may_hold_file (F.history files.new).tree path.now)) }
@@ -39,6 +40,7 @@ fn clear_way<F: Files>(alloc: Global, files: &mut F, place: &[u8]) -> Result<(),
     ensures gone { Achieves F.is_honest F.history files.old files.new result
         (λ old new. get new place.now ≢ Some folder) }
     ensures later { F.failures files.old ≤ F.failures files.new }
+    ensures unfailed { OnOk result (F.failures files.new ≡ F.failures files.old) }
     ensures failed { F.is_honest files.old → NoFileBelow place.now (F.history files.old).tree
         → IsErrOf result Failed → HasFault F.failures F.reading_may_fail files.old files.new }
 {

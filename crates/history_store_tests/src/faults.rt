@@ -5,7 +5,7 @@ use crate::names::entry;
 use gix_hash::{Kind, ObjectId};
 use gix_ref_file::{FileError, Fuse, MemoryFiles};
 use history_store::{
-    CreateError, LogEntry, Names, NewObject, ObjectKind, Objects, PutError, create,
+    CreateError, LogEntry, Names, NewObject, ObjectKind, Objects, PutMadeError, create,
 };
 use std::alloc::{AllocError, Global};
 use std::process::Abort;
@@ -16,10 +16,10 @@ fn failing_put(
     kind: Kind,
     hello: &NewObject,
     call: u64,
-) -> (Result<(), PutError>, Fuse<MemoryFiles>) {
+) -> (Result<(), PutMadeError>, Fuse<MemoryFiles>) {
     let fuse = Fuse::failing_at(MemoryFiles::new(alloc), call, Some(3));
     let mut objects = Objects::new(alloc, fuse, kind);
-    let stored = objects.put(alloc, hello);
+    let stored = objects.put_made(alloc, hello);
     (stored, objects.into_files())
 }
 
@@ -32,7 +32,7 @@ fn is_stored_later(
     hello: Hello,
 ) -> bool {
     let mut objects = Objects::new(alloc, files, kind);
-    objects.put(alloc, new) == Ok(())
+    objects.put_made(alloc, new) == Ok(())
         && holds(alloc, objects.files(), hello.place, Some(b"blob 5\0hello"))
 }
 
@@ -48,7 +48,7 @@ fn put_has_failed<R: Abort>(
     let (stored, fuse) = failing_put(alloc, kind, &new, call);
     let has_failed = call <= fuse.calls();
     let wanted = if has_failed {
-        Err(PutError::File)
+        Err(PutMadeError::File)
     } else {
         Ok(())
     };

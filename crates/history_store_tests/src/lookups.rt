@@ -4,21 +4,30 @@ use crate::common::{Hello, KINDS, SHA1_HELLO, SHA256_HELLO, holds, id, object};
 use gix_hash::{Kind, ObjectId};
 use gix_object::{Exists, Find, FindHeader, Header};
 use gix_ref_file::{FileError, Files, MemoryFiles};
-use history_store::{ObjectKind, Objects, OpenError, PutError};
+use history_store::{ObjectKind, Objects, OpenError, PutMadeError};
 use std::alloc::Global;
 use std::process::Abort;
 
 // A store of blobs of these contents.
-fn blobs(alloc: Global, kind: Kind, contents: &[&[u8]]) -> Result<Objects<MemoryFiles>, PutError> {
+fn blobs(
+    alloc: Global,
+    kind: Kind,
+    contents: &[&[u8]],
+) -> Result<Objects<MemoryFiles>, PutMadeError> {
     let mut objects = Objects::new(alloc, MemoryFiles::new(alloc), kind);
     for content in contents {
         let blob = object(alloc, kind, ObjectKind::Blob, content)?;
-        objects.put(alloc, &blob)?;
+        objects.put_made(alloc, &blob)?;
     }
     Ok(objects)
 }
 
-fn check_found<R: Abort>(rt: &R, alloc: Global, kind: Kind, hello: Hello) -> Result<(), PutError> {
+fn check_found<R: Abort>(
+    rt: &R,
+    alloc: Global,
+    kind: Kind,
+    hello: Hello,
+) -> Result<(), PutMadeError> {
     let objects = blobs(alloc, kind, &[b"hello".as_slice()])?;
     let id = id(rt, hello.digits);
     let mut content = Vec::new(alloc);
@@ -39,13 +48,13 @@ fn check_found<R: Abort>(rt: &R, alloc: Global, kind: Kind, hello: Hello) -> Res
 }
 
 #[test]
-fn stored_objects_are_found(rt: HostRuntime) -> Result<(), PutError> {
+fn stored_objects_are_found(rt: HostRuntime) -> Result<(), PutMadeError> {
     check_found(&rt, rt.alloc(), Kind::Sha1, SHA1_HELLO)?;
     check_found(&rt, rt.alloc(), Kind::Sha256, SHA256_HELLO)
 }
 
 #[test]
-fn ids_ascend(rt: HostRuntime) -> Result<(), PutError> {
+fn ids_ascend(rt: HostRuntime) -> Result<(), PutMadeError> {
     let contents = [b"b".as_slice(), b"a".as_slice(), b"c".as_slice()];
     let objects = blobs(rt.alloc(), Kind::Sha1, &contents)?;
     // printf a | git hash-object --stdin, and so for c and b

@@ -3,7 +3,7 @@
 use crate::common::{Hello, SHA1_HELLO, SHA256_HELLO, holds, id, is_id, object};
 use gix_hash::{Kind, ObjectId};
 use gix_ref_file::{FileError, Files, MemoryFiles};
-use history_store::{NewObject, ObjectKind, Objects, PutError};
+use history_store::{NewObject, ObjectKind, Objects, PutMadeError};
 use std::alloc::{AllocError, Global};
 use std::process::Abort;
 
@@ -14,9 +14,9 @@ fn put(
     objects: &mut Objects<MemoryFiles>,
     kind: ObjectKind,
     content: &[u8],
-) -> Result<ObjectId, PutError> {
+) -> Result<ObjectId, PutMadeError> {
     let new = object(alloc, objects.kind(), kind, content)?;
-    objects.put(alloc, &new)?;
+    objects.put_made(alloc, &new)?;
     Ok(new.id)
 }
 
@@ -48,7 +48,7 @@ fn check_storing<R: Abort>(
     alloc: Global,
     kind: Kind,
     hello: Hello,
-) -> Result<(), PutError> {
+) -> Result<(), PutMadeError> {
     let mut objects = Objects::new(alloc, MemoryFiles::new(alloc), kind);
     let stored = put(alloc, &mut objects, ObjectKind::Blob, b"hello")?;
     assert!(rt; is_id(&stored, hello.digits));
@@ -69,7 +69,7 @@ fn check_storing<R: Abort>(
 }
 
 #[test]
-fn objects_are_stored_once(rt: HostRuntime) -> Result<(), PutError> {
+fn objects_are_stored_once(rt: HostRuntime) -> Result<(), PutMadeError> {
     check_storing(&rt, rt.alloc(), Kind::Sha1, SHA1_HELLO)?;
     check_storing(&rt, rt.alloc(), Kind::Sha256, SHA256_HELLO)
 }
@@ -96,7 +96,7 @@ fn check_taken_id<R: Abort>(
 ) -> Result<(), FileError> {
     let mut objects = objects_with(alloc, kind, hello, b"blob 5\0jello")?;
     let refused = put(alloc, &mut objects, ObjectKind::Blob, b"hello");
-    assert!(rt; refused == Err(PutError::IdTaken(id(rt, hello.digits))));
+    assert!(rt; refused == Err(PutMadeError::IdTaken(id(rt, hello.digits))));
     assert!(rt; stands(alloc, &objects, hello, b"blob 5\0jello"));
     let stored = put(alloc, &mut objects, ObjectKind::Blob, b"jello");
     let jello: NewObject = object(alloc, kind, ObjectKind::Blob, b"jello")?;

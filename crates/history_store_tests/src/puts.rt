@@ -3,8 +3,7 @@
 use crate::common::{Hello, SHA1_HELLO, SHA256_HELLO, holds, id};
 use gix_hash::{Kind, ObjectId};
 use gix_ref_file::{FileError, Files, Fuse, MemoryFiles};
-use history_store::put::Error;
-use history_store::{ObjectKind, Objects};
+use history_store::{ObjectKind, Objects, PutError};
 use std::alloc::{AllocError, Global};
 use std::process::Abort;
 
@@ -74,15 +73,15 @@ fn filled(alloc: Global, text: &str, digits: &str) -> Result<Vec<u8>, AllocError
     Ok(content)
 }
 
-fn store_text(
+fn put_text(
     alloc: Global,
     objects: &mut Objects<MemoryFiles>,
     kind: ObjectKind,
     text: &str,
     digits: &str,
-) -> Result<ObjectId, Error> {
+) -> Result<ObjectId, PutError> {
     let content = filled(alloc, text, digits)?;
-    objects.store(alloc, kind, content)
+    objects.put(alloc, kind, content)
 }
 
 const FIRST: &str = "tree %\nauthor A <a@b> 1 +0000\ncommitter A <a@b> 1 +0000\n\none";
@@ -90,12 +89,16 @@ const FIRST: &str = "tree %\nauthor A <a@b> 1 +0000\ncommitter A <a@b> 1 +0000\n
 const TAG: &str = "object %\ntype commit\ntag v1\ntagger A <a@b> 3 +0000\n\nfirst";
 
 // A store of a blob, a tree with it and a tree with both.
-fn trees<R: Abort>(rt: &R, alloc: Global, history: History) -> Result<Objects<MemoryFiles>, Error> {
+fn trees<R: Abort>(
+    rt: &R,
+    alloc: Global,
+    history: History,
+) -> Result<Objects<MemoryFiles>, PutError> {
     let mut objects = Objects::new(alloc, MemoryFiles::new(alloc), history.kind);
-    let hello = store_text(alloc, &mut objects, ObjectKind::Blob, "hello", "")?;
+    let hello = put_text(alloc, &mut objects, ObjectKind::Blob, "hello", "")?;
     assert!(rt; hello == id(rt, history.hello.digits));
     let content = tree(alloc, &[("100644", "a", hello)])?;
-    let inner = objects.store(alloc, ObjectKind::Tree, content)?;
+    let inner = objects.put(alloc, ObjectKind::Tree, content)?;
     assert!(rt; inner == id(rt, history.inner));
     let content = tree(
         alloc,
@@ -105,14 +108,14 @@ fn trees<R: Abort>(rt: &R, alloc: Global, history: History) -> Result<Objects<Me
             ("40000", "d", inner),
         ],
     )?;
-    let outer = objects.store(alloc, ObjectKind::Tree, content)?;
+    let outer = objects.put(alloc, ObjectKind::Tree, content)?;
     assert!(rt; outer == id(rt, history.outer));
     Ok(objects)
 }
 
-fn check_history<R: Abort>(rt: &R, alloc: Global, history: History) -> Result<(), Error> {
+fn check_history<R: Abort>(rt: &R, alloc: Global, history: History) -> Result<(), PutError> {
     let mut objects = trees(rt, alloc, history)?;
-    let first = store_text(
+    let first = put_text(
         alloc,
         &mut objects,
         ObjectKind::Commit,
@@ -123,17 +126,17 @@ fn check_history<R: Abort>(rt: &R, alloc: Global, history: History) -> Result<()
     let mut content = filled(alloc, "tree %\nparent ", history.outer)?;
     content.extend_from_slice(history.first.as_bytes())?;
     content.extend_from_slice(b"\nauthor A <a@b> 2 +0000\ncommitter A <a@b> 2 +0000\n\ntwo")?;
-    let second = objects.store(alloc, ObjectKind::Commit, content)?;
+    let second = objects.put(alloc, ObjectKind::Commit, content)?;
     assert!(rt; second == id(rt, history.second));
-    let tag = store_text(alloc, &mut objects, ObjectKind::Tag, TAG, history.second)?;
+    let tag = put_text(alloc, &mut objects, ObjectKind::Tag, TAG, history.second)?;
     assert!(rt; tag == id(rt, history.tag));
-    let again = store_text(alloc, &mut objects, ObjectKind::Tag, TAG, history.second)?;
+    let again = put_text(alloc, &mut objects, ObjectKind::Tag, TAG, history.second)?;
     assert!(rt; again == tag && objects.contains(&tag));
     Ok(())
 }
 
 #[test]
-fn histories_are_stored(rt: HostRuntime) -> Result<(), Error> {
+fn histories_are_stored(rt: HostRuntime) -> Result<(), PutError> {
     check_history(&rt, rt.alloc(), SHA1)?;
     check_history(&rt, rt.alloc(), SHA256)
 }
@@ -167,17 +170,17 @@ fn check_malformed_texts<R: Abort>(
     history: History,
     kind: ObjectKind,
     texts: &[&str],
-) -> Result<(), Error> {
+) -> Result<(), PutError> {
     let mut objects = trees(rt, alloc, history)?;
     for text in texts {
-        let stored = store_text(alloc, &mut objects, kind, text, history.outer);
-        assert!(rt; stored == Err(Error::Malformed), "at {text:?}");
+        let stored = put_text(alloc, &mut objects, kind, text, history.outer);
+        assert!(rt; stored == Err(PutError::Malformed), "at {text:?}");
     }
     Ok(())
 }
 
 #[test]
-fn malformed_texts(rt: HostRuntime) -> Result<(), Error> {
+fn malformed_texts(rt: HostRuntime) -> Result<(), PutError> {
     for history in [SHA1, SHA256] {
         let alloc = rt.alloc();
         check_malformed_texts(&rt, alloc, history, ObjectKind::Commit, &MALFORMED_COMMITS)?;
@@ -191,14 +194,14 @@ fn refuses_tree<R: Abort>(
     alloc: Global,
     objects: &mut Objects<MemoryFiles>,
     entries: &[Entry],
-    error: Error,
-) -> Result<(), Error> {
+    error: PutError,
+) -> Result<(), PutError> {
     let content = tree(alloc, entries)?;
-    assert!(rt; objects.store(alloc, ObjectKind::Tree, content) == Err(error));
+    assert!(rt; objects.put(alloc, ObjectKind::Tree, content) == Err(error));
     Ok(())
 }
 
-fn check_trees<R: Abort>(rt: &R, alloc: Global, history: History) -> Result<(), Error> {
+fn check_trees<R: Abort>(rt: &R, alloc: Global, history: History) -> Result<(), PutError> {
     let mut objects = trees(rt, alloc, history)?;
     let hello = id(rt, history.hello.digits);
     let inner = id(rt, history.inner);
@@ -210,86 +213,82 @@ fn check_trees<R: Abort>(rt: &R, alloc: Global, history: History) -> Result<(), 
         alloc,
         objects,
         &[("0100644", "a", hello)],
-        Error::Malformed,
+        PutError::Malformed,
     )?;
     refuses_tree(
         rt,
         alloc,
         objects,
         &[("100664", "a", hello)],
-        Error::Malformed,
+        PutError::Malformed,
     )?;
     refuses_tree(
         rt,
         alloc,
         objects,
         &[("160000", "a", none)],
-        Error::Malformed,
+        PutError::Malformed,
     )?;
     refuses_tree(
         rt,
         alloc,
         objects,
         &[("040000", "a", inner)],
-        Error::Malformed,
+        PutError::Malformed,
     )?;
     refuses_tree(
         rt,
         alloc,
         objects,
         &[("40000", "a", empty)],
-        Error::Malformed,
+        PutError::Malformed,
     )?;
     refuses_tree(
         rt,
         alloc,
         objects,
         &[("100644", "a/b", hello)],
-        Error::Malformed,
+        PutError::Malformed,
     )?;
     let unordered = [("100644", "b", hello), ("100644", "a", hello)];
-    refuses_tree(rt, alloc, objects, &unordered, Error::Malformed)?;
+    refuses_tree(rt, alloc, objects, &unordered, PutError::Malformed)?;
     refuses_tree(
         rt,
         alloc,
         objects,
         &[("100644", "a", none)],
-        Error::Missing(none),
+        PutError::Missing(none),
     )?;
     refuses_tree(
         rt,
         alloc,
         objects,
         &[("40000", "a", hello)],
-        Error::Missing(hello),
+        PutError::Missing(hello),
     )?;
-    refuses_tree(
-        rt,
-        alloc,
-        objects,
-        &[("120000", "a", inner)],
-        Error::Missing(inner),
-    )
+    // Of two that are missing the first is told.
+    let two = [("120000", "a", inner), ("100644", "b", none)];
+    refuses_tree(rt, alloc, objects, &two, PutError::Missing(inner))
 }
 
 #[test]
-fn trees_that_are_refused(rt: HostRuntime) -> Result<(), Error> {
+fn trees_that_are_refused(rt: HostRuntime) -> Result<(), PutError> {
     check_trees(&rt, rt.alloc(), SHA1)?;
     check_trees(&rt, rt.alloc(), SHA256)
 }
 
 const SECOND: &str = "tree %\nparent %\nauthor A <a@b> 2 +0000\ncommitter A <a@b> 2 +0000\n\ntwo";
 
-fn check_missing<R: Abort>(rt: &R, alloc: Global, history: History) -> Result<(), Error> {
+fn check_missing<R: Abort>(rt: &R, alloc: Global, history: History) -> Result<(), PutError> {
     let mut objects = trees(rt, alloc, history)?;
     let hello = history.hello.digits;
     let kinds = [ObjectKind::Commit, ObjectKind::Commit, ObjectKind::Tag];
     let texts = [FIRST, SECOND, TAG];
     let named = [hello, history.outer, history.outer];
     for row in 0..3usize {
-        let stored = store_text(alloc, &mut objects, kinds[row], texts[row], named[row]);
+        let stored = put_text(alloc, &mut objects, kinds[row], texts[row], named[row]);
         assert!(rt;
-            stored == Err(Error::Missing(id(rt, named[row]))),
+            stored == Err(PutError::Missing(id(rt, named[row]))),
             "at {row}"
         );
     }
@@ -297,20 +296,20 @@ fn check_missing<R: Abort>(rt: &R, alloc: Global, history: History) -> Result<()
 }
 
 #[test]
-fn named_objects_are_missing(rt: HostRuntime) -> Result<(), Error> {
+fn named_objects_are_missing(rt: HostRuntime) -> Result<(), PutError> {
     check_missing(&rt, rt.alloc(), SHA1)?;
     check_missing(&rt, rt.alloc(), SHA256)
 }
 
-fn check_limit<R: Abort>(rt: &R, alloc: Global, kind: Kind) -> Result<(), Error> {
+fn check_limit<R: Abort>(rt: &R, alloc: Global, kind: Kind) -> Result<(), PutError> {
     let mut objects = Objects::new(alloc, MemoryFiles::new(alloc), kind);
     let content = vec![in alloc; b'x'; 16_777_217]?;
-    assert!(rt; objects.store(alloc, ObjectKind::Blob, content) == Err(Error::TooLarge));
+    assert!(rt; objects.put(alloc, ObjectKind::Blob, content) == Err(PutError::TooLarge));
     Ok(())
 }
 
 #[test]
-fn a_content_over_the_limit(rt: HostRuntime) -> Result<(), Error> {
+fn a_content_over_the_limit(rt: HostRuntime) -> Result<(), PutError> {
     check_limit(&rt, rt.alloc(), Kind::Sha1)?;
     check_limit(&rt, rt.alloc(), Kind::Sha256)
 }
@@ -321,8 +320,8 @@ fn check_taken<R: Abort>(rt: &R, alloc: Global, history: History) -> Result<(), 
     files.make_folder(alloc, history.hello.folder.as_bytes())?;
     files.write(alloc, history.hello.place.as_bytes(), b"blob 5\0jello")?;
     let mut objects = Objects::new(alloc, files, history.kind);
-    let stored = store_text(alloc, &mut objects, ObjectKind::Blob, "hello", "");
-    assert!(rt; stored == Err(Error::IdTaken(id(rt, history.hello.digits))));
+    let stored = put_text(alloc, &mut objects, ObjectKind::Blob, "hello", "");
+    assert!(rt; stored == Err(PutError::IdTaken(id(rt, history.hello.digits))));
     let files = objects.into_files();
     assert!(rt; holds(alloc, &files, history.hello.place, Some(b"blob 5\0jello")));
     Ok(())
@@ -344,13 +343,13 @@ fn has_failed<R: Abort>(
     let fuse = Fuse::failing_at(MemoryFiles::new(alloc), call, Some(3));
     let mut objects = Objects::new(alloc, fuse, history.kind);
     let hello = id(rt, history.hello.digits);
-    let stored = objects.store(alloc, ObjectKind::Blob, b"hello".as_slice().to_vec(alloc)?);
+    let stored = objects.put(alloc, ObjectKind::Blob, b"hello".as_slice().to_vec(alloc)?);
     let is_known = objects.contains(&hello);
     if objects.into_files().calls() < call {
         assert!(rt; stored == Ok(hello) && is_known);
         return Ok(false);
     }
-    assert!(rt; stored == Err(Error::File) && !is_known, "at {call}");
+    assert!(rt; stored == Err(PutError::File) && !is_known, "at {call}");
     Ok(true)
 }
 
@@ -370,21 +369,21 @@ fn each_call_fails_once(rt: HostRuntime) -> Result<(), AllocError> {
 }
 
 // In an ordinary run no growth is refused; `rt try --test --fail-alloc N..` refuses one after another. Then no object's file stands.
-fn check_growth<R: Abort>(rt: &R, alloc: Global, history: History) -> Result<(), Error> {
+fn check_growth<R: Abort>(rt: &R, alloc: Global, history: History) -> Result<(), PutError> {
     let mut objects = Objects::new(alloc, MemoryFiles::new(alloc), history.kind);
     let hello = id(rt, history.hello.digits);
-    let mut stored = objects.store(alloc, ObjectKind::Blob, b"hello".as_slice().to_vec(alloc)?);
-    if stored == Err(Error::Memory) {
+    let mut stored = objects.put(alloc, ObjectKind::Blob, b"hello".as_slice().to_vec(alloc)?);
+    if stored == Err(PutError::Memory) {
         assert!(rt; !objects.contains(&hello));
         assert!(rt; holds(alloc, objects.files(), history.hello.place, None));
-        stored = objects.store(alloc, ObjectKind::Blob, b"hello".as_slice().to_vec(alloc)?);
+        stored = objects.put(alloc, ObjectKind::Blob, b"hello".as_slice().to_vec(alloc)?);
     }
     assert!(rt; stored == Ok(hello) && objects.contains(&hello));
     Ok(())
 }
 
 #[test]
-fn a_refused_growth_leaves_nothing(rt: HostRuntime) -> Result<(), Error> {
+fn a_refused_growth_leaves_nothing(rt: HostRuntime) -> Result<(), PutError> {
     check_growth(&rt, rt.alloc(), SHA1)?;
     check_growth(&rt, rt.alloc(), SHA256)
 }

@@ -12,6 +12,8 @@ mod names;
 #[cfg(test)]
 mod nested;
 #[cfg(test)]
+mod object_store;
+#[cfg(test)]
 mod opening;
 #[cfg(test)]
 mod parts;

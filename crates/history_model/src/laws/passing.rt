@@ -1,6 +1,6 @@
 //! Laws on what the two parts pass through while a command is acted on, over the definitions alone.
 
-ghost use Rattle.history_model.specs.Passing.{PutsPass, CommitsStoreWhole, StoringStops, MovesPass, MovingStops, ActsLater, ActsThen, SomeStops, FirstAreSome, NamesPass, NamesBegin, TracesWeaken, FaultsAreCounted, StopsAreClosed};
+ghost use Rattle.history_model.specs.Passing.{PutsPass, CommitsStoreWhole, StoringStops, MovesPass, MovingStops, ActsLater, ActsThen, SomeStops, FirstAreSome, NamesPass, NamesBegin, TracesWeaken, FaultsAreCounted, FaultsComeLast, UnfailedCountNone, StopsAreClosed};
 
 use gix_ref_file::Files;
 
@@ -48,6 +48,17 @@ pub fn traces_weaken<F: Files>()
 /// Over files of which no reading may fail and no call failed during a run, no command of it is answered by `fault File`.
 pub fn faults_are_counted()
     ensures { FaultsAreCounted }
+{}
+
+/// Over files of which no reading may fail a reply `fault File` is a run's last, to a command that changes files, and just then the
+/// first failed call of the run was counted.
+pub fn faults_come_last()
+    ensures { FaultsComeLast }
+{}
+
+/// A run in which no command that changes files has a fault counts no failed call.
+pub fn unfailed_count_none()
+    ensures { UnfailedCountNone }
 {}
 
 /// Stopped while its values are stored in any order that leaves whole stores, a command leaves a repository before its names move.

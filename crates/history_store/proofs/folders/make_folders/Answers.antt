@@ -49,6 +49,7 @@ loop-end-preserved g c =
             (so_far.folders honest) (w.make_folder.ensures.folders (so_far.honest honest));
         stay = λ honest. keeps_joined _ _ _ (so_far.stay honest) (w.make_folder.ensures.stay (so_far.honest honest));
         later = omega (arith, so_far.later, w.make_folder.ensures.later);
+        unfailed = w.in_ok-make_folder.ensures.unfailed ∙ so_far.unfailed;
         made = λ honest none.
             let absent = now_same _ _ (so_far.moments honest) (take end path) ∙ none (take end path) (above_slash path end c.loop-end-test.true w.if-byte-eq47.true) in
             one_made end path _ _ (so_far.made honest none) (w.in_ok-make_folder.ensures.kept (so_far.honest honest)) (w.in_ok-make_folder.ensures.made (so_far.honest honest) absent);
@@ -59,6 +60,7 @@ loop-end-preserved g c =
         folders = so_far.folders;
         stay = so_far.stay;
         later = so_far.later;
+        unfailed = so_far.unfailed;
         made = λ honest none. none_made end path _ (so_far.made honest none) w.if-byte-eq47.false;
       })
     ]

@@ -1,4 +1,4 @@
-use Rattle.std.proofs.Common.{◌≤◌}
+use Rattle.std.proofs.Common.{◌≡◌, ◌≤◌}
 use Rattle.gix_ref_file.specs.History.{Adds}
 use Rattle.history_store.specs.Stores.{SameFiles, FoldersAbove, KeepsFolders, NoFileAbove}
 use Rattle.history_store.proofs.FoldersMade.{HasFoldersBefore}
@@ -14,5 +14,6 @@ invariant-loop-end g l =
       folders : g.F.Files.is_honest l.fn.files → Adds (FoldersAbove l.fn.path (history l.fn.files).tree) (history l.fn.files) (history l.files);
       stay : g.F.Files.is_honest l.fn.files → Adds (KeepsFolders (history l.fn.files).tree) (history l.fn.files) (history l.files);
       later : g.F.Files.failures l.fn.files ≤ g.F.Files.failures l.files;
+      unfailed : g.F.Files.failures l.files ≡ g.F.Files.failures l.fn.files;
       made : g.F.Files.is_honest l.fn.files → NoFileAbove l.fn.path (history l.fn.files).tree → HasFoldersBefore l.end l.fn.path (history l.files).tree;
     }

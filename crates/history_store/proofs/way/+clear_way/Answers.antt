@@ -83,6 +83,7 @@ loop-name-preserved g t c =
                 (w.deref-then-is_deeper.ensures.value ∙ (l honest).at)
                 (w.in_ok-clear_way.ensures.gone (so_far.honest honest));
             later = omega (arith, so_far.later, w.clear_way.ensures.later);
+            unfailed = w.in_ok-clear_way.ensures.unfailed ∙ so_far.unfailed;
           })
       | else-is_deeper w ↦ rw w.files-is (record {
         honest = so_far.honest;
@@ -90,5 +91,6 @@ loop-name-preserved g t c =
         gone = λ honest. absurd (let e : c.is_deeper.result ≡ (nat_lt (length place) (length c.in_ok-path.path.items) && nat_le (length c.in_ok-path.path.items) 4096) = search rules in
             cc (sym w.if-is_deeper.false ∙ e ∙ is_deep place c.in_ok-path.path.items (l honest).deeper (l honest).is_path));
         later = so_far.later;
+        unfailed = so_far.unfailed;
       })
     ]

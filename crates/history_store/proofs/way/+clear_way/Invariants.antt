@@ -1,4 +1,4 @@
-use Rattle.std.proofs.Common.{◌≢◌, ◌-◌, ◌<◌, ◌≤◌, ℕ, [], length, map, Vec}
+use Rattle.std.proofs.Common.{◌≡◌, ◌≢◌, ◌-◌, ◌<◌, ◌≤◌, ℕ, [], length, map, Vec}
 use Rattle.std.specs.Prelude.{Some}
 use Rattle.std.specs.FinMap.{get}
 use Rattle.std.proofs.Math.ListN.{get_or}
@@ -22,4 +22,5 @@ invariant-loop-name g l =
       moments : g.F.Files.is_honest l.fn.files → Adds (ClearsBelow l.place (history l.fn.files).tree) (history l.fn.files) (history l.files);
       gone : g.F.Files.is_honest l.fn.files → (i : ℕ) → i < l.name-index → get (history l.files).tree (path_in l.place (get_or (map (λ (name : Vec ℕ Global). name.items) l.name-items) i [])) ≢ Some folder;
       later : g.F.Files.failures l.fn.files ≤ g.F.Files.failures l.files;
+      unfailed : g.F.Files.failures l.files ≡ g.F.Files.failures l.fn.files;
     }

@@ -11,7 +11,7 @@ loop-object-init g c = none_put g.F.Files.is_honest g.F.Files.history g.F.Files.
 pub loop-object-preserved : goal.loop-object-preserved
 loop-object-preserved g c =
     object_put g.F.Files.is_honest g.F.Files.history g.F.Files.failures c.args.objects.now c.loop-object.object-index c.object-item.result c.loop-object-test.true c.object-item.is
-    c.args.self.now c.loop-object.self c.put.new.self c.loop-object.invariant c.put.ensures.kept c.put.ensures.counts c.put.ensures.honest c.put.ensures.kind
+    c.args.self.now c.loop-object.self c.put.new.self c.loop-object.invariant c.put.ensures.kept c.put.ensures.counts c.in_ok-put.ensures.unfailed c.put.ensures.honest c.put.ensures.kind
     (λ value is. record {
       honest = c.put.ensures.honest;
       kind = c.put.ensures.kind;
@@ -52,6 +52,9 @@ returns-clause-honest g c = c.loop-object.invariant.honest
 
 pub returns-clause-counts : goal.returns-clause-counts
 returns-clause-counts g c = c.loop-object.invariant.counts
+
+pub returns-clause-unfailed : goal.returns-clause-unfailed
+returns-clause-unfailed g c = c.loop-object.invariant.unfailed
 
 pub returns-clause-stores : goal.returns-clause-stores
 returns-clause-stores g c = λ values more stand are.

@@ -1,8 +1,7 @@
-use Rattle.std.proofs.Common.{◌∙◌, arith, get_or, map, length, subst, sym, ◌<◌, []}
+use Rattle.std.proofs.Common.{◌∙◌, arith, ap, get_or, map, length, suc, subst, sym, ◌<◌, [], ◌∷◌, ◌++◌, take, drop, drop-cons}
 use Rattle.std.specs.List.{All}
-use Rattle.std.specs.Prelude.{Contains}
-use Rattle.std.proofs.lemmas.List.{get_or-map, take_all}
-use Rattle.std.proofs.lemmas.List.Elements.{All-more, Contains-get_or}
+use Rattle.std.proofs.lemmas.List.{get_or-map, take_all, take-append-drop}
+use Rattle.std.proofs.lemmas.List.Elements.{All-more}
 use Rattle.gix_hash.specs.declared.object_id.ObjectId.TheVariants.{Sha1}
 use Rattle.gix_object_lines.specs.declared.kind.Kind.TheVariants.{Tree}
 use Rattle.history_store.specs.KnownObjects.{table_of}
@@ -24,9 +23,13 @@ returns-then-not-branch-clause-missing g c = λ holds.
     let within : at < length named = omega arith in
     let long = map_length naming_of named in
     let here = get_or-map naming_of named at none (naming_of x) within in
+    let all = map naming_of named in
     record {
+      before = take at all;
       kind = x.kind;
-      asked = subst (Contains (map naming_of named)) here (Contains-get_or (map naming_of named) at (naming_of x) (omega arith));
+      behind = drop (suc at) all;
+      named_are = sym (take-append-drop at all) ∙ ap (λ rest. take at all ++ rest) (drop-cons all at (naming_of x) (omega arith) ∙ ap (λ y. y ∷ drop (suc at) all) here);
+      stored = c.loop-object.invariant holds;
       missing = λ is. absurd (cc (sym c.if-not-branch.true ∙ (c.in_ok-is_stored.ensures.told holds).1 is));
     }
 
