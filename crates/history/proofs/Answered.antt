@@ -1,38 +1,40 @@
 -- What `files` and `show` answer, by what their word reads as.
-use Rattle.std.proofs.Common.{◌≡◌, ℕ, Bool, true, false, cond, ◌&&◌, ◌||◌, map, refl, sym, ◌∙◌, ap, subst, Option, Some, None, option_map, option_and_then, option_to_list, unwrap_or, is_none, Vec, Result, Ok, Err}
+use Rattle.std.proofs.Common.{◌≡◌, ℕ, Bool, true, false, cond, ◌||◌, List, map, refl, sym, ◌∙◌, ap, subst, Option, Some, None, option_map, option_and_then, option_to_list, unwrap_or, is_none, codes, Vec, Result, Ok, Err}
 use Rattle.std.specs.FinMap.{get, entries, empty}
 use Rattle.std.specs.Result.{IsErrAnd}
 use Rattle.std.specs.declared.alloc.Global.{Global}
 use Rattle.history_model.specs.Bytes.{Bytes}
-use Rattle.history_model.specs.FileMap.{FileMap, Content}
-use Rattle.history_model.specs.Objects.{CommitValue, StoredCommit, StoredBytes, StoredFolder, blob_id}
+use Rattle.history_model.specs.FileMap.{FileMap, Content, has_below, inside}
+use Rattle.history_model.specs.Objects.{CommitValue, StoredCommit, StoredBytes, StoredFolder, blob_id, entry_at, folder_id, mode_of}
 use Rattle.gix_hash.specs.Id.{Id, id_of}
 use Rattle.history_model.specs.Repository.{Repository, HasWholeNames, IsWholeStore, as_commit, peeled_value}
 use Rattle.history_model.specs.Meaning.{first_files}
 use Rattle.history_model.specs.Words.{WordReading, ReadsAs, Unborn, Unknown, Ambiguous, word_reading, commit_read}
 use Rattle.history_model.specs.Commands.{Command, Files, Show}
-use Rattle.history_model.specs.Replies.{FileLine, FilesAre, ShowsCommit, ShowsContent, reply_text}
+use Rattle.history_model.specs.Replies.{FilesAre, ShowsCommit, ShowsContent, reply_text}
 use Rattle.history_model.specs.Answers.{StandsForCommit, files_shown, commit_shown, content_shown}
 use Rattle.history_model.specs.Causes.{is_unknown, is_unborn, is_bad_path, word_files, first_cause}
 use Rattle.history_model.specs.Offered.{IsOffered}
 use Rattle.history_model.specs.declared.FileKind.{FileKind}
+use Rattle.history_model.specs.declared.FileKind.TheVariants.{File, Exec, Link}
+use Rattle.history_files.specs.Reading.{entry_of, file_line, line_of}
+use Rattle.history_files.specs.declared.found.Found.{Found}
+use Rattle.history_files.specs.declared.found.Found.TheVariants as found
+use Rattle.history_files.specs.declared.listing.File.{File as FoundFile}
 use Rattle.gix_hash.specs.declared.kind.Kind.{Kind}
 use Rattle.history_model.specs.declared.Cause.{Cause}
-use Rattle.history_model.specs.declared.Cause.TheVariants.{UnknownWord, UnbornHead, BadPath, NoSuchPath}
+use Rattle.history_model.specs.declared.Cause.TheVariants.{UnknownWord, UnbornHead, BadPath, IsFolder, NoSuchPath}
 use Rattle.history_model.proofs.OfferedReads.{words_read_names, none_is_ambiguous, names_hold_commits}
 use Rattle.history_model.proofs.OfferedCauses.{first_offered_cause}
 use Rattle.history_model.proofs.OfferedFiles.{files_are_stored}
-use Rattle.history_store.proofs.FlatTrees.{under, stored_under, flat_get}
+use Rattle.history_model.proofs.WholeLists.{texts_differ}
 use Rattle.history_store.specs.Commits.{IsCommitOf}
-use Rattle.history_store.specs.Trees.{Folder, FileFacts, IsTreeOf, entry_facts, file_facts}
 use Rattle.history_store.specs.declared.commit.Commit as commits
 use Rattle.gix_hash.specs.declared.object_id.ObjectId.{ObjectId}
-use Rattle.history_store.specs.declared.tree.TreeEntry.{TreeEntry}
-use Rattle.history.specs.Acts.{AnswersReading, ReadsWord, IsReadingFault, word_cause}
-use Rattle.history.specs.Shown.{shown_commit, shown_content, shown_file}
+use Rattle.history.specs.Acts.{AnswersReading, Gives, ReadsWord, IsReadingFault, word_cause}
+use Rattle.history.specs.Shown.{shown_commit, shown_content}
 use Rattle.history.specs.declared.stopped.Stopped.{Stopped}
 use Rattle.history.specs.declared.stopped.Stopped.TheVariants.{Refused, Fault}
-use Rattle.history.proofs.ReplyTexts.{map-map}
 
 -- a fault of reading is no refusal
 pub reading_fault : (MayFail : Type 0) (r : Repository) (order : Command) (stopped : Stopped) → IsReadingFault MayFail stopped → AnswersReading MayFail r order (Err stopped)
@@ -50,16 +52,18 @@ pub handed_on : (MayFail : Type 0) (r : Repository) (order : Command) (result : 
 handed_on MayFail r order (Ok text) stopped same h = absurd same
 handed_on MayFail r order (Err other) stopped same h = subst (λ (x : Stopped). AnswersReading MayFail r order (Err x)) (sym same) h
 
+-- what is given answers the command
+pub given : (MayFail : Type 0) (P : Vec ℕ Global → Type 0) (r : Repository) (order : Command) (result : Result (Vec ℕ Global) Stopped) → Gives MayFail P result → ((text : Vec ℕ Global) → P text → AnswersReading MayFail r order (Ok text)) → AnswersReading MayFail r order result
+given MayFail P r order (Ok text) h answers = answers text h
+given MayFail P r order (Err stopped) h answers = reading_fault MayFail r order stopped h
+
 -- by a word that reads so, or for another cause
 abbrev by_word : WordReading → Option Cause → Option Cause
 by_word x rest = cond (is_unknown x || false) (Some UnknownWord) (cond (is_unborn x || false) (Some UnbornHead) rest)
 
--- a file's kind and the id of its bytes
-abbrev entry_fact : TreeEntry → FileKind × Id
-entry_fact entry = (entry.kind, id_of entry.id)
-
-abbrev content_fact : Kind → Content → FileKind × Id
-content_fact kind content = (content.kind, blob_id kind content.bytes)
+-- by what a good path meets
+abbrev by_path : FileMap → Bytes → Option Cause
+by_path files path = cond (has_below files path || false) (Some IsFolder) (cond (is_none (get files path) || false) (Some NoSuchPath) None)
 
 module _ (r : Repository) (o : IsOffered r) (w : HasWholeNames r) where
   -- ---- refused words
@@ -79,8 +83,7 @@ module _ (r : Repository) (o : IsOffered r) (w : HasWholeNames r) where
   commit_causes : (word : Bytes) → first_cause r (Show word None) ≡ by_word (word_reading r word) None
   commit_causes word = first_offered_cause r (Show word None) o w refl
 
-  path_causes : (word path : Bytes) → first_cause r (Show word (Some path))
-      ≡ by_word (word_reading r word) (cond (is_bad_path path || false) (Some BadPath) (cond (is_none (get (word_files r word) path) || false) (Some NoSuchPath) None))
+  path_causes : (word path : Bytes) → first_cause r (Show word (Some path)) ≡ by_word (word_reading r word) (cond (is_bad_path path || false) (Some BadPath) (by_path (word_files r word) path))
   path_causes word path = first_offered_cause r (Show word (Some path)) o w refl
 
   pub files_refused : (word : Bytes) (cause : Cause) → word_cause (word_reading r word) ≡ Some cause → first_cause r (Files word) ≡ Some cause
@@ -100,17 +103,14 @@ module _ (r : Repository) (o : IsOffered r) (w : HasWholeNames r) where
 
   -- ---- what is shown
 
-  pub files_answered : (MayFail : Type 0) (word : Bytes) (id : Id) (commit : CommitValue) (tree : Folder) (text : Vec ℕ Global) → word_reading r word ≡ ReadsAs id → get r.objects id ≡ Some (StoredCommit commit)
-      → IsTreeOf r.kind tree commit.files → text.items ≡ reply_text (FilesAre (map shown_file (entries tree))) → AnswersReading MayFail r (Files word) (Ok text)
-  files_answered MayFail word id commit tree text reads at is written =
-      let facts_line : FileFacts → FileLine = λ facts. record { kind = facts.1; id = facts.2; path = facts.0 } in
-      let shown : map shown_file (entries tree) ≡ files_shown r commit.files =
-      sym (map-map facts_line entry_facts (entries tree)) ∙ ap (map facts_line) is ∙ map-map facts_line (file_facts r.kind) (entries commit.files) in (
-        FilesAre (files_shown r commit.files),
-        written ∙ ap (λ files. reply_text (FilesAre files)) shown,
-        files_causes word ∙ ap (λ x. by_word x None) reads,
-        (id, commit, stands_for word id commit reads at, refl),
-      )
+  pub files_answered : (MayFail : Type 0) (word : Bytes) (id : Id) (commit : CommitValue) (found : List FoundFile) (text : Vec ℕ Global) → word_reading r word ≡ ReadsAs id → get r.objects id ≡ Some (StoredCommit commit)
+      → map line_of found ≡ map (file_line r.kind) (entries commit.files) → text.items ≡ reply_text (FilesAre (map line_of found)) → AnswersReading MayFail r (Files word) (Ok text)
+  files_answered MayFail word id commit found text reads at are written = (
+    FilesAre (files_shown r commit.files),
+    written ∙ ap (λ files. reply_text (FilesAre files)) are,
+    files_causes word ∙ ap (λ x. by_word x None) reads,
+    (id, commit, stands_for word id commit reads at, refl),
+  )
 
   pub commit_answered : (MayFail : Type 0) (word : Bytes) (id : ObjectId) (value : CommitValue) (commit : commits.Commit) (text : Vec ℕ Global) → word_reading r word ≡ ReadsAs (id_of id) → get r.objects (id_of id) ≡ Some (StoredCommit value)
       → IsCommitOf r.kind commit value → text.items ≡ reply_text (ShowsCommit (shown_commit id commit)) → AnswersReading MayFail r (Show word None) (Ok text)
@@ -131,32 +131,37 @@ module _ (r : Repository) (o : IsOffered r) (w : HasWholeNames r) where
 
   -- the causes that are left to a word that reads
   path_cause : (word path : Bytes) (id : Id) (commit : CommitValue) → word_reading r word ≡ ReadsAs id → get r.objects id ≡ Some (StoredCommit commit)
-      → first_cause r (Show word (Some path)) ≡ cond (is_bad_path path || false) (Some BadPath) (cond (is_none (get commit.files path) || false) (Some NoSuchPath) None)
+      → first_cause r (Show word (Some path)) ≡ cond (is_bad_path path || false) (Some BadPath) (by_path commit.files path)
   path_cause word path id commit reads at =
       path_causes word path
-      ∙ ap (λ x. by_word x (cond (is_bad_path path || false) (Some BadPath) (cond (is_none (get (word_files r word) path) || false) (Some NoSuchPath) None))) reads
-      ∙ ap (λ files. cond (is_bad_path path || false) (Some BadPath) (cond (is_none (get files path) || false) (Some NoSuchPath) None)) (word_files_are word id commit reads at)
+      ∙ ap (λ x. by_word x (cond (is_bad_path path || false) (Some BadPath) (by_path (word_files r word) path))) reads
+      ∙ ap (λ files. cond (is_bad_path path || false) (Some BadPath) (by_path files path)) (word_files_are word id commit reads at)
 
   pub bad_path_refused : (word path : Bytes) (id : Id) → word_reading r word ≡ ReadsAs id → is_bad_path path ≡ true → first_cause r (Show word (Some path)) ≡ Some BadPath
   bad_path_refused word path id reads bad =
       let found = reads_commit word id reads in
-      path_cause word path id found.0 reads found.1 ∙ ap (λ b. cond (b || false) (Some BadPath) (cond (is_none (get (found.0).files path) || false) (Some NoSuchPath) None)) bad
+      path_cause word path id found.0 reads found.1 ∙ ap (λ b. cond (b || false) (Some BadPath) (by_path (found.0).files path)) bad
 
-  pub no_path_refused : (word path : Bytes) (id : Id) (commit : CommitValue) → word_reading r word ≡ ReadsAs id → get r.objects id ≡ Some (StoredCommit commit) → is_bad_path path ≡ false → get commit.files path ≡ None
-      → first_cause r (Show word (Some path)) ≡ Some NoSuchPath
-  no_path_refused word path id commit reads at good none =
-      path_cause word path id commit reads at ∙ ap (λ b. cond (b || false) (Some BadPath) (cond (is_none (get commit.files path) || false) (Some NoSuchPath) None)) good
-      ∙ ap (λ found. cond (is_none found || false) (Some NoSuchPath) None) none
+  module _ (word path : Bytes) (id : Id) (commit : CommitValue) (reads : word_reading r word ≡ ReadsAs id) (at : get r.objects id ≡ Some (StoredCommit commit)) (good : is_bad_path path ≡ false) where
+    good_cause : first_cause r (Show word (Some path)) ≡ by_path commit.files path
+    good_cause = path_cause word path id commit reads at ∙ ap (λ b. cond (b || false) (Some BadPath) (by_path commit.files path)) good
 
-  pub content_answered : (MayFail : Type 0) (word path : Bytes) (id : Id) (commit : CommitValue) (entry : TreeEntry) (content : Content) (bytes : Bytes) (text : Vec ℕ Global) → word_reading r word ≡ ReadsAs id
-      → get r.objects id ≡ Some (StoredCommit commit) → is_bad_path path ≡ false → get commit.files path ≡ Some content → entry_fact entry ≡ content_fact r.kind content → bytes ≡ content.bytes
-      → text.items ≡ reply_text (ShowsContent (shown_content entry bytes)) → AnswersReading MayFail r (Show word (Some path)) (Ok text)
-  content_answered MayFail word path id commit entry content bytes text reads at good found same is_bytes written =
-      let shown : shown_content entry bytes ≡ content_shown r content = λ i. record { kind = (same i).0; id = (same i).1; bytes = is_bytes i } in
-      let accepted : first_cause r (Show word (Some path)) ≡ None =
-      path_cause word path id commit reads at ∙ ap (λ b. cond (b || false) (Some BadPath) (cond (is_none (get commit.files path) || false) (Some NoSuchPath) None)) good
-      ∙ ap (λ found. cond (is_none found || false) (Some NoSuchPath) None) found in
-      (ShowsContent (content_shown r content), written ∙ ap (λ shown. reply_text (ShowsContent shown)) shown, accepted, (id, commit, content, stands_for word id commit reads at, found, refl))
+    pub folder_refused : has_below commit.files path ≡ true → first_cause r (Show word (Some path)) ≡ Some IsFolder
+    folder_refused below = good_cause ∙ ap (λ b. cond (b || false) (Some IsFolder) (cond (is_none (get commit.files path) || false) (Some NoSuchPath) None)) below
+
+    no_folder : has_below commit.files path ≡ false → first_cause r (Show word (Some path)) ≡ cond (is_none (get commit.files path) || false) (Some NoSuchPath) None
+    no_folder below = good_cause ∙ ap (λ b. cond (b || false) (Some IsFolder) (cond (is_none (get commit.files path) || false) (Some NoSuchPath) None)) below
+
+    pub no_path_refused : has_below commit.files path ≡ false → get commit.files path ≡ None → first_cause r (Show word (Some path)) ≡ Some NoSuchPath
+    no_path_refused below none = no_folder below ∙ ap (λ found. cond (is_none found || false) (Some NoSuchPath) None) none
+
+    pub content_answered : (MayFail : Type 0) (kind : FileKind) (blob : ObjectId) (content : Content) (text : Vec ℕ Global) → has_below commit.files path ≡ false → get commit.files path ≡ Some content
+        → kind ≡ content.kind → id_of blob ≡ blob_id r.kind content.bytes
+        → text.items ≡ reply_text (ShowsContent (shown_content kind blob content.bytes)) → AnswersReading MayFail r (Show word (Some path)) (Ok text)
+    content_answered MayFail kind blob content text below found is_kind is_id written =
+        let shown : shown_content kind blob content.bytes ≡ content_shown r content = λ i. record { kind = is_kind i; id = is_id i; bytes = content.bytes } in
+        let accepted : first_cause r (Show word (Some path)) ≡ None = no_folder below ∙ ap (λ found. cond (is_none found || false) (Some NoSuchPath) None) found in
+        (ShowsContent (content_shown r content), written ∙ ap (λ shown. reply_text (ShowsContent shown)) shown, accepted, (id, commit, content, stands_for word id commit reads at, found, refl))
 
 -- ---- what is read on the way
 
@@ -165,26 +170,62 @@ pub folder_at : (r : Repository) → IsWholeStore r → (id : Id) (value : Commi
     → get r.objects (id_of commit.tree) ≡ Some (StoredFolder value.files)
 folder_at r store id value commit at is = ap (get r.objects) is.tree ∙ (store.closed id (StoredCommit value) at).1
 
-module _ (kind : Kind) (tree : Folder) (files : FileMap) (path : Bytes) (is : IsTreeOf kind tree files) where
-  pub none_at : get tree path ≡ None → get files path ≡ None
-  none_at at = go (get files path) (sym (ap (under kind) at) ∙ flat_get kind tree files path is)
+no_file_mode : {A : Type 0} (kind : FileKind) → mode_of kind ≡ codes "40000" → A
+no_file_mode File e = texts_differ _ _ refl e
+no_file_mode Exec e = texts_differ _ _ refl e
+no_file_mode Link e = texts_differ _ _ refl e
+
+one_mode : (a b : FileKind) → mode_of a ≡ mode_of b → a ≡ b
+one_mode File File e = refl
+one_mode Exec Exec e = refl
+one_mode Link Link e = refl
+one_mode File Exec e = texts_differ _ _ refl e
+one_mode File Link e = texts_differ _ _ refl e
+one_mode Exec File e = texts_differ _ _ refl e
+one_mode Exec Link e = texts_differ _ _ refl e
+one_mode Link File e = texts_differ _ _ refl e
+one_mode Link Exec e = texts_differ _ _ refl e
+
+module _ (kind : Kind) (files : FileMap) (path : Bytes) where
+  -- what is found is what the files have at the path
+  abbrev pub IsFound : Option Found → Type 0
+  IsFound found = option_map entry_of found ≡ entry_at kind files path
+
+  abbrev entry : Bool → Option Content → Option (Bytes × Id)
+  entry below at = cond below (Some (codes "40000", folder_id kind (inside path files))) (option_map (λ (content : Content). (mode_of content.kind, blob_id kind content.bytes)) at)
+
+  some_same : {X : Type 0} {x y : X} → Some x ≡ Some y → x ≡ y
+  some_same e = cc
+
+  pub none_found : IsFound None → (has_below files path ≡ false) × (get files path ≡ None)
+  none_found is = go (has_below files path) refl (get files path) refl is
     where
-      go : (found : Option Content) → None ≡ stored_under kind found → found ≡ None
-      go None e = refl
-      go (Some content) e = cc
+      go : (b : Bool) → has_below files path ≡ b → (o : Option Content) → get files path ≡ o → None ≡ entry b o → (has_below files path ≡ false) × (get files path ≡ None)
+      go true e o f is = cc
+      go false e None f is = (e, f)
+      go false e (Some content) f is = cc
 
-  pub file_at : (entry : TreeEntry) → get tree path ≡ Some entry → (content : Content) × (get files path ≡ Some content) × (entry_fact entry ≡ content_fact kind content)
-  file_at entry at = go (get files path) refl (sym (ap (under kind) at) ∙ flat_get kind tree files path is)
+  pub folder_found : (id : ObjectId) → IsFound (Some (found.Folder id)) → has_below files path ≡ true
+  folder_found id is = go (has_below files path) refl (get files path) is
     where
-      inside : {a b : FileKind × Id} → Some a ≡ Some b → a ≡ b
-      inside e = cc
+      go : (b : Bool) → has_below files path ≡ b → (o : Option Content) → Some (codes "40000", id_of id) ≡ entry b o → has_below files path ≡ true
+      go true e o is = e
+      go false e None is = cc
+      go false e (Some content) is = no_file_mode content.kind (sym (ap (λ (x : Bytes × Id). x.0) (some_same is)))
 
-      go : (found : Option Content) → get files path ≡ found → Some (entry_fact entry) ≡ stored_under kind found → (content : Content) × (get files path ≡ Some content) × (entry_fact entry ≡ content_fact kind content)
-      go None e same = cc
-      go (Some content) e same = (content, e, inside same)
+  pub file_found : (its : FileKind) (id : ObjectId) → IsFound (Some (found.File its id))
+      → (has_below files path ≡ false) × ((content : Content) × (get files path ≡ Some content) × (its ≡ content.kind) × (id_of id ≡ blob_id kind content.bytes))
+  file_found its id is = go (has_below files path) refl (get files path) refl is
+    where
+      go : (b : Bool) → has_below files path ≡ b → (o : Option Content) → get files path ≡ o → Some (mode_of its, id_of id) ≡ entry b o
+          → (has_below files path ≡ false) × ((content : Content) × (get files path ≡ Some content) × (its ≡ content.kind) × (id_of id ≡ blob_id kind content.bytes))
+      go true e o f is = no_file_mode its (ap (λ (x : Bytes × Id). x.0) (some_same is))
+      go false e None f is = cc
+      go false e (Some content) f is =
+          let same = some_same is in
+          (e, (content, f, one_mode its content.kind (ap (λ (x : Bytes × Id). x.0) same), ap (λ (x : Bytes × Id). x.1) same))
 
-  -- and its bytes are stored under the entry's id
-  pub bytes_at : (r : Repository) → r.kind ≡ kind → IsWholeStore r → (id : Id) → get r.objects id ≡ Some (StoredFolder files) → (entry : TreeEntry) (content : Content) → get files path ≡ Some content
-      → entry_fact entry ≡ content_fact kind content → get r.objects (id_of entry.id) ≡ Some (StoredBytes content.bytes)
-  bytes_at r of_kind store id at entry content found same =
-      ap (get r.objects) (ap (λ (fact : FileKind × Id). fact.1) same ∙ ap (λ kind. blob_id kind content.bytes) (sym of_kind)) ∙ files_are_stored r id files path content store at found
+-- the bytes of a stored folder's file are stored under the id that is found
+pub bytes_at : (r : Repository) → IsWholeStore r → (folder : Id) (files : FileMap) (path : Bytes) → get r.objects folder ≡ Some (StoredFolder files) → (id : ObjectId) (content : Content) → get files path ≡ Some content
+    → id_of id ≡ blob_id r.kind content.bytes → get r.objects (id_of id) ≡ Some (StoredBytes content.bytes)
+bytes_at r store folder files path at id content found is = ap (get r.objects) is ∙ files_are_stored r folder files path content store at found

@@ -1,14 +1,13 @@
 -- What a commit stands on, and the causes that its words, its name and its parents tell.
 use Rattle.std.specs.declared.alloc.Global.{Global}
 use Rattle.std.specs.Prelude.{Vec, Result, IsErrOf}
-use Rattle.std.proofs.Common.{◌≡◌, ℕ, zero, suc, ◌+◌, ◌<◌, length, take, drop, get_or, arith, append_assoc, Bool, true, false, cond, not, ◌||◌, ◌==◌, List, [], ◌∷◌, ◌++◌, map, filter, refl, sym, ◌∙◌, ap, subst, Option, Some, None, option_map, option_to_list, Err}
+use Rattle.std.proofs.Common.{◌≡◌, ℕ, ◌+◌, ◌<◌, length, take, drop, get_or, Bool, true, false, cond, not, ◌||◌, ◌==◌, List, [], ◌∷◌, ◌++◌, map, filter, refl, sym, ◌∙◌, ap, subst, Option, Some, None, option_map, option_to_list, Err}
 use Rattle.std.specs.List.{list_any, filter_map, cons_option}
 use Rattle.std.proofs.lemmas.List.{map-append, take_more}
 use Rattle.history_model.specs.Bytes.{Bytes, has_twice}
 use Rattle.gix_hash.specs.Id.{Id, id_of}
 use Rattle.gix_hash.specs.Order.{id_eq}
 use Rattle.history_model.specs.Repository.{Repository, HasWholeNames, id_at, stands}
-use Rattle.history_model.specs.Words as model
 use Rattle.history_model.specs.Words.{WordReading, ReadsAs, Unborn, Unknown, Ambiguous, word_reading, commit_of}
 use Rattle.history_model.specs.Commands.{Commit, CommitCommand, Expect, Any, New, At}
 use Rattle.history_model.specs.CommandParts.{at_word}

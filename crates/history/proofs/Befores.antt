@@ -1,7 +1,9 @@
 -- The files of a commit that is stored.
-use Rattle.std.proofs.Common.{◌≡◌, refl, sym, ◌∙◌, ap, subst, List, [], ◌∷◌, Bor}
+use Rattle.std.proofs.Common.{◌≡◌, refl, sym, ◌∙◌, ap, subst, arith, List, [], ◌∷◌, length, Bor}
 use Rattle.std.specs.Prelude.{Option, Some, None, option_map, option_and_then, option_copied, slice_get, unwrap_or, IsSome, Result, Err}
-use Rattle.std.specs.FinMap.{get, empty}
+use Rattle.std.specs.FinMap.{get, empty, entries, len-entries, len-empty}
+use Rattle.history_model.specs.Bytes.{Bytes, by_bytes}
+use Rattle.history_model.specs.FileMap.{Content}
 use Rattle.history_model.specs.Objects.{Value, CommitValue, StoredCommit, StoredTag, StoredBytes, StoredFolder}
 use Rattle.gix_hash.specs.Id.{Id, id_of}
 use Rattle.history_model.specs.Repository as plain
@@ -11,6 +13,14 @@ use Rattle.history_store.specs.Commits.{IsCommitOf}
 use Rattle.history_store.specs.declared.commit.Commit.{Commit}
 use Rattle.history.specs.Acts.{IsReadingFault, Gives}
 use Rattle.history.specs.declared.stopped.Stopped.{Stopped}
+
+-- no files have no entries
+no_entries : (files : List (Bytes × Content)) → length files ≡ 0 → files ≡ []
+no_entries [] none = refl
+no_entries (file ∷ files) none = absurd (omega arith)
+
+pub entries-empty : entries (empty {X = Content} {R = by_bytes}) ≡ []
+entries-empty = no_entries (entries (empty {X = Content} {R = by_bytes})) (sym (len-entries (empty {X = Content} {R = by_bytes})) ∙ len-empty by_bytes Content)
 
 -- what gives nothing is told as it is
 pub gives_stopped : {A B : Type 0} (MayFail : Type 0) (P : A → Type 0) (Q : B → Type 0) (result : Result A Stopped) (ends : Result B Stopped) (stopped : Stopped) → result ≡ Err stopped → ends ≡ Err stopped

@@ -1,6 +1,6 @@
 -- A commit on the two parts: its values are put, and then its name moves.
 use Rattle.std.proofs.Common.{◌≡◌, refl, sym, ◌∙◌, ap, subst, true, [], ◌∷◌, ◌++◌, None, codes}
-use Rattle.std.specs.Prelude.{IsTrue, IsFalse, Option, Some, is_some, Bool, not, ◌&&◌}
+use Rattle.std.specs.Prelude.{IsTrue, IsFalse, Option, Some, is_some, not, ◌&&◌}
 use Rattle.std.proofs.lemmas.List.{append-nil}
 use Rattle.gix_ref_file.specs.History.{History}
 use Rattle.history_model.specs.Bytes.{Bytes}

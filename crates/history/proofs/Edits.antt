@@ -1,104 +1,33 @@
--- The edits of a commit, one after another, on its files and on their tree.
-use Rattle.std.proofs.Common.{◌≡◌, refl, sym, ◌∙◌, ap, subst, Bool, true, false, not, ◌&&◌, List, [], ◌∷◌, ◌++◌, map, length, nat_lt}
-use Rattle.std.specs.Prelude.{IsTrue}
-use Rattle.std.specs.FinMap.{insert, remove}
+-- The edits of a commit, as they are read, and as its lines tell them.
+use Rattle.std.proofs.Common.{◌≡◌, ℕ, ◌+◌, ◌<◌, refl, sym, ◌∙◌, ap, subst, Bool, true, false, ◌&&◌, ◌||◌, List, [], ◌∷◌, ◌++◌, map, length, take, get_or, append-nil}
 use Rattle.std.specs.List.{list_any, flat_map, AllZip}
 use Rattle.std.proofs.lemmas.Grind.{flat_map-append}
-use Rattle.std.proofs.lemmas.List.{map-append}
-use Rattle.std.proofs.lemmas.List.Folds.{list_any-append}
+use Rattle.std.proofs.lemmas.List.{map-append, take_more}
 use Rattle.history_model.specs.Bytes.{Bytes}
-use Rattle.history_model.specs.FileMap.{FileMap, Content, Edit, Put, Remove, RemoveFile, edited, edited_by, removed, is_path}
-use Rattle.history_model.specs.Stage.{is_offered_path}
-use Rattle.history_model.specs.Objects.{Value, StoredBytes, blob_id}
-use Rattle.gix_object_lines.specs.declared.kind.Kind.TheVariants as kinds
+use Rattle.history_model.specs.FileMap as model
+use Rattle.history_model.specs.FileMap.{edit_path, is_path}
+use Rattle.history_model.specs.Objects.{Value}
 use Rattle.history_model.specs.Repository as plain
-use Rattle.history_model.specs.Forms.{max_content, max_path}
 use Rattle.history_model.specs.Commands.{EditLine, PutLine, RemoveLine, RemoveFileLine}
 use Rattle.history_model.specs.CommandParts.{edit_paths, put_contents}
-use Rattle.history_model.specs.Meaning.{read_edit}
+use Rattle.history_model.specs.Meaning.{put_bytes, read_edit}
 use Rattle.history_model.specs.Causes.{is_bad_path}
-use Rattle.history_model.specs.Offered.{is_flat}
 use Rattle.gix_hash.specs.declared.kind.Kind.{Kind}
-use Rattle.history_model.proofs.OfferedFiles.{edits_flat, flat_puts, flat_removals}
-use Rattle.history_word.specs.Commands.{IsEdit, max_path as kept_path}
-use Rattle.history_word.specs.Fields.{Keeps}
-use Rattle.history_word.specs.declared.command.Field.{Field}
-use Rattle.history_word.specs.declared.command.Edit.TheVariants as sent
-use Rattle.history_word.specs.declared.command.Put as sent_put
+use Rattle.history_files.specs.Editing.{HavePaths, Names, NameEdits}
+use Rattle.history_files.specs.declared.edits.Change.{Change}
+use Rattle.history_files.specs.declared.edits.Edit.{Edit as FileEdit}
 use Rattle.history_store.specs.Stores.{AreObjectsOf}
-use Rattle.history_store.specs.Trees.{Folder, IsTreeOf}
 use Rattle.history_store.specs.declared.object.NewObject.{NewObject}
-use Rattle.history_store.specs.declared.tree.TreeEntry.{TreeEntry}
-use Rattle.history_store.proofs.FlatTrees.{flat_insert}
-use Rattle.history_store.proofs.Removals.{flat_remove}
+use Rattle.history_word.specs.Commands.{AreEdits, IsEdit, max_content}
+use Rattle.history_word.specs.declared.command.Edit.{Edit}
+use Rattle.history_word.specs.declared.command.Edit.TheVariants.{Put, Remove, RemoveFile}
 use Rattle.history.specs.CommitCauses.{is_long}
-use Rattle.history.specs.Fields.{kept_bytes}
-use Rattle.history.specs.Files.{AreWithin, HasEdited}
-use Rattle.history.proofs.FieldLemmas.{either_false, both_true, turned, whole_path, whole_content}
-use Rattle.gix_hash.specs.Id.{id_of}
+use Rattle.history.specs.Files.{AreChangesOf, IsChangeOf, change_parts, edit_parts, kept_edit}
+use Rattle.history.specs.declared.editing.PathChange.{PathChange}
+use Rattle.history.proofs.FieldLemmas.{either_false, good_path, whole_path, whole_content}
+use Rattle.history.proofs.Shapes.{IsAlike}
 
--- a path that isn't bad is one that is offered
-path_offered : (path : Bytes) → is_bad_path path ≡ false → is_offered_path path ≡ true
-path_offered path good =
-    (both_true (is_path path) (is_offered_path path) (turned (is_path path && is_offered_path path) (either_false (not (is_path path && is_offered_path path)) (nat_lt max_path (length path)) good).0)).1
-
--- ---- one edit
-
-module _ (r : plain.Repository) (kind : Kind) (files : FileMap) (old new : Folder) (put : sent_put.Put) (blob : NewObject) (entry : TreeEntry) (flat : IsTrue (is_flat files)) (tree : IsTreeOf kind old files)
-    (whole : blob.content.items ≡ kept_bytes put.content) (is_blob : blob.kind ≡ kinds.Blob) (blob_has : id_of blob.id ≡ blob_id kind blob.content.items) (is_kind : entry.kind ≡ put.kind) (is_id : entry.id ≡ blob.id) (is_new : new ≡ insert old (kept_bytes put.path) entry) where
-  pub file_put : (line : EditLine) → IsEdit (sent.Put put) line → AreWithin (line ∷ []) → HasEdited r kind files (line ∷ []) (blob ∷ []) new
-  file_put (RemoveLine path) is within = absurd is
-  file_put (RemoveFileLine path) is within = absurd is
-  file_put (PutLine its_kind path bytes) is within =
-      let good = (either_false (is_bad_path path) false within.paths).0 in
-      let path_is = whole_path put.path path is.1 good in
-      let bytes_are : blob.content.items ≡ bytes = whole ∙ whole_content max_content put.content bytes is.2 (either_false (is_long bytes) false within.contents).0 in
-      let content : Content = record { kind = its_kind; bytes = bytes } in
-      let its_id = blob_has ∙ ap (blob_id kind) bytes_are in
-      let there : IsTreeOf kind (insert old path entry) (insert files path content) = flat_insert kind old files path entry content tree (is_kind ∙ is.0) (ap id_of is_id ∙ its_id) in
-      record {
-        blobs_are = (record { id = its_id; kind = is_blob; content = bytes_are }, tt);
-        tree = subst (λ those. IsTreeOf kind new those) (sym (flat_puts files path content flat (path_offered path good)))
-            (subst (λ this. IsTreeOf kind this (insert files path content)) (sym (is_new ∙ ap (λ p. insert old p entry) path_is)) there);
-        flat = edits_flat files (Put its_kind path bytes ∷ []) (ap (λ b. b && true) (path_offered path good)) flat;
-      }
-
--- ---- one removal
-
-module _ (r : plain.Repository) (kind : Kind) (files : FileMap) (old new : Folder) (path : Field) (flat : IsTrue (is_flat files)) (tree : IsTreeOf kind old files) (is_new : new ≡ remove old (kept_bytes path)) where
-  left : (bytes : Bytes) → Keeps kept_path path bytes → is_bad_path bytes ≡ false → IsTreeOf kind new (removed bytes files)
-  left bytes is good =
-      subst (λ those. IsTreeOf kind new those) (sym (flat_removals files bytes flat))
-      (subst (λ this. IsTreeOf kind this (remove files bytes)) (sym (is_new ∙ ap (remove old) (whole_path path bytes is good))) (flat_remove kind old files bytes tree))
-
-  pub path_removed : (line : EditLine) → IsEdit (sent.Remove path) line → AreWithin (line ∷ []) → HasEdited r kind files (line ∷ []) [] new
-  path_removed (PutLine its_kind bytes content) is within = absurd is
-  path_removed (RemoveFileLine bytes) is within = absurd is
-  path_removed (RemoveLine bytes) is within =
-      let good = (either_false (is_bad_path bytes) false within.paths).0 in
-      record { blobs_are = tt; tree = left bytes is good; flat = edits_flat files (Remove bytes ∷ []) (ap (λ b. b && true) (path_offered bytes good)) flat }
-
-  pub file_removed : (line : EditLine) → IsEdit (sent.RemoveFile path) line → AreWithin (line ∷ []) → HasEdited r kind files (line ∷ []) [] new
-  file_removed (PutLine its_kind bytes content) is within = absurd is
-  file_removed (RemoveLine bytes) is within = absurd is
-  file_removed (RemoveFileLine bytes) is within =
-      let good = (either_false (is_bad_path bytes) false within.paths).0 in
-      record { blobs_are = tt; tree = left bytes is good; flat = edits_flat files (RemoveFile bytes ∷ []) (ap (λ b. b && true) (path_offered bytes good)) flat }
-
--- ---- one after another
-
-edited_by-append : (files : FileMap) (a b : List Edit) → edited_by files (a ++ b) ≡ edited_by (edited_by files a) b
-edited_by-append files [] b = refl
-edited_by-append files (edit ∷ a) b = edited_by-append (edited files edit) a b
-
-abbrev pub files_after : plain.Repository → FileMap → List EditLine → FileMap
-files_after r files lines = edited_by files (map (read_edit r) lines)
-
-files_after-append : (r : plain.Repository) (files : FileMap) (a b : List EditLine) → files_after r files (a ++ b) ≡ files_after r (files_after r files a) b
-files_after-append r files a b = ap (edited_by files) (map-append (read_edit r) a b) ∙ edited_by-append files (map (read_edit r) a) (map (read_edit r) b)
-
-pub edited_none : (r : plain.Repository) (kind : Kind) (files : FileMap) (blobs : List NewObject) (tree : Folder) → blobs ≡ [] → IsTrue (is_flat files) → IsTreeOf kind tree files → HasEdited r kind files [] blobs tree
-edited_none r kind files blobs tree none flat is = record { blobs_are = subst (AreObjectsOf kind []) (sym none) tt; tree = is; flat = flat }
+-- ---- lists
 
 pub objects_joined : (kind : Kind) (a b : List Value) (blobs more : List NewObject) → AreObjectsOf kind a blobs → AreObjectsOf kind b more → AreObjectsOf kind (a ++ b) (blobs ++ more)
 objects_joined kind [] b [] more first second = second
@@ -106,37 +35,131 @@ objects_joined kind [] b (blob ∷ blobs) more first second = absurd first
 objects_joined kind (value ∷ a) b [] more first second = absurd first
 objects_joined kind (value ∷ a) b (blob ∷ blobs) more first second = (first.0, objects_joined kind a b blobs more first.1 second)
 
-pub edited_then : (r : plain.Repository) (kind : Kind) (files : FileMap) (a b : List EditLine) (blobs more : List NewObject) (mid new : Folder) → HasEdited r kind files a blobs mid
-    → HasEdited r kind (files_after r files a) b more new → HasEdited r kind files (a ++ b) (blobs ++ more) new
-edited_then r kind files a b blobs more mid new first second = record {
-  blobs_are = subst (λ values. AreObjectsOf kind values (blobs ++ more))
-      (sym (map-append StoredBytes (flat_map put_contents a) (flat_map put_contents b)) ∙ ap (map StoredBytes) (sym (flat_map-append put_contents a b)))
-      (objects_joined kind (map StoredBytes (flat_map put_contents a)) (map StoredBytes (flat_map put_contents b)) blobs more first.blobs_are second.blobs_are);
-  tree = subst (λ those. IsTreeOf kind new those) (sym (files_after-append r files a b)) second.tree;
-  flat = ap is_flat (files_after-append r files a b) ∙ second.flat;
-}
+pub zipped_joined : {A B : Type 0} (R : A → B → Type 0) (xs more : List A) (ys others : List B) → AllZip R xs ys → AllZip R more others → AllZip R (xs ++ more) (ys ++ others)
+zipped_joined R [] more [] others first second = second
+zipped_joined R [] more (y ∷ ys) others first second = absurd first
+zipped_joined R (x ∷ xs) more [] others first second = absurd first
+zipped_joined R (x ∷ xs) more (y ∷ ys) others first second = (first.0, zipped_joined R xs more ys others first.1 second)
 
--- ---- the lines that the edits came in
+-- ---- changes as edits of files
 
-any_parts : (p : Bytes → Bool) (f : EditLine → List Bytes) (a b : List EditLine) → list_any p (flat_map f (a ++ b)) ≡ false → (list_any p (flat_map f a) ≡ false) × (list_any p (flat_map f b) ≡ false)
-any_parts p f a b none = either_false _ _ (sym (ap (list_any p) (flat_map-append f a b) ∙ list_any-append p (flat_map f a) (flat_map f b)) ∙ none)
+head_is : {X : Type 0} {x y : X} {xs ys : List X} → x ∷ xs ≡ y ∷ ys → x ≡ y
+head_is e = cc
 
-pub within_parts : (a b : List EditLine) → AreWithin (a ++ b) → AreWithin a × AreWithin b
-within_parts a b h =
-    let paths = any_parts is_bad_path edit_paths a b h.paths in
-    let contents = any_parts is_long put_contents a b h.contents in
-    (record { paths = paths.0; contents = contents.0 }, record { paths = paths.1; contents = contents.1 })
+tail_is : {X : Type 0} {x y : X} {xs ys : List X} → x ∷ xs ≡ y ∷ ys → xs ≡ ys
+tail_is e = cc
 
-pub none_zipped : {A B : Type 0} (R : A → B → Type 0) (ys : List B) → AllZip R [] ys → ys ≡ []
-none_zipped R [] h = refl
-none_zipped R (y ∷ ys) h = absurd h
+pub changes_named : (kind : Kind) (edits : List FileEdit) (changes : List PathChange) (made : List model.Edit) → map edit_parts edits ≡ map change_parts changes → AreChangesOf kind changes made → NameEdits kind edits made
+changes_named kind [] [] [] same are = tt
+changes_named kind [] [] (m ∷ made) same are = absurd are
+changes_named kind [] (change ∷ changes) made same are = absurd (cc same)
+changes_named kind (edit ∷ edits) [] made same are = absurd (cc same)
+changes_named kind (edit ∷ edits) (change ∷ changes) [] same are = absurd are
+changes_named kind (edit ∷ edits) (change ∷ changes) (m ∷ made) same are = (
+  subst (λ (parts : Bytes × Change). Names kind parts.0 parts.1 m) (sym (head_is same)) are.0,
+  changes_named kind edits changes made (tail_is same) are.1,
+)
 
-pub last_zipped : {A B : Type 0} (R : A → B → Type 0) (xs : List A) (x : A) (ys : List B) → AllZip R (xs ++ x ∷ []) ys
-    → (front : List B) × (last : B) × (ys ≡ front ++ last ∷ []) × AllZip R xs front × R x last
-last_zipped R [] x [] h = absurd h
-last_zipped R [] x (y ∷ []) h = ([], y, refl, tt, h.0)
-last_zipped R [] x (y ∷ z ∷ ys) h = absurd h.1
-last_zipped R (w ∷ xs) x [] h = absurd h
-last_zipped R (w ∷ xs) x (y ∷ ys) h =
-    let rest = last_zipped R xs x ys h.1 in
-    (y ∷ rest.0, rest.1, ap (λ more. y ∷ more) rest.2, (h.0, rest.3), rest.4)
+-- ---- edits and their lines
+
+pub no_paths : (p : Bytes → Bool) (f : EditLine → List Bytes) (line : EditLine) (lines : List EditLine) → list_any p (flat_map f (line ∷ lines)) ≡ false → (list_any p (f line) ≡ false) × (list_any p (flat_map f lines) ≡ false)
+no_paths p f line lines none = go (f line) none
+  where
+    go : (xs : List Bytes) → list_any p (xs ++ flat_map f lines) ≡ false → (list_any p xs ≡ false) × (list_any p (flat_map f lines) ≡ false)
+    go [] e = (refl, e)
+    go (x ∷ xs) e =
+        let parts = either_false (p x) (list_any p (xs ++ flat_map f lines)) e in
+        let rest = go xs parts.1 in
+        (ap (λ b. b || list_any p xs) parts.0 ∙ rest.0, rest.1)
+
+module _ (r : plain.Repository) where
+  -- one edit whose path isn't bad
+  one_alike : (edit : Edit) (line : EditLine) → IsEdit edit line → list_any is_bad_path (edit_paths line) ≡ false → IsAlike (kept_edit edit) (read_edit r line)
+  one_alike (Put put) (PutLine kind path bytes) is good = whole_path put.path path is.1 (either_false (is_bad_path path) false good).0
+  one_alike (Put put) (RemoveLine path) is good = absurd is
+  one_alike (Put put) (RemoveFileLine path) is good = absurd is
+  one_alike (Remove field) (PutLine kind path bytes) is good = absurd is
+  one_alike (Remove field) (RemoveLine path) is good = whole_path field path is (either_false (is_bad_path path) false good).0
+  one_alike (Remove field) (RemoveFileLine path) is good = absurd is
+  one_alike (RemoveFile field) (PutLine kind path bytes) is good = absurd is
+  one_alike (RemoveFile field) (RemoveLine path) is good = absurd is
+  one_alike (RemoveFile field) (RemoveFileLine path) is good = whole_path field path is (either_false (is_bad_path path) false good).0
+
+  pub edits_alike : (edits : List Edit) (lines : List EditLine) → AreEdits edits lines → list_any is_bad_path (flat_map edit_paths lines) ≡ false → AllZip IsAlike (map kept_edit edits) (map (read_edit r) lines)
+  edits_alike [] [] are good = tt
+  edits_alike [] (line ∷ lines) are good = absurd are
+  edits_alike (edit ∷ edits) [] are good = absurd are
+  edits_alike (edit ∷ edits) (line ∷ lines) are good =
+      let parts = no_paths is_bad_path edit_paths line lines good in
+      (one_alike edit line are.0 parts.0, edits_alike edits lines are.1 parts.1)
+
+  -- and its content is within the limit
+  one_same : (edit : Edit) (line : EditLine) → IsEdit edit line → list_any is_bad_path (edit_paths line) ≡ false → list_any is_long (put_contents line) ≡ false → kept_edit edit ≡ read_edit r line
+  one_same (Put put) (PutLine kind path bytes) is good short =
+      let path_is = whole_path put.path path is.1 (either_false (is_bad_path path) false good).0 in
+      let bytes_are = whole_content max_content put.content bytes is.2 (either_false (is_long bytes) false short).0 in
+      λ i. model.Put (is.0 i) (path_is i) (bytes_are i)
+  one_same (Put put) (RemoveLine path) is good short = absurd is
+  one_same (Put put) (RemoveFileLine path) is good short = absurd is
+  one_same (Remove field) (PutLine kind path bytes) is good short = absurd is
+  one_same (Remove field) (RemoveLine path) is good short = ap model.Remove (whole_path field path is (either_false (is_bad_path path) false good).0)
+  one_same (Remove field) (RemoveFileLine path) is good short = absurd is
+  one_same (RemoveFile field) (PutLine kind path bytes) is good short = absurd is
+  one_same (RemoveFile field) (RemoveLine path) is good short = absurd is
+  one_same (RemoveFile field) (RemoveFileLine path) is good short = ap model.RemoveFile (whole_path field path is (either_false (is_bad_path path) false good).0)
+
+  pub edits_same : (edits : List Edit) (lines : List EditLine) → AreEdits edits lines → list_any is_bad_path (flat_map edit_paths lines) ≡ false → list_any is_long (flat_map put_contents lines) ≡ false
+      → map kept_edit edits ≡ map (read_edit r) lines
+  edits_same [] [] are good short = refl
+  edits_same [] (line ∷ lines) are good short = absurd are
+  edits_same (edit ∷ edits) [] are good short = absurd are
+  edits_same (edit ∷ edits) (line ∷ lines) are good short =
+      let parts = no_paths is_bad_path edit_paths line lines good in
+      let sizes = no_paths is_long put_contents line lines short in
+      λ i. one_same edit line are.0 parts.0 sizes.0 i ∷ edits_same edits lines are.1 parts.1 sizes.1 i
+
+-- each path is one
+one_path : (edit : Edit) (line : EditLine) → IsEdit edit line → list_any is_bad_path (edit_paths line) ≡ false → is_path (edit_path (kept_edit edit)) ≡ true
+one_path (Put put) (PutLine kind path bytes) is good = let fine = (either_false (is_bad_path path) false good).0 in ap is_path (whole_path put.path path is.1 fine) ∙ good_path path fine
+one_path (Put put) (RemoveLine path) is good = absurd is
+one_path (Put put) (RemoveFileLine path) is good = absurd is
+one_path (Remove field) (PutLine kind path bytes) is good = absurd is
+one_path (Remove field) (RemoveLine path) is good = let fine = (either_false (is_bad_path path) false good).0 in ap is_path (whole_path field path is fine) ∙ good_path path fine
+one_path (Remove field) (RemoveFileLine path) is good = absurd is
+one_path (RemoveFile field) (PutLine kind path bytes) is good = absurd is
+one_path (RemoveFile field) (RemoveLine path) is good = absurd is
+one_path (RemoveFile field) (RemoveFileLine path) is good = let fine = (either_false (is_bad_path path) false good).0 in ap is_path (whole_path field path is fine) ∙ good_path path fine
+
+pub have_paths : (edits : List Edit) (lines : List EditLine) → AreEdits edits lines → list_any is_bad_path (flat_map edit_paths lines) ≡ false → HavePaths (map kept_edit edits)
+have_paths [] [] are good = refl
+have_paths [] (line ∷ lines) are good = absurd are
+have_paths (edit ∷ edits) [] are good = absurd are
+have_paths (edit ∷ edits) (line ∷ lines) are good =
+    let parts = no_paths is_bad_path edit_paths line lines good in
+    λ i. one_path edit line are.0 parts.0 i && have_paths edits lines are.1 parts.1 i
+
+-- ---- changes, one after another
+
+pub parts_added : (changes : List PathChange) (i : ℕ) (change : PathChange) (old new : List FileEdit) (edit : FileEdit) → i < length changes → change ≡ get_or changes i change → edit_parts edit ≡ change_parts change
+    → map edit_parts old ≡ map change_parts (take i changes) → new ≡ old ++ edit ∷ [] → map edit_parts new ≡ map change_parts (take (i + 1) changes)
+parts_added changes i change old new edit less is parts so_far added =
+    ap (map edit_parts) added ∙ map-append edit_parts old (edit ∷ []) ∙ (λ j. so_far j ++ parts j ∷ [])
+    ∙ sym (ap (map change_parts) (take_more changes i change less ∙ ap (λ (x : PathChange). take i changes ++ x ∷ []) (sym is)) ∙ map-append change_parts (take i changes) (change ∷ []))
+
+-- the changes are these edits, and the objects those of what they put
+abbrev pub AreSoFar : Kind → List Edit → List PathChange → List NewObject → Type 0
+AreSoFar kind edits made blobs = AreChangesOf kind made (map kept_edit edits) × AreObjectsOf kind (flat_map put_bytes (map kept_edit edits)) blobs
+
+pub read_more : (kind : Kind) (edits : List Edit) (edit : Edit) (made more : List PathChange) (change : PathChange) (blobs others : List NewObject) (blob : List NewObject) → AreSoFar kind edits made blobs
+    → IsChangeOf kind change (kept_edit edit) → AreObjectsOf kind (put_bytes (kept_edit edit)) blob → more ≡ made ++ change ∷ [] → others ≡ blobs ++ blob → AreSoFar kind (edits ++ edit ∷ []) more others
+read_more kind edits edit made more change blobs others blob so_far is_change is_blob pushed extended =
+    let front = map kept_edit edits in
+    let all : map kept_edit (edits ++ edit ∷ []) ≡ front ++ kept_edit edit ∷ [] = map-append kept_edit edits (edit ∷ []) in
+    let values : flat_map put_bytes (front ++ kept_edit edit ∷ []) ≡ flat_map put_bytes front ++ put_bytes (kept_edit edit) =
+    flat_map-append put_bytes front (kept_edit edit ∷ []) ∙ ap (λ vs. flat_map put_bytes front ++ vs) (append-nil (put_bytes (kept_edit edit))) in
+    let changes = zipped_joined (IsChangeOf kind) made (change ∷ []) front (kept_edit edit ∷ []) so_far.0 (is_change, tt) in
+    let objects = objects_joined kind (flat_map put_bytes front) (put_bytes (kept_edit edit)) blobs blob so_far.1 is_blob in (
+      subst (λ (es : List model.Edit). AreChangesOf kind more es) (sym all) (subst (λ (cs : List PathChange). AreChangesOf kind cs (front ++ kept_edit edit ∷ [])) (sym pushed) changes),
+      subst (λ (es : List model.Edit). AreObjectsOf kind (flat_map put_bytes es) others) (sym all)
+          (subst (λ (vs : List Value). AreObjectsOf kind vs others) (sym values) (subst (AreObjectsOf kind (flat_map put_bytes front ++ put_bytes (kept_edit edit))) (sym extended) objects)),
+    )

@@ -1,10 +1,9 @@
 -- What the fields that are kept tell of those that were sent.
-use Rattle.std.proofs.Common.{◌≡◌, ℕ, ◌<◌, ◌≤◌, Bool, true, false, cond, not, ◌&&◌, ◌||◌, [], ◌∷◌, length, refl, sym, ◌∙◌, ap, nat_lt, nat_le, ◌==◌, arith}
-use Rattle.std.specs.List.{list_any, onto_first}
+use Rattle.std.proofs.Common.{◌≡◌, ℕ, ◌<◌, ◌≤◌, Bool, true, false, not, ◌&&◌, ◌||◌, [], ◌∷◌, length, refl, sym, ◌∙◌, ap, nat_lt, nat_le, ◌==◌, arith}
+use Rattle.std.specs.List.{list_any}
 use Rattle.std.proofs.lemmas.Bool.Decides.{nat_tests}
 use Rattle.history_model.specs.Bytes.{Bytes, begins, ends, has_byte, is_empty}
 use Rattle.history_model.specs.FileMap.{components, is_path}
-use Rattle.history_model.specs.Stage.{is_offered_path}
 use Rattle.history_model.specs.Causes.{is_bad_path, is_bad_actor}
 use Rattle.history_model.specs.Forms.{is_actor_part}
 use Rattle.history_model.specs.Commands.{ActorLine as ActorOrder}
@@ -46,55 +45,30 @@ kept_whole limit (TooLong kept) bytes h small = absurd (omega (arith, h.0))
 
 -- ---- paths
 
--- a path without slashes is its one component
-alone : (path : Bytes) → has_byte 47 path ≡ false → components path ≡ path ∷ []
-alone [] h = refl
-alone (b ∷ path) h =
-    let parts = either_false (b == 47) (has_byte 47 path) h in
-    ap (λ t. cond t ([] ∷ components path) (onto_first b (components path))) parts.0 ∙ ap (onto_first b) (alone path parts.1)
-
-either_place : (a b c d : Bool) → ((a || b) || (c || d)) ≡ ((a || c) || (b || d))
-either_place true b c d = refl
-either_place false true true d = refl
-either_place false true false d = refl
-either_place false false c d = refl
-
-zero_or_slash : (path : Bytes) → list_any (λ b. b == 0 || b == 47) path ≡ (has_byte 0 path || has_byte 47 path)
-zero_or_slash [] = refl
-zero_or_slash (b ∷ path) = ap (λ t. (b == 0 || b == 47) || t) (zero_or_slash path) ∙ either_place (b == 0) (b == 47) (has_byte 0 path) (has_byte 47 path)
-
--- a component is empty, a zero byte stands there, or a slash
-formless : (c e z s : Bool) → (s ≡ false → c ≡ (e || false)) → not ((not c && not z) && not s) ≡ (e || (z || s))
-formless true true z s h = refl
-formless true false true s h = refl
-formless true false false true h = refl
-formless true false false false h = h refl
-formless false true true s h = refl
-formless false false true s h = refl
-formless false true false true h = refl
-formless false false false true h = refl
-formless false true false false h = h refl
-formless false false false false h = refl
-
-no_file : (path : Bytes) → not (is_path path && is_offered_path path) ≡ (is_empty path || list_any (λ b. b == 0 || b == 47) path)
-no_file path =
-    formless (list_any is_empty (components path)) (is_empty path) (has_byte 0 path) (has_byte 47 path) (λ e. ap (list_any is_empty) (alone path e))
-    ∙ ap (λ t. is_empty path || t) (sym (zero_or_slash path))
-
 -- of a path within the limit
-pub bad_within : (path : Bytes) → length path ≤ 4096 → is_bad_path path ≡ (is_empty path || list_any (λ b. b == 0 || b == 47) path)
-bad_within path small = ap (λ over. not (is_path path && is_offered_path path) || over) (within 4096 (length path) small) ∙ neither_more (not (is_path path && is_offered_path path)) ∙ no_file path
+pub bad_within : (path : Bytes) → length path ≤ 4096 → is_bad_path path ≡ (has_byte 0 path || list_any is_empty (components path))
+bad_within path small = ap (λ over. not (is_path path) || over) (within 4096 (length path) small) ∙ either_so (list_any is_empty (components path)) (has_byte 0 path)
   where
-    neither_more : (a : Bool) → (a || false) ≡ a
-    neither_more true = refl
-    neither_more false = refl
+    either_so : (c z : Bool) → (not (not c && not z) || false) ≡ (z || c)
+    either_so true true = refl
+    either_so true false = refl
+    either_so false true = refl
+    either_so false false = refl
 
 pub bad_beyond : (path : Bytes) → 4096 < length path → is_bad_path path ≡ true
-bad_beyond path large = ap (λ over. not (is_path path && is_offered_path path) || over) (beyond 4096 (length path) large) ∙ either_true (not (is_path path && is_offered_path path))
+bad_beyond path large = ap (λ over. not (is_path path) || over) (beyond 4096 (length path) large) ∙ either_true (not (is_path path))
   where
     either_true : (a : Bool) → (a || true) ≡ true
     either_true true = refl
     either_true false = refl
+
+-- a path that isn't bad is one
+pub good_path : (path : Bytes) → is_bad_path path ≡ false → is_path path ≡ true
+good_path path good = turned_back (is_path path) (either_false (not (is_path path)) (nat_lt 4096 (length path)) good).0
+  where
+    turned_back : (b : Bool) → not b ≡ false → b ≡ true
+    turned_back true e = refl
+    turned_back false e = cc
 
 -- a text of some length is not empty
 pub not_empty : (text : Bytes) → (length text == 0) ≡ false → is_empty text ≡ false
@@ -153,7 +127,7 @@ part_within part small clean front = sym (
 
 -- a path that isn't bad is kept whole
 pub whole_path : (field : Field) (path : Bytes) → Keeps 4096 field path → is_bad_path path ≡ false → kept_bytes field ≡ path
-whole_path field path keeps good = kept_whole 4096 field path keeps (not_beyond 4096 (length path) (either_false (not (is_path path && is_offered_path path)) (nat_lt 4096 (length path)) good).1)
+whole_path field path keeps good = kept_whole 4096 field path keeps (not_beyond 4096 (length path) (either_false (not (is_path path)) (nat_lt 4096 (length path)) good).1)
 
 -- and so is a content within its limit
 pub whole_content : (limit : ℕ) (field : Field) (content : Bytes) → Keeps limit field content → nat_lt limit (length content) ≡ false → kept_bytes field ≡ content

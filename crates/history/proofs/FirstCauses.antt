@@ -15,7 +15,7 @@ use Rattle.history_model.specs.Meaning.{new_commit, stored_by, put_bytes, edits_
 use Rattle.history_model.specs.Causes.{holds, first_cause, is_bad_path, is_bad_actor, is_too_large}
 use Rattle.history_model.specs.Offered.{IsOffered}
 use Rattle.history_model.specs.declared.Cause.{Cause}
-use Rattle.history_model.specs.declared.Cause.TheVariants.{TooLarge}
+use Rattle.history_model.specs.declared.Cause.TheVariants.{BadPath, IsFolder, NoSuchPath, BadActor, BadTime, BadMessage, TooLarge}
 use Rattle.history_model.proofs.OfferedCauses.{first_offered_cause}
 use Rattle.history.specs.CommitCauses.{first_among, name_causes, form_causes, is_long, HasTimes}
 use Rattle.history.specs.declared.causes.Times.{Times}
@@ -43,6 +43,9 @@ find_in_front p (y ∷ xs) ys x e = by_test (p y) e (find_in_front p xs ys x)
 pub none_of : {X : Type 0} (b : Bool) (x : X) (rest : Option X) → cond b (Some x) rest ≡ None → (b ≡ false) × (rest ≡ None)
 none_of true x rest e = cc
 none_of false x rest e = (refl, e)
+
+find_none : {X : Type 0} (p : X → Bool) (x : X) (xs : List X) → find p (x ∷ xs) ≡ None → (p x ≡ false) × (find p xs ≡ None)
+find_none p x xs e = none_of (p x) x (find p xs) e
 
 pub passed : {X : Type 0} (b : Bool) (x : X) (rest want : Option X) → b ≡ false → rest ≡ want → cond b (Some x) rest ≡ want
 passed true x rest want e same = cc
@@ -109,7 +112,15 @@ module _ (r : Repository) (order : CommitCommand) (times : Times) (h : HasTimes 
   pub good_paths : list_any is_bad_path (paths_in (Commit order)) ≡ false
   good_paths = (none_of _ _ _ h.formed).0
 
+  abbrev Holds : Cause → Bool
+  Holds cause = holds cause r (Commit order)
+
+  behind_paths : find Holds (BadActor ∷ BadTime ∷ BadMessage ∷ []) ≡ None
+  behind_paths = (find_none Holds NoSuchPath (BadActor ∷ BadTime ∷ BadMessage ∷ []) (find_none Holds IsFolder (NoSuchPath ∷ BadActor ∷ BadTime ∷ BadMessage ∷ [])
+      (find_none Holds BadPath (IsFolder ∷ NoSuchPath ∷ BadActor ∷ BadTime ∷ BadMessage ∷ []) h.formed).1).1).1
+
   pub good_actors : (is_bad_actor order.author ≡ false) × (is_bad_actor order.committer ≡ false)
   good_actors =
-      let actors = either_false (is_bad_actor order.author) (is_bad_actor order.committer || false) (none_of _ _ _ (none_of _ _ _ h.formed).1).0 in
+      let bad : (is_bad_actor order.author || (is_bad_actor order.committer || false)) ≡ false = (find_none Holds BadActor (BadTime ∷ BadMessage ∷ []) behind_paths).0 in
+      let actors = either_false (is_bad_actor order.author) (is_bad_actor order.committer || false) bad in
       (actors.0, (either_false (is_bad_actor order.committer) false actors.1).0)

@@ -1,52 +1,63 @@
 -- What a commit is to store, and how its name is to move, read from its command.
-use Rattle.std.proofs.Common.{◌≡◌, ℕ, ◌<◌, ◌≤◌, refl, sym, ◌∙◌, ap, subst, Bool, true, false, ◌||◌, List, [], ◌∷◌, ◌++◌, map, length, append_assoc}
-use Rattle.std.specs.Prelude.{Option, Some, None, option_map, option_and_then, option_to_list, unwrap_or, IfSome, IsSome, Result, Err}
-use Rattle.std.specs.List.{list_any}
+use Rattle.std.proofs.Common.{◌≡◌, ◌⊎◌, inl, inr, ◌<◌, ◌≤◌, refl, sym, ◌∙◌, ap, subst, Bool, true, false, cond, ◌||◌, List, [], ◌∷◌, ◌++◌, map, length}
+use Rattle.std.specs.Prelude.{Contains, Option, Some, None, option_map, unwrap_or, Result, Ok, Err}
+use Rattle.std.specs.List.{list_any, flat_map}
 use Rattle.std.proofs.lemmas.List.{map-append}
 use Rattle.std.proofs.lemmas.List.Folds.{list_any-append}
 use Rattle.history_model.specs.Bytes.{Bytes}
-use Rattle.history_model.specs.FileMap.{FileMap, edited_by}
-use Rattle.history_model.specs.Objects.{Value, StoredBytes, StoredFolder, StoredCommit, digest, object_text, content_of, root, commit_content}
+use Rattle.history_model.specs.FileMap.{FileMap, folders_of, some_refused}
+use Rattle.history_model.specs.Objects.{Value, StoredBytes, StoredFolder, StoredCommit, digest, folder_id, object_text, content_of, commit_content}
 use Rattle.history_model.specs.Objects.{id_of as value_id}
 use Rattle.gix_hash.specs.Id.{Id, null_id, id_of}
 use Rattle.history_model.specs.Repository as plain
-use Rattle.history_model.specs.Repository.{HasWholeNames, HoldsCommit, id_at, as_commit}
+use Rattle.history_model.specs.Repository.{HasWholeNames, id_at}
 use Rattle.history_model.specs.Forms.{title, max_content}
 use Rattle.history_model.specs.Commands.{CommitCommand, Commit}
 use Rattle.history_model.specs.CommandParts.{paths_in, contents_in}
-use Rattle.history_model.specs.Meaning.{branch_or_name, first_files, parents_of, edits_of, new_commit, read_actor, stored_by}
+use Rattle.history_model.specs.Meaning.{branch_or_name, first_files, parents_of, edits_of, new_commit, put_bytes, read_actor, stored_by, takes_id}
 use Rattle.history_model.specs.Causes.{first_cause, is_bad_path, is_too_large}
 use Rattle.history_model.specs.Stage.{is_spoken}
-use Rattle.history_model.specs.Offered.{IsOffered, is_flat}
-use Rattle.history_model.specs.TreeSteps.{move_entry}
+use Rattle.history_model.specs.Offered.{IsOffered}
+use Rattle.history_model.specs.Passing.{AreNewFolders, commit_puts}
+use Rattle.history_model.specs.Steps.{MayTake}
+use Rattle.history_model.specs.TreeSteps.{HasText, move_entry}
+use Rattle.history_model.specs.Wholeness.{IsSound}
 use Rattle.history_model.specs.declared.Cause.{Cause}
-use Rattle.history_model.specs.declared.Cause.TheVariants.{TooLarge}
+use Rattle.history_model.specs.declared.Cause.TheVariants.{BadPath, IsFolder, TooLarge}
+use Rattle.history_model.specs.declared.Fault.{Fault}
+use Rattle.history_model.specs.declared.Fault.TheVariants.{Memory, File, IdTaken}
 use Rattle.gix_hash.specs.declared.kind.Kind.{Kind}
 use Rattle.gix_object_lines.specs.declared.kind.Kind.TheVariants as kinds
-use Rattle.history_model.proofs.OfferedReads.{commits_store_flat}
-use Rattle.history_model.proofs.OfferedSteps.{first_flat}
+use Rattle.history_model.proofs.PassedStops.{commits_store_whole}
+use Rattle.history_model.proofs.WholeLists.{In, in_left, in_right, in_either, in_map, of_map}
+use Rattle.history_model.proofs.WholeSteps.{contains_in, in_contains}
+use Rattle.history_files.specs.Editing.{AreEdited, AreTreesOf, HaveNull}
+use Rattle.history_files.specs.declared.trees.EditedTree.{EditedTree}
+use Rattle.history_files.specs.declared.trees.EditedFiles.{EditedFiles}
 use Rattle.history_store.specs.Formats.{actor_of, entry_of}
 use Rattle.history_store.specs.Commits.{IsCommitOf}
 use Rattle.history_store.specs.Stores.{AreObjectsOf}
 use Rattle.history_store.specs.declared.object.NewObject.{NewObject}
-use Rattle.history_store.specs.Trees.{Folder, IsTreeOf, folder_content}
 use Rattle.history_store.specs.declared.commit.Commit as stored
 use Rattle.gix_hash.specs.declared.object_id.ObjectId.{ObjectId}
 use Rattle.history_store.specs.declared.log_entry.LogEntry.{LogEntry}
-use Rattle.history_store.proofs.FlatTrees.{flat_content}
-use Rattle.history.specs.Acts.{IsReadingFault, Gives}
-use Rattle.history.specs.CommitCauses.{first_among, name_causes, is_long, IsToldBy, Tests, HasTimes}
+use Rattle.history_word.specs.Commands.{AreEdits}
+use Rattle.history_word.specs.declared.command.Edit.{Edit}
+use Rattle.history.specs.Acts.{IsReadingFault}
+use Rattle.history.specs.CommitCauses.{first_among, name_causes, path_causes, is_long, IsToldBy, Tests, HasTimes}
 use Rattle.history.specs.Bases.{IsBase}
-use Rattle.history.specs.Files.{HasEdited}
+use Rattle.history.specs.Files.{EditsFiles, kept_edit}
 use Rattle.history.specs.declared.base.Base.{Base}
-use Rattle.history.specs.Plans.{IsMade, Plans}
+use Rattle.history.specs.Plans.{AddsTrees, IsMade, IsMove, IsPlan, Plans}
 use Rattle.history.specs.declared.causes.Times.{Times}
 use Rattle.history.specs.declared.planning.Plan.{Plan}
 use Rattle.history.specs.declared.stopped.Stopped.{Stopped}
-use Rattle.history.specs.declared.stopped.Stopped.TheVariants.{Refused, Fault}
-use Rattle.history.proofs.Edits.{objects_joined}
+use Rattle.history.specs.declared.stopped.Stopped.TheVariants.{Refused, Fault as ByFault}
+use Rattle.history.proofs.Edits.{edits_alike, edits_same, objects_joined}
 use Rattle.history.proofs.FieldLemmas.{within, beyond}
-use Rattle.history.proofs.FirstCauses.{passed, here, refused_by_name, refused_by_size, good_paths}
+use Rattle.history.proofs.FirstCauses.{passed, here, refused_by_form, refused_by_name, refused_by_size, good_paths}
+use Rattle.history.proofs.NewFolders.{contents, null_taken, some_long}
+use Rattle.history.proofs.Shapes.{refused_alike}
 use Rattle.history.proofs.Storing.{bytes_put}
 
 -- ---- sizes
@@ -55,31 +66,29 @@ contents_back : (kind : Kind) (contents : List Bytes) → map (content_of kind) 
 contents_back kind [] = refl
 contents_back kind (content ∷ contents) = ap (λ rest. content ∷ rest) (contents_back kind contents)
 
--- what a commit stores is its contents, the bytes of its tree, and its own
-stored_contents : (r : plain.Repository) (order : CommitCommand) → IsOffered r → list_any is_bad_path (paths_in (Commit order)) ≡ false
-    → map (content_of r.kind) (stored_by r (Commit order)) ≡ contents_in (Commit order) ++ root r.kind (new_commit r order).files ∷ commit_content r.kind (new_commit r order) ∷ []
-stored_contents r order o good =
-    let last = StoredFolder (new_commit r order).files ∷ StoredCommit (new_commit r order) ∷ [] in
-    ap (map (content_of r.kind)) (commits_store_flat r order o good ∙ ap (λ values. values ++ last) (bytes_put r order.edits))
-    ∙ map-append (content_of r.kind) (map StoredBytes (contents_in (Commit order))) last
-    ∙ ap (λ contents. contents ++ root r.kind (new_commit r order).files ∷ commit_content r.kind (new_commit r order) ∷ []) (contents_back r.kind (contents_in (Commit order)))
+-- what a commit stores is its contents, the bytes of its trees, and its own
+stored_contents : (r : plain.Repository) (order : CommitCommand)
+    → map (content_of r.kind) (stored_by r (Commit order)) ≡ (contents_in (Commit order) ++ contents r (new_commit r order).files) ++ commit_content r.kind (new_commit r order) ∷ []
+stored_contents r order =
+    let blobs = flat_map put_bytes (edits_of r order) in
+    let folders = map StoredFolder (folders_of (new_commit r order).files) in
+    map-append (content_of r.kind) (blobs ++ folders) (StoredCommit (new_commit r order) ∷ [])
+    ∙ ap (λ front. front ++ commit_content r.kind (new_commit r order) ∷ [])
+    (map-append (content_of r.kind) blobs folders
+    ∙ ap (λ front. front ++ contents r (new_commit r order).files) (ap (map (content_of r.kind)) (bytes_put r order.edits) ∙ contents_back r.kind (contents_in (Commit order))))
 
-sizes_told : (contents : List Bytes) (tree commit : Bytes) → list_any is_long contents ≡ false → list_any is_long (contents ++ (contents ++ tree ∷ commit ∷ [])) ≡ (is_long tree || (is_long commit || false))
-sizes_told contents tree commit short =
-    list_any-append is_long contents (contents ++ tree ∷ commit ∷ []) ∙ ap (λ b. b || list_any is_long (contents ++ tree ∷ commit ∷ [])) short
-    ∙ list_any-append is_long contents (tree ∷ commit ∷ []) ∙ ap (λ b. b || (is_long tree || (is_long commit || false))) short
+sizes_told : (blobs folders : List Bytes) (commit : Bytes) → list_any is_long blobs ≡ false → list_any is_long (blobs ++ ((blobs ++ folders) ++ commit ∷ [])) ≡ (list_any is_long folders || (is_long commit || false))
+sizes_told blobs folders commit short =
+    list_any-append is_long blobs ((blobs ++ folders) ++ commit ∷ []) ∙ ap (λ b. b || list_any is_long ((blobs ++ folders) ++ commit ∷ [])) short
+    ∙ list_any-append is_long (blobs ++ folders) (commit ∷ []) ∙ ap (λ b. b || (is_long commit || false)) (list_any-append is_long blobs folders ∙ ap (λ b. b || list_any is_long folders) short)
 
 -- ---- refusals and faults
 
 -- a fault of reading is one of planning
-pub fault_planned : {A : Type 0} (MayFail : Type 0) (P : A → Type 0) (r : plain.Repository) (order : CommitCommand) (result : Result A Stopped) (ends : Result Plan Stopped) (stopped : Stopped) → result ≡ Err stopped → ends ≡ Err stopped
-    → Gives MayFail P result → Plans MayFail r order ends
-fault_planned {A} MayFail P r order result ends stopped was is_end gives =
-    subst (Plans MayFail r order) (sym is_end) (by_case stopped (subst (λ (r : Result A Stopped). Gives MayFail P r) was gives))
-  where
-    by_case : (stopped : Stopped) → IsReadingFault MayFail stopped → Plans MayFail r order (Err stopped)
-    by_case (Refused cause) h = absurd h
-    by_case (Fault fault) h = h
+reading_planned : (MayFail : Type 0) (r : plain.Repository) (order : CommitCommand) (fault : Fault) → IsReadingFault MayFail (ByFault fault) → Plans MayFail r order (Err (ByFault fault))
+reading_planned MayFail r order Memory h = h
+reading_planned MayFail r order File h = h
+reading_planned MayFail r order IdTaken h = absurd h
 
 pub refusal_planned : (MayFail : Type 0) (r : plain.Repository) (order : CommitCommand) (cause : Cause) (ends : Result Plan Stopped) → ends ≡ Err (Refused cause) → first_cause r (Commit order) ≡ Some cause → Plans MayFail r order ends
 refusal_planned MayFail r order cause ends is_end is = subst (Plans MayFail r order) (sym is_end) is
@@ -92,46 +101,96 @@ module _ (r : plain.Repository) (order : CommitCommand) (o : IsOffered r) (w : H
     where
       by_case : (stopped : Stopped) → IsToldBy MayFail name_causes r order stopped → Plans MayFail r order (Err stopped)
       by_case (Refused cause) h = refused_by_name r order o w offered cause h
-      by_case (Fault fault) h = h
+      by_case (ByFault fault) h = reading_planned MayFail r order fault h
 
-  -- the files of the first parent
-  abbrev pub before : FileMap
-  before = first_files r (parents_of r order)
+  -- ---- paths
 
-  pub before_flat : is_flat before ≡ true
-  before_flat = first_flat r o (parents_of r order)
+  module _ (none : first_among name_causes r (Commit order) ≡ None) where
+    pub path_refused : list_any is_bad_path (paths_in (Commit order)) ≡ true → first_cause r (Commit order) ≡ Some BadPath
+    path_refused bad = refused_by_form r order o w offered BadPath none (here _ _ _ bad)
 
-  -- so the tree's bytes are those of their folder
-  pub tree_content : (kind : Kind) (blobs : List NewObject) (tree : Folder) → kind ≡ r.kind → HasEdited r kind before order.edits blobs tree
-      → folder_content tree ≡ root r.kind (new_commit r order).files
-  tree_content kind blobs tree same h =
-      let there : IsTreeOf r.kind tree (new_commit r order).files = subst (λ k. IsTreeOf k tree (new_commit r order).files) same h.tree in
-      flat_content r.kind tree (new_commit r order).files there h.flat
+    pub folder_refused : list_any is_bad_path (paths_in (Commit order)) ≡ false → some_refused (first_files r (parents_of r order)) (edits_of r order) ≡ true → first_cause r (Commit order) ≡ Some IsFolder
+    folder_refused good refused = refused_by_form r order o w offered IsFolder none (passed _ _ _ _ good (here _ _ _ refused))
+
+    pub no_paths_refused : list_any is_bad_path (paths_in (Commit order)) ≡ false → some_refused (first_files r (parents_of r order)) (edits_of r order) ≡ false → first_among path_causes r (Commit order) ≡ None
+    no_paths_refused good accepted = passed _ _ _ _ good (passed _ _ _ _ accepted refl)
+
+    -- what the edits come to, or a folder or a fault that they met
+    pub edits_planned : (MayFail : Type 0) (edits : List Edit) → AreEdits edits order.edits → list_any is_bad_path (paths_in (Commit order)) ≡ false
+        → (ids : List Id) → ids ≡ parents_of r order → (stopped : Stopped) → EditsFiles MayFail r ids (map kept_edit edits) (Err stopped) → Plans MayFail r order (Err stopped)
+    edits_planned MayFail edits are good ids same (Refused reason) h =
+        subst (λ (cause : Cause). first_cause r (Commit order) ≡ Some cause) (sym h.0)
+        (folder_refused good (sym (refused_alike (first_files r (parents_of r order)) (map kept_edit edits) (edits_of r order) (edits_alike r edits order.edits are good))
+        ∙ ap (λ ids. some_refused (first_files r ids) (map kept_edit edits)) (sym same) ∙ h.1))
+    edits_planned MayFail edits are good ids same (ByFault fault) h = reading_planned MayFail r order fault h
+
+    -- none is refused
+    pub edits_pass : (MayFail : Type 0) (edits : List Edit) → AreEdits edits order.edits → list_any is_bad_path (paths_in (Commit order)) ≡ false
+        → (ids : List Id) → ids ≡ parents_of r order → (edited : Option EditedFiles) → EditsFiles MayFail r ids (map kept_edit edits) (Ok edited) → first_among path_causes r (Commit order) ≡ None
+    edits_pass MayFail edits are good ids same edited h =
+        no_paths_refused good (sym (refused_alike (first_files r (parents_of r order)) (map kept_edit edits) (edits_of r order) (edits_alike r edits order.edits are good))
+        ∙ ap (λ ids. some_refused (first_files r ids) (map kept_edit edits)) (sym same) ∙ accepted edited h)
+      where
+        accepted : (edited : Option EditedFiles) → EditsFiles MayFail r ids (map kept_edit edits) (Ok edited) → some_refused (first_files r ids) (map kept_edit edits) ≡ false
+        accepted (Some edited) h = h.accepted
+        accepted None h = h.accepted
 
   module _ (times : Times) (h : HasTimes r order times) (none : first_among name_causes r (Commit order) ≡ None) where
-    sizes : is_too_large r (Commit order) ≡ (is_long (root r.kind (new_commit r order).files) || (is_long (commit_content r.kind (new_commit r order)) || false))
+    sizes : is_too_large r (Commit order) ≡ (list_any is_long (contents r (new_commit r order).files) || (is_long (commit_content r.kind (new_commit r order)) || false))
     sizes =
-        ap (λ contents. list_any is_long (contents_in (Commit order) ++ contents)) (stored_contents r order o (good_paths r order times h))
-        ∙ sizes_told (contents_in (Commit order)) (root r.kind (new_commit r order).files) (commit_content r.kind (new_commit r order)) h.contents
+        ap (λ those. list_any is_long (contents_in (Commit order) ++ those)) (stored_contents r order)
+        ∙ sizes_told (contents_in (Commit order)) (contents r (new_commit r order).files) (commit_content r.kind (new_commit r order)) h.contents
 
     or_true : (a : Bool) → (a || true) ≡ true
     or_true true = refl
     or_true false = refl
 
-    pub tree_refused : max_content < length (root r.kind (new_commit r order).files) → first_cause r (Commit order) ≡ Some TooLarge
-    tree_refused large =
+    pub folders_refused : list_any is_long (contents r (new_commit r order).files) ≡ true → first_cause r (Commit order) ≡ Some TooLarge
+    folders_refused large =
         refused_by_size r order o w offered none h.formed
-        ∙ here (is_too_large r (Commit order)) TooLarge None (sizes ∙ ap (λ b. b || (is_long (commit_content r.kind (new_commit r order)) || false)) (beyond max_content _ large))
+        ∙ here (is_too_large r (Commit order)) TooLarge None (sizes ∙ ap (λ b. b || (is_long (commit_content r.kind (new_commit r order)) || false)) large)
+
+    -- the trees are too large, or a fault was met
+    pub trees_planned : (MayFail : Type 0) → IsSound r → (folders : List FileMap) (trees : List EditedTree) → AreNewFolders r (new_commit r order).files folders → AreTreesOf r.kind folders trees
+        → (old new : List NewObject) (stopped : Stopped) → AddsTrees old trees new (Err stopped) → Plans MayFail r order (Err stopped)
+    trees_planned MayFail sound folders trees fresh are old new (Refused cause) told =
+        subst (λ (cause : Cause). first_cause r (Commit order) ≡ Some cause) (sym told.0) (folders_refused (some_long r sound (new_commit r order).files folders trees fresh are told.1))
+    trees_planned MayFail sound folders trees fresh are old new (ByFault Memory) told = tt
+    trees_planned MayFail sound folders trees fresh are old new (ByFault File) told = absurd told
+    trees_planned MayFail sound folders trees fresh are old new (ByFault IdTaken) told = absurd told
 
     pub commit_refused : max_content < length (commit_content r.kind (new_commit r order)) → first_cause r (Commit order) ≡ Some TooLarge
     commit_refused large =
         refused_by_size r order o w offered none h.formed
-        ∙ here (is_too_large r (Commit order)) TooLarge None (sizes ∙ ap (λ b. is_long (root r.kind (new_commit r order).files) || (b || false)) (beyond max_content _ large) ∙ or_true _)
+        ∙ here (is_too_large r (Commit order)) TooLarge None (sizes ∙ ap (λ b. list_any is_long (contents r (new_commit r order).files) || (b || false)) (beyond max_content _ large) ∙ or_true _)
 
-    pub none_refused : length (root r.kind (new_commit r order).files) ≤ max_content → length (commit_content r.kind (new_commit r order)) ≤ max_content → first_cause r (Commit order) ≡ None
-    none_refused tree_fits commit_fits =
+    pub none_refused : list_any is_long (contents r (new_commit r order).files) ≡ false → length (commit_content r.kind (new_commit r order)) ≤ max_content → first_cause r (Commit order) ≡ None
+    none_refused folders_fit commit_fits =
         refused_by_size r order o w offered none h.formed
-        ∙ passed (is_too_large r (Commit order)) TooLarge None None (sizes ∙ (λ i. within max_content (length (root r.kind (new_commit r order).files)) tree_fits i || (within max_content (length (commit_content r.kind (new_commit r order))) commit_fits i || false))) refl
+        ∙ passed (is_too_large r (Commit order)) TooLarge None None (sizes ∙ (λ i. folders_fit i || (within max_content (length (commit_content r.kind (new_commit r order))) commit_fits i || false))) refl
+
+    -- no cause holds but that something may be too large
+    pub may_take : takes_id r (Commit order) ≡ true → MayTake r (Commit order)
+    may_take taken = (by_size (is_too_large r (Commit order)) (refused_by_size r order o w offered none h.formed), taken)
+      where
+        by_size : (b : Bool) → first_cause r (Commit order) ≡ cond b (Some TooLarge) None → (first_cause r (Commit order) ≡ None) ⊎ (first_cause r (Commit order) ≡ Some TooLarge)
+        by_size true e = inr e
+        by_size false e = inl e
+
+    -- where what is put or a tree has the null id
+    pub null_planned : (MayFail : Type 0) (edits : List Edit) → AreEdits edits order.edits → (ids : List Id) → ids ≡ parents_of r order
+        → EditsFiles MayFail r ids (map kept_edit edits) (Ok None) → Plans MayFail r order (Err (ByFault IdTaken))
+    null_planned MayFail edits are ids same null =
+        may_take (null_taken r order (subst (λ made. HaveNull r.kind (first_files r (parents_of r order)) made) (edits_same r edits order.edits are (good_paths r order times h) h.contents)
+        (subst (λ (ids : List Id). HaveNull r.kind (first_files r ids) (map kept_edit edits)) same null)))
+
+    -- the trees of what the edits make
+    pub edited_so : (MayFail : Type 0) (edits : List Edit) → AreEdits edits order.edits → (ids : List Id) → ids ≡ parents_of r order
+        → (edited : EditedFiles) → EditsFiles MayFail r ids (map kept_edit edits) (Ok (Some edited))
+        → AreEdited r.kind (first_files r (parents_of r order)) (edits_of r order) edited
+    edited_so MayFail edits are ids same edited h' =
+        subst (λ made. AreEdited r.kind (first_files r (parents_of r order)) made edited) (edits_same r edits order.edits are (good_paths r order times h) h.contents)
+        (subst (λ (ids : List Id). AreEdited r.kind (first_files r ids) (map kept_edit edits) edited) same h')
 
   -- ---- the commit and its move
 
@@ -144,11 +203,11 @@ module _ (r : plain.Repository) (order : CommitCommand) (o : IsOffered r) (w : H
   before_is parent null at is_null =
       before_told parent null ∙ (λ i. unwrap_or (at i) (is_null i))
 
-  pub commit_is : (commit : stored.Commit) (kind : Kind) (tree : NewObject) → kind ≡ r.kind → IsMade kind kinds.Tree (root r.kind (new_commit r order).files) tree → commit.tree ≡ tree.id
+  pub commit_is : (commit : stored.Commit) (tree : ObjectId) → id_of tree ≡ folder_id r.kind (new_commit r order).files → commit.tree ≡ tree
       → map id_of commit.parents.items ≡ parents_of r order → actor_of commit.author ≡ read_actor order.author → actor_of commit.committer ≡ read_actor order.committer → commit.message.items ≡ order.message
       → IsCommitOf r.kind commit (new_commit r order)
-  commit_is commit kind tree same made at parents author committer message = record {
-    tree = ap id_of at ∙ made.id ∙ ap (λ k. digest k (object_text kinds.Tree (root r.kind (new_commit r order).files))) same;
+  commit_is commit tree is at parents author committer message = record {
+    tree = ap id_of at ∙ is;
     parents = parents;
     author = author;
     committer = committer;
@@ -164,22 +223,59 @@ module _ (r : plain.Repository) (order : CommitCommand) (o : IsOffered r) (w : H
 
   -- ---- the objects
 
-  abbrev last_values : List Value
-  last_values = StoredFolder (new_commit r order).files ∷ StoredCommit (new_commit r order) ∷ []
+  pub objects_are : (kind : Kind) (folders : List FileMap) (some objects : List NewObject) (commit : NewObject) → kind ≡ r.kind
+      → AreObjectsOf r.kind (flat_map put_bytes (edits_of r order) ++ map StoredFolder folders) some
+      → IsMade kind kinds.Commit (commit_content r.kind (new_commit r order)) commit
+      → objects ≡ some ++ commit ∷ [] → AreObjectsOf r.kind (commit_puts r order folders) objects
+  objects_are kind folders some objects commit same are made is =
+      subst (AreObjectsOf r.kind (commit_puts r order folders)) (sym is)
+      (objects_joined r.kind (flat_map put_bytes (edits_of r order) ++ map StoredFolder folders) (StoredCommit (new_commit r order) ∷ []) some (commit ∷ []) are
+      (record { id = made.id ∙ ap (λ k. digest k (object_text kinds.Commit (commit_content r.kind (new_commit r order)))) same; kind = made.kind_is; content = made.content_is }, tt))
 
-  pub objects_are : (kind : Kind) (blobs objects : List NewObject) (tree commit : NewObject) → kind ≡ r.kind → list_any is_bad_path (paths_in (Commit order)) ≡ false
-      → AreObjectsOf kind (map StoredBytes (contents_in (Commit order))) blobs
-      → IsMade kind kinds.Tree (root r.kind (new_commit r order).files) tree → IsMade kind kinds.Commit (commit_content r.kind (new_commit r order)) commit
-      → objects ≡ (blobs ++ tree ∷ []) ++ commit ∷ [] → AreObjectsOf r.kind (stored_by r (Commit order)) objects
-  objects_are kind blobs objects tree commit same good are tree_made commit_made is =
-      let contents = map StoredBytes (contents_in (Commit order)) in
-      let last : AreObjectsOf r.kind last_values (tree ∷ commit ∷ []) = (
-        record { id = tree_made.id ∙ ap (λ k. digest k (object_text kinds.Tree (root r.kind (new_commit r order).files))) same; kind = tree_made.kind_is; content = tree_made.content_is },
-        (
-          record { id = commit_made.id ∙ ap (λ k. digest k (object_text kinds.Commit (commit_content r.kind (new_commit r order)))) same; kind = commit_made.kind_is; content = commit_made.content_is },
-          tt,
-        ),
-      ) in
-      subst (AreObjectsOf r.kind (stored_by r (Commit order))) (sym (is ∙ append_assoc blobs (tree ∷ []) (commit ∷ [])))
-      (subst (λ values. AreObjectsOf r.kind values (blobs ++ tree ∷ commit ∷ [])) (sym (commits_store_flat r order o good ∙ ap (λ values. values ++ last_values) (bytes_put r order.edits)))
-      (objects_joined r.kind contents last_values blobs (tree ∷ commit ∷ []) (subst (λ k. AreObjectsOf k contents blobs) same are) last))
+  -- the values are those that the command stores, but for folders whose text is stored
+  abbrev blobs : List Value
+  blobs = flat_map put_bytes (edits_of r order)
+
+  abbrev all : List Value
+  all = map StoredFolder (folders_of (new_commit r order).files)
+
+  abbrev last : List Value
+  last = StoredCommit (new_commit r order) ∷ []
+
+  module _ (folders : List FileMap) (new : AreNewFolders r (new_commit r order).files folders) where
+    puts_among : (value : Value) → Contains (commit_puts r order folders) value → Contains (stored_by r (Commit order)) value
+    puts_among value there = in_contains (stored_by r (Commit order)) value (elim (in_either value (blobs ++ map StoredFolder folders) last (contains_in (commit_puts r order folders) value there)) [
+      | inl a ↦ in_left value (blobs ++ all) last (elim (in_either value blobs (map StoredFolder folders) a) [
+        | inl b ↦ in_left value blobs all b
+        | inr b ↦
+            let from = of_map StoredFolder value folders b in
+            in_right value blobs all (subst (λ v. In v all) (sym from.2) (in_map StoredFolder from.0 (folders_of (new_commit r order).files)
+            (contains_in (folders_of (new_commit r order).files) from.0 (new.among from.0 (in_contains folders from.0 from.1)))))
+      ])
+      | inr a ↦ in_right value (blobs ++ all) last a
+    ])
+
+    puts_all : (value : Value) → Contains (stored_by r (Commit order)) value → Contains (commit_puts r order folders) value ⊎ HasText r.kind r.objects value
+    puts_all value there = elim (in_either value (blobs ++ all) last (contains_in (stored_by r (Commit order)) value there)) [
+      | inl a ↦ elim (in_either value blobs all a) [
+        | inl b ↦ inl (in_contains (commit_puts r order folders) value (in_left value (blobs ++ map StoredFolder folders) last (in_left value blobs (map StoredFolder folders) b)))
+        | inr b ↦
+            let from = of_map StoredFolder value (folders_of (new_commit r order).files) b in
+            elim (new.all from.0 (in_contains (folders_of (new_commit r order).files) from.0 from.1)) [
+              | inl d ↦ inl (in_contains (commit_puts r order folders) value (in_left value (blobs ++ map StoredFolder folders) last (in_right value blobs (map StoredFolder folders)
+                  (subst (λ v. In v (map StoredFolder folders)) (sym from.2) (in_map StoredFolder from.0 folders (contains_in folders from.0 d))))))
+              | inr d ↦ inr (subst (HasText r.kind r.objects) (sym from.2) d)
+            ]
+      ]
+      | inr a ↦ inl (in_contains (commit_puts r order folders) value (in_right value (blobs ++ map StoredFolder folders) last a))
+    ]
+
+    pub is_plan : IsSound r → first_cause r (Commit order) ≡ None → (plan : Plan) → AreObjectsOf r.kind (commit_puts r order folders) plan.objects.items → IsMove r order plan.moves → IsPlan r order plan
+    is_plan sound none plan objects moves = record {
+      values = commit_puts r order folders;
+      among = puts_among;
+      all = puts_all;
+      whole = commits_store_whole r order folders sound none new;
+      objects = objects;
+      moves = moves;
+    }

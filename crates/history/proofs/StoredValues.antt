@@ -1,6 +1,6 @@
 -- What a repository that stands has stored: its form, and the text at its place.
-use Rattle.std.proofs.Common.{◌≡◌, ◌∙◌, ◌⊎◌, inl, inr, ap, refl, sym, subst, false, cond, []}
-use Rattle.std.specs.Prelude.{Option, Some, None, Result, Ok, Err, MatchOption, IsErrAnd, IsTrue, option_map, unwrap_or, bytes_eq, codes}
+use Rattle.std.proofs.Common.{◌≡◌, ◌∙◌, ◌⊎◌, inl, inr, ap, refl, sym, subst, []}
+use Rattle.std.specs.Prelude.{Option, Some, None, Result, Ok, Err, MatchOption, IsErrAnd, IsTrue, option_map, unwrap_or}
 use Rattle.std.specs.FinMap.{get}
 use Rattle.gix_ref_file.specs.History.{History}
 use Rattle.gix_ref_file.specs.declared.files.FileError.{FileError}
@@ -10,7 +10,6 @@ use Rattle.history_model.specs.FileMap.{FileMap, IsFileMap}
 use Rattle.history_model.specs.Forms.{is_commit_form}
 use Rattle.history_model.specs.Objects.{CommitValue, Value, StoredCommit, StoredFolder, object_kind, content_of, value_text, object_text}
 use Rattle.gix_hash.specs.Id.{Id}
-use Rattle.history_model.specs.Offered.{IsOffered, is_flat}
 use Rattle.history_model.specs.Places.{file_at, object_place}
 use Rattle.history_model.specs.Repository as plain
 use Rattle.history_model.specs.TreeHalves.{HoldsValues, HaveOwnIds}
@@ -47,9 +46,6 @@ module _ {F : Type 0} (IsHonest : F → Type 0) (history : F → History) (repos
 
     pub folder_paths : (files : FileMap) → get r.objects id ≡ Some (StoredFolder files) → IsFileMap files
     folder_paths files at = ((stands.whole.written.values id (StoredFolder files) at).0).map
-
-    pub folder_flat : IsOffered r → (files : FileMap) → get r.objects id ≡ Some (StoredFolder files) → IsTrue (is_flat files)
-    folder_flat offered files at = offered.values id (StoredFolder files) at
 
 -- ---- an object that is read
 

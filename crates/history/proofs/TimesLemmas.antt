@@ -9,12 +9,12 @@ use Rattle.history_model.specs.Forms.{is_seconds, is_offset}
 use Rattle.history_model.specs.Commands.{Commit, CommitCommand, ActorLine, EditLine}
 use Rattle.history_model.specs.Causes.{holds}
 use Rattle.history_model.specs.declared.Cause.{Cause}
-use Rattle.history_model.specs.declared.Cause.TheVariants.{BadPath, BadActor, BadTime, BadMessage, TooLarge}
+use Rattle.history_model.specs.declared.Cause.TheVariants.{BadPath, IsFolder, BadActor, BadTime, BadMessage, TooLarge}
 use Rattle.history_word.specs.Commands.{IsEdit, AreEdits}
 use Rattle.history_word.specs.declared.command.Edit.{Edit}
-use Rattle.history.specs.CommitCauses.{first_among, form_causes, IsTime, AreTimes}
+use Rattle.history.specs.CommitCauses.{first_among, form_causes, path_causes, IsTime, AreTimes}
 use Rattle.gix_object_lines.specs.declared.lines.time.Time.{Time}
-use Rattle.history.proofs.FirstCauses.{here, passed}
+use Rattle.history.proofs.FirstCauses.{here, none_of, passed}
 
 or_true : (a : Bool) → (a || true) ≡ true
 or_true true = refl
@@ -57,23 +57,28 @@ module _ (r : Repository) (order : CommitCommand) where
   abbrev Holds : Cause → Bool
   Holds cause = holds cause r (Commit order)
 
-  pub path_refused : Holds BadPath ≡ true → AreTimes r order (Err BadPath)
-  path_refused path = here _ _ _ path
+  -- where none of those that its paths tell holds
+  module _ (none : first_among path_causes r (Commit order) ≡ None) where
+    path : Holds BadPath ≡ false
+    path = (none_of _ _ _ none).0
 
-  pub actor_refused : Holds BadPath ≡ false → Holds BadActor ≡ true → AreTimes r order (Err BadActor)
-  actor_refused path actor = passed _ _ _ _ path (here _ _ _ actor)
+    folder : Holds IsFolder ≡ false
+    folder = (none_of _ _ _ (none_of _ _ _ none).1).0
 
-  pub time_refused : Holds BadPath ≡ false → Holds BadActor ≡ false → Holds BadTime ≡ true → AreTimes r order (Err BadTime)
-  time_refused path actor time = passed _ _ _ _ path (passed _ _ _ _ actor (here _ _ _ time))
+    pub actor_refused : Holds BadActor ≡ true → AreTimes r order (Err BadActor)
+    actor_refused actor = passed _ _ _ _ path (passed _ _ _ _ folder (here _ _ _ actor))
 
-  pub title_refused : Holds BadPath ≡ false → Holds BadActor ≡ false → Holds BadTime ≡ false → Holds BadMessage ≡ true → AreTimes r order (Err BadMessage)
-  title_refused path actor time title = passed _ _ _ _ path (passed _ _ _ _ actor (passed _ _ _ _ time (here _ _ _ title)))
+    pub time_refused : Holds BadActor ≡ false → Holds BadTime ≡ true → AreTimes r order (Err BadTime)
+    time_refused actor time = passed _ _ _ _ path (passed _ _ _ _ folder (passed _ _ _ _ actor (here _ _ _ time)))
 
-  pub size_refused : Holds BadPath ≡ false → Holds BadActor ≡ false → Holds BadTime ≡ false → Holds BadMessage ≡ false → Holds TooLarge ≡ true → AreTimes r order (Err TooLarge)
-  size_refused path actor time title size = passed _ _ _ _ path (passed _ _ _ _ actor (passed _ _ _ _ time (passed _ _ _ _ title (here _ _ _ size))))
+    pub title_refused : Holds BadActor ≡ false → Holds BadTime ≡ false → Holds BadMessage ≡ true → AreTimes r order (Err BadMessage)
+    title_refused actor time title = passed _ _ _ _ path (passed _ _ _ _ folder (passed _ _ _ _ actor (passed _ _ _ _ time (here _ _ _ title))))
 
-  pub all_formed : Holds BadPath ≡ false → Holds BadActor ≡ false → Holds BadTime ≡ false → Holds BadMessage ≡ false → first_among form_causes r (Commit order) ≡ None
-  all_formed path actor time title = passed _ _ _ _ path (passed _ _ _ _ actor (passed _ _ _ _ time (passed _ _ _ _ title refl)))
+    pub size_refused : Holds BadActor ≡ false → Holds BadTime ≡ false → Holds BadMessage ≡ false → Holds TooLarge ≡ true → AreTimes r order (Err TooLarge)
+    size_refused actor time title size = passed _ _ _ _ path (passed _ _ _ _ folder (passed _ _ _ _ actor (passed _ _ _ _ time (passed _ _ _ _ title (here _ _ _ size)))))
+
+    pub all_formed : Holds BadActor ≡ false → Holds BadTime ≡ false → Holds BadMessage ≡ false → first_among form_causes r (Commit order) ≡ None
+    all_formed actor time title = passed _ _ _ _ path (passed _ _ _ _ folder (passed _ _ _ _ actor (passed _ _ _ _ time (passed _ _ _ _ title refl))))
 
 -- ---- actors and times
 

@@ -1,36 +1,27 @@
 -- What a turn does, and turns in a row.
-use Rattle.std.proofs.Common.{◌≡◌, ℕ, ◌⊎◌, Bool, true, false, not, ◌&&◌, ◌||◌, ◌==◌, ◌≢◌, ◌<◌, ◌≤◌, length, List, [], ◌∷◌, ◌++◌, Option, Some, None, Result, Ok, Err, IfOk, MatchResult, MatchBool, is_ok, refl, sym, ap, subst, ◌∙◌, inl, inr, append_assoc, IsTrue, IsFalse, arith}
-use Rattle.std.proofs.lemmas.List.{append-nil, length-append}
-use Rattle.std.proofs.lemmas.List.Folds.{list_all-append}
+use Rattle.std.proofs.Common.{◌≡◌, ℕ, ◌⊎◌, Bool, true, false, not, ◌&&◌, ◌||◌, ◌==◌, ◌≢◌, List, [], ◌∷◌, ◌++◌, Option, Some, None, Result, Ok, Err, refl, sym, ap, subst, ◌∙◌, inl, inr, IsTrue, IsFalse, arith}
+use Rattle.std.proofs.lemmas.List.{append-nil}
 use Rattle.std.proofs.lemmas.Bool.Decides.{nat_tests}
-use Rattle.std.proofs.lemmas.Grind.{flat_map-append}
-use Rattle.std.specs.Io.KnownBytes.{Consumes, Appends}
-use Rattle.std.specs.List.{flat_map, list_all, AllByRecursion}
 use Rattle.history_model.specs.Bytes.{Bytes, begins}
 use Rattle.history_model.specs.Repository.{Repository}
 use Rattle.history_model.specs.Commands.{Command}
-use Rattle.history_model.specs.Spelling.{spelling, has_spelling}
+use Rattle.history_model.specs.Spelling.{has_spelling}
 use Rattle.history_model.specs.Grammar.{is_command, Spells, HasRestCause}
 use Rattle.history_model.specs.Stage.{is_spoken}
-use Rattle.history_model.specs.Replies.{Reply, RefusedFor, Faulted, reply_text}
-use Rattle.history_model.specs.Steps.{Step, Steps, some_failed, goes_on}
-use Rattle.history_model.specs.Runs.{Ran, Ends, CutsShort, IsNoCommand}
-use Rattle.history_model.specs.declared.Fault.TheVariants.{File}
+use Rattle.history_model.specs.Replies.{Reply, RefusedFor, reply_text}
+use Rattle.history_model.specs.Steps.{some_failed, goes_on}
+use Rattle.history_model.specs.Runs.{Ran, Ends, IsNoCommand}
 use Rattle.history_model.specs.declared.Cause.{Cause}
 use Rattle.history_model.specs.declared.Cause.TheVariants.{Truncated}
 use Rattle.history_model.specs.declared.End.{End}
 use Rattle.history_model.specs.declared.End.TheVariants.{Input, Refused as ByRefusal, Fault as ByFault}
-use Rattle.history_word.specs.declared.buffer.Buffer.{Buffer}
-use Rattle.history_word.specs.Buffer.{unread}
-use Rattle.history_word.specs.Taking.{Came}
 use Rattle.history_word.specs.Progress.{IsCauseOf}
 use Rattle.history.specs.declared.running.RunError.{RunError}
 use Rattle.history.specs.declared.running.RunError.TheVariants.{Read, Write}
 use Rattle.history.specs.declared.reply.Reply.{Reply as Answer}
-use Rattle.history.specs.declared.repository.Repository.{Repository as Store}
-use Rattle.gix_ref_file.specs.History.{HasRisen, History}
+use Rattle.gix_ref_file.specs.History.{History}
 use Rattle.history_model.specs.Moments.{Moment, Traces, HasFailedCall as Failed}
-use Rattle.history.specs.Acts.{IsAnswer, CountsRise, HasFailedCall}
+use Rattle.history.specs.Acts.{IsAnswer}
 use Rattle.history.specs.Replies.{text_of}
 use Rattle.history.specs.Runs.{EndsRun, EndsHere, GoesOn, Turns}
 use Rattle.history.proofs.ActLemmas.{told_text}

@@ -10,7 +10,7 @@ use Rattle.history_model.specs.CommandParts.{contents_in}
 use Rattle.history_model.specs.Meaning.{branch_or_name}
 use Rattle.history_model.specs.Causes.{holds}
 use Rattle.history_model.specs.declared.Cause.{Cause}
-use Rattle.history_model.specs.declared.Cause.TheVariants.{BadName, PrivateName, UnknownWord, UnbornHead, NoSuchName, Taken, NotExpected, Collides, TooManyParents, DuplicateParent, BadPath, NoSuchPath, BadActor, BadTime, BadMessage, TooLarge}
+use Rattle.history_model.specs.declared.Cause.TheVariants.{BadName, PrivateName, UnknownWord, UnbornHead, NoSuchName, Taken, NotExpected, Collides, TooManyParents, DuplicateParent, BadPath, IsFolder, NoSuchPath, BadActor, BadTime, BadMessage, TooLarge}
 use Rattle.history.specs.Acts.{IsReadingFault}
 use Rattle.gix_object_lines.specs.Time.{IsSpellableOffset, offset_text}
 use Rattle.gix_object_lines.specs.declared.lines.time.Time.{Time}
@@ -42,8 +42,12 @@ parent_causes = TooManyParents ∷ DuplicateParent ∷ []
 abbrev pub name_causes : List Cause
 name_causes = name_form_causes ++ (word_causes ++ (held_causes ++ (place_causes ++ parent_causes)))
 
+-- those that its paths tell, on the files before
+abbrev pub path_causes : List Cause
+path_causes = BadPath ∷ IsFolder ∷ []
+
 abbrev pub form_causes : List Cause
-form_causes = BadPath ∷ NoSuchPath ∷ BadActor ∷ BadTime ∷ BadMessage ∷ []
+form_causes = path_causes ++ (NoSuchPath ∷ BadActor ∷ BadTime ∷ BadMessage ∷ [])
 
 -- the first of these causes that holds is told, or a fault was met
 abbrev pub IsToldBy : Type 0 → List Cause → plain.Repository → CommitCommand → Stopped → Type 0

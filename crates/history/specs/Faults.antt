@@ -4,6 +4,8 @@ use Rattle.gix_ref_file.specs.declared.files.FileError.{FileError}
 use Rattle.gix_ref_file.specs.declared.files.FileError.TheVariants as file
 use Rattle.history_model.specs.declared.Fault.{Fault}
 use Rattle.history_model.specs.declared.Fault.TheVariants.{Memory, File, IdTaken}
+use Rattle.history_files.specs.declared.error.ReadError.{ReadError}
+use Rattle.history_files.specs.declared.error.ReadError.TheVariants as read
 use Rattle.history_store.specs.declared.objects.PutMadeError.{PutMadeError}
 use Rattle.history_store.specs.declared.objects.PutMadeError.TheVariants as put
 use Rattle.history.specs.declared.stopped.Stopped.{Stopped}
@@ -12,6 +14,12 @@ use Rattle.history.specs.declared.stopped.Stopped.TheVariants as stopped
 abbrev pub file_fault : FileError → Fault
 file_fault file.Failed = File
 file_fault file.Memory = Memory
+
+-- In a whole store each tree that is read stands.
+abbrev pub read_fault : ReadError → Fault
+read_fault read.Failed = File
+read_fault (read.Broken oid) = File
+read_fault read.Memory = Memory
 
 abbrev pub put_fault : PutMadeError → Fault
 put_fault (put.IdTaken id) = IdTaken

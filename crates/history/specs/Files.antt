@@ -1,27 +1,82 @@
 -- The files of a commit, as its parent's and its edits make them.
-use Rattle.std.specs.Prelude.{List, map, IsTrue, IsFalse}
-use Rattle.std.specs.List.{list_any, flat_map}
-use Rattle.history_model.specs.FileMap.{FileMap, edited_by}
-use Rattle.history_model.specs.Repository as plain
-use Rattle.history_model.specs.Commands.{EditLine}
-use Rattle.history_model.specs.CommandParts.{edit_paths, put_contents}
-use Rattle.history_model.specs.Meaning.{read_edit}
-use Rattle.history_model.specs.Causes.{is_bad_path}
-use Rattle.history_model.specs.Offered.{is_flat}
+use Rattle.std.specs.Prelude.{◌≡◌, List, [], ◌∷◌, Option, Some, None, Result, Ok, Err, IsTrue}
+use Rattle.std.specs.List.{AllZip, flat_map}
+use Rattle.std.specs.FinMap.{get}
+use Rattle.gix_hash.specs.Id.{Id, id_of}
 use Rattle.gix_hash.specs.declared.kind.Kind.{Kind}
-use Rattle.history_model.specs.Objects.{StoredBytes}
+use Rattle.gix_hash.specs.declared.object_id.ObjectId.{ObjectId}
+use Rattle.history_model.specs.Bytes.{Bytes}
+use Rattle.history_model.specs.FileMap as model
+use Rattle.history_model.specs.FileMap.{some_refused}
+use Rattle.history_model.specs.Meaning.{files_at, first_files, put_bytes}
+use Rattle.history_model.specs.Objects.{StoredFolder}
+use Rattle.history_model.specs.Repository as plain
+use Rattle.history_model.specs.declared.Cause.TheVariants as cause
+use Rattle.history_model.specs.declared.Fault.TheVariants as fault
+use Rattle.history_files.specs.Editing.{AreEdited, HaveNull, Names}
+use Rattle.history_files.specs.declared.edits.Change.{Change}
+use Rattle.history_files.specs.declared.edits.Edit.{Edit as FileEdit}
+use Rattle.history_files.specs.declared.edits.EditError.{EditError}
+use Rattle.history_files.specs.declared.edits.EditError.TheVariants as refused
+use Rattle.history_files.specs.declared.trees.EditedFiles.{EditedFiles}
 use Rattle.history_store.specs.Stores.{AreObjectsOf}
-use Rattle.history_store.specs.Trees.{Folder, IsTreeOf}
-use Rattle.history_store.specs.declared.object.NewObject.{NewObject}
-use Rattle.history.specs.CommitCauses.{is_long}
+use Rattle.history_word.specs.declared.command.Edit.{Edit}
+use Rattle.history_word.specs.declared.command.Edit.TheVariants.{Put, Remove, RemoveFile}
+use Rattle.history.specs.Acts.{IsReadingFault}
+use Rattle.history.specs.Fields.{kept_bytes}
+use Rattle.history.specs.declared.editing.Changes.{Changes}
+use Rattle.history.specs.declared.editing.PathChange.{PathChange}
+use Rattle.history.specs.declared.stopped.Stopped.{Stopped}
+use Rattle.history.specs.declared.stopped.Stopped.TheVariants.{Refused, Fault}
 
--- no path of the edits is bad, and each content is within its limit
-pub record AreWithin (edits : List EditLine) : Type 0 where
-  pub paths : IsFalse (list_any is_bad_path (flat_map edit_paths edits))
-  pub contents : IsFalse (list_any is_long (flat_map put_contents edits))
+-- ---- what is read of edits
 
--- The tree of flat files became that of the files after the edits, flat too, and these are the blobs of each `put`.
-pub record HasEdited (r : plain.Repository) (kind : Kind) (files : FileMap) (edits : List EditLine) (blobs : List NewObject) (new : Folder) : Type 0 where
-  pub blobs_are : AreObjectsOf kind (map StoredBytes (flat_map put_contents edits)) blobs
-  pub tree : IsTreeOf kind new (edited_by files (map (read_edit r) edits))
-  pub flat : IsTrue (is_flat (edited_by files (map (read_edit r) edits)))
+-- the edit of the bytes that are kept
+abbrev pub kept_edit : Edit → model.Edit
+kept_edit (Put put) = model.Put put.kind (kept_bytes put.path) (kept_bytes put.content)
+kept_edit (Remove path) = model.Remove (kept_bytes path)
+kept_edit (RemoveFile path) = model.RemoveFile (kept_bytes path)
+
+-- the change at its path is this edit, with the id of the bytes that it puts
+abbrev pub IsChangeOf : Kind → PathChange → model.Edit → Type 0
+IsChangeOf kind change made = Names kind change.path.items change.change made
+
+abbrev pub AreChangesOf : Kind → List PathChange → List model.Edit → Type 0
+AreChangesOf kind = AllZip (IsChangeOf kind)
+
+-- the changes are these edits, and the objects those of the bytes that they put
+pub record AreReadAs (kind : Kind) (changes : Changes) (made : List model.Edit) : Type 0 where
+  pub changes_are : AreChangesOf kind changes.made.items made
+  pub blobs_are : AreObjectsOf kind (flat_map put_bytes made) changes.blobs.items
+
+-- where an edit is made, and what it does
+abbrev pub edit_parts : FileEdit → Bytes × Change
+edit_parts edit = (edit.path.now, edit.change)
+
+abbrev pub change_parts : PathChange → Bytes × Change
+change_parts change = (change.path.items, change.change)
+
+-- ---- what they come to
+
+-- the tree of the first of these commits; none where there is none
+abbrev pub IsTreeBefore : plain.Repository → List Id → Option ObjectId → Type 0
+IsTreeBefore r [] tree = tree ≡ None
+IsTreeBefore r (id ∷ ids) None = ⊥
+IsTreeBefore r (id ∷ ids) (Some tree) = get r.objects (id_of tree) ≡ Some (StoredFolder (files_at r id))
+
+-- what is answered where edits aren't made
+abbrev pub unmade : EditError → Result (Option EditedFiles) Stopped
+unmade refused.BadPath = Err (Refused cause.BadPath)
+unmade refused.IsFolder = Err (Refused cause.IsFolder)
+unmade refused.NullId = Ok None
+unmade refused.Failed = Err (Fault fault.File)
+unmade (refused.Broken oid) = Err (Fault fault.File)
+unmade refused.Memory = Err (Fault fault.Memory)
+
+-- The trees of what the edits make of the first commit's files; or what is put or one of these would have the null id; or a folder
+-- is met where a file is to be removed; or a fault was met.
+abbrev pub EditsFiles : Type 0 → plain.Repository → List Id → List model.Edit → Result (Option EditedFiles) Stopped → Type 0
+EditsFiles MayFail r ids made (Ok (Some edited)) = AreEdited r.kind (first_files r ids) made edited
+EditsFiles MayFail r ids made (Ok None) = HaveNull r.kind (first_files r ids) made
+EditsFiles MayFail r ids made (Err (Refused reason)) = (reason ≡ cause.IsFolder) × IsTrue (some_refused (first_files r ids) made)
+EditsFiles MayFail r ids made (Err (Fault reason)) = IsReadingFault MayFail (Fault reason)

@@ -1,20 +1,22 @@
 //! What a `commit` is refused for by itself.
 
-ghost use Rattle.std.specs.Prelude.{◌≡◌, List};
+ghost use Rattle.std.specs.Prelude.{◌≡◌, IsFalse, IsTrue, List, MatchResult, None};
 ghost use Rattle.std.specs.List.{list_any, flat_map};
 ghost use Rattle.history_model.specs.Forms.{title};
 ghost use Rattle.history_model.specs.Causes.{is_bad_title, is_bad_path};
-ghost use Rattle.history_model.specs.CommandParts.{edit_paths, put_contents};
+ghost use Rattle.history_model.specs.CommandParts.{contents_in, edit_paths, put_contents};
+ghost use Rattle.history_model.specs.declared.Cause.TheVariants.{BadPath};
 ghost use Rattle.history_model.specs.Repository as plain;
-ghost use Rattle.history_model.specs.Commands.{CommitCommand as CommitOrder, EditLine};
-ghost use Rattle.history_word.specs.Commands.{AreEdits, IsCommit, IsEdit};
-ghost use Rattle.history.specs.CommitCauses.{AreTimes, is_long};
+ghost use Rattle.history_model.specs.Commands.{Commit, CommitCommand as CommitOrder, EditLine};
+ghost use Rattle.history_word.specs.Commands.{AreEdits, IsActor, IsEdit, max_content};
+ghost use Rattle.history_word.specs.Fields.{Keeps};
+ghost use Rattle.history.specs.CommitCauses.{AreTimes, first_among, is_long, path_causes};
 
 use crate::actors::{has_good_names, time_of};
 use crate::fields::{is_bad_path, is_too_long, kept};
 use gix_object::lines::Time;
 use history_model::Cause;
-use history_word::{CommitCommand, Edit};
+use history_word::{ActorLine, Edit, Field};
 
 /// The most bytes of a title.
 const MAX_TITLE: usize = 1_024;
@@ -76,30 +78,49 @@ fn have_bad_path(edits: &[Edit]) -> bool
     edits.iter().any(|edit| has_bad_path(edit))
 }
 
-fn have_long_content(edits: &[Edit]) -> bool
+/// Whether a content that is put is over its limit.
+pub(crate) fn have_long_content(edits: &[Edit]) -> bool
     ensures { (lines : List EditLine) → AreEdits edits.now lines
         → result ≡ list_any is_long (flat_map put_contents lines) }
 {
     edits.iter().any(|edit| has_long_content(edit))
 }
 
-/// Tests what the command says by itself, in the order of the causes.
-pub(crate) fn read_times(command: &CommitCommand) -> Result<Times, Cause>
-    ensures { (r : plain.Repository) (order : CommitOrder) → IsCommit command.now order
-        → AreTimes r order result }
+/// Tests that no path is bad.
+pub(crate) fn test_paths(edits: &[Edit]) -> Result<(), Cause>
+    ensures { (lines : List EditLine) → AreEdits edits.now lines → MatchResult result
+        (λ _. IsFalse (list_any is_bad_path (flat_map edit_paths lines)))
+        (λ cause. (cause ≡ BadPath) × IsTrue (list_any is_bad_path (flat_map edit_paths lines))) }
 {
-    if have_bad_path(&command.edits) {
+    if have_bad_path(edits) {
         return Err(Cause::BadPath);
     }
-    if !has_good_names(&command.author) || !has_good_names(&command.committer) {
+    Ok(())
+}
+
+/// Tests what the command says by itself behind its paths, in the order of the causes.
+pub(crate) fn read_times(
+    author: &ActorLine,
+    committer: &ActorLine,
+    message: &Field,
+    has_long_content: bool,
+) -> Result<Times, Cause>
+    ensures { (r : plain.Repository) (order : CommitOrder)
+        → IsActor author.now order.author → IsActor committer.now order.committer
+        → Keeps max_content message.now order.message
+        → has_long_content ≡ list_any is_long (contents_in (Commit order))
+        → first_among path_causes r (Commit order) ≡ None
+        → AreTimes r order result }
+{
+    if !has_good_names(author) || !has_good_names(committer) {
         return Err(Cause::BadActor);
     }
-    let author = time_of(&command.author).ok_or(Cause::BadTime)?;
-    let committer = time_of(&command.committer).ok_or(Cause::BadTime)?;
-    if is_bad_title(title(kept(&command.message))) {
+    let author = time_of(author).ok_or(Cause::BadTime)?;
+    let committer = time_of(committer).ok_or(Cause::BadTime)?;
+    if is_bad_title(title(kept(message))) {
         return Err(Cause::BadMessage);
     }
-    if is_too_long(&command.message) || have_long_content(&command.edits) {
+    if is_too_long(message) || has_long_content {
         return Err(Cause::TooLarge);
     }
     Ok(Times { author, committer })

@@ -9,13 +9,13 @@ ghost use Rattle.history.specs.Fields.{kept_bytes};
 
 use history_word::Field;
 
-/// Whether the path is none of a file right in the root folder: empty, over the limit, or with a zero byte or a `/`.
+/// Whether the path is none: over the limit, or with a zero byte or an empty name.
 pub(crate) fn is_bad_path(path: &Field) -> bool
     ensures { (bytes : Bytes) → Keeps max_path path.now bytes → result ≡ is_bad_path bytes }
 {
     match path {
-        Field::Whole(path) => path.is_empty()
-            || path.iter().any(|byte| matches!(byte, b'\0' | b'/')),
+        Field::Whole(path) => path.contains(&b'\0')
+            || path.split(|byte| *byte == b'/').any(|name| name.is_empty()),
         Field::TooLong(_) => true,
     }
 }

@@ -9,6 +9,7 @@ mod actors;
 mod base;
 mod causes;
 mod commit;
+mod editing;
 mod fields;
 mod listing;
 mod naming;

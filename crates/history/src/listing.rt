@@ -1,21 +1,21 @@
 //! The command `files`.
 
 ghost use Rattle.std.specs.Prelude.{◌≡◌, map, IfOk};
-ghost use Rattle.std.specs.FinMap.{entries};
+ghost use Rattle.history_files.specs.Reading.{line_of};
 ghost use Rattle.history_model.specs.Replies.{reply_text, FilesAre};
-ghost use Rattle.history.specs.Shown.{shown_file};
 
 use crate::reply::{field, kind_word, line};
 use crate::repository::Repository;
 use crate::stopped::Stopped;
 use gix_hash::Kind;
 use gix_ref_file::Files;
-use history_store::{Tree, hex_digits};
+use history_files::File;
+use history_store::hex_digits;
 use std::alloc::{AllocError, Global};
 
-/// The text that lists a tree's files.
-fn files_text(alloc: Global, tree: &Tree) -> Result<Vec<u8>, AllocError>
-    ensures { IfOk result (λ text. text.items ≡ reply_text (FilesAre (map shown_file (entries tree.now)))) }
+/// The text that lists files.
+fn files_text(alloc: Global, files: &[File]) -> Result<Vec<u8>, AllocError>
+    ensures { IfOk result (λ text. text.items ≡ reply_text (FilesAre (map line_of files.now))) }
 {
     let mut text = Vec::new(alloc);
     let mut count = itoa::Buffer::new();
@@ -24,21 +24,21 @@ fn files_text(alloc: Global, tree: &Tree) -> Result<Vec<u8>, AllocError>
         &[
             b"ok".as_slice(),
             b"files".as_slice(),
-            count.format(tree.len()).as_bytes(),
+            count.format(files.len()).as_bytes(),
         ],
     )?;
-    for (name, entry) in tree.iter() {
+    for file in files {
         let mut size = itoa::Buffer::new();
         let mut digits = Kind::hex_buf();
         line(
             &mut text,
             &[
-                kind_word(entry.kind),
-                hex_digits(&entry.id, &mut digits),
-                size.format(name.len()).as_bytes(),
+                kind_word(file.kind),
+                hex_digits(&file.id, &mut digits),
+                size.format(file.path.len()).as_bytes(),
             ],
         )?;
-        field(&mut text, name)?;
+        field(&mut text, &file.path)?;
     }
     Ok(text)
 }
@@ -56,7 +56,7 @@ impl<F: Files> Repository<F> {
     {
         let id = self.commit_of(alloc, word)?;
         let commit = self.read_commit(alloc, &id)?;
-        let tree = self.read_tree(alloc, &commit.tree)?;
-        Ok(files_text(alloc, &tree)?)
+        let files = self.files_below(alloc, &commit.tree)?;
+        Ok(files_text(alloc, &files)?)
     }
 }

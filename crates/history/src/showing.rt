@@ -16,8 +16,9 @@ use crate::stopped::Stopped;
 use gix_hash::{Kind, ObjectId};
 use gix_object::lines::write_time;
 use gix_ref_file::Files;
-use history_model::Cause;
-use history_store::{Actor, Commit, ObjectKind, TreeEntry, hex_digits};
+use history_files::Found;
+use history_model::{Cause, FileKind};
+use history_store::{Actor, Commit, ObjectKind, hex_digits};
 use history_word::{Field, Show};
 use std::alloc::{AllocError, Global};
 
@@ -99,9 +100,14 @@ fn commit_text(alloc: Global, id: &ObjectId, commit: &Commit) -> Result<Vec<u8>,
     Ok(text)
 }
 
-/// The text that shows an entry's file with this content.
-fn content_text(alloc: Global, entry: &TreeEntry, content: &[u8]) -> Result<Vec<u8>, AllocError>
-    ensures { IfOk result (λ text. text.items ≡ reply_text (ShowsContent (shown_content entry.now content.now))) }
+/// The text that shows a file whose content has this id.
+fn content_text(
+    alloc: Global,
+    kind: FileKind,
+    id: &ObjectId,
+    content: &[u8],
+) -> Result<Vec<u8>, AllocError>
+    ensures { IfOk result (λ text. text.items ≡ reply_text (ShowsContent (shown_content kind id.now content.now))) }
 {
     let mut text = Vec::new(alloc);
     let mut size = itoa::Buffer::new();
@@ -112,8 +118,8 @@ fn content_text(alloc: Global, entry: &TreeEntry, content: &[u8]) -> Result<Vec<
             b"ok".as_slice(),
             b"show".as_slice(),
             b"content".as_slice(),
-            kind_word(entry.kind),
-            hex_digits(&entry.id, &mut digits),
+            kind_word(kind),
+            hex_digits(id, &mut digits),
             size.format(content.len()).as_bytes(),
         ],
     )?;
@@ -128,8 +134,10 @@ impl<F: Files> Repository<F> {
     ghost use Rattle.history_model.specs.Commands.{Show as ShowOf};
     ghost use Rattle.history_word.specs.Commands.{IsPath, max_path};
     ghost use Rattle.history_word.specs.Fields.{Keeps};
-    ghost use Rattle.history.specs.Stands.{Serves};
-    ghost use Rattle.history.specs.Acts.{AnswersReading};
+    ghost use Rattle.std.specs.FinMap.{get};
+    ghost use Rattle.history_model.specs.Objects.{StoredBytes};
+    ghost use Rattle.history.specs.Stands.{Serves, Stands};
+    ghost use Rattle.history.specs.Acts.{AnswersReading, Gives};
 
     /// The reply to `show` of a commit.
     fn show_commit(&self, alloc: Global, id: &ObjectId) -> Result<Vec<u8>, Stopped>
@@ -139,6 +147,17 @@ impl<F: Files> Repository<F> {
     {
         let commit = self.read_commit(alloc, id)?;
         Ok(commit_text(alloc, id, &commit)?)
+    }
+
+    /// The text that shows a file whose content has this id.
+    fn show_file(&self, alloc: Global, kind: FileKind, id: &ObjectId) -> Result<Vec<u8>, Stopped>
+        ensures { (r : plain.Repository) (bytes : Bytes) → Stands F.is_honest F.history self.now r
+            → get r.objects (id_of id.now) ≡ Some (StoredBytes bytes)
+            → Gives F.reading_may_fail (λ text. text.items
+            ≡ reply_text (ShowsContent (shown_content kind id.now bytes))) result }
+    {
+        let content = self.content(alloc, ObjectKind::Blob, id)?;
+        Ok(content_text(alloc, kind, id, &content)?)
     }
 
     /// The reply to `show` of what a commit has at a path.
@@ -152,12 +171,11 @@ impl<F: Files> Repository<F> {
             return Err(Stopped::Refused(Cause::BadPath));
         }
         let commit = self.read_commit(alloc, id)?;
-        let tree = self.read_tree(alloc, &commit.tree)?;
-        let Some(entry) = tree.get(kept(path)) else {
-            return Err(Stopped::Refused(Cause::NoSuchPath));
-        };
-        let content = self.content(alloc, ObjectKind::Blob, &entry.id)?;
-        Ok(content_text(alloc, &entry, &content)?)
+        match self.found_below(alloc, &commit.tree, kept(path))? {
+            None => Err(Stopped::Refused(Cause::NoSuchPath)),
+            Some(Found::Folder { .. }) => Err(Stopped::Refused(Cause::IsFolder)),
+            Some(Found::File { kind, id }) => self.show_file(alloc, kind, &id),
+        }
     }
 
     /// The reply to `show`: a commit, or what it has at a path.

@@ -3,9 +3,10 @@
 ghost use Rattle.std.specs.Prelude.{◌≡◌};
 ghost use Rattle.history_model.specs.declared.Fault.TheVariants.{Memory};
 ghost use Rattle.history.specs.declared.stopped.Stopped.TheVariants.{Refused, Fault as ByFault};
-ghost use Rattle.history.specs.Faults.{file_fault, put_fault};
+ghost use Rattle.history.specs.Faults.{file_fault, put_fault, read_fault};
 
 use gix_ref_file::FileError;
+use history_files::ReadError;
 use history_model::{Cause, Fault};
 use history_store::PutMadeError;
 use std::alloc::{AllocError, AllocFailed};
@@ -56,6 +57,17 @@ impl From<FileError> for Stopped {
         Stopped::Fault(match error {
             FileError::Failed => Fault::File,
             FileError::Memory => Fault::Memory,
+        })
+    }
+}
+
+impl From<ReadError> for Stopped {
+    ghost from_gives = { λ error stopped. stopped ≡ ByFault (read_fault error) };
+
+    fn from(error: ReadError) -> Stopped {
+        Stopped::Fault(match error {
+            ReadError::Failed | ReadError::Broken { .. } => Fault::File,
+            ReadError::Memory => Fault::Memory,
         })
     }
 }

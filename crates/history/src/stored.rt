@@ -1,25 +1,27 @@
 //! The objects that a repository reads.
 
-ghost use Rattle.std.specs.Prelude.{◌≡◌, Some};
-ghost use Rattle.std.specs.FinMap.{get};
+ghost use Rattle.std.specs.Prelude.{◌≡◌, Some, map, option_map};
+ghost use Rattle.std.specs.FinMap.{entries, get};
+ghost use Rattle.history_files.specs.Reading.{entry_of, file_line, line_of};
 ghost use Rattle.history_model.specs.FileMap.{FileMap};
+ghost use Rattle.history_model.specs.Objects as model;
 ghost use Rattle.history_model.specs.Objects.{CommitValue, Value, StoredCommit, StoredFolder, content_of, object_kind};
 ghost use Rattle.history_store.specs.Commits.{IsCommitOf};
-ghost use Rattle.history_store.specs.Trees.{IsTreeOf};
 ghost use Rattle.gix_hash.specs.Id.{id_of};
 
 use crate::repository::Repository;
 use crate::stopped::Stopped;
 use gix_hash::ObjectId;
 use gix_ref_file::Files;
+use history_files::{File, Found, entry_at, files};
 use history_model::Fault;
-use history_store::{Commit, ObjectKind, Tree};
+use history_store::{Commit, ObjectKind};
 use std::alloc::Global;
 
 // In a whole repository each id that is read names an object of its kind, so only a failed call leads to `fault File`.
 impl<F: Files> Repository<F> {
     ghost use Rattle.history_model.specs.Repository as plain;
-    ghost use Rattle.history.specs.Stands.{Serves, Stands};
+    ghost use Rattle.history.specs.Stands.{Stands};
     ghost use Rattle.history.specs.Acts.{Gives};
 
     /// The content of a stored object.
@@ -50,14 +52,28 @@ impl<F: Files> Repository<F> {
         Ok(Commit::parse(alloc, self.objects.kind(), &content)?.ok_or(Fault::File)?)
     }
 
-    /// A stored tree.
-    pub(crate) fn read_tree(&self, alloc: Global, id: &ObjectId) -> Result<Tree, Stopped>
-        ensures { (r : plain.Repository) (files : FileMap)
-            → Serves F.is_honest F.history self.now r
-            → get r.objects (id_of id.now) ≡ Some (StoredFolder files)
-            → Gives F.reading_may_fail (λ tree. IsTreeOf r.kind tree files) result }
+    /// The files below a stored tree, their paths ascending. No content of theirs is read.
+    pub(crate) fn files_below(&self, alloc: Global, tree: &ObjectId) -> Result<Vec<File>, Stopped>
+        ensures { (r : plain.Repository) (below : FileMap) → Stands F.is_honest F.history self.now r
+            → get r.objects (id_of tree.now) ≡ Some (StoredFolder below)
+            → Gives F.reading_may_fail (λ found. map line_of found.items
+            ≡ map (file_line r.kind) (entries below)) result }
     {
-        let content = self.content(alloc, ObjectKind::Tree, id)?;
-        Ok(Tree::parse(alloc, self.objects.kind(), &content)?.ok_or(Fault::File)?)
+        Ok(files(alloc, &self.objects, tree)?)
+    }
+
+    /// What stands at a path below a stored tree. The trees on the path are read, and no other.
+    pub(crate) fn found_below(
+        &self,
+        alloc: Global,
+        tree: &ObjectId,
+        path: &[u8],
+    ) -> Result<Option<Found>, Stopped>
+        ensures { (r : plain.Repository) (below : FileMap) → Stands F.is_honest F.history self.now r
+            → get r.objects (id_of tree.now) ≡ Some (StoredFolder below)
+            → Gives F.reading_may_fail (λ found.
+            option_map entry_of found ≡ model.entry_at r.kind below path.now) result }
+    {
+        Ok(entry_at(alloc, &self.objects, tree, path)?)
     }
 }

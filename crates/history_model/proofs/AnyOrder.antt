@@ -1,4 +1,4 @@
--- Values may be stored in any order.
+-- Values may be stored in any order, and those left out whose text is stored.
 use Rattle.std.proofs.Common.{◌≡◌, ◌⊎◌, inl, inr, Bool, true, false, cond, not, ◌&&◌, ◌||◌, List, [], ◌∷◌, refl, sym, ◌∙◌, ap, subst, Option, Some, None, is_some, option_map, unwrap_or, bytes_eq}
 use Rattle.std.specs.FinMap.{get, contains_key, insert, empty}
 use Rattle.gix_hash.specs.declared.kind.Kind.{Kind}
@@ -6,8 +6,9 @@ use Rattle.gix_hash.specs.Id.{Id, null_id}
 use Rattle.gix_hash.specs.Order.{id_eq}
 use Rattle.history_model.specs.Objects.{Value, StoredFolder, value_text, id_of, empty_tree_id}
 use Rattle.history_model.specs.Meaning.{store_one, store_all, is_other, is_taken, some_taken}
+use Rattle.history_model.specs.Repository.{Repository, IsWholeStore}
 use Rattle.history_model.specs.TreeHalves.{Values, HaveOwnIds}
-use Rattle.history_model.specs.TreeSteps.{StoresInAnyOrder}
+use Rattle.history_model.specs.TreeSteps.{HasText, StoresInAnyOrder}
 use Rattle.history_model.proofs.IdLemmas.{one_id, get_with_id}
 use Rattle.history_model.proofs.PartLemmas.{either_false}
 use Rattle.history_model.proofs.TreePlaces.{text_itself, one_text, alike_file}
@@ -180,24 +181,55 @@ module _ (kind : Kind) where
       by_first false e (inl found) = inl (found.0, inr found.1, found.2)
       by_first false e (inr none) = inr (λ value i. elim i [ inl f ↦ ap (λ v. id_eq id (id_of kind v)) f ∙ e | inr j ↦ none value j ])
 
-  -- ---- two orders
+  -- ---- two orders, of which one may lack what is stored already
 
-  module _ (base : Values) (more others : List Value) (there : (value : Value) → In value more → In value others) (back : (value : Value) → In value others → In value more) where
-    fits_other : Fits base more → Fits base others
-    fits_other h = record {
-      unkept = λ value i. h.unkept value (back value i);
-      base_agrees = λ value found i at. h.base_agrees value found (back value i) at;
-      agree = λ value other i j same. h.agree value other (back value i) (back other j) same;
+  module _ (base : Values) (more others : List Value) (there : (value : Value) → In value more → In value others)
+      (back : (value : Value) → In value others → In value more ⊎ HasText kind base value) (free : (value : Value) → HasText kind base value → is_kept value ≡ false) where
+    fits_less : Fits base others → Fits base more
+    fits_less h = record {
+      unkept = λ value i. h.unkept value (there value i);
+      base_agrees = λ value found i at. h.base_agrees value found (there value i) at;
+      agree = λ value other i j same. h.agree value other (there value i) (there other j) same;
     }
 
+    some_same : {X : Type 0} {x y : X} → Some x ≡ Some y → x ≡ y
+    some_same e = cc
+
+    -- one that stands has the text of what is found under its id
+    stood_agrees : (value found : Value) → HasText kind base value → get base (id_of kind value) ≡ Some found → value_text kind value ≡ value_text kind found
+    stood_agrees value found has at = sym has.2 ∙ ap (value_text kind) (some_same (sym has.1 ∙ at))
+
+    fits_more : Fits base more → Fits base others
+    fits_more h = record {
+      unkept = λ value i. elim (back value i) [ inl a ↦ h.unkept value a | inr b ↦ free value b ];
+      base_agrees = λ value found i at. elim (back value i) [ inl a ↦ h.base_agrees value found a at | inr b ↦ stood_agrees value found b at ];
+      agree = λ value other i j same. elim (back value i) [
+        | inl a ↦ elim (back other j) [
+          | inl c ↦ h.agree value other a c same
+          | inr d ↦ h.base_agrees value d.0 a (ap (get base) same ∙ d.1) ∙ d.2
+        ]
+        | inr b ↦ elim (back other j) [
+          | inl c ↦ sym b.2 ∙ sym (h.base_agrees other b.0 c (ap (get base) (sym same) ∙ b.1))
+          | inr d ↦ stood_agrees value d.0 b (ap (get base) same ∙ d.1) ∙ d.2
+        ]
+      ];
+    }
+
+    -- what is found under a value's id then has its text
+    text_there : Fits base more → (value : Value) → In value others → option_map (value_text kind) (get (store_all kind base more) (id_of kind value)) ≡ Some (value_text kind value)
+    text_there h value i = elim (back value i) [
+      | inl a ↦ text_under more base h value a
+      | inr b ↦ ap (option_map (value_text kind)) (stays_all more base (id_of kind value) b.0 b.1) ∙ ap Some b.2
+    ]
+
     texts_alike : Fits base more → (id : Id) → option_map (value_text kind) (get (store_all kind base more) id) ≡ option_map (value_text kind) (get (store_all kind base others) id)
-    texts_alike h id = elim (sought more id) [
+    texts_alike h id = elim (sought others id) [
       | inl found ↦
-          let here = text_under more base h found.0 found.1 in
-          let beside = text_under others base (fits_other h) found.0 (there found.0 found.1) in
+          let here = text_there h found.0 found.1 in
+          let beside = text_under others base (fits_more h) found.0 found.1 in
           ap (λ q. option_map (value_text kind) (get (store_all kind base more) q)) found.2 ∙ here ∙ sym beside
           ∙ ap (λ q. option_map (value_text kind) (get (store_all kind base others) q)) (sym found.2)
-      | inr none ↦ ap (option_map (value_text kind)) (none_under more base id none ∙ sym (none_under others base id (λ value i. none value (back value i))))
+      | inr none ↦ ap (option_map (value_text kind)) (none_under more base id (λ value i. none value (there value i)) ∙ sym (none_under others base id none))
     ]
 
 own_ids_all : (kind : Kind) (more : List Value) (values : Values) → HaveOwnIds kind values → HaveOwnIds kind (store_all kind values more)
@@ -213,23 +245,43 @@ is_some_text : (kind : Kind) (o : Option Value) → is_some o ≡ is_some (optio
 is_some_text kind None = refl
 is_some_text kind (Some value) = refl
 
+-- What stands in a whole store has neither the null id nor, but for the empty tree, the empty tree's.
+module _ (r : Repository) (whole : IsWholeStore r) where
+  stood_free : (value : Value) → HasText r.kind r.objects value → is_kept r.kind value ≡ false
+  stood_free value has = or_none (id_eq (id_of r.kind value) (null_id r.kind)) (id_eq (id_of r.kind value) (empty_tree_id r.kind) && is_other r.kind (value_text r.kind (StoredFolder empty)) value)
+      (not_null (id_eq (id_of r.kind value) (null_id r.kind)) refl)
+      (not_empty (id_eq (id_of r.kind value) (empty_tree_id r.kind)) refl)
+    where
+      not_null : (b : Bool) → id_eq (id_of r.kind value) (null_id r.kind) ≡ b → b ≡ false
+      not_null false e = refl
+      not_null true e =
+          let wrong : None ≡ Some has.0 = sym whole.null ∙ ap (get r.objects) (sym (one_id (id_of r.kind value) (null_id r.kind) e)) ∙ has.1 in
+          cc wrong
+
+      not_empty : (b : Bool) → id_eq (id_of r.kind value) (empty_tree_id r.kind) ≡ b → (b && is_other r.kind (value_text r.kind (StoredFolder empty)) value) ≡ false
+      not_empty false e = refl
+      not_empty true e =
+          let is = whole.empty_tree has.0 (ap (get r.objects) (sym (one_id (id_of r.kind value) (empty_tree_id r.kind) e)) ∙ has.1) in
+          let same : value_text r.kind (StoredFolder empty) ≡ value_text r.kind value = ap (value_text r.kind) (sym is) ∙ has.2 in
+          ap not (subst (λ text. bytes_eq (value_text r.kind (StoredFolder empty)) text ≡ true) same (text_itself (value_text r.kind (StoredFolder empty))))
+
 pub stores_in_any_order : StoresInAnyOrder
-stores_in_any_order kind values more others own same = record {
-  taken = both_free (some_taken kind values more) (some_taken kind values others)
-      (λ free. fits_to kind others values (fits_other kind values more others there back (fits_from kind more values free)))
-      (λ free. fits_to kind more values (fits_other kind values others more back there (fits_from kind others values free)));
+stores_in_any_order r more others whole fewer rest = record {
+  taken = both_free (some_taken r.kind r.objects more) (some_taken r.kind r.objects others)
+      (λ free. fits_to r.kind others r.objects (fits_more r.kind r.objects more others there back (stood_free r whole) (fits_from r.kind more r.objects free)))
+      (λ free. fits_to r.kind more r.objects (fits_less r.kind r.objects more others there back (stood_free r whole) (fits_from r.kind others r.objects free)));
   holds = λ tree free h. record {
-    files = λ path. h.files path ∙ alike_file kind (store_all kind values more) (store_all kind values others) (own_ids_all kind more values own) (own_ids_all kind others values own) path
-        (λ id is at. texts_alike kind values more others there back (fits_from kind more values free) id);
+    files = λ path. h.files path ∙ alike_file r.kind (store_all r.kind r.objects more) (store_all r.kind r.objects others) (own_ids_all r.kind more r.objects whole.own_ids) (own_ids_all r.kind others r.objects whole.own_ids) path
+        (λ id is at. texts_alike r.kind r.objects more others there back (stood_free r whole) (fits_from r.kind more r.objects free) id);
     folders = h.folders;
   };
   ids = λ id free.
-      let alike = texts_alike kind values more others there back (fits_from kind more values free) id in
-      is_some_text kind (get (store_all kind values others) id) ∙ ap is_some (sym alike) ∙ sym (is_some_text kind (get (store_all kind values more) id));
+      let alike = texts_alike r.kind r.objects more others there back (stood_free r whole) (fits_from r.kind more r.objects free) id in
+      is_some_text r.kind (get (store_all r.kind r.objects others) id) ∙ ap is_some (sym alike) ∙ sym (is_some_text r.kind (get (store_all r.kind r.objects more) id));
 }
   where
     there : (value : Value) → In value more → In value others
-    there value i = contains_in others value ((same value).0 (in_contains more value i))
+    there value i = contains_in others value (fewer value (in_contains more value i))
 
-    back : (value : Value) → In value others → In value more
-    back value i = contains_in more value ((same value).1 (in_contains others value i))
+    back : (value : Value) → In value others → In value more ⊎ HasText r.kind r.objects value
+    back value i = elim (rest value (in_contains others value i)) [ inl a ↦ inl (contains_in more value a) | inr b ↦ inr b ]

@@ -1,35 +1,30 @@
 -- The causes that may be the first for a command of this stage.
-use Rattle.std.proofs.Common.{◌≡◌, Bool, true, false, cond, List, [], ◌∷◌, ◌++◌, refl, Option, Some, None, option_map, option_to_list, is_some, is_none, unwrap_or, find}
-use Rattle.std.specs.List.{list_all, list_any}
+use Rattle.std.proofs.Common.{◌≡◌, Bool, true, false, cond, List, [], ◌∷◌, ◌++◌, refl, Option, Some, None, option_map, is_some, is_none, unwrap_or, find}
+use Rattle.std.specs.List.{list_any}
 use Rattle.std.specs.FinMap.{get}
 use Rattle.history_model.specs.Bytes.{Bytes}
-use Rattle.history_model.specs.FileMap.{FileMap, Edit, Put, Remove, RemoveFile, edit_path, is_refused, some_refused, edited, has_below}
-use Rattle.history_model.specs.Stage.{is_offered_path}
 use Rattle.history_model.specs.Objects.{Value, StoredCommit, StoredTag, StoredBytes, StoredFolder}
 use Rattle.gix_hash.specs.Id.{Id}
 use Rattle.history_model.specs.Repository.{Repository, HasWholeNames, id_at, peeled, is_tag, is_tag_value}
-use Rattle.history_model.specs.Words.{WordReading, ReadsAs, Unborn, Unknown, Ambiguous, word_reading, commit_of}
+use Rattle.history_model.specs.Words.{WordReading, ReadsAs, Unborn, Unknown, Ambiguous, word_reading}
 use Rattle.history_model.specs.Commands.{Commit, Tag, Move, Rename, Delete, Switch, Pack, Index, Names, Files, Past, Log, Show, CommitCommand}
 use Rattle.history_model.specs.CommandParts.{at_word}
-use Rattle.history_model.specs.Meaning.{branch_or_name, parents_of, first_files, edits_of}
-use Rattle.history_model.specs.Causes.{holds, in_order, is_ambiguous, is_no_commit, word_files}
-use Rattle.history_model.specs.Offered.{IsOffered, is_flat, offered_causes, FirstOfferedCause}
+use Rattle.history_model.specs.Meaning.{branch_or_name}
+use Rattle.history_model.specs.Causes.{holds, in_order, is_ambiguous, is_no_commit}
+use Rattle.history_model.specs.Offered.{IsOffered, offered_causes, FirstOfferedCause}
 use Rattle.history_model.specs.declared.Cause.{Cause}
 use Rattle.history_model.specs.declared.Cause.TheVariants.{BadName, PrivateName, NameTwice, UnknownWord, AmbiguousWord, UnbornHead, NotACommit, NoSuchName, Taken, NotExpected, Collides, HoldsTag, TooManyParents, DuplicateParent, BadPath, IsFolder, NoSuchPath, BadActor, BadTime, BadMessage, TooLarge, NothingMoves, OrderWithParents}
-use Rattle.history_model.proofs.PartLemmas.{both_true}
-use Rattle.history_model.proofs.OfferedFiles.{neither, none_below, edit_flat}
+use Rattle.history_model.proofs.OfferedFiles.{neither}
 use Rattle.history_model.proofs.OfferedReads.{words_read_names, none_is_ambiguous}
-use Rattle.history_model.proofs.OfferedSteps.{first_flat, edits_offered}
 
 -- ---- the first of few
 
--- these don't hold; nor does the one of folders where no path is bad
+-- these don't hold
 record RuledOut (p : Cause → Bool) : Type 0 where
   name_twice : p NameTwice ≡ false
   ambiguous : p AmbiguousWord ≡ false
   no_commit : p NotACommit ≡ false
   holds_tag : p HoldsTag ≡ false
-  meets_folder : p BadPath ≡ false → p IsFolder ≡ false
   moves_nothing : p NothingMoves ≡ false
   wrong_order : p OrderWithParents ≡ false
 
@@ -46,8 +41,8 @@ first_of_few p out =
     keep (p BadName) _ _ _ (λ n. keep (p PrivateName) _ _ _ (λ n. drop _ _ _ _ out.name_twice
     (keep (p UnknownWord) _ _ _ (λ u. drop _ _ _ _ out.ambiguous (keep (p UnbornHead) _ _ _ (λ n. drop _ _ _ _ out.no_commit
     (keep (p NoSuchName) _ _ _ (λ s. keep (p Taken) _ _ _ (λ t. keep (p NotExpected) _ _ _ (λ e. keep (p Collides) _ _ _ (λ c. drop _ _ _ _ out.holds_tag
-    (keep (p TooManyParents) _ _ _ (λ m. keep (p DuplicateParent) _ _ _ (λ d. keep (p BadPath) _ _ _ (λ b. drop _ _ _ _ (out.meets_folder b)
-    (keep (p NoSuchPath) _ _ _ (λ s. keep (p BadActor) _ _ _ (λ a. keep (p BadTime) _ _ _ (λ t. keep (p BadMessage) _ _ _ (λ m. keep (p TooLarge) _ _ _ (λ l.
+    (keep (p TooManyParents) _ _ _ (λ m. keep (p DuplicateParent) _ _ _ (λ d. keep (p BadPath) _ _ _ (λ b. keep (p IsFolder) _ _ _ (λ f.
+    keep (p NoSuchPath) _ _ _ (λ s. keep (p BadActor) _ _ _ (λ a. keep (p BadTime) _ _ _ (λ t. keep (p BadMessage) _ _ _ (λ m. keep (p TooLarge) _ _ _ (λ l.
     drop _ _ _ _ out.moves_nothing (drop _ _ _ _ out.wrong_order refl))))))))))))))))))))))
 
 -- ---- lists
@@ -55,18 +50,6 @@ first_of_few p out =
 none_passes : {X : Type 0} (p : X → Bool) (xs : List X) → ((x : X) → p x ≡ false) → list_any p xs ≡ false
 none_passes p [] h = refl
 none_passes p (x ∷ xs) h = neither (p x) (list_any p xs) (h x) (none_passes p xs h)
-
--- flat files stay so, and no edit meets a folder
-never_refused : (files : FileMap) (edits : List Edit) → list_all (λ edit. is_offered_path (edit_path edit)) edits ≡ true → is_flat files ≡ true → some_refused files edits ≡ false
-never_refused files [] good flat = refl
-never_refused files (edit ∷ edits) good flat =
-    let parts = both_true (is_offered_path (edit_path edit)) (list_all (λ edit. is_offered_path (edit_path edit)) edits) good in
-    neither (is_refused files edit) (some_refused (edited files edit) edits) (one edit) (never_refused (edited files edit) edits parts.1 (edit_flat files edit parts.0 flat))
-  where
-    one : (edit : Edit) → is_refused files edit ≡ false
-    one (Put kind path bytes) = refl
-    one (Remove path) = refl
-    one (RemoveFile path) = none_below files flat path
 
 module _ (r : Repository) (o : IsOffered r) (w : HasWholeNames r) where
   -- ---- words
@@ -99,7 +82,7 @@ module _ (r : Repository) (o : IsOffered r) (w : HasWholeNames r) where
       value : (id : Id) (found : Option Value) → get r.objects id ≡ found → unwrap_or (option_map is_tag_value found) false ≡ false
       value id None e = refl
       value id (Some (StoredCommit c)) e = refl
-      value id (Some (StoredTag t)) e = absurd (o.values id (StoredTag t) e)
+      value id (Some (StoredTag t)) e = o.untagged id (StoredTag t) e
       value id (Some (StoredBytes b)) e = refl
       value id (Some (StoredFolder f)) e = refl
 
@@ -115,7 +98,6 @@ module _ (r : Repository) (o : IsOffered r) (w : HasWholeNames r) where
     ambiguous = none_passes (λ word. is_ambiguous (word_reading r word)) (at_word c.expect ++ c.parents) not_ambiguous;
     no_commit = none_passes (λ word. is_no_commit r (word_reading r word)) (at_word c.expect ++ c.parents) is_commit;
     holds_tag = no_tag (branch_or_name r c.name);
-    meets_folder = λ good. never_refused (first_files r (parents_of r c)) (edits_of r c) (edits_offered r c.edits good) (first_flat r o (parents_of r c));
     moves_nothing = refl;
     wrong_order = refl;
   }
@@ -126,7 +108,6 @@ module _ (r : Repository) (o : IsOffered r) (w : HasWholeNames r) where
     ambiguous = neither _ false (not_ambiguous word) refl;
     no_commit = neither _ false (is_commit word) refl;
     holds_tag = refl;
-    meets_folder = λ good. refl;
     moves_nothing = refl;
     wrong_order = refl;
   }
@@ -137,7 +118,6 @@ module _ (r : Repository) (o : IsOffered r) (w : HasWholeNames r) where
     ambiguous = neither _ false (not_ambiguous word) refl;
     no_commit = neither _ false (is_commit word) refl;
     holds_tag = refl;
-    meets_folder = λ good. none_passes (has_below (word_files r word)) (option_to_list path) (none_below (word_files r word) (first_flat r o (option_to_list (commit_of r word))));
     moves_nothing = refl;
     wrong_order = refl;
   }

@@ -1,24 +1,17 @@
--- What words and names stand for, and what a commit stores, in a repository of this stage.
-use Rattle.std.proofs.Common.{◌≡◌, inl, inr, Bool, true, false, cond, List, [], ◌∷◌, ◌++◌, map, refl, ◌∙◌, ap, Option, Some, None, is_some, option_map, option_and_then, unwrap_or, bytes_eq, find, append_assoc}
-use Rattle.std.specs.List.{AllByRecursion, flat_map}
+-- What words and names stand for in a repository of this stage.
+use Rattle.std.proofs.Common.{◌≡◌, inl, inr, Bool, true, false, cond, List, [], ◌∷◌, refl, ◌∙◌, ap, Option, Some, None, is_some, option_map, option_and_then, unwrap_or, bytes_eq, find}
+use Rattle.std.specs.List.{AllByRecursion}
 use Rattle.std.specs.FinMap.{get}
 use Rattle.history_model.specs.Bytes.{Bytes}
 use Rattle.history_model.specs.Objects.{CommitValue, Value, StoredCommit, StoredTag, StoredBytes, StoredFolder}
 use Rattle.gix_hash.specs.Id.{Id}
 use Rattle.history_model.specs.Repository.{Repository, HasWholeNames, HoldsCommit, id_at, stands, peeled, peeled_value}
 use Rattle.history_model.specs.Words.{WordReading, ReadsAs, Unborn, Unknown, Ambiguous, word_reading, name_reading, candidates, head_word, commit_read}
-use Rattle.history_model.specs.Meaning.{parents_of, edits_of, new_commit, put_bytes}
+use Rattle.history_model.specs.Meaning.{parents_of}
 use Rattle.history_model.specs.Offered.{IsOffered}
-use Rattle.history_model.specs.OfferedWords.{read_id, WordsReadNames, NoneIsAmbiguous, NamesHoldCommits, NamesStandForTheirs, WordsStandForTheirs, ParentsAreCommits, CommitsStoreFlat}
-use Rattle.history_model.proofs.OfferedFiles.{flat_folders}
-use Rattle.history_model.proofs.OfferedSteps.{new_flat}
+use Rattle.history_model.specs.OfferedWords.{read_id, WordsReadNames, NoneIsAmbiguous, NamesHoldCommits, NamesStandForTheirs, WordsStandForTheirs, ParentsAreCommits}
 use Rattle.history_model.proofs.WholeLists.{In}
 use Rattle.history_model.proofs.WholeReads.{parents_hold}
-
-pub commits_store_flat : CommitsStoreFlat
-commits_store_flat r c o good =
-    ap (λ folders. (flat_map put_bytes (edits_of r c) ++ map StoredFolder folders) ++ StoredCommit (new_commit r c) ∷ []) (flat_folders (new_commit r c).files (new_flat r c o good))
-    ∙ append_assoc (flat_map put_bytes (edits_of r c)) (StoredFolder (new_commit r c).files ∷ []) (StoredCommit (new_commit r c) ∷ [])
 
 -- ---- words
 
@@ -64,7 +57,7 @@ names_hold_commits r name id o w at = go (get r.objects id) refl (w.held name id
     go : (found : Option Value) → get r.objects id ≡ found → is_some (option_and_then (peeled_value id) found) ≡ true → (commit : CommitValue) × (get r.objects id ≡ Some (StoredCommit commit))
     go None e h = cc
     go (Some (StoredCommit c)) e h = (c, e)
-    go (Some (StoredTag t)) e h = absurd (o.values id (StoredTag t) e)
+    go (Some (StoredTag t)) e h = cc (o.untagged id (StoredTag t) e)
     go (Some (StoredBytes b)) e h = cc
     go (Some (StoredFolder f)) e h = cc
 

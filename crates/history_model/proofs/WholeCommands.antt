@@ -1,12 +1,12 @@
 -- The store after a command of which no cause holds is whole.
-use Rattle.std.proofs.Common.{◌≡◌, ◌⊎◌, false, List, [], ◌∷◌, ◌++◌, map, refl, sym, ap, subst, inl, inr, Option, Some, None, is_none, unwrap_or}
+use Rattle.std.proofs.Common.{◌≡◌, false, List, [], ◌∷◌, ◌++◌, map, refl, sym, ap, subst, inl, inr, Option, Some, None, is_none, unwrap_or}
 use Rattle.std.specs.List.{flat_map}
 use Rattle.std.specs.FinMap.{entries, keys}
 use Rattle.history_model.specs.Bytes.{Bytes}
 use Rattle.history_model.specs.FileMap.{FileMap, Content, inside, beginnings, folders_of, Edit, Put, Remove, RemoveFile}
 use Rattle.history_model.specs.Objects.{Value, StoredCommit, StoredBytes, StoredFolder}
 use Rattle.gix_hash.specs.Id.{Id, null_id}
-use Rattle.history_model.specs.Repository.{Repository, IsStored, HoldsCommit, peeled, IsWholeStore}
+use Rattle.history_model.specs.Repository.{Repository, HoldsCommit, peeled, IsWholeStore}
 use Rattle.history_model.specs.Forms.{IsWrittenFiles, IsWritten}
 use Rattle.history_model.specs.Words.{WordReading, ReadsAs, Unborn, Unknown, Ambiguous, commit_read, commit_of, word_reading}
 use Rattle.history_model.specs.Commands.{Command, Commit, Tag, Move, Rename, Delete, Switch, Pack, Index, Names, Files, Past, Log, Show, CommitCommand, TagCommand}
@@ -16,8 +16,8 @@ use Rattle.history_model.specs.Causes.{first_cause, is_unknown, is_ambiguous, is
 use Rattle.history_model.specs.declared.Cause.TheVariants.{UnknownWord, AmbiguousWord, UnbornHead, NotACommit}
 use Rattle.history_model.proofs.WholeLists.{In, in_left, in_right, in_either, in_map, of_flat, in_flat, none_passes}
 use Rattle.history_model.proofs.WholeRoots.{HasAll, ArePlain, of_folders, inside_has, plain_inside}
-use Rattle.history_model.proofs.WholeStores.{in_get}
-use Rattle.history_model.proofs.WholeGrowth.{Fits, grown_whole}
+use Rattle.history_model.proofs.WholeStores.{in_get, near_stored}
+use Rattle.history_model.proofs.WholeGrowth.{Coming, Fits, grown_whole}
 use Rattle.history_model.proofs.WholeReads.{no_cause, tests_ambiguous_word, tests_not_a_commit, tests_unborn_head, tests_unknown_word, read_holds, parents_hold, plain_written, Fine, first_fine, edits_from, new_written}
 
 -- ---- words
@@ -63,11 +63,8 @@ module _ (r : Repository) (whole : IsWholeStore r) (written : IsWritten r) where
     folder_in v i = in_left v (flat_map put_bytes (edits_of r c) ++ map StoredFolder (folders_of files)) (StoredCommit (new_commit r c) ∷ [])
         (in_right v (flat_map put_bytes (edits_of r c)) (map StoredFolder (folders_of files)) i)
 
-    abbrev Coming : Value → Type 0
-    Coming v = In v stored ⊎ IsStored r v
-
     -- each folder and all bytes of the commit's files are stored, or come with it
-    coming : HasAll Coming files
+    coming : HasAll (Coming r stored) files
     coming = record {
       itself = inl (folder_in (StoredFolder files) (inl refl));
       folders = λ path content folder i j. inl (folder_in (StoredFolder (inside folder files)) (inr (in_map StoredFolder (inside folder files)
@@ -75,7 +72,7 @@ module _ (r : Repository) (whole : IsWholeStore r) (written : IsWritten r) where
           (in_map (λ folder. inside folder files) folder (flat_map beginnings (keys files))
           (in_flat beginnings folder path (keys files) (in_map (λ (e : Bytes × Content). e.0) (path, content) (entries files) i) j)))));
       bytes = λ path content i. elim (edits_from (first_files r (parents_of r c)) (edits_of r c) path content (in_get files path content i)) [
-        | inl a ↦ inr (old_fine.0 path content a)
+        | inl a ↦ inr (near_stored r.kind r.objects (StoredBytes content.bytes) (old_fine.0 path content a))
         | inr b ↦ inl (in_left (StoredBytes content.bytes) (flat_map put_bytes (edits_of r c) ++ map StoredFolder (folders_of files)) (StoredCommit (new_commit r c) ∷ [])
             (in_left (StoredBytes content.bytes) (flat_map put_bytes (edits_of r c)) (map StoredFolder (folders_of files)) (in_flat put_bytes (StoredBytes content.bytes) b.0 (edits_of r c) b.1 b.3)))
       ];
@@ -84,7 +81,7 @@ module _ (r : Repository) (whole : IsWholeStore r) (written : IsWritten r) where
     folders_fit : HasAll (Fits r stored) files
     folders_fit = record {
       itself = (coming, plain);
-      folders = λ path content folder i j. (inside_has Coming files coming path content folder i j, plain_inside folder files plain);
+      folders = λ path content folder i j. (inside_has (Coming r stored) files coming path content folder i j, plain_inside folder files plain);
       bytes = λ path content i. tt;
     }
 
@@ -100,7 +97,7 @@ module _ (r : Repository) (whole : IsWholeStore r) (written : IsWritten r) where
         | inl b ↦ let from = of_flat put_bytes v (edits_of r c) b in put_fits v from.0 from.2
         | inr b ↦ of_folders (Fits r stored) files folders_fit v b
       ]
-      | inr (inl e) ↦ subst (Fits r stored) (sym e) (parents_hold r whole c, folder_in (StoredFolder files) (inl refl))
+      | inr (inl e) ↦ subst (Fits r stored) (sym e) (parents_hold r whole c, coming, plain)
       | inr (inr e) ↦ absurd e
     ]
 

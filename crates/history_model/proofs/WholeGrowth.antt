@@ -108,12 +108,16 @@ lower_ranks m v i = elim (in_either v (map StoredFolder (map (λ folder. inside 
 
 -- ---- growth
 
+-- the value is to be stored, or its text is
+abbrev pub Coming : Repository → List Value → Value → Type 0
+Coming r vs v = In v vs ⊎ Near r.kind r.objects v
+
 -- what a value to be stored names is stored, or is to be stored with it
 abbrev pub Fits : Repository → List Value → Value → Type 0
-Fits r vs (StoredCommit c) = ((id : Id) → In id c.parents → HoldsCommit r id) × In (StoredFolder c.files) vs
+Fits r vs (StoredCommit c) = ((id : Id) → In id c.parents → HoldsCommit r id) × HasAll (Coming r vs) c.files × ArePlain (entries c.files)
 Fits r vs (StoredTag t) = HoldsCommit r t.target
 Fits r vs (StoredBytes b) = Unit {0}
-Fits r vs (StoredFolder m) = HasAll (λ v. In v vs ⊎ IsStored r v) m × ArePlain (entries m)
+Fits r vs (StoredFolder m) = HasAll (Coming r vs) m × ArePlain (entries m)
 
 has_map : (P Q : Value → Type 0) → ((v : Value) → P v → Q v) → (m : FileMap) → HasAll P m → HasAll Q m
 has_map P Q f m h = record {
@@ -131,19 +135,22 @@ module _ (r : Repository) (whole : IsWholeStore r) (plain : (q : Id) (m : FileMa
   keeps : (q : Id) (x : Value) → get r.objects q ≡ Some x → get new.objects q ≡ Some x
   keeps q x h = all_keep r.kind r.objects vs q x h
 
-  near : (v : Value) → In v vs ⊎ IsStored r v → Near r.kind new.objects v
+  near : (v : Value) → Coming r vs v → Near r.kind new.objects v
   near v (inl i) = all_near r.kind r.objects vs free v i
-  near v (inr h) = near_stored r.kind new.objects v (keeps (id_of r.kind v) v h)
+  near v (inr h) = (h.0, keeps (id_of r.kind v) h.0 h.1, h.2)
 
   folders_near : FoldersNear r.kind new.objects
   folders_near q m at = elim (all_from r.kind r.objects vs q (StoredFolder m) at) [
-    | inl old ↦ (has_map (IsStored r) (Near r.kind new.objects) (λ v h. near v (inr h)) m (has_stored r whole q m old), plain q m old)
-    | inr made ↦ (has_map (λ v. In v vs ⊎ IsStored r v) (Near r.kind new.objects) near m (fits (StoredFolder m) made.0).0, (fits (StoredFolder m) made.0).1)
+    | inl old ↦ (has_map (IsStored r) (Near r.kind new.objects) (λ v h. near v (inr (near_stored r.kind r.objects v h))) m (has_stored r whole q m old), plain q m old)
+    | inr made ↦ (has_map (Coming r vs) (Near r.kind new.objects) near m (fits (StoredFolder m) made.0).0, (fits (StoredFolder m) made.0).1)
   ]
 
-  -- a folder that is to be stored is stored, with all of it
+  -- a folder of which all comes is stored, with all of it
+  pub come_folder : (m : FileMap) → HasAll (Coming r vs) m → ArePlain (entries m) → HasAll (IsStored new) m
+  come_folder m has plain = files_stored r.kind new.objects folders_near m (has_map (Coming r vs) (Near r.kind new.objects) near m has) plain
+
   pub made_folder : (m : FileMap) → In (StoredFolder m) vs → HasAll (IsStored new) m
-  made_folder m i = files_stored r.kind new.objects folders_near m (has_map (λ v. In v vs ⊎ IsStored r v) (Near r.kind new.objects) near m (fits (StoredFolder m) i).0) (fits (StoredFolder m) i).1
+  made_folder m i = let named = fits (StoredFolder m) i in come_folder m named.0 named.1
 
   pub holds_kept : (id : Id) → HoldsCommit r id → HoldsCommit new id
   holds_kept id h = let held = holds_value r id h in value_holds new id held.0 (keeps id (StoredCommit held.0) held.1)
@@ -155,7 +162,7 @@ module _ (r : Repository) (whole : IsWholeStore r) (plain : (q : Id) (m : FileMa
   kept_names (StoredFolder m) h = in_all (IsStored new) (file_values m) (λ v i. keeps (id_of r.kind v) v (all_in (IsStored r) (file_values m) h v i))
 
   made_names : (v : Value) → In v vs → NamesAreStored new v
-  made_names (StoredCommit c) i = let named = fits (StoredCommit c) i in (in_all (HoldsCommit new) c.parents (λ id j. holds_kept id (named.0 id j)), (made_folder c.files named.1).itself)
+  made_names (StoredCommit c) i = let named = fits (StoredCommit c) i in (in_all (HoldsCommit new) c.parents (λ id j. holds_kept id (named.0 id j)), (come_folder c.files named.1 named.2).itself)
   made_names (StoredTag t) i = holds_kept t.target (fits (StoredTag t) i)
   made_names (StoredBytes b) i = tt
   made_names (StoredFolder m) i = all_values (IsStored new) m (made_folder m i)
@@ -188,7 +195,8 @@ module _ (r : Repository) (whole : IsWholeStore r) (plain : (q : Id) (m : FileMa
   sinks_named : (a b : Id) (v : Value) → get new.objects a ≡ Some v → In v vs → In b (named_ids r.kind v) → Sinks a b
   unfolding rank
   sinks_named a b (StoredCommit c) at i (inl e) =
-      inr (StoredCommit c, StoredFolder c.files, at, ap (get new.objects) e ∙ (made_folder c.files (fits (StoredCommit c) i).1).itself, omega arith)
+      let named = fits (StoredCommit c) i in
+      inr (StoredCommit c, StoredFolder c.files, at, ap (get new.objects) e ∙ (come_folder c.files named.1 named.2).itself, omega arith)
   sinks_named a b (StoredCommit c) at i (inr j) = let held = holds_value r b ((fits (StoredCommit c) i).0 b j) in inl (StoredCommit held.0, held.1)
   sinks_named a b (StoredTag t) at i (inl e) = let held = holds_value r t.target (fits (StoredTag t) i) in inl (StoredCommit held.0, ap (get r.objects) e ∙ held.1)
   sinks_named a b (StoredTag t) at i (inr j) = absurd j

@@ -1,5 +1,5 @@
 -- What a command reads of a whole repository, and the files of its commit.
-use Rattle.std.proofs.Common.{◌≡◌, ◌≤◌, ◌⊎◌, Bool, true, false, cond, not, ◌&&◌, ◌||◌, List, [], ◌∷◌, length, refl, sym, ◌∙◌, ap, subst, arith, tests, inl, inr, Option, Some, None, is_some, bytes_eq, nat_lt, option_map, option_to_list, unwrap_or, option_and_then, find}
+use Rattle.std.proofs.Common.{◌≡◌, ◌≤◌, ◌⊎◌, Bool, true, false, cond, not, ◌||◌, List, [], ◌∷◌, length, refl, sym, ◌∙◌, ap, subst, arith, tests, inl, inr, Option, Some, None, is_some, bytes_eq, nat_lt, option_map, option_to_list, unwrap_or, option_and_then, find}
 use Rattle.std.specs.List.{list_any, filter_map, cons_option}
 use Rattle.std.specs.FinMap.{entries, get, get-empty, empty, contains_key, retain_keys}
 use Rattle.history_model.specs.Bytes.{Bytes, by_bytes, has_byte}
@@ -8,7 +8,6 @@ use Rattle.history_model.specs.Objects.{Value, CommitValue, StoredCommit, Stored
 use Rattle.gix_hash.specs.Id.{Id}
 use Rattle.history_model.specs.Repository.{Repository, IsStored, HoldsCommit, as_commit, peeled, peeled_value, id_at, IsWholeStore}
 use Rattle.history_model.specs.Forms.{IsWrittenFiles, IsWritten, max_path}
-use Rattle.history_model.specs.Stage.{is_offered_path}
 use Rattle.history_model.specs.Words.{WordReading, ReadsAs, Unborn, Unknown, Ambiguous, commit_read, commit_of, word_reading}
 use Rattle.history_model.specs.Commands.{Command, Commit, CommitCommand, EditLine, PutLine, RemoveLine, RemoveFileLine}
 use Rattle.history_model.specs.Meaning.{parents_of, name_commit, branch_or_name, first_files, read_edit, edits_of, new_commit, put_bytes}
@@ -201,8 +200,8 @@ module _ (r : Repository) (c : CommitCommand) (none : first_cause r (Commit c) �
   good_path : (path : Bytes) → In path (paths_in (Commit c)) → (is_path path ≡ true) × (nat_lt max_path (length path) ≡ false)
   good_path path i =
       let good = none_passes is_bad_path (paths_in (Commit c)) (no_cause r (Commit c) none BadPath tests_bad_path) path i in
-      let parts = or_none (not (is_path path && is_offered_path path)) (nat_lt max_path (length path)) good in
-      ((and_true (is_path path) (is_offered_path path) (not_false (is_path path && is_offered_path path) parts.0)).0, parts.1)
+      let parts = or_none (not (is_path path)) (nat_lt max_path (length path)) good in
+      (not_false (is_path path) parts.0, parts.1)
 
   edit_in : (e : Edit) → In e (edits_of r c) → In (edit_path e) (paths_in (Commit c))
   edit_in e i =

@@ -11,7 +11,7 @@ use Rattle.history_model.specs.Wholeness.{IsSound, AcceptedStoreExactly}
 use Rattle.history_model.proofs.WholeLists.{In, texts_differ}
 use Rattle.history_model.proofs.WholeTexts.{text_same}
 use Rattle.history_model.proofs.WholeStores.{Near, all_keep, all_near, all_from, bytes_stored}
-use Rattle.history_model.proofs.WholeGrowth.{made_folder}
+use Rattle.history_model.proofs.WholeGrowth.{come_folder, made_folder}
 use Rattle.history_model.proofs.WholeReads.{plain_written}
 use Rattle.history_model.proofs.WholeCommands.{all_fits}
 use Rattle.history_model.proofs.WholeNames.{after_whole}
@@ -31,6 +31,12 @@ module _ (r : Repository) (sound : IsSound r) (command : Command) (none : first_
       (made_folder r (sound.whole).store (λ q n at. plain_written n (((sound.written).values q (StoredFolder n) at).0)) (stored_by r command) free (all_fits r (sound.whole).store sound.written command none)
       (names_after r command) (branch_after r command) m i).itself
 
+  files_there : (c : CommitValue) → In (StoredCommit c) (stored_by r command) → IsStored new (StoredFolder c.files)
+  files_there c i =
+      let named = all_fits r (sound.whole).store sound.written command none (StoredCommit c) i in
+      (come_folder r (sound.whole).store (λ q n at. plain_written n (((sound.written).values q (StoredFolder n) at).0)) (stored_by r command) free (all_fits r (sound.whole).store sound.written command none)
+      (names_after r command) (branch_after r command) c.files named.1 named.2).itself
+
   folders_one : {m n : FileMap} → Some (StoredFolder m) ≡ Some (StoredFolder n) → m ≡ n
   folders_one e = cc
 
@@ -39,7 +45,7 @@ module _ (r : Repository) (sound : IsSound r) (command : Command) (none : first_
       let parts = commit_same r.kind d c (((sound_after.written).values (id_of r.kind (StoredCommit c)) (StoredCommit d) at).0).0 ((stored_formed r sound.whole sound.written command none (StoredCommit c) i).0).0
       (text_same r.kind (StoredCommit d) (StoredCommit c) same).1 in
       let tree : IsStored new (StoredFolder d.files) = (((sound_after.whole).store).closed (id_of r.kind (StoredCommit c)) (StoredCommit d) at).1 in
-      let files = folders_one (sym tree ∙ ap (get new.objects) parts.0 ∙ folder_there c.files (all_fits r (sound.whole).store sound.written command none (StoredCommit c) i).1) in
+      let files = folders_one (sym tree ∙ ap (get new.objects) parts.0 ∙ files_there c i) in
       λ j. record { parents = parts.1 j; author = parts.2 j; committer = parts.3 j; message = parts.4 j; files = files j }
 
   near_there : (v : Value) → In v (stored_by r command) → Near r.kind new.objects v → IsStored new v

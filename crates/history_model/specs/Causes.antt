@@ -4,7 +4,6 @@ use Rattle.std.specs.List.{list_any}
 use Rattle.std.specs.FinMap.{keys, get}
 use Rattle.history_model.specs.Bytes.{Bytes, begins, has_byte, has_twice, is_empty}
 use Rattle.history_model.specs.FileMap.{FileMap, some_refused, has_below, is_below, is_path}
-use Rattle.history_model.specs.Stage.{is_offered_path}
 use Rattle.history_model.specs.Objects.{content_of, id_of, StoredTag}
 use Rattle.gix_hash.specs.Id.{Id}
 use Rattle.gix_hash.specs.Order.{id_eq}
@@ -95,7 +94,7 @@ parents_in r (Commit c) = parents_of r c
 parents_in r _ = []
 
 abbrev pub is_bad_path : Bytes → Bool
-is_bad_path path = not (is_path path && is_offered_path path) || nat_lt max_path (length path)
+is_bad_path path = not (is_path path) || nat_lt max_path (length path)
 
 abbrev pub word_files : Repository → Bytes → FileMap
 word_files r word = first_files r (option_to_list (commit_of r word))

@@ -1,16 +1,14 @@
--- What words and names stand for, and what a commit stores, in a repository of this stage.
-use Rattle.std.specs.Prelude.{◌≡◌, ◌≢◌, [], ◌∷◌, ◌++◌, Option, Some, None, IsFalse}
-use Rattle.std.specs.List.{AllByRecursion, list_any, flat_map}
+-- What words and names stand for in a repository of this stage.
+use Rattle.std.specs.Prelude.{◌≡◌, ◌≢◌, Option, Some, None}
+use Rattle.std.specs.List.{AllByRecursion}
 use Rattle.std.specs.FinMap.{get}
 use Rattle.history_model.specs.Bytes.{Bytes}
-use Rattle.history_model.specs.Objects.{CommitValue, StoredCommit, StoredFolder}
+use Rattle.history_model.specs.Objects.{CommitValue, StoredCommit}
 use Rattle.gix_hash.specs.Id.{Id}
 use Rattle.history_model.specs.Repository.{Repository, IsWholeStore, HasWholeNames, HoldsCommit, id_at}
 use Rattle.history_model.specs.Words.{WordReading, ReadsAs, Unborn, Unknown, Ambiguous, word_reading, commit_of}
-use Rattle.history_model.specs.Commands.{Commit, CommitCommand}
-use Rattle.history_model.specs.CommandParts.{paths_in}
-use Rattle.history_model.specs.Meaning.{name_commit, parents_of, edits_of, new_commit, put_bytes, stored_by}
-use Rattle.history_model.specs.Causes.{is_bad_path}
+use Rattle.history_model.specs.Commands.{CommitCommand}
+use Rattle.history_model.specs.Meaning.{name_commit, parents_of}
 use Rattle.history_model.specs.Offered.{IsOffered}
 
 -- the id that a word reads as
@@ -43,8 +41,3 @@ WordsStandForTheirs = (r : Repository) (word : Bytes) → IsOffered r → HasWho
 -- Each parent of a commit is a stored commit.
 abbrev pub ParentsAreCommits : Type 0
 ParentsAreCommits = (r : Repository) (c : CommitCommand) → IsWholeStore r → AllByRecursion (HoldsCommit r) (parents_of r c)
-
--- A commit stores the bytes of each `put`, its flat folder, and itself.
-abbrev pub CommitsStoreFlat : Type 0
-CommitsStoreFlat = (r : Repository) (c : CommitCommand) → IsOffered r → IsFalse (list_any is_bad_path (paths_in (Commit c)))
-    → stored_by r (Commit c) ≡ flat_map put_bytes (edits_of r c) ++ StoredFolder (new_commit r c).files ∷ StoredCommit (new_commit r c) ∷ []

@@ -1,32 +1,30 @@
 -- What the two parts pass through while a command is acted on: each tree, once recovered.
-use Rattle.std.specs.Prelude.{◌≡◌, ◌≢◌, ◌⊎◌, ◌≤◌, ◌<◌, ◌-◌, ◌^◌, ℕ, not, ◌||◌, bytes_eq, List, [], ◌∷◌, ◌++◌, take, Option, Some, None, unwrap_or, MatchOption, Contains, IsSome, IsTrue, IsFalse}
-use Rattle.std.specs.List.{AllByRecursion}
+use Rattle.std.specs.Prelude.{◌≡◌, ◌≢◌, ◌⊎◌, ◌≤◌, ◌<◌, ◌-◌, ◌^◌, ℕ, not, ◌||◌, bytes_eq, List, [], ◌∷◌, ◌++◌, map, take, Option, Some, None, unwrap_or, MatchOption, Contains, IsSome, IsTrue, IsFalse}
+use Rattle.std.specs.List.{AllByRecursion, flat_map}
 use Rattle.std.specs.FinMap.{get}
 use Rattle.gix_ref_file.specs.Tree.{Tree, folder, bytes_at}
 use Rattle.history_model.specs.Bytes.{Bytes, line}
-use Rattle.history_model.specs.FileMap.{is_below}
-use Rattle.history_model.specs.Objects.{Value, StoredCommit, hex, value_text, id_of}
+use Rattle.history_model.specs.FileMap.{FileMap, folders_of, is_below}
+use Rattle.history_model.specs.Objects.{Value, StoredCommit, StoredFolder, hex, value_text, id_of}
 use Rattle.history_model.specs.Repository.{Repository, LogEntry, IsWhole, IsWholeStore, id_at, moves_at, peeled, stands}
 use Rattle.gix_hash.specs.Id.{Id}
 use Rattle.history_model.specs.Readings.{Reading, Holds, Absent, is_absent, reading}
 use Rattle.history_model.specs.PackedNames.{packed_file, PackedAgrees}
 use Rattle.history_model.specs.Forms.{is_name, title}
 use Rattle.history_model.specs.Commands.{Command, CommitCommand, Commit, Rename}
-use Rattle.history_model.specs.Meaning.{References, after, branch_or_name, is_taken, new_commit, read_actor, some_taken, store_all, stored_by, takes_id}
+use Rattle.history_model.specs.Meaning.{References, after, branch_or_name, edits_of, is_taken, new_commit, put_bytes, read_actor, some_taken, store_all, stored_by, takes_id}
 use Rattle.history_model.specs.Causes.{first_cause}
 use Rattle.history_model.specs.Logs.{log_line, log_text, whole_lines}
 use Rattle.history_model.specs.Places.{Pair, file_at, head_place, is_log_place, object_place, unfinished_place, is_object_folder, packed_place, log_place, is_name_folder, is_lock_file}
 use Rattle.history_model.specs.StandsFor.{StandsFor, head_text, object_files}
 use Rattle.history_model.specs.TreeHalves.{Values, HoldsValues, HoldsNames, HaveOwnIds}
-use Rattle.history_model.specs.TreeSteps.{move_entry}
+use Rattle.history_model.specs.TreeSteps.{HasText, move_entry}
 use Rattle.history_model.specs.Recovery.{recovered_objects, recovered_names}
 use Rattle.history_model.specs.Stops.{NameBetween, IsNotLost, deletes, is_changing}
 use Rattle.gix_ref_file.specs.History.{History, Adds, trees, moment}
 use Rattle.history_model.specs.Replies.{Reply, Faulted}
 use Rattle.history_model.specs.Steps.{some_failed}
 use Rattle.history_model.specs.Moments.{LeavesStopped, Moment, ActsOn, Traces, CountsStay, HasCountedFailure, last_moment}
-use Rattle.history_model.specs.Offered.{IsOffered}
-use Rattle.history_model.specs.Stage.{is_spoken}
 use Rattle.history_model.specs.Wholeness.{IsSound}
 use Rattle.gix_hash.specs.declared.kind.Kind.{Kind}
 use Rattle.history_model.specs.declared.Fault.TheVariants.{File}
@@ -58,10 +56,25 @@ abbrev pub StoresWhole : Repository → List Value → Type 0
 StoresWhole r more = (first rest : List Value) → more ≡ first ++ rest → IsFalse (some_taken r.kind r.objects first)
     → IsWholeStore (record r { objects = store_all r.kind r.objects first })
 
--- A commit of this stage puts its values in such an order.
+-- Each folder in a folder of these stands before it, or its text is stored: the folders come children first.
+abbrev pub AreChildrenFirst : Repository → List FileMap → Type 0
+AreChildrenFirst r folders = (before after : List FileMap) (folder inner : FileMap) → folders ≡ before ++ folder ∷ after
+    → Contains (folders_of folder) inner → Contains (before ++ folder ∷ []) inner ⊎ HasText r.kind r.objects (StoredFolder inner)
+
+-- These are folders of the files, children first, and the text of each other one is stored.
+pub record AreNewFolders (r : Repository) (files : FileMap) (folders : List FileMap) : Type 0 where
+  pub among : (folder : FileMap) → Contains folders folder → Contains (folders_of files) folder
+  pub all : (folder : FileMap) → Contains (folders_of files) folder → Contains folders folder ⊎ HasText r.kind r.objects (StoredFolder folder)
+  pub in_order : AreChildrenFirst r folders
+
+-- the bytes of each `put`, these folders, and the commit
+abbrev pub commit_puts : Repository → CommitCommand → List FileMap → List Value
+commit_puts r c folders = flat_map put_bytes (edits_of r c) ++ map StoredFolder folders ++ StoredCommit (new_commit r c) ∷ []
+
+-- So a commit stores its values in such an order.
 abbrev pub CommitsStoreWhole : Type 0
-CommitsStoreWhole = (r : Repository) (c : CommitCommand) → IsSound r → IsOffered r → IsTrue (is_spoken (Commit c)) → first_cause r (Commit c) ≡ None
-    → StoresWhole r (stored_by r (Commit c))
+CommitsStoreWhole = (r : Repository) (c : CommitCommand) (folders : List FileMap) → IsSound r → first_cause r (Commit c) ≡ None
+    → AreNewFolders r (new_commit r c).files folders → StoresWhole r (commit_puts r c folders)
 
 -- A stop while a command's values are stored, before its first name moves.
 abbrev pub StoringStops : Type 0

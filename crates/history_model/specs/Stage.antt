@@ -1,7 +1,6 @@
--- What is offered at this stage: first lines, paths and words. The other modules state all commands, and to offer more is to
--- widen this module alone: the grammar, its table of lines, the words and the test for a bad path each ask it at one place.
-use Rattle.std.specs.Prelude.{Bool, true, false, not}
-use Rattle.history_model.specs.Bytes.{Bytes, has_byte}
+-- What is offered at this stage: first lines and words. The other modules state all commands, and to offer more is to widen this
+-- module alone: the grammar, its table of lines and the words each ask it at one place.
+use Rattle.std.specs.Prelude.{Bool, true, false}
 use Rattle.history_model.specs.Commands.{Command}
 use Rattle.history_model.specs.Lines.{Heading, CommitHeading, FilesHeading, ShowHeading, first_line}
 
@@ -15,10 +14,6 @@ opens _ = false
 
 abbrev pub is_spoken : Command → Bool
 is_spoken command = opens (first_line command)
-
--- A path has one component: any other is a bad path.
-abbrev pub is_offered_path : Bytes → Bool
-is_offered_path path = not (has_byte 47 path)
 
 -- Short ids aren't read: a word that means no name is unknown.
 abbrev pub offers_short_ids : Bool

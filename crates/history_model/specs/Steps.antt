@@ -7,12 +7,18 @@ use Rattle.history_model.specs.Meaning.{after, takes_id}
 use Rattle.history_model.specs.Causes.{first_cause}
 use Rattle.history_model.specs.Answers.{Answers, Row, rows_of}
 use Rattle.history_model.specs.Stops.{is_changing, LeftByStop}
+use Rattle.history_model.specs.declared.Cause.TheVariants.{TooLarge}
 use Rattle.history_model.specs.declared.Fault.{Fault}
 use Rattle.history_model.specs.declared.Fault.TheVariants.{IdTaken}
 
--- an id is taken only where no cause holds and the command stores under a taken one
+-- The command stores under a taken id, and no cause holds but that something may be too large: how long a tree is isn't known where
+-- it would name what has the null id.
+abbrev pub MayTake : Repository → Command → Type 0
+MayTake old command = ((first_cause old command ≡ None) ⊎ (first_cause old command ≡ Some TooLarge)) × IsTrue (takes_id old command)
+
+-- an id is taken only where it may be so told
 abbrev pub FaultFits : Repository → Command → Fault → Type 0
-FaultFits old command IdTaken = (first_cause old command ≡ None) × IsTrue (takes_id old command)
+FaultFits old command IdTaken = MayTake old command
 FaultFits old command _ = Unit {0}
 
 -- No cause holds, and the reply and the repository after it are what the command means.

@@ -1,12 +1,12 @@
 -- What a step of one tree does to the half that it holds.
-use Rattle.std.specs.Prelude.{List, Contains, ◌↔◌, ◌≡◌, ◌≢◌, Bool, false, not, ◌&&◌, ◌||◌, ◌++◌, Some, None, option_map, unwrap_or, bytes_eq, IsTrue, IsFalse}
+use Rattle.std.specs.Prelude.{List, Contains, ◌⊎◌, ◌≡◌, ◌≢◌, Bool, false, not, ◌&&◌, ◌||◌, ◌++◌, Some, None, option_map, unwrap_or, bytes_eq, IsTrue, IsFalse}
 use Rattle.std.specs.FinMap.{get, contains_key, empty}
 use Rattle.gix_ref_file.specs.Tree.{Tree, folder, bytes_at}
 use Rattle.history_model.specs.Bytes.{Bytes, line}
 use Rattle.history_model.specs.Objects.{Actor, Value, StoredFolder, hex, value_text, id_of, empty_tree_id}
 use Rattle.gix_hash.specs.Order.{id_eq}
 use Rattle.gix_hash.specs.Id.{Id, null_id}
-use Rattle.history_model.specs.Repository.{Repository, LogEntry, id_at}
+use Rattle.history_model.specs.Repository.{Repository, LogEntry, IsWholeStore, id_at}
 use Rattle.history_model.specs.Forms.{is_id, is_name}
 use Rattle.history_model.specs.Meaning.{store_one, store_all, some_taken, is_taken, is_other, with_name}
 use Rattle.history_model.specs.Places.{file_at, object_place, unfinished_place, is_object_folder, packed_place, log_place, is_name_folder}
@@ -62,9 +62,15 @@ pub record StoresAlike (kind : Kind) (values : Values) (more others : List Value
   pub ids : (id : Id) → IsFalse (some_taken kind values more)
       → contains_key (store_all kind values others) id ≡ contains_key (store_all kind values more) id
 
+-- a value of the same text is stored under the value's id
+abbrev pub HasText : Kind → Values → Value → Type 0
+HasText kind values value = (other : Value) × (get values (id_of kind value) ≡ Some other) × (value_text kind other ≡ value_text kind value)
+
+-- So it is where some are left out whose text is stored already.
 abbrev pub StoresInAnyOrder : Type 0
-StoresInAnyOrder = (kind : Kind) (values : Values) (more others : List Value) → HaveOwnIds kind values
-    → ((value : Value) → Contains more value ↔ Contains others value) → StoresAlike kind values more others
+StoresInAnyOrder = (r : Repository) (more others : List Value) → IsWholeStore r
+    → ((value : Value) → Contains more value → Contains others value)
+    → ((value : Value) → Contains others value → Contains more value ⊎ HasText r.kind r.objects value) → StoresAlike r.kind r.objects more others
 
 -- No file stands where an object is written before it is renamed to its place.
 abbrev pub NoneUnfinished : Type 0

@@ -1,9 +1,8 @@
--- Sets of ids, kept as ascending lists, one for each first byte; and codes for ids.
+-- Sets of ids, kept as ascending lists, one for each first byte.
 use Rattle.std.specs.Prelude.{◌≡◌, ⊤, ℕ, suc, Bool, true, false, ◌&&◌, List, [], ◌∷◌, Vec, map, take, bytes_eq, refl}
 use Rattle.std.specs.List.{AllByRecursion, flat_map, list_all, list_any}
 use Rattle.std.specs.declared.alloc.Global.{Global}
 use Rattle.std.specs.declared.cmp.Ordering.TheVariants.{Less}
-use Rattle.std.specs.Coded.{Coded, code_by, coded×, coded_ℕ, coded_bool, coded_list}
 use Rattle.std.specs.FinMap.{empty, is_sorted, insert}
 use Rattle.std.specs.FinSet.{FinSet}
 use Rattle.gix_hash.specs.declared.kind.Kind.{Kind}
@@ -62,28 +61,3 @@ ComesBefore id other = (id_of id).kind ≡ (id_of other).kind → digits_cmp (id
 abbrev pub IsAscending : List ObjectId → Type 0
 IsAscending [] = ⊤
 IsAscending (id ∷ ids) = AllByRecursion (ComesBefore id) ids × IsAscending ids
-
--- ---- codes
-
-abbrev pub is_sha256 : Kind → Bool
-is_sha256 kinds.Sha1 = false
-is_sha256 kinds.Sha256 = true
-
-abbrev pub kind_from : Bool → Kind
-kind_from false = kinds.Sha1
-kind_from true = kinds.Sha256
-
-pub kind_from-is_sha256 : (kind : Kind) → kind_from (is_sha256 kind) ≡ kind
-kind_from-is_sha256 kinds.Sha1 = refl
-kind_from-is_sha256 kinds.Sha256 = refl
-
-abbrev pub object_id_from : Bool → List ℕ → ObjectId
-object_id_from false bytes = Sha1 bytes
-object_id_from true bytes = Sha256 bytes
-
-pub object_id_from-bytes_of : (id : ObjectId) → object_id_from (is_sha256 (id_of id).kind) (bytes_of id) ≡ id
-object_id_from-bytes_of (Sha1 bytes) = refl
-object_id_from-bytes_of (Sha256 bytes) = refl
-
-abbrev pub coded_object_id : Coded ObjectId
-coded_object_id = code_by (Bool × List ℕ) (coded× coded_bool (coded_list coded_ℕ)) (λ id. (is_sha256 (id_of id).kind, bytes_of id)) (λ p. object_id_from p.0 p.1) object_id_from-bytes_of

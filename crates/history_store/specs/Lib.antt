@@ -13,5 +13,4 @@ pub mod Parts
 pub mod Puts
 pub mod References
 pub mod Stores
-pub mod Trees
 pub mod Written

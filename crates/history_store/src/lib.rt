@@ -14,7 +14,6 @@ mod objects;
 mod opening;
 mod parts;
 mod put;
-mod tree;
 mod way;
 mod written;
 
@@ -31,4 +30,3 @@ pub use objects::{Object, Objects, PutMadeError};
 pub use opening::{ObjectsRefusal, OpenError, new_branch};
 pub use parts::{Part, Stray, survey};
 pub use put::PutError;
-pub use tree::{Tree, TreeEntry};

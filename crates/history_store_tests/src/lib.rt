@@ -22,5 +22,3 @@ mod names;
 mod objects;
 #[cfg(test)]
 mod puts;
-#[cfg(test)]
-mod trees;

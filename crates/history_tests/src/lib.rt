@@ -10,9 +10,13 @@ mod limits;
 #[cfg(test)]
 mod names;
 #[cfg(test)]
+mod nested;
+#[cfg(test)]
 mod object_store;
 #[cfg(test)]
 mod opening;
+#[cfg(test)]
+mod parts;
 #[cfg(test)]
 mod refusals;
 #[cfg(test)]

@@ -118,9 +118,18 @@ fn contents(rt: HostRuntime) -> Result<(), AllocError> {
     let longest = putting(alloc, b"a", b"1", longest, b"16777216")?;
     let too_long = putting(alloc, b"a", b"1", &content, b"16777217")?;
     let later = joined(alloc, &[too_long.as_slice(), b"files main\n"])?;
+    // Whether a folder is met is told first.
+    let in_folder = [
+        b"commit HEAD any\nput file 3 16777217\nd/x\n".as_slice(),
+        &content,
+        b"\nremove-file 1\nd\n",
+        SIGNED,
+    ];
+    let in_folder = joined(alloc, &in_folder)?;
     for kind in KINDS {
         let mut repository = fresh(&rt, alloc, kind);
         assert!(rt; commits(alloc, &mut repository, &longest));
+        assert!(rt; replies(alloc, &mut repository, &in_folder, b"refused IsFolder\n"));
         assert!(rt; replies(alloc, &mut repository, &later, CONTENT_KEPT.of(kind)));
     }
     Ok(())

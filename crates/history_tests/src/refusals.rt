@@ -42,7 +42,7 @@ const REFUSED: [(&[u8], &[u8]); 7] = [
         b"refused Taken\n",
     ),
     (
-        b"commit HEAD any\nput file 1 1\na\n1\nput file 3 0\na/b\n\nauthor 0 3 1 +0000\n\na@b\ncommitter 1 3 1 +0000\nA\na@b\nmessage 3\none\nend\n",
+        b"commit HEAD any\nput file 1 1\na\n1\nput file 4 0\na//b\n\nauthor 0 3 1 +0000\n\na@b\ncommitter 1 3 1 +0000\nA\na@b\nmessage 3\none\nend\n",
         b"refused BadPath\n",
     ),
     (

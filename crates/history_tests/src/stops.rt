@@ -2,7 +2,8 @@
 //! told here by its rules.
 
 use crate::common::{KINDS, answered};
-use history::files::{FileError, Files, Fuse, MemoryFiles, Place};
+use crate::parts::{Found, all_files};
+use history::files::{FileError, Files, Fuse, MemoryFiles};
 use history::{CreateError, End, Kind, Repository, create};
 use std::alloc::{AllocError, Global};
 use std::process::Abort;
@@ -94,47 +95,6 @@ const KEPT: [Option<usize>; 6] = [None, Some(0), Some(3), Some(20), Some(50), So
 
 /// More calls than the input makes of one part.
 const CALLS: u64 = 80;
-
-/// A file: where it stands, and its bytes.
-#[derive(Drop)]
-struct Found {
-    path: Vec<u8>,
-    bytes: Vec<u8>,
-}
-
-fn joined(alloc: Global, folder: &[u8], name: &[u8]) -> Result<Vec<u8>, AllocError> {
-    let mut path = Vec::from_slice(alloc, folder)?;
-    if !folder.is_empty() {
-        path.push(b'/')?;
-    }
-    path.extend_from_slice(name)?;
-    Ok(path)
-}
-
-/// All files of a part.
-fn all_files(alloc: Global, files: &MemoryFiles) -> Result<Vec<Found>, FileError> {
-    let mut found = Vec::new(alloc);
-    let mut folders = Vec::new(alloc);
-    folders.push(Vec::new(alloc))?;
-    for _ in 0..100 {
-        let Some(folder) = folders.pop() else {
-            break;
-        };
-        for name in &files.list(alloc, &folder)? {
-            let path = joined(alloc, &folder, name)?;
-            match files.kind_of(&path)? {
-                Place::Folder => folders.push(path)?,
-                Place::File(_) => {
-                    let mut bytes = Vec::new(alloc);
-                    files.read(&path, &mut bytes)?;
-                    found.push(Found { path, bytes })?;
-                }
-                Place::Absent => {}
-            }
-        }
-    }
-    Ok(found)
-}
 
 /// The bytes of a file.
 fn text_at<'a>(found: &'a [Found], path: &[u8]) -> Option<&'a [u8]> {

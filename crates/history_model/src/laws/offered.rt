@@ -1,27 +1,7 @@
 //! Laws of the repositories of this stage, over the definitions alone.
 
-ghost use Rattle.history_model.specs.Offered.{FlatRoots, FlatFolders, FlatPuts, FlatRemovals, FilesAreStored, FreshIsOffered, OfferedStays, FirstOfferedCause};
-ghost use Rattle.history_model.specs.OfferedWords.{CommitsStoreFlat, WordsReadNames, NoneIsAmbiguous, NamesHoldCommits, NamesStandForTheirs, WordsStandForTheirs, ParentsAreCommits};
-
-/// The tree of flat files is their entries, one after another.
-pub fn flat_roots()
-    ensures { FlatRoots }
-{}
-
-/// Flat files have no folders but the one that they are in.
-pub fn flat_folders()
-    ensures { FlatFolders }
-{}
-
-/// A `put` to flat files replaces the file of its path, and no other.
-pub fn flat_puts()
-    ensures { FlatPuts }
-{}
-
-/// A removal takes out of flat files the file of its path, and no other.
-pub fn flat_removals()
-    ensures { FlatRemovals }
-{}
+ghost use Rattle.history_model.specs.Offered.{FilesAreStored, FreshIsOffered, OfferedStays, FirstOfferedCause};
+ghost use Rattle.history_model.specs.OfferedWords.{WordsReadNames, NoneIsAmbiguous, NamesHoldCommits, NamesStandForTheirs, WordsStandForTheirs, ParentsAreCommits};
 
 /// The bytes of each file of a stored folder are stored.
 pub fn files_are_stored()
@@ -41,11 +21,6 @@ pub fn offered_stays()
 /// A command of this stage is refused for the first of few causes.
 pub fn first_offered_cause()
     ensures { FirstOfferedCause }
-{}
-
-/// A commit stores the bytes of each `put`, its flat folder, and itself.
-pub fn commits_store_flat()
-    ensures { CommitsStoreFlat }
 {}
 
 /// A word that reads as an id reads as one that a name holds.

@@ -9,7 +9,8 @@ pub fn puts_pass()
     ensures { PutsPass }
 {}
 
-/// A commit of this stage puts what it stores in an order in which each beginning leaves a whole store.
+/// The bytes of a commit's `put`s, its new folders, children first, and the commit stand in an order in which each beginning leaves a
+/// whole store.
 pub fn commits_store_whole()
     ensures { CommitsStoreWhole }
 {}

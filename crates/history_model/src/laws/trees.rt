@@ -85,7 +85,8 @@ pub fn bytes_are_read()
     ensures { BytesAreRead }
 {}
 
-/// Values may be stored in any order: it tells neither whether an id is taken, nor the files, nor the ids that are known.
+/// Values may be stored in any order, and those may be left out whose text is stored: this tells neither whether an id is taken, nor
+/// the files, nor the ids that are known.
 pub fn stores_in_any_order()
     ensures { StoresInAnyOrder }
 {}

@@ -1,4 +1,4 @@
-use Rattle.std.proofs.Common.{◌≡◌, ◌∙◌, sym, ap, ◌||◌, ◌-◌, [], map, take, drop, get_or, length, rules, tests}
+use Rattle.std.proofs.Common.{◌∙◌, sym, ap, ◌||◌, ◌-◌, [], map, take, drop, get_or, length, rules, tests}
 use Rattle.std.specs.List.{list_any}
 use Rattle.std.proofs.lemmas.List.{take_rest}
 use Rattle.std.proofs.lemmas.Iterator.{YieldsList-from_slice}

@@ -1,12 +1,10 @@
-use Rattle.std.proofs.Common.{◌≡◌, ◌++◌, map}
+use Rattle.std.proofs.Common.{◌≡◌, ◌++◌, map, take}
 use Rattle.std.specs.List.{flat_map}
-use Rattle.std.specs.Map.Iter.{deref_pair}
 use Rattle.history_model.specs.Replies.{file_parts}
 use Rattle.history_model.specs.Spelling.{parts_text}
-use Rattle.history_store.specs.Trees.{named}
-use Rattle.history.specs.Shown.{shown_file}
+use Rattle.history_files.specs.Reading.{line_of}
 use Rattle.history.proofs.listing.files_text.Given as goal
 
 -- the files so far
-abbrev pub invariant-loop-name : goal.invariant-loop-name
-invariant-loop-name l = l.text.items ≡ l.initial.text.items ++ parts_text (flat_map file_parts (map (λ entry. shown_file (named (deref_pair entry))) l.yielded))
+abbrev pub invariant-loop-file : goal.invariant-loop-file
+invariant-loop-file l = l.text.items ≡ l.initial.text.items ++ parts_text (flat_map file_parts (map line_of (take l.file-index l.files)))

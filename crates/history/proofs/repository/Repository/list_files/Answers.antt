@@ -1,4 +1,8 @@
+use Rattle.std.proofs.Common.{◌≡◌, ◌∙◌, ap, map}
+use Rattle.std.specs.FinMap.{entries}
+use Rattle.history_files.specs.Reading.{file_line, line_of}
 use Rattle.history_model.specs.Commands.{Files}
+use Rattle.history_model.specs.Replies.{FilesAre, reply_text}
 use Rattle.history.proofs.Answered.{reading_fault, unread, handed_on, files_refused, reads_commit, files_answered, folder_at}
 use Rattle.history.proofs.repository.Repository.list_files.Goals as goal
 use Rattle.gix_hash.specs.Id.{id_of}
@@ -16,19 +20,20 @@ returns-in_err-commit g c = λ r s.
     handed_on g.F.Files.reading_may_fail r order c.from_residual-in_err-commit.result _ c.from_residual-in_err-commit.ensures.1
     (reading_fault g.F.Files.reading_may_fail r order _ (c.in_err-commit.ensures r read.0 s.stands read.1))
 
-pub returns-in_err-tree : goal.returns-in_err-tree
-returns-in_err-tree g c = λ r s.
+pub returns-in_err-files : goal.returns-in_err-files
+returns-in_err-files g c = λ r s.
     let order = Files c.args.word.now in
     let read = reads_commit r s.stage.offered s.stands.whole.whole.names c.args.word.now (id_of c.in_ok-id.id) (c.in_ok-id.ensures r s) in
     let commit = c.in_ok-commit.ensures r read.0 s.stands read.1 in
     let folder = folder_at r s.stands.whole.whole.store (id_of c.in_ok-id.id) read.0 c.in_ok-commit.commit read.1 commit in
-    handed_on g.F.Files.reading_may_fail r order c.from_residual-in_err-tree.result _ c.from_residual-in_err-tree.ensures.1
-    (reading_fault g.F.Files.reading_may_fail r order _ (c.in_err-tree.ensures r read.0.files s folder))
+    handed_on g.F.Files.reading_may_fail r order c.from_residual-in_err-files.result _ c.from_residual-in_err-files.ensures.1
+    (reading_fault g.F.Files.reading_may_fail r order _ (c.in_err-files.ensures r read.0.files s.stands folder))
 
 pub returns : goal.returns
 returns g c = λ r s.
     let read = reads_commit r s.stage.offered s.stands.whole.whole.names c.args.word.now (id_of c.in_ok-id.id) (c.in_ok-id.ensures r s) in
     let commit = c.in_ok-commit.ensures r read.0 s.stands read.1 in
     let folder = folder_at r s.stands.whole.whole.store (id_of c.in_ok-id.id) read.0 c.in_ok-commit.commit read.1 commit in
-    files_answered r s.stage.offered s.stands.whole.whole.names g.F.Files.reading_may_fail c.args.word.now (id_of c.in_ok-id.id) read.0 c.in_ok-tree.tree c.in_ok-files_text.field-0
-    (c.in_ok-id.ensures r s) read.1 (c.in_ok-tree.ensures r read.0.files s folder) c.in_ok-files_text.ensures
+    let files : map line_of c.in_ok-files.files.items ≡ map (file_line r.kind) (entries read.0.files) = c.in_ok-files.ensures r read.0.files s.stands folder in
+    files_answered r s.stage.offered s.stands.whole.whole.names g.F.Files.reading_may_fail c.args.word.now (id_of c.in_ok-id.id) read.0 c.in_ok-files.files.items c.in_ok-files_text.field-0
+    (c.in_ok-id.ensures r s) read.1 files (c.in_ok-files_text.ensures ∙ ap (λ found. reply_text (FilesAre (map line_of found))) c.deref.ensures.value)

@@ -1,13 +1,12 @@
-use Rattle.std.proofs.Common.{◌≡◌, sym, ◌∙◌, ap, Err, bytes_eq}
+use Rattle.std.proofs.Common.{sym, ◌∙◌, ap, Err, bytes_eq}
 use Rattle.std.proofs.lemmas.Bool.Decides.{Decides-eqb}
 use Rattle.std.proofs.lemmas.Result.{err_from_is_err_and}
 use Rattle.std.proofs.lemmas.Slice.Eq.{slice_eq-Decides}
 use Rattle.history_model.specs.Forms.{is_name}
 use Rattle.history_model.specs.Words.{head_word}
-use Rattle.history_model.specs.declared.Fault.TheVariants.{Memory}
 use Rattle.history_model.proofs.TreePlaces.{text_itself, texts_apart}
 use Rattle.history.specs.CommitCauses.{IsNamed, name_form_causes, form_cause}
-use Rattle.history.specs.declared.stopped.Stopped.TheVariants.{Refused, Fault}
+use Rattle.history.specs.declared.stopped.Stopped.TheVariants.{Refused}
 use Rattle.history.proofs.NamesTold.{head_named, other_named, head_means, other_means, branch_formed, formed_of}
 use Rattle.history.proofs.Tested.{ends_told}
 use Rattle.history.proofs.repository.Repository.name_of.Goals as goal

@@ -1,9 +1,7 @@
-use Rattle.std.proofs.Common.{◌≡◌, ◌∙◌, sym, ap, Err, Vec, ℕ, map}
+use Rattle.std.proofs.Common.{◌∙◌, ap, Vec, ℕ, map}
 use Rattle.std.specs.declared.alloc.Global.{Global}
 use Rattle.std.proofs.lemmas.List.{take_all}
 use Rattle.history_model.specs.Words.{word_reading}
-use Rattle.history.specs.Readings.{reading_of}
-use Rattle.history.specs.declared.words.WordReading.{WordReading}
 use Rattle.history.proofs.BaseLemmas.{reading_added}
 use Rattle.history.proofs.repository.Repository.read_words.Goals as goal
 

@@ -1,0 +1,105 @@
+-- Whether edits are refused doesn't depend on the bytes that they put.
+use Rattle.std.proofs.Common.{◌≡◌, Bool, true, false, cond, not, ◌&&◌, ◌||◌, List, [], ◌∷◌, refl, sym, ◌∙◌, ap, Some, None, bytes_eq}
+use Rattle.std.specs.Prelude.{is_some}
+use Rattle.std.specs.List.{list_all, list_any, AllZip}
+use Rattle.std.specs.FinMap.{keys, contains_key, get, insert, retain_keys}
+use Rattle.history_model.specs.Bytes.{Bytes}
+use Rattle.history_model.specs.FileMap.{FileMap, Content, Edit, Put, Remove, RemoveFile, edited, is_below, has_below, is_refused, is_within, some_refused}
+use Rattle.history_model.proofs.OfferedFiles.{all_keys, each_key}
+use Rattle.history_model.proofs.WholeStores.{get_inserted, get_retained}
+
+-- the edits are made at one path, and do the same there but for the bytes that are put
+abbrev pub IsAlike : Edit → Edit → Type 0
+IsAlike (Put kind path bytes) (Put other place more) = path ≡ place
+IsAlike (Put kind path bytes) (Remove place) = ⊥
+IsAlike (Put kind path bytes) (RemoveFile place) = ⊥
+IsAlike (Remove path) (Put other place more) = ⊥
+IsAlike (Remove path) (Remove place) = path ≡ place
+IsAlike (Remove path) (RemoveFile place) = ⊥
+IsAlike (RemoveFile path) (Put other place more) = ⊥
+IsAlike (RemoveFile path) (Remove place) = ⊥
+IsAlike (RemoveFile path) (RemoveFile place) = path ≡ place
+
+abbrev SameKeys : FileMap → FileMap → Type 0
+SameKeys a b = (path : Bytes) → contains_key a path ≡ contains_key b path
+
+-- ---- what is below a path
+
+none_any : (p : Bytes → Bool) (xs : List Bytes) → list_any p xs ≡ false → list_all (λ x. not (p x)) xs ≡ true
+none_any p [] h = refl
+none_any p (x ∷ xs) h = go (p x) h (none_any p xs)
+  where
+    go : (b : Bool) → (b || list_any p xs) ≡ false → (list_any p xs ≡ false → list_all (λ x. not (p x)) xs ≡ true) → (not b && list_all (λ x. not (p x)) xs) ≡ true
+    go true e rest = cc
+    go false e rest = rest e
+
+all_not : (p : Bytes → Bool) (xs : List Bytes) → list_all (λ x. not (p x)) xs ≡ true → list_any p xs ≡ false
+all_not p [] h = refl
+all_not p (x ∷ xs) h = go (p x) h (all_not p xs)
+  where
+    go : (b : Bool) → (not b && list_all (λ x. not (p x)) xs) ≡ true → (list_all (λ x. not (p x)) xs ≡ true → list_any p xs ≡ false) → (b || list_any p xs) ≡ false
+    go true e rest = cc
+    go false e rest = rest e
+
+both_free : (a b : Bool) → (a ≡ false → b ≡ false) → (b ≡ false → a ≡ false) → a ≡ b
+both_free true true f g = refl
+both_free true false f g = g refl
+both_free false b f g = sym (f refl)
+
+below_free : (a b : FileMap) → SameKeys a b → (path : Bytes) → has_below a path ≡ false → has_below b path ≡ false
+below_free a b same path none =
+    let each = each_key (λ q. not (is_below path q)) a (none_any (is_below path) (keys a) none) in
+    all_not (is_below path) (keys b) (all_keys (λ q. not (is_below path q)) b (λ q there. each q (same q ∙ there)))
+
+below_alike : (a b : FileMap) → SameKeys a b → (path : Bytes) → has_below a path ≡ has_below b path
+below_alike a b same path = both_free (has_below a path) (has_below b path) (below_free a b same path) (below_free b a (λ q. sym (same q)) path)
+
+-- ---- edits
+
+retained : (a b : FileMap) → SameKeys a b → (test : Bytes → Bool) → SameKeys (retain_keys a test) (retain_keys b test)
+retained a b same test q = ap is_some (get_retained a test q) ∙ go (test q) ∙ sym (ap is_some (get_retained b test q))
+  where
+    go : (t : Bool) → is_some (cond t (get a q) None) ≡ is_some (cond t (get b q) None)
+    go true = same q
+    go false = refl
+
+inserted : (a b : FileMap) → SameKeys a b → (path : Bytes) (x y : Content) → SameKeys (insert a path x) (insert b path y)
+inserted a b same path x y q = ap is_some (get_inserted a path x q) ∙ go (bytes_eq q path) ∙ sym (ap is_some (get_inserted b path y q))
+  where
+    go : (t : Bool) → is_some (cond t (Some x) (get a q)) ≡ is_some (cond t (Some y) (get b q))
+    go true = refl
+    go false = same q
+
+edited_alike : (a b : FileMap) (x y : Edit) → SameKeys a b → IsAlike x y → SameKeys (edited a x) (edited b y)
+edited_alike a b (Put kind path bytes) (Put other place more) same alike q =
+    inserted (retain_keys a (λ q. not (is_within path q || is_within q path))) (retain_keys b (λ q. not (is_within path q || is_within q path))) (retained a b same (λ q. not (is_within path q || is_within q path))) path
+    (record { kind = kind; bytes = bytes }) (record { kind = other; bytes = more }) q
+    ∙ ap (λ p. contains_key (edited b (Put other p more)) q) alike
+edited_alike a b (Put kind path bytes) (Remove place) same alike q = absurd alike
+edited_alike a b (Put kind path bytes) (RemoveFile place) same alike q = absurd alike
+edited_alike a b (Remove path) (Put other place more) same alike q = absurd alike
+edited_alike a b (Remove path) (Remove place) same alike q = retained a b same (λ q. not (is_within path q)) q ∙ ap (λ p. contains_key (edited b (Remove p)) q) alike
+edited_alike a b (Remove path) (RemoveFile place) same alike q = absurd alike
+edited_alike a b (RemoveFile path) (Put other place more) same alike q = absurd alike
+edited_alike a b (RemoveFile path) (Remove place) same alike q = absurd alike
+edited_alike a b (RemoveFile path) (RemoveFile place) same alike q = retained a b same (λ q. not (is_within path q)) q ∙ ap (λ p. contains_key (edited b (RemoveFile p)) q) alike
+
+one_alike : (a b : FileMap) (x y : Edit) → SameKeys a b → IsAlike x y → is_refused a x ≡ is_refused b y
+one_alike a b (Put kind path bytes) (Put other place more) same alike = refl
+one_alike a b (Put kind path bytes) (Remove place) same alike = absurd alike
+one_alike a b (Put kind path bytes) (RemoveFile place) same alike = absurd alike
+one_alike a b (Remove path) (Put other place more) same alike = absurd alike
+one_alike a b (Remove path) (Remove place) same alike = refl
+one_alike a b (Remove path) (RemoveFile place) same alike = absurd alike
+one_alike a b (RemoveFile path) (Put other place more) same alike = absurd alike
+one_alike a b (RemoveFile path) (Remove place) same alike = absurd alike
+one_alike a b (RemoveFile path) (RemoveFile place) same alike = below_alike a b same path ∙ ap (has_below b) alike
+
+all_alike : (a b : FileMap) (xs ys : List Edit) → SameKeys a b → AllZip IsAlike xs ys → some_refused a xs ≡ some_refused b ys
+all_alike a b [] [] same alike = refl
+all_alike a b [] (y ∷ ys) same alike = absurd alike
+all_alike a b (x ∷ xs) [] same alike = absurd alike
+all_alike a b (x ∷ xs) (y ∷ ys) same alike = λ i. one_alike a b x y same alike.0 i || all_alike (edited a x) (edited b y) xs ys (edited_alike a b x y same alike.0) alike.1 i
+
+pub refused_alike : (files : FileMap) (xs ys : List Edit) → AllZip IsAlike xs ys → some_refused files xs ≡ some_refused files ys
+refused_alike files xs ys alike = all_alike files files xs ys (λ q. refl) alike
