@@ -1,5 +1,5 @@
 -- The file map without files.
-use Rattle.std.proofs.Common.{◌≡◌, ◌∙◌, ap, sym, refl, true, [], ◌∷◌, None, Some, option_map, is_some}
+use Rattle.std.proofs.Common.{◌≡◌, ◌∙◌, ap, sym, refl, true, [], ◌∷◌, None, option_map, is_some}
 use Rattle.std.specs.List.{AllByRecursion, flat_map}
 use Rattle.std.specs.FinMap.{empty, get, get-empty, keys, contains_key}
 use Rattle.gix_hash.specs.declared.kind.Kind.{Kind}
@@ -8,10 +8,10 @@ use Rattle.gix_object_editor.specs.Files as unfolded
 use Rattle.gix_object_editor.specs.Files.{Path, Trees, files_of_tree}
 use Rattle.history_model.specs.Bytes.{Bytes, by_bytes}
 use Rattle.history_model.specs.FileMap.{FileMap, Content, IsFileMap, beginnings, components, inside}
-use Rattle.history_model.proofs.WholeLists.{In, in_all, none_is_some, of_map}
+use Rattle.history_model.proofs.WholeLists.{in_all, none_is_some, of_map}
 use Rattle.history_files.specs.Entries.{own_folders}
 use Rattle.history_files.specs.Unfolding.{HasTrees, IsUnfolded, file_leaf}
-use Rattle.history_files.proofs.Inside.{HasFile, file_inside, file_of_beginning}
+use Rattle.history_files.proofs.Inside.{file_inside, file_of_beginning}
 
 no_files : FileMap
 no_files = empty

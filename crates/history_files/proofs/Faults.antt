@@ -1,7 +1,5 @@
 -- Why edits of a file map aren't made over a store that has its trees.
-use Rattle.std.proofs.Common.{◌≡◌, ◌≢◌, ℕ, Bool, true, false, cond, not, ◌&&◌, ◌||◌, List, [], ◌∷◌, ◌++◌, map, refl, sym, ◌∙◌, ap, subst, arith, inl, inr, ◌⊎◌, Option, Some, None, option_map}
-use Rattle.std.specs.List.{All, AllByRecursion, list_any}
-use Rattle.std.specs.FinMap.{get}
+use Rattle.std.proofs.Common.{◌≡◌, ◌≢◌, ℕ, Bool, true, false, cond, not, List, [], ◌∷◌, ◌++◌, refl, sym, ◌∙◌, ap, subst, inl, inr, Option, Some, None, option_map}
 use Rattle.gix_hash.specs.Id.{Id, id_of}
 use Rattle.gix_hash.specs.Order.{id_eq}
 use Rattle.gix_hash.specs.declared.kind.Kind.{Kind}
@@ -26,17 +24,16 @@ use Rattle.gix_object_editor.specs.declared.tree.editor.node.Slot.{Slot}
 use Rattle.gix_object_editor.specs.Entries.{EachHas}
 use Rattle.gix_object_editor.specs.declared.tree.editor.state.Editor.{Editor}
 use Rattle.gix_object_editor.specs.Editor.{EachEntryHas, EditFault, IsFilled, IsFolder, IsTreeNamed, LeadsInto, LeadsThrough, LeafFault, files_of}
-use Rattle.gix_object_editor.specs.Files.{Path, Leaf, Trees, HasFile as HasEntryFile, HasStored, named, through, tree_under, unless_tree, files_of_entry, files_of_tree, leaf_of, is_null, NamesAreFull, SameFiles}
+use Rattle.gix_object_editor.specs.Files.{Path, Leaf, Trees, HasFile as HasEntryFile, named, through, tree_under, unless_tree, files_of_entry, files_of_tree, leaf_of, is_null, NamesAreFull, SameFiles}
 use Rattle.gix_object_editor.specs.Nodes.{AreFilled, Slots, child_or, files_of_node, files_of_slot, leaf_in, slots_of}
-use Rattle.gix_object_editor.proofs.Marked.{closed_files}
 use Rattle.history_model.specs.Bytes.{Bytes}
 use Rattle.history_model.specs.FileMap as model
 use Rattle.history_model.specs.FileMap.{FileMap, components, has_below, inside, is_path, some_refused}
 use Rattle.history_model.specs.Objects.{folder_id, root}
 use Rattle.history_model.proofs.IdLemmas.{id_itself}
-use Rattle.history_model.proofs.WholeLists.{In, all_in, clash, either, none_is_some, some_inside}
-use Rattle.history_model.proofs.WholeRoots.{all_values, has_all}
-use Rattle.history_files.specs.Unfolding.{HasTrees, IsInTable, file_leaf}
+use Rattle.history_model.proofs.WholeLists.{In, clash, none_is_some, some_inside}
+use Rattle.history_model.proofs.WholeRoots.{all_values}
+use Rattle.history_files.specs.Unfolding.{IsInTable, file_leaf}
 use Rattle.history_files.specs.Edits.{as_edited, as_unread, unless_memory}
 use Rattle.history_files.specs.Entries.{is_filename, names_only, own_folders}
 use Rattle.history_files.specs.Opening.{EditsFiles, MakingFault}

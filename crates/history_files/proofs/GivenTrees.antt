@@ -1,29 +1,25 @@
 -- All trees that an editor hands out are those of folders of the edited files, in an order of which each beginning is closed.
-use Rattle.std.proofs.Common.{◌≡◌, ◌≢◌, Bool, true, false, List, [], ◌∷◌, ◌++◌, map, refl, sym, ◌∙◌, ap, subst, inl, inr, ◌⊎◌, Option, Some, None, Contains, append_assoc, ◌||◌}
+use Rattle.std.proofs.Common.{◌≡◌, ◌≢◌, true, false, List, [], ◌∷◌, ◌++◌, map, refl, sym, ◌∙◌, ap, subst, inl, inr, ◌⊎◌, Option, Some, None, Contains, append_assoc}
 use Rattle.std.specs.Prelude.{⊤}
-use Rattle.std.specs.List.{All, AllByRecursion, list_any}
-use Rattle.std.specs.FinMap.{entries}
+use Rattle.std.specs.List.{AllByRecursion, list_any}
 use Rattle.gix_hash.specs.Id.{id_of}
 use Rattle.gix_hash.specs.declared.kind.Kind.{Kind}
-use Rattle.gix_object_entries.specs.Entry.{Item}
 use Rattle.gix_object_entries.specs.Writing as writing
 use Rattle.gix_object_find.specs.Table.{Table}
 use Rattle.gix_object_editor.specs.declared.tree.editor.state.Editor.{Editor}
 use Rattle.gix_object_editor.specs.declared.tree.editor.node.Slot.{Slot}
 use Rattle.gix_object_editor.specs.Editor.{EachEntryHas, IsAsRead, IsChanged, files_of}
 use Rattle.gix_object_editor.specs.Entries.{EachHas}
-use Rattle.gix_object_editor.specs.Files.{Bytes, HasStored, Path, Trees, is_null, through}
+use Rattle.gix_object_editor.specs.Files.{HasStored, Trees, is_null, through}
 use Rattle.gix_object_editor.specs.Marks.{Marks, due, is_due, marks_of, slot_if}
 use Rattle.gix_object_editor.specs.Nodes.{Slots, files_of_node, leaf_in, slots_of}
-use Rattle.gix_object_editor.specs.Written.{EachBehind, HandedOut, IsHandedOut, IsWritten}
+use Rattle.gix_object_editor.specs.Written.{EachBehind, HandedOut, IsHandedOut}
 use Rattle.gix_object_editor.proofs.Due.{due_files}
 use Rattle.history_model.specs.FileMap.{FileMap, IsFileMap, folders_of}
-use Rattle.history_model.specs.Objects.{digest, folder_id, root, tree_text}
-use Rattle.history_model.proofs.WholeItems.{Entry}
+use Rattle.history_model.specs.Objects.{digest, folder_id, tree_text}
 use Rattle.history_model.proofs.WholeLists.{In, either, in_all, in_either, in_left, none_is_some, none_or, of_map, some_inside, true_or}
-use Rattle.history_model.proofs.WholeSteps.{contains_in, in_contains}
-use Rattle.history_model.proofs.WholeStores.{in_get}
-use Rattle.history_files.specs.Editing.{AreGiven, AreTreesOf, HasTreeOf, IsTreeOf}
+use Rattle.history_model.proofs.WholeSteps.{in_contains}
+use Rattle.history_files.specs.Editing.{AreGiven, AreTreesOf, HasTreeOf}
 use Rattle.history_files.specs.Entries.{names_only, own_folders}
 use Rattle.history_files.specs.Handing.{AreKept, HasWritten, IsTextOf}
 use Rattle.history_files.specs.Unfolding.{IsUnfolded}

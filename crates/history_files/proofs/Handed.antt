@@ -1,5 +1,5 @@
 -- Each tree that an editor hands out is that of a folder of the edited files.
-use Rattle.std.proofs.Common.{◌≡◌, ◌≢◌, ℕ, zero, suc, Bool, true, false, cond, not, ◌&&◌, ◌||◌, List, [], ◌∷◌, ◌++◌, map, refl, sym, ◌∙◌, ap, subst, arith, tests, inl, inr, ◌⊎◌, Option, Some, None, option_map, Contains, ◌==◌}
+use Rattle.std.proofs.Common.{◌≡◌, ◌≢◌, ℕ, zero, suc, Bool, true, false, cond, not, ◌&&◌, ◌||◌, List, [], ◌∷◌, ◌++◌, map, refl, sym, ◌∙◌, ap, subst, arith, tests, inl, inr, ◌⊎◌, Option, Some, None, option_map, ◌==◌}
 use Rattle.std.specs.List.{All, list_any, before_first, after_first}
 use Rattle.std.specs.FinMap.{entries, get}
 use Rattle.gix_hash.specs.Id.{Id}
@@ -13,7 +13,6 @@ use Rattle.gix_object_entries.specs.Writing as writing
 use Rattle.gix_object_find.specs.Table.{Table}
 use Rattle.gix_object_editor.specs.declared.tree.editor.node.Slot.{Slot}
 use Rattle.gix_object_editor.specs.Entries.{EachHas}
-use Rattle.gix_object_editor.specs.Files as unfolded
 use Rattle.gix_object_editor.specs.Files.{Path, Leaf, Trees, HasStored, SameFiles, named, through, tree_under, unless_tree, files_of_entry, files_of_tree, leaf_of, is_null}
 use Rattle.gix_object_editor.specs.Nodes.{Slots, Way, LeadsTo, onto, child_of, leaf_in, files_of_node, files_of_slot}
 use Rattle.gix_object_editor.specs.Writing.{folder_item, folder_mode}
@@ -33,11 +32,11 @@ use Rattle.history_model.proofs.WholeStores.{get_in, in_get}
 use Rattle.history_files.specs.Unfolding.{IsInTable, IsUnfolded, file_leaf}
 use Rattle.history_files.specs.Editing.{HasTreeOf}
 use Rattle.history_files.specs.Entries.{is_filename, is_file_mode, is_folder_mode, names_only}
-use Rattle.history_files.proofs.Components.{one_part, parts_below, same_parts, some_parts}
+use Rattle.history_files.proofs.Components.{one_part, parts_below}
 use Rattle.history_files.proofs.InOrder.{root_well_formed}
 use Rattle.history_files.proofs.Inside.{ArePlainNames, HasFile, among_inside, file_inside, folder_at, folder_below, folder_map, folder_unfolds, inside_among, inside_unfolds, same_file, same_folders, under}
 use Rattle.history_files.proofs.Items.{all_of, file_item, folder_of, has_folder, has_leaf, item_of, items, items_root, items_spelled, name_of, named_in, name_plain}
-use Rattle.history_files.proofs.OneList.{named_in_list, named_is, one_list}
+use Rattle.history_files.proofs.OneList.{named_is, one_list}
 use Rattle.history_files.proofs.OneRoot.{one_root}
 use Rattle.history_files.proofs.Unfolded.{plain_map, root_unfolds, tree_there}
 use Rattle.history_files.proofs.Walk.{tree_of}

@@ -1,5 +1,5 @@
 -- What stands inside a folder, and what its tree unfolds to.
-use Rattle.std.proofs.Common.{◌≡◌, Bool, true, false, cond, List, [], ◌∷◌, ◌++◌, map, refl, sym, ◌∙◌, ap, subst, inl, inr, ◌⊎◌, Option, Some, None, option_map, bytes_eq}
+use Rattle.std.proofs.Common.{◌≡◌, Bool, true, false, cond, [], ◌∷◌, ◌++◌, map, refl, sym, ◌∙◌, ap, subst, inl, inr, ◌⊎◌, Option, Some, None, option_map, bytes_eq}
 use Rattle.std.specs.List.{flat_map}
 use Rattle.std.specs.FinMap.{entries, keys, get}
 use Rattle.gix_hash.specs.declared.kind.Kind.{Kind}
@@ -9,7 +9,7 @@ use Rattle.history_model.specs.Bytes.{Bytes, has_byte}
 use Rattle.history_model.specs.FileMap.{FileMap, Content, IsFileMap, beginnings, components, folders_of, inside}
 use Rattle.history_model.specs.Objects.{root}
 use Rattle.history_model.proofs.WholeLists.{In, in_flat, in_map, of_flat, of_map, none_is_some, some_inside}
-use Rattle.history_model.proofs.WholePaths.{beginning_parts, below_below, is_beginning}
+use Rattle.history_model.proofs.WholePaths.{beginning_parts, is_beginning}
 use Rattle.history_model.proofs.WholeItems.{Entry}
 use Rattle.history_model.proofs.WholeRoots.{inside_inside}
 use Rattle.history_model.proofs.WholeStores.{get_in, in_get}

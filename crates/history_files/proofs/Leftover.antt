@@ -1,5 +1,5 @@
 -- Edits in a row, of which one isn't made.
-use Rattle.std.proofs.Common.{◌≡◌, ◌∙◌, ap, sym, subst, refl, true, false, Bool, ◌||◌, ◌&&◌, List, [], ◌∷◌, map}
+use Rattle.std.proofs.Common.{◌≡◌, ◌∙◌, ap, sym, refl, true, false, Bool, ◌||◌, ◌&&◌, List, [], ◌∷◌, map}
 use Rattle.std.specs.List.{list_all}
 use Rattle.gix_hash.specs.declared.kind.Kind.{Kind}
 use Rattle.gix_object_editor.specs.Editor.{EachEntryHas, files_of}
@@ -9,7 +9,7 @@ use Rattle.gix_object_find.specs.Table.{Table}
 use Rattle.history_model.specs.Bytes.{Bytes}
 use Rattle.history_model.specs.FileMap as model
 use Rattle.history_model.specs.FileMap.{FileMap, edit_path, edited, is_path, is_refused, some_refused}
-use Rattle.history_model.proofs.WholeLists.{and_true, clash}
+use Rattle.history_model.proofs.WholeLists.{and_true}
 use Rattle.history_files.specs.Edits.{AreEdits, IsChange, IsEdit}
 use Rattle.history_files.specs.Editing.{EditsFault, HavePaths}
 use Rattle.history_files.specs.Entries.{names_only, own_folders}

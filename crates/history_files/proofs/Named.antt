@@ -1,17 +1,17 @@
 -- Entries of the trees of a file map name files and its folders alone.
-use Rattle.std.proofs.Common.{◌≡◌, Bool, true, false, cond, not, ◌&&◌, ◌||◌, List, [], ◌∷◌, ◌++◌, map, refl, sym, ◌∙◌, ap, subst, inl, inr, ◌⊎◌, Some, None, is_some, ◌==◌}
-use Rattle.std.specs.List.{All, AllByRecursion, flat_map, list_any, list_all, onto_first}
+use Rattle.std.proofs.Common.{◌≡◌, Bool, true, false, cond, not, ◌&&◌, ◌||◌, List, [], ◌∷◌, ◌++◌, refl, sym, ◌∙◌, ap, subst, inl, inr, ◌⊎◌, Some, None, ◌==◌}
+use Rattle.std.specs.List.{AllByRecursion, flat_map, list_any, list_all, onto_first}
 use Rattle.std.specs.FinMap.{entries, keys, get}
 use Rattle.gix_hash.specs.Id.{Id, id_of, null_id}
 use Rattle.gix_hash.specs.Order.{id_eq}
 use Rattle.gix_hash.specs.declared.kind.Kind.{Kind}
 use Rattle.gix_hash.specs.declared.object_id.ObjectId.{ObjectId}
 use Rattle.gix_object_entries.specs.Entry.{Item, SpellsTree}
-use Rattle.gix_object_entries.specs.Mode.{is_tree_value, kind_value}
+use Rattle.gix_object_entries.specs.Mode.{kind_value}
 use Rattle.gix_object_entries.proofs.TreeLaws.{one_tree}
 use Rattle.gix_object_find.specs.Table.{Table, Object}
 use Rattle.gix_object_editor.specs.Editor.{leaf_of_kind}
-use Rattle.gix_object_editor.specs.Entries.{ItemsHave, MayStand, PassesDown, made_leaf}
+use Rattle.gix_object_editor.specs.Entries.{ItemsHave, PassesDown, made_leaf}
 use Rattle.gix_object_editor.specs.Files.{Leaf, is_null, leaf_of}
 use Rattle.history_model.specs.Bytes.{Bytes, has_byte, is_empty}
 use Rattle.history_model.specs.FileMap as model
@@ -20,13 +20,11 @@ use Rattle.history_model.specs.Objects.{FileEntry, FolderEntry, TreeEntry, diges
 use Rattle.history_model.specs.declared.FileKind.{FileKind}
 use Rattle.history_model.specs.declared.FileKind.TheVariants.{File as PlainFile, Exec, Link}
 use Rattle.history_model.proofs.IdLemmas.{id_itself}
-use Rattle.history_model.proofs.WholeLists.{In, all_in, and_both, and_true, clash, false_not, in_all, in_flat, in_map, none_or, none_passes, not_true, of_map, or_none, passes_one, some_inside, true_or}
-use Rattle.history_model.proofs.WholeItems.{Entry}
-use Rattle.history_model.proofs.WholePaths.{beginning_parts, is_beginning}
-use Rattle.history_model.proofs.WholeRoots.{HasAll, all_values, has_all, in_inside, inside_has, inside_inside}
+use Rattle.history_model.proofs.WholeLists.{In, all_in, and_both, and_true, clash, false_not, in_all, none_or, none_passes, not_true, of_map, or_none, passes_one, some_inside, true_or}
+use Rattle.history_model.proofs.WholePaths.{is_beginning}
+use Rattle.history_model.proofs.WholeRoots.{all_values, has_all, in_inside, inside_has, inside_inside}
 use Rattle.history_model.proofs.WholeStores.{get_in, in_get}
 use Rattle.history_files.specs.Unfolding.{IsInTable, HasTrees, entry_kind}
-use Rattle.history_files.specs.Edits.{IsChange}
 use Rattle.history_files.specs.Editing.{HavePaths, NameEdits, Names}
 use Rattle.history_files.specs.Entries.{MayBeMade, MayPut, is_file_mode, is_filename, is_folder_mode, names_only, own_folders}
 use Rattle.history_files.specs.declared.edits.Change.{Change}

@@ -1,16 +1,14 @@
 -- Well-formed trees with the same entry under each name are one.
-use Rattle.std.proofs.Common.{◌≡◌, ◌∙◌, ap, ap₂, refl, sym, subst, ℕ, zero, suc, ◌<◌, Bool, true, false, cond, List, [], ◌∷◌, length, get_or, Option, Some, None, arith, inl, inr, ◌⊎◌, bytes_eq, Less, Equal, Greater}
+use Rattle.std.proofs.Common.{◌≡◌, ◌∙◌, ap, refl, sym, subst, ℕ, zero, suc, ◌<◌, Bool, true, false, cond, List, [], ◌∷◌, length, get_or, Option, Some, None, arith, inl, inr, bytes_eq, Less, Greater}
 use Rattle.std.specs.List.{AllPairs}
 use Rattle.std.specs.Ordering.{ordering_reverse}
-use Rattle.std.specs.declared.cmp.Ordering.{Ordering}
 use Rattle.std.proofs.lemmas.Cmp.{nat_list_cmp_total}
-use Rattle.gix_hash.specs.Order.{digits_cmp}
 use Rattle.gix_object_entries.specs.Entry.{Item}
 use Rattle.gix_object_entries.specs.Order.{item_key}
 use Rattle.gix_object_editor.specs.Files.{named}
-use Rattle.gix_object_entries.specs.WellFormed.{ComesBefore, IsWellFormed, IsInOrder, HasNamesOnce}
+use Rattle.gix_object_entries.specs.WellFormed.{ComesBefore, IsInOrder, HasNamesOnce}
 use Rattle.history_model.specs.Bytes.{Bytes}
-use Rattle.history_model.proofs.WholeLists.{In, clash, same_text, text_itself, texts_differ, some_inside, none_is_some}
+use Rattle.history_model.proofs.WholeLists.{In, same_text, text_itself, texts_differ, some_inside, none_is_some}
 
 pairs_head : {X : Type 0} (R : X → X → Type 0) (x : X) (xs : List X) → AllPairs R (x ∷ xs) → (y : X) → In y xs → R x y
 pairs_head {X = X} R x xs all y i = let at = index xs i in subst (R x) at.2 (all zero (suc at.0) x (omega arith) (omega (arith, at.1)))

@@ -1,5 +1,5 @@
 -- What becomes of edits: the trees, or a value with the null id.
-use Rattle.std.proofs.Common.{◌≡◌, ◌∙◌, ap, sym, subst, refl, true, false, List, [], ◌∷◌, ◌++◌, map, inl, inr, ◌⊎◌}
+use Rattle.std.proofs.Common.{◌≡◌, ◌∙◌, sym, subst, true, false, List, [], ◌∷◌, ◌++◌, map, inl, inr, ◌⊎◌}
 use Rattle.std.specs.List.{flat_map, list_all, list_any}
 use Rattle.gix_hash.specs.Hasher.{empty_blob_text, id_of_message}
 use Rattle.gix_hash.specs.Id.{id_of}

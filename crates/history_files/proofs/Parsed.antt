@@ -1,12 +1,12 @@
 -- What a content spells, read from it: so a table has a table of its trees.
-use Rattle.std.proofs.Common.{◌≡◌, ◌∙◌, ap, refl, sym, ℕ, zero, suc, ◌≤◌, Bool, true, false, cond, ◌&&◌, List, [], ◌∷◌, ◌++◌, length, length-append, take, drop, arith, ◌==◌, Some, option_map}
+use Rattle.std.proofs.Common.{◌≡◌, ◌∙◌, ap, refl, sym, ℕ, zero, suc, ◌≤◌, Bool, false, cond, ◌&&◌, List, [], ◌∷◌, ◌++◌, length, length-append, take, drop, arith, ◌==◌, Some, option_map}
 use Rattle.std.proofs.Math.Seq.{take-append_seam, drop-append_seam}
 use Rattle.std.specs.Prelude.{slice_index}
 use Rattle.std.specs.Str.Parse.{digits_value}
 use Rattle.gix_hash.specs.Id.{Id, digits_of}
 use Rattle.gix_hash.specs.Kind.{byte_len}
 use Rattle.gix_hash.specs.declared.kind.Kind.{Kind}
-use Rattle.gix_object_entries.specs.Entry.{Item, SpellsEntry, SpellsEntries, SpellsTree}
+use Rattle.gix_object_entries.specs.Entry.{Item, SpellsEntry, SpellsTree}
 use Rattle.gix_object_entries.specs.ModeText.{Mode, text_before}
 use Rattle.gix_object_entries.proofs.Octals.{before_cut}
 use Rattle.gix_object_entries.proofs.Spelled.{lacks_space, one_kind}

@@ -1,10 +1,10 @@
 -- Whether an edit is refused doesn't depend on the bytes that are put.
-use Rattle.std.proofs.Common.{◌≡◌, Bool, true, false, cond, not, ◌&&◌, ◌||◌, List, [], ◌∷◌, ◌++◌, map, refl, sym, ◌∙◌, ap, subst, inl, inr, Option, Some, None, is_some, bytes_eq}
-use Rattle.std.specs.List.{AllByRecursion, flat_map, list_any}
+use Rattle.std.proofs.Common.{◌≡◌, Bool, true, false, cond, not, ◌||◌, List, [], ◌∷◌, ◌++◌, map, refl, sym, ◌∙◌, ap, subst, inl, inr, Option, Some, None, is_some, bytes_eq}
+use Rattle.std.specs.List.{flat_map, list_any}
 use Rattle.std.specs.FinMap.{get, retain_keys}
 use Rattle.std.specs.Fmt.{digits}
 use Rattle.gix_hash.specs.Hasher.{empty_blob_text, id_of_message}
-use Rattle.gix_hash.specs.Id.{Id, id_of, null_id}
+use Rattle.gix_hash.specs.Id.{id_of}
 use Rattle.gix_hash.specs.declared.kind.Kind.{Kind}
 use Rattle.gix_hash.specs.declared.kind.Kind.TheVariants.{Sha1, Sha256}
 use Rattle.gix_hash.specs.declared.object_id.ObjectId.{ObjectId}

@@ -1,4 +1,4 @@
-use Rattle.std.proofs.Common.{◌≡◌, ◌∙◌, ap, sym, subst, arith, List, map}
+use Rattle.std.proofs.Common.{◌∙◌, ap, sym, subst, arith, map}
 use Rattle.std.specs.FinMap.{empty}
 use Rattle.gix_object_entries.specs.Entry.{own_item}
 use Rattle.gix_object_editor.specs.Entries.{ItemsHave}
