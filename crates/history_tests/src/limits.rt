@@ -1,7 +1,7 @@
 //! Limits, at their last value and one beyond.
 
 use crate::common::{ByKind, KINDS, SIGNED, answers, commits, fresh, joined, replies};
-use history::End;
+use history::{End, Kind};
 use std::alloc::{AllocError, Global};
 
 const CONTENT_KEPT: ByKind = ByKind {
@@ -118,20 +118,34 @@ fn contents(rt: HostRuntime) -> Result<(), AllocError> {
     let longest = putting(alloc, b"a", b"1", longest, b"16777216")?;
     let too_long = putting(alloc, b"a", b"1", &content, b"16777217")?;
     let later = joined(alloc, &[too_long.as_slice(), b"files main\n"])?;
-    // Whether a folder is met is told first.
-    let in_folder = [
+    for kind in KINDS {
+        let mut repository = fresh(&rt, alloc, kind);
+        assert!(rt; commits(alloc, &mut repository, &longest));
+        assert!(rt; replies(alloc, &mut repository, &later, CONTENT_KEPT.of(kind)));
+    }
+    Ok(())
+}
+
+// Whether a removal meets a folder is told before a content's length.
+#[test]
+fn folders_before_sizes(rt: HostRuntime) -> Result<(), AllocError> {
+    let alloc = rt.alloc();
+    let content = vec![in alloc; b'c'; 16_777_217]?;
+    let parts = [
         b"commit HEAD any\nput file 3 16777217\nd/x\n".as_slice(),
         &content,
         b"\nremove-file 1\nd\n",
         SIGNED,
     ];
-    let in_folder = joined(alloc, &in_folder)?;
-    for kind in KINDS {
-        let mut repository = fresh(&rt, alloc, kind);
-        assert!(rt; commits(alloc, &mut repository, &longest));
-        assert!(rt; replies(alloc, &mut repository, &in_folder, b"refused IsFolder\n"));
-        assert!(rt; replies(alloc, &mut repository, &later, CONTENT_KEPT.of(kind)));
-    }
+    let input = joined(alloc, &parts)?;
+    answers(
+        &rt,
+        alloc,
+        Kind::Sha1,
+        &input,
+        b"refused IsFolder\n",
+        End::Input,
+    );
     Ok(())
 }
 
