@@ -85,38 +85,27 @@ fn at_cursor(
     word: &str,
     page: &mut Page,
 ) -> Option<()> {
-    let (_, word) = word.split_once(':')?;
-    let (base, word) = word.split_once(':')?;
-    let base = read_path(alloc, base)?;
+    let mut parts = word.split(':');
+    parts.next()?;
+    let base = read_path(alloc, parts.next()?)?;
     let mut folder = Vec::new(alloc);
     for name in &base {
         folder.push(name.as_slice()).ok()?;
     }
-    match cursor_of(alloc, kind, editor, folder.as_slice()) {
-        Ok(mut cursor) => below_cursor(alloc, kind, &mut cursor, word, page),
-        Err(error) => {
-            show_done(Err(error), page);
-            Some(())
-        }
-    }
-}
-
-// An edit or a question of a path that begins at a cursor.
-fn below_cursor(
-    alloc: Global,
-    kind: Kind,
-    cursor: &mut Cursor<'_, Trees>,
-    word: &str,
-    page: &mut Page,
-) -> Option<()> {
-    let mut parts = word.split(':');
     let what = parts.next()?;
-    let names = read_path(alloc, parts.next()?)?;
+    let below = read_path(alloc, parts.next()?)?;
     let mut path = Vec::new(alloc);
-    for name in &names {
+    for name in &below {
         path.push(name.as_slice()).ok()?;
     }
     let path = path.as_slice();
+    let mut cursor = match cursor_of(alloc, kind, editor, folder.as_slice()) {
+        Ok(cursor) => cursor,
+        Err(error) => {
+            show_done(Err(error), page);
+            return Some(());
+        }
+    };
     match what {
         "get" => show_entry(cursor.get(path), page),
         "remove" => show_done(cursor.remove(alloc, path), page),
@@ -126,7 +115,7 @@ fn below_cursor(
             let id = read_id(parts.next()?)?;
             show_done(cursor.upsert(alloc, path, entry_kind, id), page);
         }
-        "write" => show_written(alloc, kind, cursor, page)?,
+        "write" => show_written(alloc, kind, &cursor, page)?,
         _ => return None,
     }
     Some(())
