@@ -19,7 +19,7 @@ use Rattle.history_word.specs.Progress.{IsCauseOf}
 use Rattle.history.specs.declared.running.RunError.{RunError}
 use Rattle.history.specs.declared.running.RunError.TheVariants.{Read, Write}
 use Rattle.history.specs.declared.reply.Reply.{Reply as Answer}
-use Rattle.gix_ref_file.specs.History.{History}
+use Rattle.gix_ref_file.specs.History.{History, HasRisen}
 use Rattle.history_model.specs.Moments.{Moment, Traces, HasFailedCall as Failed}
 use Rattle.history.specs.Acts.{IsAnswer}
 use Rattle.history.specs.Replies.{text_of}
