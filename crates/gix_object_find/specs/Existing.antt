@@ -1,11 +1,17 @@
 -- Objects that must stand, and why they aren't given: `honest` says whether a store answers by its table, `may_fail` whether its
 -- lookups may fail.
-use Rattle.std.specs.Prelude.{ℕ, ◌≡◌, ◌≢◌, ⊤, List, None, Some}
+use Rattle.std.specs.Prelude.{ℕ, ◌≡◌, ◌≢◌, ⊤, List, None, Some, map}
 use Rattle.gix_hash.specs.Id.{Id, id_of}
 use Rattle.gix_hash.specs.declared.kind.Kind as hash
 use Rattle.gix_object_lines.specs.declared.kind.Kind.{Kind}
 use Rattle.gix_object_lines.specs.declared.decode.Error as decode
-use Rattle.gix_object_tree.specs.Object.{Value, Tells, ContentFault}
+use Rattle.gix_object_commit.specs.Views.{parts_of}
+use Rattle.gix_object_commit.specs.declared.commit.CommitRef.{CommitRef}
+use Rattle.gix_object_entries.specs.Entry.{item_of}
+use Rattle.gix_object_entries.specs.declared.tree.whole.TreeRef.{TreeRef}
+use Rattle.gix_object_tag.specs.Views.{parts_of as tag_parts_of}
+use Rattle.gix_object_tag.specs.declared.tag.TagRef.{TagRef}
+use Rattle.gix_object_tree.specs.Object.{Value, Commit, Tag, Tree, Tells, ContentFault}
 use Rattle.gix_object_find.specs.Table.{Table, kind_at}
 use Rattle.gix_object_find.specs.declared.find.Error as find
 use Rattle.gix_object_find.specs.declared.find.Error.TheVariants.{Failed, Memory}
@@ -23,6 +29,16 @@ Stands table id kind content = table id ≡ Some (record { kind = kind; content 
 -- the object that stands under the id tells this value
 abbrev pub StandsAs : Table → Id → Kind → Value → Type 0
 StandsAs table id kind value = (content : List ℕ) × Stands table id kind content × Tells id.kind kind content value
+
+-- the values of a tree, a commit and a tag that were read
+abbrev pub tree_value : TreeRef → Value
+tree_value tree = Tree (map item_of tree.entries.items)
+
+abbrev pub commit_value : CommitRef → Value
+commit_value commit = Commit (parts_of commit)
+
+abbrev pub tag_value : TagRef → Value
+tag_value tag = Tag (tag_parts_of tag)
 
 abbrev pub LookupFault : Type 0 → find.Error → Type 0
 LookupFault may_fail Failed = may_fail

@@ -1,15 +1,11 @@
 //! Objects that must stand, of any kind and of one.
 
-ghost use Rattle.std.specs.Prelude.{◌≡◌, Some, IfOk, IfErr, map};
+ghost use Rattle.std.specs.Prelude.{◌≡◌, Some, IfOk, IfErr};
 ghost use Rattle.gix_hash.specs.Views.{viewed_id};
 ghost use Rattle.gix_object_lines.specs.declared.kind.Kind.TheVariants as kinds;
-ghost use Rattle.gix_object_commit.specs.Views.{parts_of};
-ghost use Rattle.gix_object_entries.specs.Entry.{item_of};
-ghost use Rattle.gix_object_tag.specs.Views.{parts_of as tag_parts_of};
-ghost use Rattle.gix_object_tree.specs.Object.{Commit, Tag, Tree};
 ghost use Rattle.gix_object_tree.specs.Readers.{ReadsCommit, ReadsTag, ReadsTree};
 ghost use Rattle.gix_object_find.specs.Table.{object_of, header_at};
-ghost use Rattle.gix_object_find.specs.Existing.{Stands, StandsAs, ReadsStanding, ExistingFault, KindFault, ObjectFault};
+ghost use Rattle.gix_object_find.specs.Existing.{Stands, StandsAs, tree_value, commit_value, tag_value, ReadsStanding, ExistingFault, KindFault, ObjectFault};
 
 use crate::find::{existing, existing_iter, existing_object};
 use crate::{Find, FindHeader};
@@ -31,8 +27,10 @@ pub trait HeaderExt: FindHeader {
     /// The kind of the object of this id and the length of its content. It is `NotFound` where no object stands, and `Find` where
     /// the lookup gave up.
     fn header(&self, id: oid<'_>) -> Result<Header, existing::Error>
-        ensures found { Self.is_honest self.now → IfOk result (λ header. header_at (Self.table self.now) (viewed_id id.entry) ≡ Some header) }
-        ensures refused { IfErr result (λ error. ExistingFault (Self.is_honest self.now) (Self.may_fail self.now) (Self.table self.now) (viewed_id id.entry) error) }
+        ensures found { Self.is_honest self.now → IfOk result (λ header.
+            header_at (Self.table self.now) (viewed_id id.entry) ≡ Some header) }
+        ensures refused { IfErr result (ExistingFault (Self.is_honest self.now)
+            (Self.may_fail self.now) (Self.table self.now) (viewed_id id.entry)) }
     {
         match self.try_header(id)? {
             Some(header) => Ok(header),
@@ -50,9 +48,11 @@ impl<T: FindHeader> HeaderExt for T {}
 pub trait FindExt: Find {
     /// The object of this id, whose content stands in the buffer.
     fn find<'a>(&self, id: oid<'_>, buffer: &'a mut Vec<u8>) -> Result<Data<'a>, existing::Error>
-        ensures found { Self.is_honest self.now → IfOk result (λ found. Self.table self.now (viewed_id id.entry) ≡ Some (object_of found)) }
+        ensures found { Self.is_honest self.now → IfOk result (λ found.
+            Self.table self.now (viewed_id id.entry) ≡ Some (object_of found)) }
         ensures hash { IfOk result (λ found. found.object_hash ≡ (viewed_id id.entry).kind) }
-        ensures refused { IfErr result (λ error. ExistingFault (Self.is_honest self.now) (Self.may_fail self.now) (Self.table self.now) (viewed_id id.entry) error) }
+        ensures refused { IfErr result (ExistingFault (Self.is_honest self.now)
+            (Self.may_fail self.now) (Self.table self.now) (viewed_id id.entry)) }
     {
         match self.try_find(id, buffer)? {
             Some(found) => Ok(found),
@@ -68,8 +68,10 @@ pub trait FindExt: Find {
         id: oid<'_>,
         buffer: &'a mut Vec<u8>,
     ) -> Result<BlobRef<'a>, existing_object::Error>
-        ensures found { Self.is_honest self.now → IfOk result (λ blob. Stands (Self.table self.now) (viewed_id id.entry) kinds.Blob blob.content.now) }
-        ensures refused { IfErr result (λ error. ObjectFault (Self.is_honest self.now) (Self.may_fail self.now) (Self.table self.now) (viewed_id id.entry) kinds.Blob error) }
+        ensures found { Self.is_honest self.now → IfOk result (λ blob.
+            Stands (Self.table self.now) (viewed_id id.entry) kinds.Blob blob.content.now) }
+        ensures refused { IfErr result (ObjectFault (Self.is_honest self.now)
+            (Self.may_fail self.now) (Self.table self.now) (viewed_id id.entry) kinds.Blob) }
     {
         let content = content_of(self, id, Kind::Blob, buffer)?;
         Ok(BlobRef::from_bytes(content))
@@ -82,8 +84,10 @@ pub trait FindExt: Find {
         id: oid<'_>,
         buffer: &'a mut Vec<u8>,
     ) -> Result<TreeRef<'a>, existing_object::Error>
-        ensures found { Self.is_honest self.now → IfOk result (λ tree. StandsAs (Self.table self.now) (viewed_id id.entry) kinds.Tree (Tree (map item_of tree.entries.items))) }
-        ensures refused { IfErr result (λ error. ObjectFault (Self.is_honest self.now) (Self.may_fail self.now) (Self.table self.now) (viewed_id id.entry) kinds.Tree error) }
+        ensures found { Self.is_honest self.now → IfOk result (λ tree.
+            StandsAs (Self.table self.now) (viewed_id id.entry) kinds.Tree (tree_value tree)) }
+        ensures refused { IfErr result (ObjectFault (Self.is_honest self.now)
+            (Self.may_fail self.now) (Self.table self.now) (viewed_id id.entry) kinds.Tree) }
     {
         let content = content_of(self, id, Kind::Tree, buffer)?;
         match TreeRef::from_bytes(alloc, content, id.kind()) {
@@ -102,8 +106,11 @@ pub trait FindExt: Find {
         id: oid<'_>,
         buffer: &'a mut Vec<u8>,
     ) -> Result<CommitRef<'a>, existing_object::Error>
-        ensures found { Self.is_honest self.now → IfOk result (λ commit. StandsAs (Self.table self.now) (viewed_id id.entry) kinds.Commit (Commit (parts_of commit))) }
-        ensures refused { IfErr result (λ error. ObjectFault (Self.is_honest self.now) (Self.may_fail self.now) (Self.table self.now) (viewed_id id.entry) kinds.Commit error) }
+        ensures found { Self.is_honest self.now → IfOk result (λ commit.
+            StandsAs (Self.table self.now) (viewed_id id.entry) kinds.Commit
+            (commit_value commit)) }
+        ensures refused { IfErr result (ObjectFault (Self.is_honest self.now)
+            (Self.may_fail self.now) (Self.table self.now) (viewed_id id.entry) kinds.Commit) }
     {
         let content = content_of(self, id, Kind::Commit, buffer)?;
         match CommitRef::from_bytes(alloc, content, id.kind()) {
@@ -121,8 +128,10 @@ pub trait FindExt: Find {
         id: oid<'_>,
         buffer: &'a mut Vec<u8>,
     ) -> Result<TagRef<'a>, existing_object::Error>
-        ensures found { Self.is_honest self.now → IfOk result (λ tag. StandsAs (Self.table self.now) (viewed_id id.entry) kinds.Tag (Tag (tag_parts_of tag))) }
-        ensures refused { IfErr result (λ error. ObjectFault (Self.is_honest self.now) (Self.may_fail self.now) (Self.table self.now) (viewed_id id.entry) kinds.Tag error) }
+        ensures found { Self.is_honest self.now → IfOk result (λ tag.
+            StandsAs (Self.table self.now) (viewed_id id.entry) kinds.Tag (tag_value tag)) }
+        ensures refused { IfErr result (ObjectFault (Self.is_honest self.now)
+            (Self.may_fail self.now) (Self.table self.now) (viewed_id id.entry) kinds.Tag) }
     {
         let content = content_of(self, id, Kind::Tag, buffer)?;
         match TagRef::from_bytes(content, id.kind()) {
@@ -140,8 +149,10 @@ pub trait FindExt: Find {
         id: oid<'_>,
         buffer: &'a mut Vec<u8>,
     ) -> Result<TreeRefIter<'a>, existing_iter::Error>
-        ensures found { Self.is_honest self.now → IfOk result (λ reader. ReadsStanding ReadsTree (Self.table self.now) (viewed_id id.entry) kinds.Tree reader) }
-        ensures refused { IfErr result (λ error. KindFault (Self.is_honest self.now) (Self.may_fail self.now) (Self.table self.now) (viewed_id id.entry) kinds.Tree error) }
+        ensures found { Self.is_honest self.now → IfOk result (λ reader.
+            ReadsStanding ReadsTree (Self.table self.now) (viewed_id id.entry) kinds.Tree reader) }
+        ensures refused { IfErr result (KindFault (Self.is_honest self.now) (Self.may_fail self.now)
+            (Self.table self.now) (viewed_id id.entry) kinds.Tree) }
     {
         let content = content_of(self, id, Kind::Tree, buffer)?;
         Ok(TreeRefIter::from_bytes(content, id.kind()))
@@ -153,8 +164,11 @@ pub trait FindExt: Find {
         id: oid<'_>,
         buffer: &'a mut Vec<u8>,
     ) -> Result<CommitRefIter<'a>, existing_iter::Error>
-        ensures found { Self.is_honest self.now → IfOk result (λ reader. ReadsStanding ReadsCommit (Self.table self.now) (viewed_id id.entry) kinds.Commit reader) }
-        ensures refused { IfErr result (λ error. KindFault (Self.is_honest self.now) (Self.may_fail self.now) (Self.table self.now) (viewed_id id.entry) kinds.Commit error) }
+        ensures found { Self.is_honest self.now → IfOk result (λ reader.
+            ReadsStanding ReadsCommit (Self.table self.now) (viewed_id id.entry) kinds.Commit
+            reader) }
+        ensures refused { IfErr result (KindFault (Self.is_honest self.now) (Self.may_fail self.now)
+            (Self.table self.now) (viewed_id id.entry) kinds.Commit) }
     {
         let content = content_of(self, id, Kind::Commit, buffer)?;
         Ok(CommitRefIter::from_bytes(content, id.kind()))
@@ -166,8 +180,10 @@ pub trait FindExt: Find {
         id: oid<'_>,
         buffer: &'a mut Vec<u8>,
     ) -> Result<TagRefIter<'a>, existing_iter::Error>
-        ensures found { Self.is_honest self.now → IfOk result (λ reader. ReadsStanding ReadsTag (Self.table self.now) (viewed_id id.entry) kinds.Tag reader) }
-        ensures refused { IfErr result (λ error. KindFault (Self.is_honest self.now) (Self.may_fail self.now) (Self.table self.now) (viewed_id id.entry) kinds.Tag error) }
+        ensures found { Self.is_honest self.now → IfOk result (λ reader.
+            ReadsStanding ReadsTag (Self.table self.now) (viewed_id id.entry) kinds.Tag reader) }
+        ensures refused { IfErr result (KindFault (Self.is_honest self.now) (Self.may_fail self.now)
+            (Self.table self.now) (viewed_id id.entry) kinds.Tag) }
     {
         let content = content_of(self, id, Kind::Tag, buffer)?;
         Ok(TagRefIter::from_bytes(content, id.kind()))
@@ -183,8 +199,10 @@ fn content_of<'a, T: Find>(
     kind: Kind,
     buffer: &'a mut Vec<u8>,
 ) -> Result<&'a [u8], existing_iter::Error>
-    ensures found { T.is_honest objects.now → IfOk result (λ content. Stands (T.table objects.now) (viewed_id id.entry) kind content.now) }
-    ensures refused { IfErr result (λ error. KindFault (T.is_honest objects.now) (T.may_fail objects.now) (T.table objects.now) (viewed_id id.entry) kind error) }
+    ensures found { T.is_honest objects.now → IfOk result (λ content.
+        Stands (T.table objects.now) (viewed_id id.entry) kind content.now) }
+    ensures refused { IfErr result (KindFault (T.is_honest objects.now) (T.may_fail objects.now)
+        (T.table objects.now) (viewed_id id.entry) kind) }
 {
     let Some(found) = objects.try_find(id, buffer)? else {
         return Err(existing_iter::Error::NotFound {

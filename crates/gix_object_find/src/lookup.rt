@@ -1,9 +1,9 @@
 //! Entries by their paths.
 
-ghost use Rattle.std.specs.Prelude.{◌≡◌, ◌↔◌, IsTrue, List, Some, map, IfOk, IfErr, MatchResult, option_map};
-ghost use Rattle.gix_object_entries.specs.Entry.{Item, item_of, own_item, SpellsTree, FaultBehind};
+ghost use Rattle.std.specs.Prelude.{◌≡◌, ◌↔◌, IsTrue, Some, map, IfOk, IfErr, option_map};
+ghost use Rattle.gix_object_entries.specs.Entry.{item_of, own_item};
 ghost use Rattle.gix_object_entries.specs.Reading.{place_of};
-ghost use Rattle.gix_object_find.specs.Path.{IsFirstNamed, IsBelow, Follows, LooksUp, PathFault, ReadFault, names_in};
+ghost use Rattle.gix_object_find.specs.Path.{FindsFirst, IsUnspelled, NameFault, IsBelow, Follows, LooksUp, BelowFault, FollowFault, PathFault, names_in};
 ghost use Rattle.gix_object_find.specs.declared.lookup.Error.TheVariants as fault;
 
 use crate::find::existing_iter;
@@ -52,8 +52,11 @@ impl From<AllocError> for Error {
 }
 
 /// The entry of this path, whose names lead from the tree that is read down through the trees of the store; `None` where a name
-/// isn't there or leads to no tree, and for the path without names. Of entries of one name the first counts. The buffer holds the
-/// content of the last tree that was asked for.
+/// isn't there or leads to no tree, and for the path without names. Of entries of one name the first counts, and a tree is read
+/// no further than to it. The buffer holds the content of the last tree that was asked for.
+///
+/// It is `Find` where a tree to which the names lead isn't given, `Decode` where in one of them an entry before that of the next
+/// name can't be read, and `Memory` where no memory is left.
 pub fn lookup_entry<T: Find>(
     tree: TreeRefIter<'_>,
     objects: &T,
@@ -61,9 +64,10 @@ pub fn lookup_entry<T: Find>(
     buffer: &mut Vec<u8>,
     alloc: Global,
 ) -> Result<Option<Entry>, Error>
-    ensures found { T.is_honest objects.now → IfOk result (λ found. (items : List Item) → SpellsTree (place_of tree.entry).kind (place_of tree.entry).input items
-        → LooksUp (T.table objects.now) items (map (λ name. name.now) path.now) (option_map own_item found)) }
-    ensures refused { IfErr result (PathFault (T.is_honest objects.now) (T.may_fail objects.now) (T.table objects.now)) }
+    ensures found { IfOk result (λ found. LooksUp (T.is_honest objects.now) (T.table objects.now)
+        (place_of tree.entry) (map (λ name. name.now) path.now) (option_map own_item found)) }
+    ensures refused { IfErr result (PathFault (T.is_honest objects.now) (T.may_fail objects.now)
+        (T.table objects.now) (place_of tree.entry) (map (λ name. name.now) path.now)) }
 {
     let Some((name, rest)) = path.split_first() else {
         return Ok(None);
@@ -75,7 +79,7 @@ pub fn lookup_entry<T: Find>(
 }
 
 /// The entry of this path in one text, whose names stand between slashes, as `lookup_entry` gives it: empty names, as before a
-/// slash that begins the path or behind one that ends it, are passed over.
+/// slash that begins the path or behind one that ends it, are passed over. The errors are those of `lookup_entry`.
 pub fn lookup_entry_by_path<T: Find>(
     tree: TreeRefIter<'_>,
     objects: &T,
@@ -83,9 +87,10 @@ pub fn lookup_entry_by_path<T: Find>(
     buffer: &mut Vec<u8>,
     alloc: Global,
 ) -> Result<Option<Entry>, Error>
-    ensures found { T.is_honest objects.now → IfOk result (λ found. (items : List Item) → SpellsTree (place_of tree.entry).kind (place_of tree.entry).input items
-        → LooksUp (T.table objects.now) items (names_in path.now) (option_map own_item found)) }
-    ensures refused { IfErr result (PathFault (T.is_honest objects.now) (T.may_fail objects.now) (T.table objects.now)) }
+    ensures found { IfOk result (λ found. LooksUp (T.is_honest objects.now) (T.table objects.now)
+        (place_of tree.entry) (names_in path.now) (option_map own_item found)) }
+    ensures refused { IfErr result (PathFault (T.is_honest objects.now) (T.may_fail objects.now)
+        (T.table objects.now) (place_of tree.entry) (names_in path.now)) }
 {
     let names = names_of(path, alloc)?;
     lookup_entry(tree, objects, names.as_slice(), buffer, alloc)
@@ -108,8 +113,10 @@ fn follow<T: Find>(
     buffer: &mut Vec<u8>,
     alloc: Global,
 ) -> Result<Option<Entry>, Error>
-    ensures found { T.is_honest objects.now → IfOk result (λ found. Follows (T.table objects.now) (Some (own_item entry)) (map (λ name. name.now) path.now) (option_map own_item found)) }
-    ensures refused { IfErr result (PathFault (T.is_honest objects.now) (T.may_fail objects.now) (T.table objects.now)) }
+    ensures found { IfOk result (λ found. Follows (T.is_honest objects.now) (T.table objects.now)
+        (Some (own_item entry)) (map (λ name. name.now) path.now) (option_map own_item found)) }
+    ensures refused { IfErr result (FollowFault (T.is_honest objects.now) (T.may_fail objects.now)
+        (T.table objects.now) (own_item entry) (map (λ name. name.now) path.now)) }
 {
     let mut entry = entry;
     for name in path {
@@ -129,8 +136,10 @@ fn below<T: Find>(
     buffer: &mut Vec<u8>,
     alloc: Global,
 ) -> Result<Option<Entry>, Error>
-    ensures found { T.is_honest objects.now → IfOk result (λ found. IsBelow (T.table objects.now) (own_item entry.now) name.now (option_map own_item found)) }
-    ensures refused { IfErr result (PathFault (T.is_honest objects.now) (T.may_fail objects.now) (T.table objects.now)) }
+    ensures found { IfOk result (λ found. IsBelow (T.is_honest objects.now) (T.table objects.now)
+        (own_item entry.now) name.now (option_map own_item found)) }
+    ensures refused { IfErr result (BelowFault (T.is_honest objects.now) (T.may_fail objects.now)
+        (T.table objects.now) (own_item entry.now) name.now) }
 {
     if !entry.mode.is_tree() {
         return Ok(None);
@@ -141,9 +150,9 @@ fn below<T: Find>(
 
 // A copy of the first entry of the name.
 fn own_named(tree: TreeRefIter<'_>, name: &[u8], alloc: Global) -> Result<Option<Entry>, Error>
-    ensures found { IfOk result (λ found. (items : List Item) → SpellsTree (place_of tree.entry).kind (place_of tree.entry).input items
-        → IsFirstNamed name.now items (option_map own_item found)) }
-    ensures refused { IfErr result (ReadFault (place_of tree.entry).kind (place_of tree.entry).input) }
+    ensures found { IfOk result (λ found. FindsFirst (place_of tree.entry) name.now
+        (option_map own_item found)) }
+    ensures refused { IfErr result (NameFault (place_of tree.entry) name.now) }
 {
     match named(tree, name)? {
         Some(entry) => Ok(Some(entry.to_owned(alloc)?)),
@@ -153,9 +162,9 @@ fn own_named(tree: TreeRefIter<'_>, name: &[u8], alloc: Global) -> Result<Option
 
 // The first entry of the name.
 fn named<'a>(tree: TreeRefIter<'a>, name: &[u8]) -> Result<Option<EntryRef<'a>>, decode::Error>
-    ensures found { (items : List Item) → SpellsTree (place_of tree.entry).kind (place_of tree.entry).input items
-        → MatchResult result (λ found. IsFirstNamed name.now items (option_map item_of found)) (λ _. ⊥) }
-    ensures refused { IfErr result (FaultBehind (place_of tree.entry).kind (place_of tree.entry).input) }
+    ensures found { IfOk result (λ found. FindsFirst (place_of tree.entry) name.now
+        (option_map item_of found)) }
+    ensures refused { IfErr result (IsUnspelled (place_of tree.entry) name.now) }
 {
     let mut tree = tree;
     'entries: while let Some(entry) = tree.next() {

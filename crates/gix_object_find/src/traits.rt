@@ -33,7 +33,8 @@ pub trait Lookup {
 pub trait Exists: Lookup {
     /// Whether an object of this id stands.
     fn exists(&self, id: oid<'_>) -> bool
-        ensures table { Self.is_honest self.now → result ≡ is_some (Self.table self.now (viewed_id id.entry)) }
+        ensures table { Self.is_honest self.now
+            → result ≡ is_some (Self.table self.now (viewed_id id.entry)) }
         ensures listed { IsTrue result → Contains (Self.ids self.now) (viewed_id id.entry) };
 }
 
@@ -43,17 +44,24 @@ pub trait Find: Lookup {
     /// `None`, with an empty buffer, where no object stands. It is `Failed` where the lookup failed, and `Memory` where no
     /// memory is left.
     fn find_into(&self, id: oid<'_>, buffer: &mut Vec<u8>) -> Result<Option<Kind>, Error>
-        ensures kind { Self.is_honest self.now → IfOk result (λ kind. kind ≡ kind_at (Self.table self.now) (viewed_id id.entry)) }
-        ensures content { Self.is_honest self.now → OnOk result (buffer.new.items ≡ content_at (Self.table self.now) (viewed_id id.entry)) }
-        ensures listed { IfOk result (λ kind. IsSome kind → Contains (Self.ids self.now) (viewed_id id.entry)) }
+        ensures kind { Self.is_honest self.now → IfOk result (λ kind.
+            kind ≡ kind_at (Self.table self.now) (viewed_id id.entry)) }
+        ensures content { Self.is_honest self.now
+            → OnOk result
+            (buffer.new.items ≡ content_at (Self.table self.now) (viewed_id id.entry)) }
+        ensures listed { IfOk result (λ kind.
+            IsSome kind → Contains (Self.ids self.now) (viewed_id id.entry)) }
         ensures failed { IsErrOf result Failed → Self.may_fail self.now };
 
     /// The object of this id, whose content stands in the buffer; `None` where no object stands. Ids in the content are of the
     /// same hash function. The errors are those of `find_into`.
     fn try_find<'a>(&self, id: oid<'_>, buffer: &'a mut Vec<u8>) -> Result<Option<Data<'a>>, Error>
-        ensures object { Self.is_honest self.now → IfOk result (λ found. option_map object_of found ≡ Self.table self.now (viewed_id id.entry)) }
-        ensures hash { IfOk result (λ found. IfSome found (λ object. object.object_hash ≡ (viewed_id id.entry).kind)) }
-        ensures listed { IfOk result (λ found. IsSome found → Contains (Self.ids self.now) (viewed_id id.entry)) }
+        ensures object { Self.is_honest self.now → IfOk result (λ found.
+            option_map object_of found ≡ Self.table self.now (viewed_id id.entry)) }
+        ensures hash { IfOk result (λ found.
+            IfSome found (λ object. object.object_hash ≡ (viewed_id id.entry).kind)) }
+        ensures listed { IfOk result (λ found.
+            IsSome found → Contains (Self.ids self.now) (viewed_id id.entry)) }
         ensures failed { IsErrOf result Failed → Self.may_fail self.now }
     {
         match self.find_into(id, buffer)? {
@@ -68,8 +76,10 @@ pub trait FindHeader: Lookup {
     /// The kind of the object of this id and the length of its content; `None` where no object stands. It is `Failed` where the
     /// lookup failed, and `Memory` where no memory is left.
     fn try_header(&self, id: oid<'_>) -> Result<Option<Header>, Error>
-        ensures header { Self.is_honest self.now → IfOk result (λ header. header ≡ header_at (Self.table self.now) (viewed_id id.entry)) }
-        ensures listed { IfOk result (λ header. IsSome header → Contains (Self.ids self.now) (viewed_id id.entry)) }
+        ensures header { Self.is_honest self.now → IfOk result (λ header.
+            header ≡ header_at (Self.table self.now) (viewed_id id.entry)) }
+        ensures listed { IfOk result (λ header.
+            IsSome header → Contains (Self.ids self.now) (viewed_id id.entry)) }
         ensures failed { IsErrOf result Failed → Self.may_fail self.now };
 }
 
