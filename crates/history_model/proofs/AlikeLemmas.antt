@@ -1,22 +1,26 @@
 -- Edits cut in any way into commits come to the same files, and all orders of a log to one set.
-use Rattle.std.proofs.Common.{◌≡◌, false, cond, List, [], ◌∷◌, ◌++◌, map, refl, sym, ◌∙◌, ap, subst, inl, Some, None, option_map, option_and_then, unwrap_or, option_to_list, append-nil}
+use Rattle.std.proofs.Common.{◌≡◌, true, false, cond, List, [], ◌∷◌, ◌++◌, map, refl, sym, ◌∙◌, ap, subst, inl, Some, None, option_map, option_and_then, unwrap_or, option_to_list, append-nil}
 use Rattle.std.specs.List.{flat_map, filter_map}
 use Rattle.std.specs.FinMap.{get, empty}
+use Rattle.std.specs.Prelude.{pos}
 use Rattle.history_model.specs.Bytes.{Bytes}
 use Rattle.history_model.specs.FileMap.{FileMap, Edit, Put, Remove, RemoveFile, edited, edited_by, folders_of}
 use Rattle.history_model.specs.Objects.{CommitValue, StoredCommit, StoredFolder, id_of, folder_id}
 use Rattle.gix_hash.specs.Id.{Id}
 use Rattle.history_model.specs.Repository.{Repository, Reference, as_commit, peeled, peeled_value, id_at}
-use Rattle.history_model.specs.Commands.{Commit, CommitCommand, EditLine, PutLine, RemoveLine, RemoveFileLine, LogCommand, Order, Breadth, Newest, Oldest, NewestSince, OldestSince, Date, Topological}
+use Rattle.history_model.specs.Commands.{Commit, CommitCommand, EditLine, PutLine, RemoveLine, RemoveFileLine, LogCommand}
 use Rattle.history_model.specs.Words.{commit_of}
 use Rattle.history_model.specs.Meaning.{after, takes_id, branch_or_name, name_commit, first_files, files_at, read_edit, edits_of, new_commit, put_bytes, read_actor, moved_reference}
 use Rattle.history_model.specs.Replies.{Committed, LogIs}
-use Rattle.history_model.specs.Walks.{Graph, WalkRequest, Listed, IsListOf}
-use Rattle.history_model.specs.Answers.{IsWalk, IsLog, graph_of, walk_request, kept, tip_word, hidden_word, since_of}
+use Rattle.gix_traverse_commit.specs.Walks.{InSomeOrder}
+use Rattle.gix_traverse_commit.specs.declared.parents.Parents.TheVariants.{All as AllParents, First as FirstParent}
+use Rattle.gix_traverse_commit.proofs.Listing.{one_set}
+use Rattle.history_model.specs.Answers.{IsLog, commits_of, walk_request, kept, tip_word, hidden_word, since_of}
 use Rattle.history_model.specs.Steps.{Step}
 use Rattle.history_model.specs.Wholeness.{IsSound}
 use Rattle.history_model.specs.Causes.{first_cause}
 use Rattle.history_model.specs.Forms.{title}
+use Rattle.history_model.proofs.LogLemmas.{some_order}
 use Rattle.history_model.proofs.WholeLists.{in_right, text_itself}
 use Rattle.history_model.proofs.WholeStores.{get_inserted}
 use Rattle.history_model.proofs.WholeStored.{stored_there}
@@ -25,44 +29,36 @@ use Rattle.history_model.specs.Alike.{base_files, files_of_name, Commits, EditsC
 
 -- ---- orders
 
-is_list : (order : Order) (g : Graph) (q : WalkRequest) (out : List Id) → IsWalk order g q out → IsListOf (Listed g q) out
-is_list Breadth g q out h = h.list
-is_list Newest g q out h = h.list
-is_list Oldest g q out h = h.list
-is_list (NewestSince seconds) g q out h = h.list
-is_list (OldestSince seconds) g q out h = h.list
-is_list Date g q out h = h.list
-is_list Topological g q out h = h.list
-
 ids_of : List Id → Rattle.history_model.specs.Replies.Reply → List Id
 ids_of d (LogIs ids) = ids
 ids_of d _ = d
 
--- a plain log lists what its request asks
-listed : (r : Repository) (c : LogCommand) (xs : List Id) → IsPlainLog c → (ids : List Id) × IsLog r c ids × (LogIs xs ≡ LogIs ids) → IsListOf (Listed (graph_of r) (walk_request r c)) xs
+-- a plain log is a walk that its request asks for
+listed : (r : Repository) (c : LogCommand) (xs : List Id) → IsPlainLog c → (ids : List Id) × IsLog r c ids × (LogIs xs ≡ LogIs ids) → InSomeOrder (commits_of r) (walk_request r c) xs
 unfolding ids_of
 listed r c xs plain (ids, (walked, walk, kept_ids), same) =
-    subst (IsListOf (Listed (graph_of r) (walk_request r c))) (sym (ap (ids_of xs) same ∙ kept_ids ∙ ap (λ paths. kept r paths walked) plain.no_path)) (is_list c.order (graph_of r) (walk_request r c) walked walk)
+    subst (InSomeOrder (commits_of r) (walk_request r c)) (sym (ap (ids_of xs) same ∙ kept_ids ∙ ap (λ paths. kept r paths walked) plain.no_path)) (some_order c.order (commits_of r) (walk_request r c) walked walk)
 
 one_request : (r : Repository) (c d : LogCommand) → c.items ≡ d.items → IsPlainLog c → IsPlainLog d → walk_request r c ≡ walk_request r d
 one_request r c d items pc pd = λ i. record {
   tips = filter_map (commit_of r) (filter_map tip_word (items i));
   hidden = filter_map (commit_of r) (filter_map hidden_word (items i));
-  first_parents = parents i;
-  since = since i;
+  parents = cond (same_parents i) FirstParent AllParents;
+  since = option_map pos (same_since i);
+  accepts = λ _. true;
 }
   where
-    parents : c.first_parents ≡ d.first_parents
-    parents = pc.all_parents ∙ sym pd.all_parents
+    same_parents : c.first_parents ≡ d.first_parents
+    same_parents = pc.all_parents ∙ sym pd.all_parents
 
-    since : since_of c.order ≡ since_of d.order
-    since = pc.no_cutoff ∙ sym pd.no_cutoff
+    same_since : since_of c.order ≡ since_of d.order
+    same_since = pc.no_cutoff ∙ sym pd.no_cutoff
 
 pub orders_print_one_set : OrdersPrintOneSet
 orders_print_one_set r a b c d xs ys items pc pd first second id =
     let left = listed r c xs pc first.answer in
-    let right = subst (λ q. IsListOf (Listed (graph_of r) q) ys) (sym (one_request r c d items pc pd)) (listed r d ys pd second.answer) in
-    (λ h. (right.each id).1 ((left.each id).0 h), λ h. (left.each id).1 ((right.each id).0 h))
+    let right = subst (λ q. InSomeOrder (commits_of r) q ys) (sym (one_request r c d items pc pd)) (listed r d ys pd second.answer) in
+    one_set (commits_of r) (walk_request r c) xs ys (λ x. refl) left right id
 
 -- ---- edits
 

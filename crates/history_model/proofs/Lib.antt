@@ -16,6 +16,7 @@ pub mod FreshLemmas
 mod RecoveredLemmas
 mod RoundLemmas
 mod ReadingLemmas
+mod FormatLemmas
 mod AfterFirstLemmas
 mod OneFileLemmas
 mod StreamRowLemmas

@@ -1,274 +1,27 @@
 -- Which walks of a log are one, and where two first differ.
-use Rattle.std.proofs.Common.{◌≡◌, ℕ, zero, suc, ◌<◌, ◌≤◌, ◌⊎◌, inl, inr, Bool, true, false, cond, List, [], ◌∷◌, take, refl, sym, ◌∙◌, ap, subst, arith, Some, None, slice_get, Option, Contains, IfSome, MatchBool}
-use Rattle.std.proofs.lemmas.Option.{slice_get_within, get_or_from_slice_get, slice_get-get_or}
-use Rattle.std.specs.Prelude.{⊤}
+use Rattle.std.proofs.Common.{◌≡◌, ℕ, ◌<◌, inl, inr, List, take, sym, ◌∙◌, ap, subst, arith, IsTrue, MatchBool}
+use Rattle.std.specs.Prelude.{pos, ◌≤ℤ◌}
+use Rattle.std.proofs.lemmas.Int.{ints}
 use Rattle.gix_hash.specs.Id.{Id}
+use Rattle.gix_traverse_commit.specs.Commits.{Commits, WalkRequest}
+use Rattle.gix_traverse_commit.specs.Order.{At, IsChosen}
+use Rattle.gix_traverse_commit.specs.Walks.{FinishedByDate, InSomeOrder, breadth, newest, oldest, date, topological, unfiltered}
+use Rattle.gix_traverse_commit.proofs.Lists.{at_one, at_from_contains, contains_from_at, at_take, at_from_take, three}
+use Rattle.gix_traverse_commit.proofs.Listing.{breadth_is_one, topological_is_one, filter_all}
 use Rattle.history_model.specs.Commands.{Order, Breadth, Newest, Oldest, NewestSince, OldestSince, Date, Topological}
-use Rattle.history_model.specs.Answers.{IsWalk}
-use Rattle.history_model.specs.Walks.{Graph, WalkRequest, Reached, tip, parent, Listed, asked, IsAtIndex, IsListOf, Before, Named, IsKey, IsBreadthFirst, IsChosen, IsLastName, HasNoChild, Outranks, later_child, has_child, newer, given_later}
+use Rattle.history_model.specs.Repository.{Repository}
+use Rattle.history_model.specs.Answers.{commits_of, time_at, IsWalk}
 use Rattle.history_model.specs.Laws.{DifferAtOneTime, leaves_choice}
 
--- ---- places in a list
-
--- one place holds one element
-at_one : (xs : List Id) (k : ℕ) (x y : Id) → IsAtIndex xs k x → IsAtIndex xs k y → x ≡ y
-at_one xs k x y a b = cc
-
-at_from_contains : (xs : List Id) (x : Id) → Contains xs x → (k : ℕ) × IsAtIndex xs k x
-at_from_contains xs x (k, l, e) = (k, slice_get-get_or xs k x l ∙ ap Some e)
-
-contains_from_at : (xs : List Id) (k : ℕ) (x : Id) → IsAtIndex xs k x → Contains xs x
-contains_from_at xs k x a = (k, slice_get_within xs k x a, get_or_from_slice_get xs k x x a)
-
--- below k the lists agree
-abbrev Agree : List Id → List Id → ℕ → Type 0
-Agree xs ys k = (j : ℕ) → j < k → slice_get xs j ≡ slice_get ys j
-
-same_from_agree : (xs ys : List Id) → ((j : ℕ) → slice_get xs j ≡ slice_get ys j) → xs ≡ ys
-same_from_agree [] [] h = refl
-same_from_agree [] (y ∷ ys) h = let e = h 0 in cc
-same_from_agree (x ∷ xs) [] h = let e = h 0 in cc
-same_from_agree (x ∷ xs) (y ∷ ys) h =
-    let e = h 0 in
-    let r = same_from_agree xs ys (λ j. h (suc j)) in
-    cc
-
-take_agree : (xs ys : List Id) (k : ℕ) → Agree xs ys k → take k xs ≡ take k ys
-take_agree [] [] k h = refl
-take_agree [] (y ∷ ys) zero h = refl
-take_agree [] (y ∷ ys) (suc k) h = let e = h 0 (omega arith) in cc
-take_agree (x ∷ xs) [] zero h = refl
-take_agree (x ∷ xs) [] (suc k) h = let e = h 0 (omega arith) in cc
-take_agree (x ∷ xs) (y ∷ ys) zero h = refl
-take_agree (x ∷ xs) (y ∷ ys) (suc k) h =
-    let e = h 0 (omega arith) in
-    let r = take_agree xs ys k (λ j l. h (suc j) (omega arith)) in
-    cc
-
-three : (j k : ℕ) → (j < k) ⊎ ((j ≡ k) ⊎ (k < j))
-three j k = grind arith
-
--- a pair that is not before another is behind it or the same
-not_before : (p i q j : ℕ) → (Before p i q j → ⊥) → Before q j p i ⊎ ((p ≡ q) × (i ≡ j))
-not_before p i q j h = grind arith
-
--- what agreeing places say of both lists at one place
-abbrev SameAt : List Id → List Id → ℕ → Type 0
-SameAt xs ys k = (x y : Id) → IsAtIndex xs k x → IsAtIndex ys k y → x ≡ y
-
--- an element of ys that stands at k stands nowhere below k in xs
-not_below : (S : Id → Type 0) (xs ys : List Id) (k l : ℕ) (y : Id) → IsListOf S ys → Agree xs ys k → IsAtIndex ys k y → IsAtIndex xs l y → l < k → ⊥
-not_below S xs ys k l y hy agree ay ax lt =
-    let e = agree l lt in
-    let b : IsAtIndex ys l y = sym e ∙ ax in
-    let same = hy.once l k y b ay in
-    omega arith
-
--- where one list has an element at k the other has one too
-not_longer : (S : Id → Type 0) (xs ys : List Id) (k : ℕ) (y : Id) → IsListOf S xs → IsListOf S ys → Agree xs ys k → slice_get xs k ≡ None → IsAtIndex ys k y → ⊥
-not_longer S xs ys k y hx hy agree none ay =
-    let there = at_from_contains xs y ((hx.each y).1 ((hy.each y).0 (contains_from_at ys k y ay))) in
-    elim (three there.0 k) [
-      | inl lt ↦ not_below S xs ys k there.0 y hy agree ay there.1 lt
-      | inr (inl e) ↦ (let b : slice_get xs k ≡ Some y = subst (λ (j : ℕ). slice_get xs j ≡ Some y) e there.1 in cc)
-      | inr (inr gt) ↦ past xs k there.0 y gt none there.1
-    ]
-  where
-    past : {J : Type 0} (zs : List J) (k l : ℕ) (z : J) → k < l → slice_get zs k ≡ None → slice_get zs l ≡ Some z → ⊥
-    past [] k l z gt n a = cc
-    past (w ∷ zs) zero l z gt n a = cc
-    past (w ∷ zs) (suc k) zero z gt n a = omega arith
-    past (w ∷ zs) (suc k) (suc l) z gt n a = past zs k l z (omega arith) n a
-
--- one place
-one_place : (S : Id → Type 0) (xs ys : List Id) (k : ℕ) → IsListOf S xs → IsListOf S ys → Agree xs ys k → SameAt xs ys k → slice_get xs k ≡ slice_get ys k
-one_place S xs ys k hx hy agree same = go (slice_get xs k) (slice_get ys k) refl refl
-  where
-    go : (a b : Option Id) → slice_get xs k ≡ a → slice_get ys k ≡ b → slice_get xs k ≡ slice_get ys k
-    go None None ea eb = ea ∙ sym eb
-    go None (Some y) ea eb = absurd (not_longer S xs ys k y hx hy agree ea eb)
-    go (Some x) None ea eb = absurd (not_longer S ys xs k x hy hx (λ j l. sym (agree j l)) eb ea)
-    go (Some x) (Some y) ea eb = ea ∙ ap Some (same x y ea eb) ∙ sym eb
-
-all_agree : (S : Id → Type 0) (xs ys : List Id) → IsListOf S xs → IsListOf S ys → ((k : ℕ) → Agree xs ys k → SameAt xs ys k) → (k : ℕ) → Agree xs ys k
-all_agree S xs ys hx hy step zero = λ j l. absurd (omega arith)
-all_agree S xs ys hx hy step (suc k) =
-    let below = all_agree S xs ys hx hy step k in
-    λ j l. elim (three j k) [
-      | inl lt ↦ below j lt
-      | inr (inl e) ↦ subst (λ (i : ℕ). slice_get xs i ≡ slice_get ys i) (sym e) (one_place S xs ys k hx hy below (step k below))
-      | inr (inr gt) ↦ absurd (omega arith)
-    ]
-
--- two lists of one set are one where the places below decide each place
-same_lists : (S : Id → Type 0) (xs ys : List Id) → IsListOf S xs → IsListOf S ys → ((k : ℕ) → Agree xs ys k → SameAt xs ys k) → xs ≡ ys
-same_lists S xs ys hx hy step = same_from_agree xs ys (λ j. all_agree S xs ys hx hy step (suc j) j (omega arith))
-
--- ---- orders that choose at each place
-
--- where of two one alone can come first
-chosen_once : (S : Id → Type 0) (Fit : List Id → Id → Type 0) (Comes : List Id → Id → Id → Type 0) → ((before : List Id) (x y : Id) → Comes before x y → Comes before y x → ⊥) → (xs ys : List Id) → IsChosen S Fit Comes xs → IsChosen S Fit Comes ys → xs ≡ ys
-chosen_once S Fit Comes once xs ys hx hy = same_lists S xs ys hx.list hy.list step
-  where
-    step : (k : ℕ) → Agree xs ys k → SameAt xs ys k
-    step k agree x y ax ay =
-        let same = take_agree xs ys k agree in
-        let there = at_from_contains xs y ((hx.list.each y).1 ((hy.list.each y).0 (contains_from_at ys k y ay))) in
-        let here = at_from_contains ys x ((hy.list.each x).1 ((hx.list.each x).0 (contains_from_at xs k x ax))) in
-        elim (three there.0 k) [
-          | inl lt ↦ absurd (not_below S xs ys k there.0 y hy.list agree ay there.1 lt)
-          | inr (inl e) ↦ at_one xs k x y ax (subst (λ (j : ℕ). IsAtIndex xs j y) e there.1)
-          | inr (inr gt) ↦ elim (three here.0 k) [
-            | inl lt ↦ absurd (not_below S ys xs k here.0 x hx.list (λ j l. sym (agree j l)) ax here.1 lt)
-            | inr (inl e) ↦ at_one ys k x y (subst (λ (j : ℕ). IsAtIndex ys j x) e here.1) ay
-            | inr (inr gt') ↦ absurd (once (take k xs) x y
-                (hx.chosen k there.0 x y gt ax there.1 (subst (λ (b : List Id). Fit b y) (sym same) (hy.fit k y ay)))
-                (subst (λ (b : List Id). Comes b y x) (sym same) (hy.chosen k here.0 y x gt' ay here.1 (subst (λ (b : List Id). Fit b x) same (hx.fit k x ax)))))
-          ]
-        ]
-
--- ---- breadth first
-
--- a commit that an early place names stands before each commit with a later key
-named_early : (along : Id → List Id) (tips : List Id) (S : Id → Type 0) (out : List Id) → IsBreadthFirst along tips S out → (k l : ℕ) (x y : Id) (p i q j : ℕ) → IsAtIndex out k x → IsKey along tips out x p i → Named along tips out q j y → q < p → IsAtIndex out l y → l < k
-named_early along tips S out h k l x y p i q j ax key named lt ay = elim (three l k) [
-  | inl early ↦ early
-  | inr (inl e) ↦ (let same : x ≡ y = at_one out k x y ax (subst (λ (m : ℕ). IsAtIndex out m y) e ay) in
-      absurd (key.first q j (subst (λ (z : _). Named along tips out q j z) (sym same) named) (inl lt)))
-  | inr (inr late) ↦ (let mine = h.keyed l y ay in
-      let up = h.ascending k l x y p i mine.0 mine.1 late ax ay key mine.2 in
-      let low = not_before q j mine.0 mine.1 in
-      absurd (mine.2.first q j named (elim up [ inl a ↦ inl (omega arith) | inr b ↦ inl (omega arith) ])))
-]
-
--- each commit's key is of an earlier place
-key_within : (along : Id → List Id) (tips : List Id) (S : Id → Type 0) (out : List Id) → ((x : Id) → S x → Reached along S tips x) → IsBreadthFirst along tips S out → (k : ℕ) (x : Id) (p i : ℕ) → IsAtIndex out k x → IsKey along tips out x p i → p ≤ k
-key_within along tips S out reached h k x p i ax key = elim (three k p) [
-  | inl lt ↦ (let early = all_early lt (reached x ((h.list.each x).0 (contains_from_at out k x ax))) k ax in absurd (omega arith))
-  | inr (inl e) ↦ omega arith
-  | inr (inr gt) ↦ omega arith
-]
-  where
-    member : {y : Id} → Reached along S tips y → S y
-    member (tip t s) = s
-    member (parent r c s) = s
-
-    all_early : k < p → {y : Id} → Reached along S tips y → (l : ℕ) → IsAtIndex out l y → l < k
-    all_early lt (tip {x = y} t s) l ay =
-        let t' = at_from_contains tips y t in
-        named_early along tips S out h k l x y p i 0 t'.0 ax key t'.1 (omega arith) ay
-    all_early lt (parent {x = c} {y = y} r m s) l ay =
-        let place = at_from_contains out c ((h.list.each c).1 (member r)) in
-        let early = all_early lt r place.0 place.1 in
-        let index = at_from_contains (along c) y m in
-        named_early along tips S out h k l x y p i (suc place.0) index.0 ax key (c, place.1, index.1) (omega arith) ay
-
--- what early places name is the same in lists that agree there
-named_agree : (along : Id → List Id) (tips xs ys : List Id) (k : ℕ) → Agree xs ys k → (p i : ℕ) (z : Id) → p ≤ k → Named along tips xs p i z → Named along tips ys p i z
-named_agree along tips xs ys k agree zero i z l n = n
-named_agree along tips xs ys k agree (suc j) i z l (c, a, b) = (c, sym (agree j (omega arith)) ∙ a, b)
-
--- only one list is in breadth order
-breadth_once : (along : Id → List Id) (tips : List Id) (S : Id → Type 0) → ((x : Id) → S x → Reached along S tips x) → (xs ys : List Id) → IsBreadthFirst along tips S xs → IsBreadthFirst along tips S ys → xs ≡ ys
-breadth_once along tips S reached xs ys hx hy = same_lists S xs ys hx.list hy.list step
-  where
-    step : (k : ℕ) → Agree xs ys k → SameAt xs ys k
-    step k agree x y ax ay =
-        let there = at_from_contains xs y ((hx.list.each y).1 ((hy.list.each y).0 (contains_from_at ys k y ay))) in
-        let here = at_from_contains ys x ((hy.list.each x).1 ((hx.list.each x).0 (contains_from_at xs k x ax))) in
-        elim (three there.0 k) [
-          | inl lt ↦ absurd (not_below S xs ys k there.0 y hy.list agree ay there.1 lt)
-          | inr (inl e) ↦ at_one xs k x y ax (subst (λ (j : ℕ). IsAtIndex xs j y) e there.1)
-          | inr (inr gt) ↦ elim (three here.0 k) [
-            | inl lt ↦ absurd (not_below S ys xs k here.0 x hx.list (λ j l. sym (agree j l)) ax here.1 lt)
-            | inr (inl e) ↦ at_one ys k x y (subst (λ (j : ℕ). IsAtIndex ys j x) e here.1) ay
-            | inr (inr gt') ↦ (
-                let kx = hx.keyed k x ax in
-                let ky = hx.keyed there.0 y there.1 in
-                let ky' = hy.keyed k y ay in
-                let kx' = hy.keyed here.0 x here.1 in
-                let up = hx.ascending k there.0 x y kx.0 kx.1 ky.0 ky.1 gt ax there.1 kx.2 ky.2 in
-                let up' = hy.ascending k here.0 y x ky'.0 ky'.1 kx'.0 kx'.1 gt' ay here.1 ky'.2 kx'.2 in
-                let in_x = key_within along tips S xs reached hx k x kx.0 kx.1 ax kx.2 in
-                let in_y = key_within along tips S ys reached hy k y ky'.0 ky'.1 ay ky'.2 in
-                let x_there = kx'.2.first kx.0 kx.1 (named_agree along tips xs ys k agree kx.0 kx.1 x in_x kx.2.named) in
-                let y_there = ky.2.first ky'.0 ky'.1 (named_agree along tips ys xs k (λ j l. sym (agree j l)) ky'.0 ky'.1 y in_y ky'.2.named) in
-                absurd (turn kx.0 kx.1 ky.0 ky.1 ky'.0 ky'.1 kx'.0 kx'.1 up up' x_there y_there))
-          ]
-        ]
-      where
-        turn : (a b c d e f g h : ℕ) → Before a b c d → Before e f g h → (Before a b g h → ⊥) → (Before e f c d → ⊥) → ⊥
-        turn a b c d e f g h p q r s = grind arith
-
--- ---- topological
-
-last_name_once : (along : Id → List Id) (before : List Id) (x : Id) (p i q j : ℕ) → IsLastName along before x p i → IsLastName along before x q j → (p ≡ q) × (i ≡ j)
-last_name_once along before x p i q j a b = elim (not_before p i q j (a.last q j b.named)) [ inl lt ↦ absurd (b.last p i a.named lt) | inr e ↦ e ]
-
--- one that has no child has no last child
-no_last_name : (along : Id → List Id) (before : List Id) (x : Id) (p i : ℕ) → IsLastName along before x p i → HasNoChild along before x → ⊥
-no_last_name along before x p i a none =
-    let (child, there, named) = a.named in
-    none child (contains_from_at before p child there) (contains_from_at (along child) i x named)
-
--- of two commits one alone outranks the other
-outranks_once : (along : Id → List Id) (tips : List Id) (time : Id → ℕ) (before : List Id) (x y : Id) → Outranks along tips time before x y → Outranks along tips time before y x → ⊥
-outranks_once along tips time before x y (later_child {p = p} {i = i} {q = q} {j = j} a b l) (later_child {p = p'} {i = i'} {q = q'} {j = j'} c d m) =
-    let e = last_name_once along before x p i q' j' a d in
-    let f = last_name_once along before y q j p' i' b c in
-    turned p i q j p' i' q' j' e f l m
-  where
-    turned : (a b c d e f g h : ℕ) → ((a ≡ g) × (b ≡ h)) → ((c ≡ e) × (d ≡ f)) → Before c d a b → Before g h e f → ⊥
-    turned a b c d e f g h s t u v = grind arith
-outranks_once along tips time before x y (later_child {p = p} {i = i} a b l) (has_child c n) = no_last_name along before x p i a n
-outranks_once along tips time before x y (later_child {p = p} {i = i} a b l) (newer n m t) = no_last_name along before x p i a m
-outranks_once along tips time before x y (later_child {p = p} {i = i} a b l) (given_later n m t c d e) = no_last_name along before x p i a m
-outranks_once along tips time before x y (has_child {p = p} {i = i} a n) (later_child {q = q} {j = j} b c l) = no_last_name along before y _ _ b n
-outranks_once along tips time before x y (has_child {p = p} {i = i} a n) (has_child c m) = no_last_name along before x p i a m
-outranks_once along tips time before x y (has_child {p = p} {i = i} a n) (newer c m t) = no_last_name along before x p i a m
-outranks_once along tips time before x y (has_child {p = p} {i = i} a n) (given_later c m t d e f) = no_last_name along before x p i a m
-outranks_once along tips time before x y (newer n m t) (later_child a b l) = no_last_name along before y _ _ a m
-outranks_once along tips time before x y (newer n m t) (has_child a b) = no_last_name along before y _ _ a m
-outranks_once along tips time before x y (newer n m t) (newer a b u) = omega arith
-outranks_once along tips time before x y (newer n m t) (given_later a b u c d e) = omega arith
-outranks_once along tips time before x y (given_later n m t a b c) (later_child d e l) = no_last_name along before y _ _ d m
-outranks_once along tips time before x y (given_later n m t a b c) (has_child d e) = no_last_name along before y _ _ d m
-outranks_once along tips time before x y (given_later n m t a b c) (newer d e u) = omega arith
-outranks_once along tips time before x y (given_later {i = i} {j = j} n m t a b c) (given_later {i = i'} {j = j'} d e u f g h) =
-    let s = a.first j' g.at in
-    let r = f.first j b.at in
-    omega arith
-
--- ---- walks
-
--- what a walk asks of a commit are some of its parents
-asked_parents : (g : Graph) (q : WalkRequest) (x y : Id) → Contains (asked g q x) y → Contains (g.parents x) y
-asked_parents g q x y h = by_case q.first_parents h
-  where
-    front : (xs : List Id) → Contains (take 1 xs) y → Contains xs y
-    front xs c =
-        let at = at_from_contains (take 1 xs) y c in
-        first xs at.0 at.1
-      where
-        first : (xs : List Id) (k : ℕ) → IsAtIndex (take 1 xs) k y → Contains xs y
-        first [] zero a = absurd cc
-        first [] (suc k) a = absurd cc
-        first (x ∷ xs) zero a = contains_from_at (x ∷ xs) zero y a
-        first (x ∷ xs) (suc k) a = absurd cc
-
-    by_case : (b : Bool) → Contains (cond b (take 1 (g.parents x)) (g.parents x)) y → Contains (g.parents x) y
-    by_case true c = front (g.parents x) c
-    by_case false c = c
-
--- each commit on the way to a listed one is listed
-listed_way : (g : Graph) (q : WalkRequest) {x : Id} → Reached (asked g q) (λ y. IfSome q.since (λ seconds. seconds ≤ g.time y)) q.tips x → ¬ Reached g.parents (λ _. ⊤) q.hidden x
-    → Reached (asked g q) (Listed g q) q.tips x
-listed_way g q (tip t s) seen = tip t (tip t s, seen)
-listed_way g q (parent {x = c} {y = y} r m s) seen =
-    parent (listed_way g q r (λ hidden. seen (parent hidden (asked_parents g q c y m) tt))) m (parent r m s, seen)
-
-listed_reached : (g : Graph) (q : WalkRequest) (x : Id) → Listed g q x → Reached (asked g q) (Listed g q) q.tips x
-listed_reached g q x h = listed_way g q h.0 h.1
+-- a log's walk is in one of the orders of walks
+pub some_order : (order : Order) (g : Commits Id) (q : WalkRequest Id) (ids : List Id) → IsWalk order g q ids → InSomeOrder g q ids
+some_order Breadth g q ids h = breadth h
+some_order Newest g q ids h = newest h
+some_order Oldest g q ids h = oldest h
+some_order (NewestSince seconds) g q ids h = newest h
+some_order (OldestSince seconds) g q ids h = oldest h
+some_order Date g q ids h = date h
+some_order Topological g q ids h = topological h
 
 -- two lists that choose by time first differ at one time
 chosen_at_one_time : (time : Id → ℕ) (S : Id → Type 0) (Fit : List Id → Id → Type 0) (Comes : List Id → Id → Id → Type 0)
@@ -279,10 +32,10 @@ chosen_at_one_time time S Fit Comes once xs ys hx hy k x y same ax ay =
     let here = at_from_contains ys x ((hy.list.each x).1 ((hx.list.each x).0 (contains_from_at xs k x ax))) in
     elim (three there.0 k) [
       | inl lt ↦ absurd (early xs ys hy same there.0 y lt there.1 ay)
-      | inr (inl e) ↦ ap time (at_one xs k x y ax (subst (λ (j : ℕ). IsAtIndex xs j y) e there.1))
+      | inr (inl e) ↦ ap time (at_one xs k x y ax (subst (λ (j : ℕ). At xs j y) e there.1))
       | inr (inr gt) ↦ elim (three here.0 k) [
         | inl lt ↦ absurd (early ys xs hx (sym same) here.0 x lt here.1 ax)
-        | inr (inl e) ↦ ap time (at_one ys k x y (subst (λ (j : ℕ). IsAtIndex ys j x) e here.1) ay)
+        | inr (inl e) ↦ ap time (at_one ys k x y (subst (λ (j : ℕ). At ys j x) e here.1) ay)
         | inr (inr gt') ↦ once (take k xs) x y
             (hx.chosen k there.0 x y gt ax there.1 (subst (λ (b : List Id). Fit b y) (sym same) (hy.fit k y ay)))
             (subst (λ (b : List Id). Comes b y x) (sym same) (hy.chosen k here.0 y x gt' ay here.1 (subst (λ (b : List Id). Fit b x) same (hx.fit k x ax))))
@@ -290,38 +43,32 @@ chosen_at_one_time time S Fit Comes once xs ys hx hy k x y same ax ay =
     ]
   where
     -- what stands before the place in one list stands there in the other
-    early : (us vs : List Id) → IsChosen S Fit Comes vs → take k us ≡ take k vs → (j : ℕ) (z : Id) → j < k → IsAtIndex us j z → IsAtIndex vs k z → ⊥
+    early : (us vs : List Id) → IsChosen S Fit Comes vs → take k us ≡ take k vs → (j : ℕ) (z : Id) → j < k → At us j z → At vs k z → ⊥
     early us vs hv same j z lt au av =
-        let moved : IsAtIndex vs j z = (at_taken vs k j z lt (subst (λ (ws : List Id). IsAtIndex ws j z) same (in_taken us k j z lt au))) in
-        let one = hv.list.once j k z moved av in
-        omega arith
-      where
-        in_taken : (xs : List Id) (k j : ℕ) (x : Id) → j < k → IsAtIndex xs j x → IsAtIndex (take k xs) j x
-        in_taken [] zero j x l a = absurd (omega arith)
-        in_taken [] (suc k) j x l a = a
-        in_taken (y ∷ xs) zero j x l a = absurd (omega arith)
-        in_taken (y ∷ xs) (suc k) zero x l a = a
-        in_taken (y ∷ xs) (suc k) (suc j) x l a = in_taken xs k j x (omega arith) a
+        let moved = at_from_take vs k j z (subst (λ (ws : List Id). At ws j z) same (at_take us k j z lt au)) in
+        let one = hv.list.once j k z moved.1 av in
+        omega (arith, one, lt)
 
-        at_taken : (xs : List Id) (k j : ℕ) (x : Id) → j < k → IsAtIndex (take k xs) j x → IsAtIndex xs j x
-        at_taken [] zero j x l a = absurd (omega arith)
-        at_taken [] (suc k) j x l a = a
-        at_taken (y ∷ xs) zero j x l a = absurd (omega arith)
-        at_taken (y ∷ xs) (suc k) zero x l a = a
-        at_taken (y ∷ xs) (suc k) (suc j) x l a = at_taken xs k j x (omega arith) a
+newest_once : (time : Id → ℕ) (before : List Id) (x y : Id) → pos (time y) ≤ℤ pos (time x) → pos (time x) ≤ℤ pos (time y) → time x ≡ time y
+newest_once time before x y a b = omega (arith, ints, a, b)
 
-newest_once : (time : Id → ℕ) (before : List Id) (x y : Id) → time y ≤ time x → time x ≤ time y → time x ≡ time y
-newest_once time before x y a b = omega arith
+oldest_once : (time : Id → ℕ) (before : List Id) (x y : Id) → pos (time x) ≤ℤ pos (time y) → pos (time y) ≤ℤ pos (time x) → time x ≡ time y
+oldest_once time before x y a b = omega (arith, ints, a, b)
 
-oldest_once : (time : Id → ℕ) (before : List Id) (x y : Id) → time x ≤ time y → time y ≤ time x → time x ≡ time y
-oldest_once time before x y a b = omega arith
+module _ (r : Repository) (q : WalkRequest Id) (all : (x : Id) → IsTrue (q.accepts x)) where
+  finished_alike : (xs ys f h : List Id) → FinishedByDate (commits_of r) (unfiltered q) f → FinishedByDate (commits_of r) (unfiltered q) h → xs ≡ f → ys ≡ h
+      → DifferAtOneTime (time_at r) xs ys
+  finished_alike xs ys f h first second ex ey =
+      subst (λ (us : List Id). DifferAtOneTime (time_at r) us ys) (sym ex)
+      (subst (λ (vs : List Id). DifferAtOneTime (time_at r) f vs) (sym ey) (chosen_at_one_time (time_at r) _ _ _ (newest_once (time_at r)) f h first second))
 
-pub walks_alike : (order : Order) (g : Graph) (q : WalkRequest) (xs ys : List Id) → IsWalk order g q xs → IsWalk order g q ys
-    → MatchBool (leaves_choice order) (DifferAtOneTime g.time xs ys) (xs ≡ ys)
-walks_alike Breadth g q xs ys h k = breadth_once (asked g q) q.tips (Listed g q) (listed_reached g q) xs ys h k
-walks_alike Newest g q xs ys h k = chosen_at_one_time g.time _ _ _ (newest_once g.time) xs ys h k
-walks_alike Oldest g q xs ys h k = chosen_at_one_time g.time _ _ _ (oldest_once g.time) xs ys h k
-walks_alike (NewestSince seconds) g q xs ys h k = chosen_at_one_time g.time _ _ _ (newest_once g.time) xs ys h k
-walks_alike (OldestSince seconds) g q xs ys h k = chosen_at_one_time g.time _ _ _ (oldest_once g.time) xs ys h k
-walks_alike Date g q xs ys h k = chosen_at_one_time g.time _ _ _ (newest_once g.time) xs ys h k
-walks_alike Topological g q xs ys h k = chosen_once (Listed g q) _ _ (outranks_once (asked g q) q.tips g.time) xs ys h k
+  pub walks_alike : (order : Order) (xs ys : List Id) → IsWalk order (commits_of r) q xs → IsWalk order (commits_of r) q ys
+      → MatchBool (leaves_choice order) (DifferAtOneTime (time_at r) xs ys) (xs ≡ ys)
+  walks_alike Breadth xs ys h k = breadth_is_one (commits_of r) q xs ys h k
+  walks_alike Newest xs ys h k = chosen_at_one_time (time_at r) _ _ _ (newest_once (time_at r)) xs ys h k
+  walks_alike Oldest xs ys h k = chosen_at_one_time (time_at r) _ _ _ (oldest_once (time_at r)) xs ys h k
+  walks_alike (NewestSince seconds) xs ys h k = chosen_at_one_time (time_at r) _ _ _ (newest_once (time_at r)) xs ys h k
+  walks_alike (OldestSince seconds) xs ys h k = chosen_at_one_time (time_at r) _ _ _ (oldest_once (time_at r)) xs ys h k
+  walks_alike Date xs ys (f, first, ef) (h, second, eh) =
+      finished_alike xs ys f h first second (ef ∙ filter_all q.accepts f all) (eh ∙ filter_all q.accepts h all)
+  walks_alike Topological xs ys h k = topological_is_one (commits_of r) q xs ys h k

@@ -13,7 +13,8 @@ use Rattle.history_model.specs.CommandParts.{targets}
 use Rattle.history_model.specs.Meaning.{References, after, stored_by}
 use Rattle.history_model.specs.Causes.{first_cause}
 use Rattle.history_model.specs.Logs.{log_text, whole_lines}
-use Rattle.history_model.specs.PackedNames.{PackedFile, PackedRecord, PackedAgrees, packed_file}
+use Rattle.history_model.specs.PackedNames.{PackedFile, PackedAgrees, packed_file}
+use Rattle.gix_ref_format.specs.Packed.{Record}
 use Rattle.history_model.specs.Places.{Pair, file_at, head_place, packed_place, log_place, is_log_place, log_name, is_lock_file, is_name_place}
 use Rattle.history_model.specs.Readings.{Reading, Holds, Symbolic, Absent, Faulty, is_absent, loose_reading, packed_reading, packed_text_reading, reading}
 use Rattle.history_model.specs.Forms.{is_private}
@@ -374,7 +375,7 @@ names_pass old command tree sound none way = between old command tree sound none
 abbrev IsPlain : Reading → Type 0
 IsPlain r = ((id : Id) × (r ≡ Holds id)) ⊎ (r ≡ Absent)
 
-plain_record : (b : Bool) (o : Option PackedRecord) → IsPlain (cond b Absent (unwrap_or (option_map (λ found. Holds found.target) o) Absent))
+plain_record : (b : Bool) (o : Option Record) → IsPlain (cond b Absent (unwrap_or (option_map (λ found. Holds found.target) o) Absent))
 plain_record true o = inr refl
 plain_record false None = inr refl
 plain_record false (Some found) = inl (found.target, refl)

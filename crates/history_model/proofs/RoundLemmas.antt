@@ -18,7 +18,7 @@ use Rattle.history_model.specs.Steps.{Step, Steps, goes_on, some_failed}
 use Rattle.history_model.specs.Runs.{BeginsWith, Runs, EndsReading, EndsWriting, Ends, CutsShort}
 use Rattle.history_model.specs.Moments.{Moment, IsPairAt, IsCommandPair, StandsAt, ActedOn, ActsOn, last_moment}
 use Rattle.history_model.specs.Rounds.{HasWritten, IsCutOff, Round, IsStoppedIn, IsLast, IsRunOf, Recovers, IsLeft, IsRound, Leaves, IsOutcome}
-use Rattle.history_model.specs.Laws.{RoundsJoin, WritesReplies, RunsHaveWritten, TracesStop}
+use Rattle.history_model.specs.Laws.{RoundsJoin, WritesReplies, RunsEnd, RunsHaveWritten, TracesStop}
 use Rattle.history_model.specs.declared.End.{End}
 use Rattle.history_model.specs.declared.End.TheVariants.{Input, Refused as ByRefusal, Fault as ByFault}
 use Rattle.gix_hash.specs.declared.kind.Kind.{Kind}
@@ -438,6 +438,20 @@ writing_written old new commands replies input output failed h =
     go (c ∷ d ∷ cs) [] k = absurd k
     go (c ∷ d ∷ cs) (b ∷ bs) k = absurd k
     go (c ∷ []) (b ∷ d ∷ bs) k = absurd k
+
+pub runs_end : RunsEnd
+runs_end objects names old new begin finish commands replies input output end runs traces pair at =
+    let wrote = runs_written old new commands replies input output end false runs in
+    record {
+      commands = commands;
+      rest = wrote.0;
+      at = finish;
+      mid = new;
+      splits = wrote.1;
+      traces = traces;
+      written = wrote.2;
+      last = (sym runs.ran.fails, at);
+    }
 
 pub runs_have_written : RunsHaveWritten
 runs_have_written = (runs_written, reading_written, writing_written)

@@ -11,17 +11,17 @@ use Rattle.history_model.specs.FileMap.{FileMap}
 use Rattle.history_model.specs.Objects.{CommitValue, StoredFolder, id_of}
 use Rattle.gix_hash.specs.Id.{Id, null_id}
 use Rattle.history_model.specs.Repository.{Repository, Reference, id_at, stands, commit_at}
-use Rattle.history_model.specs.Commands.{Command, Commit, Tag, Move, Rename, Delete, Switch, Pack, Index, Names, Files, Past, Log, Show, LogCommand, Order, Breadth, Newest, Oldest, NewestSince, OldestSince, Date, Topological}
+use Rattle.history_model.specs.Commands.{Command, Commit, Tag, Move, Rename, Delete, Switch, Pack, Index, Names, Files, Past, Log, Show, LogCommand}
 use Rattle.history_model.specs.Replies.{Reply, RefusedFor, Faulted, LogIs, FilesAre, ShowsCommit, ShowsContent}
 use Rattle.history_model.specs.Meaning.{after, moved_reference, history_actor}
 use Rattle.history_model.specs.Causes.{first_cause, holds, in_order}
-use Rattle.history_model.specs.Answers.{Answers, StandsForCommit, IsWalk, graph_of, walk_request, kept, differs_at, files_shown, commit_shown, content_shown}
-use Rattle.history_model.specs.Walks.{Graph, WalkRequest, Listed, IsListOf}
+use Rattle.history_model.specs.Answers.{Answers, StandsForCommit, IsWalk, commits_of, walk_request, kept, differs_at, files_shown, commit_shown, content_shown}
+use Rattle.gix_traverse_commit.proofs.Listing.{one_set}
 use Rattle.history_model.specs.Steps.{Step, is_faulted, Accepts}
 use Rattle.history_model.specs.Stops.{LeftByStop, Between, IsNotLost, is_changing}
 use Rattle.history_model.specs.Laws.{TreesAreCanonical, StepsAreDetermined, ListsAlike, AreAlike, RepliesTellTheState, RenamesLoseNothing, StopsMayLeaveAll}
 use Rattle.history_model.specs.declared.Cause.{Cause}
-use Rattle.history_model.proofs.LogLemmas.{walks_alike}
+use Rattle.history_model.proofs.LogLemmas.{some_order, walks_alike}
 use Rattle.history_model.proofs.WholeLists.{In}
 use Rattle.history_model.proofs.WholeSteps.{contains_in, in_contains}
 use Rattle.history_model.specs.declared.Cause.TheVariants.{NameTwice, NoSuchName, Taken}
@@ -80,28 +80,13 @@ in_kept test xs ys same id h =
     let at = from_filter test id xs (contains_in (filter test xs) id h) in
     in_contains (filter test ys) id (into_filter test id at.1 ys (contains_in ys id (same id (in_contains xs id at.0))))
 
-is_list : (order : Order) (g : Graph) (q : WalkRequest) (ids : List Id) → IsWalk order g q ids → IsListOf (Listed g q) ids
-is_list Breadth g q ids h = h.list
-is_list Newest g q ids h = h.list
-is_list Oldest g q ids h = h.list
-is_list (NewestSince seconds) g q ids h = h.list
-is_list (OldestSince seconds) g q ids h = h.list
-is_list Date g q ids h = h.list
-is_list Topological g q ids h = h.list
-
 -- two walks of one request
-walks_same : (r : Repository) (c : LogCommand) (paths : List Bytes) (xs ys : List Id) → IsWalk c.order (graph_of r) (walk_request r c) xs → IsWalk c.order (graph_of r) (walk_request r c) ys
+walks_same : (r : Repository) (c : LogCommand) (paths : List Bytes) (xs ys : List Id) → IsWalk c.order (commits_of r) (walk_request r c) xs → IsWalk c.order (commits_of r) (walk_request r c) ys
     → (id : Id) → Contains (kept r paths xs) id → Contains (kept r paths ys) id
 walks_same r c paths xs ys h k id = go paths
   where
-    left : IsListOf (Listed (graph_of r) (walk_request r c)) xs
-    left = is_list c.order (graph_of r) (walk_request r c) xs h
-
-    right : IsListOf (Listed (graph_of r) (walk_request r c)) ys
-    right = is_list c.order (graph_of r) (walk_request r c) ys k
-
     same : (id : Id) → Contains xs id → Contains ys id
-    same id at = (right.each id).1 ((left.each id).0 at)
+    same id at = (one_set (commits_of r) (walk_request r c) xs ys (λ x. refl) (some_order c.order (commits_of r) (walk_request r c) xs h) (some_order c.order (commits_of r) (walk_request r c) ys k) id).0 at
 
     go : (paths : List Bytes) → Contains (kept r paths xs) id → Contains (kept r paths ys) id
     go [] = same id
@@ -111,10 +96,12 @@ log_same : (r : Repository) (c : LogCommand) (x y : Reply) → Answers r (Log c)
 log_same r c x y (xs, (walked, h, e), f) (ys, (other, k, g), l) = record {
   walk = walked;
   other = other;
+  walked = h;
+  other_walked = k;
   x_is = f ∙ ap LogIs e;
   y_is = l ∙ ap LogIs g;
   same = λ id. (λ at. walks_same r c c.paths walked other h k id at, λ at. walks_same r c c.paths other walked k h id at);
-  choice = walks_alike c.order (graph_of r) (walk_request r c) walked other h k;
+  choice = walks_alike r (walk_request r c) (λ x. refl) c.order walked other h k;
 }
 
 same_alike : (r : Repository) (command : Command) (x y : Reply) → x ≡ y → AreAlike r command x y

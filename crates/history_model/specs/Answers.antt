@@ -1,5 +1,5 @@
 -- The reply to a command of which no cause holds.
-use Rattle.std.specs.Prelude.{◌≡◌, ℕ, zero, suc, Bool, true, false, not, ◌&&◌, List, [], ◌∷◌, ◌++◌, length, map, max, fold, filter, nat_le, Option, Some, None, option_map, option_to_list, unwrap_or, bytes_eq}
+use Rattle.std.specs.Prelude.{◌≡◌, ℕ, zero, suc, Bool, true, false, not, ◌&&◌, List, [], ◌∷◌, ◌++◌, length, map, max, fold, filter, nat_le, Option, Some, None, option_map, option_to_list, unwrap_or, bytes_eq, pos, if◌then◌else◌}
 use Rattle.std.specs.List.{filter_map, list_any}
 use Rattle.std.specs.FinMap.{entries, keys, get, len}
 use Rattle.history_model.specs.Bytes.{Bytes, begins, digits_value}
@@ -11,7 +11,9 @@ use Rattle.history_model.specs.Words.{commit_of}
 use Rattle.history_model.specs.Commands.{Command, Commit, Tag, Move, Rename, Delete, Switch, Pack, Index, Names, Files, Past, Log, Show, LogCommand, Order, Breadth, Newest, Oldest, NewestSince, OldestSince, Date, Topological, LogItem, Tip, Hidden}
 use Rattle.history_model.specs.Replies.{Reply, Committed, Tagged, Moved, Renamed, Deleted, Switched, Packed, Indexed, NamesAre, LogIs, FilesAre, ShowsCommit, ShowsContent, PastIs, NameLine, FileLine, CommitShown, ContentShown}
 use Rattle.history_model.specs.Meaning.{past_name, files_at, first_files, new_commit, new_tag}
-use Rattle.history_model.specs.Walks.{Graph, WalkRequest, InBreadth, ByNewest, ByOldest, InDate, InTopological}
+use Rattle.gix_traverse_commit.specs.Commits.{Commits, WalkRequest}
+use Rattle.gix_traverse_commit.specs.Walks.{InBreadth, ByNewest, ByOldest, InDate, InTopological}
+use Rattle.gix_traverse_commit.specs.declared.parents.Parents.TheVariants.{All as AllParents, First as FirstParent}
 use Rattle.history_model.specs.declared.FileKind.{FileKind}
 use Rattle.history_model.specs.declared.FileKind.TheVariants.{File, Exec, Link}
 
@@ -99,8 +101,9 @@ content_shown r content = record { kind = content.kind; id = blob_id r.kind cont
 
 -- ---- `log`
 
-abbrev pub graph_of : Repository → Graph
-graph_of r = record { parents = parents_at r; time = time_at r }
+-- the commits that a walk goes over
+abbrev pub commits_of : Repository → Commits Id
+commits_of r id = record { parents = parents_at r id; time = pos (time_at r id) }
 
 abbrev pub tip_word : LogItem → Option Bytes
 tip_word (Tip word) = Some word
@@ -115,15 +118,17 @@ since_of (NewestSince seconds) = Some (digits_value seconds)
 since_of (OldestSince seconds) = Some (digits_value seconds)
 since_of _ = None
 
-abbrev pub walk_request : Repository → LogCommand → WalkRequest
+-- what a log asks of a walk, which refuses no commit
+abbrev pub walk_request : Repository → LogCommand → WalkRequest Id
 walk_request r c = record {
   tips = filter_map (commit_of r) (filter_map tip_word c.items);
   hidden = filter_map (commit_of r) (filter_map hidden_word c.items);
-  first_parents = c.first_parents;
-  since = since_of c.order;
+  parents = if c.first_parents then FirstParent else AllParents;
+  since = option_map pos (since_of c.order);
+  accepts = λ _. true;
 }
 
-abbrev pub IsWalk : Order → Graph → WalkRequest → List Id → Type 0
+abbrev pub IsWalk : Order → Commits Id → WalkRequest Id → List Id → Type 0
 IsWalk Breadth g q ids = InBreadth g q ids
 IsWalk Newest g q ids = ByNewest g q ids
 IsWalk Oldest g q ids = ByOldest g q ids
@@ -157,7 +162,7 @@ kept r [] ids = ids
 kept r (path ∷ paths) ids = filter (differs_at r (path ∷ paths)) ids
 
 abbrev pub IsLog : Repository → LogCommand → List Id → Type 0
-IsLog r c ids = (walked : List Id) × IsWalk c.order (graph_of r) (walk_request r c) walked × (ids ≡ kept r c.paths walked)
+IsLog r c ids = (walked : List Id) × IsWalk c.order (commits_of r) (walk_request r c) walked × (ids ≡ kept r c.paths walked)
 
 -- ---- all commands
 

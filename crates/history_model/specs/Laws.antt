@@ -11,8 +11,8 @@ use Rattle.history_model.specs.Objects.{StoredFolder, entry_at}
 use Rattle.gix_hash.specs.Id.{Id}
 use Rattle.history_model.specs.Repository.{Repository, IsWhole, id_at, moves_at, first_branch, fresh}
 use Rattle.history_model.specs.Commands.{Command, Rename, Pack, Files, Log, LogCommand, Order, Breadth, Topological}
-use Rattle.history_model.specs.Answers.{kept, time_at}
-use Rattle.history_model.specs.Walks.{IsAtIndex}
+use Rattle.history_model.specs.Answers.{commits_of, walk_request, IsWalk, kept, time_at}
+use Rattle.gix_traverse_commit.specs.Order.{At}
 use Rattle.history_model.specs.Replies.{Reply, FileLine, FilesAre, LogIs, reply_text}
 use Rattle.history_model.specs.Causes.{first_cause}
 use Rattle.history_model.specs.Places.{Pair, file_at, head_place, is_log_place, is_object_folder, is_name_folder}
@@ -23,7 +23,7 @@ use Rattle.history_model.specs.Logs.{whole_lines}
 use Rattle.history_model.specs.Stops.{LeftByStop}
 use Rattle.history_model.specs.Steps.{Step, goes_on, is_faulted, next}
 use Rattle.history_model.specs.Runs.{BeginsWith, Runs, EndsReading, EndsWriting}
-use Rattle.history_model.specs.Moments.{Moment, IsRunPair, Traces}
+use Rattle.history_model.specs.Moments.{Moment, IsPairAt, IsRunPair, Traces}
 use Rattle.history_model.specs.Rounds.{HasWritten, Round, IsRunOf, AreRounds, last_left, Outcomes}
 use Rattle.gix_hash.specs.declared.kind.Kind.{Kind}
 use Rattle.history_model.specs.declared.End.{End}
@@ -61,7 +61,7 @@ FilesAscend = (old new : Repository) (word : Bytes) (files : List FileLine)
 -- where two lists first differ, if they do, the two commits have one time
 abbrev pub DifferAtOneTime : (Id → ℕ) → List Id → List Id → Type 0
 DifferAtOneTime time xs ys =
-    (k : ℕ) (x y : Id) → take k xs ≡ take k ys → IsAtIndex xs k x → IsAtIndex ys k y → time x ≡ time y
+    (k : ℕ) (x y : Id) → take k xs ≡ take k ys → At xs k x → At ys k y → time x ≡ time y
 
 -- whether an order leaves a choice, which is one among equal times
 abbrev pub leaves_choice : Order → Bool
@@ -69,11 +69,13 @@ leaves_choice Breadth = false
 leaves_choice Topological = false
 leaves_choice _ = true
 
--- Two replies to one log, each made of a walk: both of the same commits. Breadth and topology leave one walk alone; in an order
--- by time two walks first differ, if they do, at two commits of one time.
+-- Two replies to one log, each made of a walk that it asks for: both of the same commits. Breadth and topology leave one walk
+-- alone; in an order by time two walks first differ, if they do, at two commits of one time.
 pub record ListsAlike (r : Repository) (c : LogCommand) (x y : Reply) : Type 0 where
   pub walk : List Id
   pub other : List Id
+  pub walked : IsWalk c.order (commits_of r) (walk_request r c) walk
+  pub other_walked : IsWalk c.order (commits_of r) (walk_request r c) other
   pub x_is : x ≡ LogIs (kept r c.paths walk)
   pub y_is : y ≡ LogIs (kept r c.paths other)
   pub same : (id : Id) → Contains (kept r c.paths walk) id ↔ Contains (kept r c.paths other) id
@@ -192,6 +194,26 @@ TracesStop = (objects names : History) (old new : Repository) (begin finish : Mo
     → BeginsWith input commands rest → (traces : Traces objects names (Unit {0}) old begin commands replies finish new)
     → (pair : Pair) → IsRunPair objects names begin traces.moments pair
     → (made more : List Reply) × (replies ≡ made ++ more) × IsRunOf old (stopped_round old.kind objects names begin input made pair)
+
+-- A run over the input that ended at a pair, which stayed as it was.
+abbrev pub ended_round : History → History → Moment → Bytes → List Reply → Bytes → Pair → Round
+ended_round objects names begin input replies written pair = record {
+  objects = objects;
+  names = names;
+  begin = begin;
+  input = input;
+  replies = replies;
+  written = written;
+  last = pair;
+  recoveries = None;
+  left = pair;
+}
+
+-- A run that ends without a fault in a changing command, as one that ends with its input, is a round that needs no recovery.
+abbrev pub RunsEnd : Type 0
+RunsEnd = (objects names : History) (old new : Repository) (begin finish : Moment) (commands : List Command) (replies : List Reply) (input output : Bytes) (end : End)
+    → Runs (Unit {0}) (Unit {0}) old commands replies input output end false new → Traces objects names (Unit {0}) old begin commands replies finish new
+    → (pair : Pair) → IsPairAt objects names finish pair → IsRunOf old (ended_round objects names begin input replies output pair)
 
 -- What a run over the input writes is the replies to the commands that it acted on, at most the last of them in part.
 abbrev pub WritesReplies : Bytes → List Command → List Reply → Bytes → Type 0
