@@ -24,3 +24,6 @@ pub mod Faults
 pub mod EmptyFiles
 pub mod Outcome
 pub mod Leftover
+pub mod Counting
+pub mod Unopened
+pub mod Breaks

@@ -8,3 +8,4 @@ pub mod Handing
 pub mod TreeIds
 pub mod StandIns
 pub mod Opening
+pub mod Lookups

@@ -1,6 +1,7 @@
 -- An editor of a file map's files over trees that stand, and why it isn't opened or an edit isn't made.
 use Rattle.std.specs.Prelude.{⊤, List, IsTrue}
 use Rattle.std.specs.List.{AllByRecursion}
+use Rattle.gix_hash.specs.Id.{id_of}
 use Rattle.gix_hash.specs.declared.kind.Kind.{Kind}
 use Rattle.gix_object_editor.specs.Editor.{EachEntryHas, files_of}
 use Rattle.gix_object_editor.specs.Files.{HasStored, Trees}
@@ -9,6 +10,7 @@ use Rattle.gix_object_find.specs.Table.{Table}
 use Rattle.history_model.specs.FileMap as model
 use Rattle.history_model.specs.FileMap.{FileMap, IsFileMap, some_refused}
 use Rattle.history_files.specs.Entries.{names_only, own_folders}
+use Rattle.history_files.specs.Reading.{HasNoGoodTree}
 use Rattle.history_files.specs.Unfolding.{HasTrees, IsUnfolded}
 use Rattle.history_files.specs.declared.edits.EditError.{EditError}
 use Rattle.history_files.specs.declared.edits.EditError.TheVariants.{BadPath, IsFolder, NullId, Failed, Broken, Memory}
@@ -19,6 +21,15 @@ pub record EditsFiles {S : Type 0} (table : Table) (kind : Kind) (base files : F
   pub trees : AllByRecursion (HasTrees table kind) (own_folders base)
   pub unfolds : (trees : Trees) → HasStored table trees → IsUnfolded kind files (files_of trees editor)
   pub each : EachEntryHas (names_only kind (own_folders base)) editor
+
+-- a tree that an error tells can't be read or isn't well-formed, where the store answers by its table
+abbrev pub TellsBroken : Type 0 → Table → EditError → Type 0
+TellsBroken honest table BadPath = ⊤
+TellsBroken honest table IsFolder = ⊤
+TellsBroken honest table NullId = ⊤
+TellsBroken honest table Failed = ⊤
+TellsBroken honest table (Broken oid) = honest → HasNoGoodTree table (id_of oid)
+TellsBroken honest table Memory = ⊤
 
 -- why it isn't opened
 abbrev pub OpenFault : Type 0 → EditError → Type 0

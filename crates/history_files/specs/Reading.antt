@@ -1,6 +1,6 @@
 -- What is read of the trees of files, and why they aren't read: `honest` says whether a store answers by its table, `may_fail`
 -- whether its lookups may fail.
-use Rattle.std.specs.Prelude.{◌≡◌, ⊤, Option, Some, None, option_map, option_and_then, List, codes}
+use Rattle.std.specs.Prelude.{◌≡◌, ◌⊎◌, ⊤, Option, Some, None, option_map, option_and_then, List, [], codes}
 use Rattle.gix_hash.specs.Id.{Id, id_of}
 use Rattle.gix_hash.specs.declared.kind.Kind.{Kind}
 use Rattle.gix_object_lines.specs.declared.kind.Kind.TheVariants as objects
@@ -23,7 +23,10 @@ use Rattle.history_model.specs.Bytes.{Bytes}
 use Rattle.history_model.specs.FileMap.{FileMap, Content, IsFileMap}
 use Rattle.history_model.specs.Objects.{mode_of, folder_id, blob_id}
 use Rattle.history_model.specs.Replies.{FileLine}
+use Rattle.gix_traverse_tree.specs.Calls.{Call}
+use Rattle.gix_traverse_tree.specs.Depth.{InDepth, before}
 use Rattle.gix_traverse_tree.specs.Recorder.{Recorded}
+use Rattle.gix_traverse_tree.specs.Trees.{failed}
 use Rattle.gix_traverse_tree.specs.declared.error.Error as walking
 use Rattle.gix_traverse_tree.specs.declared.error.Error.TheVariants as walked
 use Rattle.gix_hash.specs.declared.object_id.ObjectId.{ObjectId}
@@ -58,6 +61,12 @@ as_read (not_given.ObjectKind oid actual expected) = Broken oid
 -- no tree stands under the id that can be read
 abbrev pub HasNoTree : Table → Id → Type 0
 HasNoTree table id = (items : List Item) → StandsAs table id objects.Tree (Tree items) → ⊥
+
+-- a tree that an error tells can't be read, where the store answers by its table
+abbrev pub TellsUnread : Type 0 → Table → ReadError → Type 0
+TellsUnread honest table Failed = ⊤
+TellsUnread honest table (Broken oid) = honest → HasNoTree table (id_of oid)
+TellsUnread honest table Memory = ⊤
 
 -- why the tree under an id isn't read
 abbrev pub TreeFault : Type 0 → Type 0 → Table → Id → ReadError → Type 0
@@ -134,9 +143,19 @@ as_walked root (walked.ObjectDecode error) = Broken root
 as_walked root walked.Cycle = Broken root
 as_walked root walked.Memory = Memory
 
--- why the tree under a root's id isn't opened for edits: none stands there that can be read and is well-formed
+-- Why files aren't listed: the walk in depth order from the root ends at a tree that isn't found or lies under itself, or in one of
+-- which an entry can't be read; or no memory was left.
+abbrev pub StopsBelow : Type 0 → Type 0 → Table → ObjectId → ReadError → Type 0
+StopsBelow honest may_fail table root error = (error ≡ Memory)
+    ⊎ ((calls : List Call) × (cause : walking.Error) × (error ≡ as_walked root cause)
+    × InDepth honest may_fail table [] (before (id_of root)) calls (failed cause))
+
+-- no tree stands under the id that can be read and is well-formed
+abbrev pub HasNoGoodTree : Table → Id → Type 0
+HasNoGoodTree table id = (items : List Item) → StandsAs table id objects.Tree (Tree items) → IsWellFormed items → ⊥
+
+-- why the tree under a root's id isn't opened for edits
 abbrev pub RootFault : Type 0 → Type 0 → Table → Id → ReadError → Type 0
 RootFault honest may_fail table id Failed = may_fail
-RootFault honest may_fail table id (Broken oid) =
-    (id_of oid ≡ id) × (honest → (items : List Item) → StandsAs table id objects.Tree (Tree items) → IsWellFormed items → ⊥)
+RootFault honest may_fail table id (Broken oid) = (id_of oid ≡ id) × (honest → HasNoGoodTree table id)
 RootFault honest may_fail table id Memory = ⊤

@@ -3,8 +3,9 @@
 ghost use Rattle.std.specs.Prelude.{◌≡◌, ◌≤◌, ◌+◌, IfOk, IfErr, IsErrOf, map, not};
 ghost use Rattle.std.specs.List.{list_all, list_any};
 ghost use Rattle.gix_hash.specs.Id.{id_of};
-ghost use Rattle.gix_object_editor.specs.Editor.{IsAsRead};
-ghost use Rattle.gix_object_editor.specs.Files.{Trees, is_null};
+ghost use Rattle.gix_object_editor.specs.Asked.{CountsUp};
+ghost use Rattle.gix_object_editor.specs.Editor.{IsAsRead, asked_by};
+ghost use Rattle.gix_object_editor.specs.Files.{HasStored, Path, Trees, is_null};
 ghost use Rattle.gix_hash.specs.declared.kind.Kind.{Kind};
 ghost use Rattle.history_model.specs.Bytes.{is_empty};
 ghost use Rattle.history_model.specs.FileMap.{FileMap, components, is_path};
@@ -13,7 +14,8 @@ ghost use Rattle.history_files.specs.Edits.{name_count};
 ghost use Rattle.gix_object_entries.specs.Entry.{own_item};
 ghost use Rattle.gix_object_entries.specs.Writing.{tree_text};
 ghost use Rattle.history_files.specs.Editing.{OfEdits, AreEdited, EditsFault, IsBase, root_id};
-ghost use Rattle.history_files.specs.Opening.{EditsFiles, OpenFault};
+ghost use Rattle.history_files.specs.Lookups.{AsksOf, root_count, root_into};
+ghost use Rattle.history_files.specs.Opening.{EditsFiles, OpenFault, TellsBroken};
 ghost use Rattle.history_files.specs.Handing.{HasWritten, KeepsTree};
 ghost use Rattle.history_files.specs.declared.edits.EditError.TheVariants.{Failed, Memory};
 
@@ -31,7 +33,8 @@ use std::alloc::{AllocError, Global};
 
 /// Makes the edits of a root's files in their order, and gives the trees that are to be stored for what they make of them: those on
 /// the edited paths, and always the root's, also where it has no entries. Without a root there are no files before. Nothing is
-/// stored. The ids of what is put, and of the trees, are of this kind.
+/// stored. The ids of what is put, and of the trees, are of this kind. Of the store it asks for the root's tree, and for each tree
+/// into which an edit leads and that wasn't asked for before: for one more than the names in the edited paths at most.
 ///
 /// It is `BadPath` where a path has an empty name or a zero byte, whatever the other edits are, and before anything is looked up;
 /// `IsFolder` where a `RemoveFile` finds files below its path; `NullId` where no edit is refused and what is put or one of the trees
@@ -44,11 +47,19 @@ pub fn edit_files<S: Find>(
     root: Option<&ObjectId>,
     edits: &[Edit<'_>],
 ) -> Result<EditedFiles, EditError>
-    ensures edited { OfEdits (S.is_honest store.now) (S.table store.now) kind (root_id root.entry) edits.now
+    ensures edited { OfEdits (S.is_honest store.now) (S.table store.now) kind
+        (root_id root.entry) edits.now
         (λ files made. IfOk result (AreEdited kind files made)) }
-    ensures refused { OfEdits (S.is_honest store.now) (S.table store.now) kind (root_id root.entry) edits.now
+    ensures refused { OfEdits (S.is_honest store.now) (S.table store.now) kind
+        (root_id root.entry) edits.now
         (λ files made. IfErr result (EditsFault (S.may_fail store.now) kind files made)) }
+    // Of any root.
+    ensures broken { IfErr result (TellsBroken (S.is_honest store.now) (S.table store.now)) }
     ensures counted { IfOk result (λ edited. edited.lookups ≤ name_count edits.now + 1) }
+    ensures asked { S.is_honest store.now
+        → (trees : Trees) → HasStored (S.table store.now) trees
+        → IfOk result (λ edited. AsksOf (root_into trees (root_id root.entry)) edits.now
+        (root_count (root_id root.entry)) edited.lookups) }
     ensures failed { IsErrOf result Failed → S.may_fail store.now }
 {
     edits_keep();
@@ -62,7 +73,7 @@ pub fn edit_files<S: Find>(
         return Err(EditError::NullId);
     }
     make_edits(alloc, &mut editor, edits)?;
-    let edited = written(alloc, kind, &editor)?;
+    let edited = written(alloc, kind, &editor, roots(root))?;
     if has_null_tree(edited.trees.as_slice()) {
         return Err(EditError::NullId);
     }
@@ -96,12 +107,19 @@ fn editor_of<'a, S: Find>(
     root: Option<&ObjectId>,
 ) -> Result<Editor<&'a S>, EditError>
     ensures base { S.is_honest store.now → (kind : Kind) (files : FileMap)
-        → IsBase (S.table store.now) kind (root_id root.entry) files → IfOk result (EditsFiles (S.table store.now) kind files files) }
+        → IsBase (S.table store.now) kind (root_id root.entry) files
+        → IfOk result (EditsFiles (S.table store.now) kind files files) }
     ensures as_read { IfOk result (λ editor. (trees : Trees) → IsAsRead trees editor) }
     ensures store { IfOk result (λ editor. editor.store ≡ store.entry) }
     ensures uncounted { IfOk result (λ editor. editor.lookups ≡ 0) }
+    ensures unopened { S.is_honest store.now
+        → (trees : Trees) → HasStored (S.table store.now) trees
+        → IfOk result (λ editor. (names : Path)
+        → asked_by editor names trees ≡ root_into trees (root_id root.entry) names) }
     ensures own { S.is_honest store.now → (kind : Kind) (files : FileMap)
-        → IsBase (S.table store.now) kind (root_id root.entry) files → IfErr result (OpenFault (S.may_fail store.now)) }
+        → IsBase (S.table store.now) kind (root_id root.entry) files
+        → IfErr result (OpenFault (S.may_fail store.now)) }
+    ensures broken { IfErr result (TellsBroken (S.is_honest store.now) (S.table store.now)) }
     ensures failed { IsErrOf result Failed → S.may_fail store.now }
 {
     match root {
@@ -162,10 +180,26 @@ fn is_null(id: &ObjectId) -> bool
     id.is_null()
 }
 
-// The trees that the editor hands out.
-fn written<S: Find>(alloc: Global, kind: Kind, editor: &Editor<S>) -> Result<EditedFiles, EditError>
+// How many roots are given.
+fn roots(root: Option<&ObjectId>) -> u64
+    ensures { result ≡ root_count (root_id root.entry) }
+{
+    match root {
+        Some(_) => 1,
+        None => 0,
+    }
+}
+
+// The trees that the editor hands out. So many were asked for before it counted.
+fn written<S: Find>(
+    alloc: Global,
+    kind: Kind,
+    editor: &Editor<S>,
+    before: u64,
+) -> Result<EditedFiles, EditError>
     ensures trees { IfOk result (λ edited. HasWritten kind editor.now edited) }
-    ensures counted { IfOk result (λ edited. edited.lookups ≤ editor.now.lookups + 1) }
+    ensures counted { IfOk result (λ edited. edited.lookups ≤ editor.now.lookups + before) }
+    ensures asked { IfOk result (λ edited. CountsUp editor.now.lookups edited.lookups before) }
     ensures refused { IfErr result (λ error. error ≡ Memory) }
 {
     let mut trees = Vec::new(alloc);
@@ -179,7 +213,7 @@ fn written<S: Find>(alloc: Global, kind: Kind, editor: &Editor<S>) -> Result<Edi
         Ok(root) => Ok(EditedFiles {
             root,
             trees,
-            lookups: editor.lookups().saturating_add(1),
+            lookups: editor.lookups().saturating_add(before),
         }),
         Err(_) => Err(EditError::Memory),
     }
@@ -202,7 +236,8 @@ fn keep(
 
 // The tree's text. Each name was tested, so that a byte that no tree has isn't the cause where none is given.
 fn content_of(alloc: Global, tree: &Tree) -> Result<Vec<u8>, AllocError>
-    ensures { IfOk result (λ content. content.items ≡ tree_text (map own_item tree.now.entries.items)) }
+    ensures { IfOk result (λ content.
+        content.items ≡ tree_text (map own_item tree.now.entries.items)) }
 {
     let mut content = Vec::new(alloc);
     match tree.write_to(&mut content) {

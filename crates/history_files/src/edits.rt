@@ -3,11 +3,13 @@
 ghost use Rattle.std.specs.Prelude.{◌≡◌, ◌≤◌, ◌+◌, List, [], ◌∷◌, length, OnOk, IfErr, IsErrOf, IsFalse, IsTrue};
 ghost use Rattle.gix_hash.specs.declared.kind.Kind.{Kind};
 ghost use Rattle.gix_object_editor.specs.Files.{Trees, HasStored};
-ghost use Rattle.gix_object_editor.specs.Editor.{files_of, EachEntryHas, IsAsRead};
+ghost use Rattle.gix_object_editor.specs.Asked.{CountsUp};
+ghost use Rattle.gix_object_editor.specs.Editor.{asked_by, files_of, EachEntryHas, IsAsRead};
 ghost use Rattle.gix_object_editor.specs.Entries.{Property, PassesDown};
 ghost use Rattle.history_files.specs.Editing.{HavePaths};
 ghost use Rattle.history_files.specs.Entries.{MayPut, MayBeMade};
-ghost use Rattle.history_files.specs.Opening.{EditsFiles, MakingFault};
+ghost use Rattle.history_files.specs.Lookups.{AsksOf, edit_way};
+ghost use Rattle.history_files.specs.Opening.{EditsFiles, MakingFault, TellsBroken};
 ghost use Rattle.history_model.specs.FileMap as model;
 ghost use Rattle.history_model.specs.FileMap.{FileMap, components, edited, is_path, is_refused};
 ghost use Rattle.history_files.specs.Unfolding as unfolded;
@@ -145,13 +147,23 @@ pub fn make_edits<S: Find>(
     ensures accepted { S.is_honest editor.old.store
         → OnOk result (EditsPass (S.table editor.old.store) edits.now
         (λ trees. files_of trees editor.old)) }
-    ensures refused { S.is_honest editor.old.store → (kind : Kind) (base files : FileMap) (made : List model.Edit)
-        → EditsFiles (S.table editor.old.store) kind base files editor.old → HavePaths made → AreEdits kind edits.now made
+    ensures refused { S.is_honest editor.old.store
+        → (kind : Kind) (base files : FileMap) (made : List model.Edit)
+        → EditsFiles (S.table editor.old.store) kind base files editor.old
+        → HavePaths made → AreEdits kind edits.now made
         → IfErr result (MakingFault (S.may_fail editor.old.store) files made) }
-    ensures each { S.is_honest editor.old.store → (has : Property) → PassesDown (S.table editor.old.store) has → MayBeMade has edits.now
+    ensures broken { IfErr result
+        (TellsBroken (S.is_honest editor.old.store) (S.table editor.old.store)) }
+    ensures each { S.is_honest editor.old.store → (has : Property)
+        → PassesDown (S.table editor.old.store) has → MayBeMade has edits.now
         → EachEntryHas has editor.old → EachEntryHas has editor.new }
-    ensures as_read { S.is_honest editor.old.store → (trees : Trees) → HasStored (S.table editor.old.store) trees
+    ensures as_read { S.is_honest editor.old.store
+        → (trees : Trees) → HasStored (S.table editor.old.store) trees
         → IsAsRead trees editor.old → IsAsRead trees editor.new }
+    ensures asked { S.is_honest editor.old.store
+        → (trees : Trees) → HasStored (S.table editor.old.store) trees
+        → OnOk result (AsksOf (λ names. asked_by editor.old names trees) edits.now
+        editor.old.lookups editor.new.lookups) }
     ensures counted { editor.new.lookups ≤ editor.old.lookups + name_count edits.now }
     ensures store { editor.new.store ≡ editor.old.store }
     ensures failed { IsErrOf result Failed → S.may_fail editor.old.store }
@@ -178,14 +190,26 @@ fn make_edit<S: Find>(
         → HasStored (S.table editor.old.store) trees → IsEdit kind edit.now made
         → IsUnfolded kind files (files_of trees editor.old)
         → IsFalse (is_refused files made)) }
-    ensures refused { S.is_honest editor.old.store → (kind : Kind) (base files : FileMap) (made : model.Edit)
-        → EditsFiles (S.table editor.old.store) kind base files editor.old → IsTrue (is_path edit.now.path.now) → IsEdit kind edit.now made
+    ensures refused { S.is_honest editor.old.store
+        → (kind : Kind) (base files : FileMap) (made : model.Edit)
+        → EditsFiles (S.table editor.old.store) kind base files editor.old
+        → IsTrue (is_path edit.now.path.now) → IsEdit kind edit.now made
         → IfErr result (MakingFault (S.may_fail editor.old.store) files (made ∷ [])) }
-    ensures each { S.is_honest editor.old.store → (has : Property) → PassesDown (S.table editor.old.store) has
-        → MayPut has edit.now.path.now edit.now.change → EachEntryHas has editor.old → EachEntryHas has editor.new }
-    ensures as_read { S.is_honest editor.old.store → (trees : Trees) → HasStored (S.table editor.old.store) trees
+    ensures broken { IfErr result
+        (TellsBroken (S.is_honest editor.old.store) (S.table editor.old.store)) }
+    ensures each { S.is_honest editor.old.store → (has : Property)
+        → PassesDown (S.table editor.old.store) has
+        → MayPut has edit.now.path.now edit.now.change
+        → EachEntryHas has editor.old → EachEntryHas has editor.new }
+    ensures as_read { S.is_honest editor.old.store
+        → (trees : Trees) → HasStored (S.table editor.old.store) trees
         → IsAsRead trees editor.old → IsAsRead trees editor.new }
-    ensures counted { editor.new.lookups ≤ editor.old.lookups + length (components edit.now.path.now) }
+    ensures asked { S.is_honest editor.old.store
+        → (trees : Trees) → HasStored (S.table editor.old.store) trees
+        → OnOk result (CountsUp editor.old.lookups editor.new.lookups
+        (length (asked_by editor.old (edit_way edit.now) trees))) }
+    ensures counted { editor.new.lookups
+        ≤ editor.old.lookups + length (components edit.now.path.now) }
     ensures store { editor.new.store ≡ editor.old.store }
     ensures failed { IsErrOf result Failed → S.may_fail editor.old.store }
 {

@@ -8,7 +8,7 @@ ghost use Rattle.gix_object_tree.specs.Object.{Tree};
 ghost use Rattle.gix_object_find.specs.Existing.{StandsAs};
 ghost use Rattle.gix_object_editor.specs.Files.{named};
 ghost use Rattle.history_model.specs.Objects as model;
-ghost use Rattle.history_files.specs.Reading.{entry_of, named_by, TreeFault, OfFiles, OwnFault, StepsBelow, unless_memory};
+ghost use Rattle.history_files.specs.Reading.{entry_of, named_by, TreeFault, OfFiles, OwnFault, StepsBelow, TellsUnread, unless_memory};
 ghost use Rattle.history_files.specs.declared.error.ReadError.TheVariants.{Failed, Broken};
 ghost use Rattle.history_files.specs.declared.found.Found.TheVariants.{File, Folder};
 
@@ -53,6 +53,7 @@ pub fn entry_at<S: Find>(
         option_map entry_of found ≡ model.entry_at kind files path.now)) }
     ensures refused { OfFiles (S.is_honest store.now) (S.table store.now) (id_of root.now)
         (λ kind files. IfErr result (OwnFault (S.may_fail store.now))) }
+    ensures broken { IfErr result (TellsUnread (S.is_honest store.now) (S.table store.now)) }
     ensures failed { IsErrOf result Failed → S.may_fail store.now }
 {
     let names = names_of(alloc, path)?;
@@ -76,7 +77,8 @@ fn below<S: Find>(
     ensures found { S.is_honest store.now → IfOk result (λ next.
         StepsBelow (S.table store.now) found name.now next) }
     ensures refused { IfErr result (λ error. (tree : ObjectId) × (found ≡ Folder tree)
-        × TreeFault (S.is_honest store.now) (S.may_fail store.now) (S.table store.now) (id_of tree) error) }
+        × TreeFault (S.is_honest store.now) (S.may_fail store.now) (S.table store.now)
+        (id_of tree) error) }
 {
     match found {
         Found::File { .. } => Ok(None),
@@ -95,7 +97,8 @@ fn named_in<S: Find>(
         → StandsAs (S.table store.now) (id_of tree.now) objects.Tree (Tree items)
         → option_map entry_of found ≡ option_and_then named_by (named name.now items)) }
     ensures refused { IfErr result
-        (TreeFault (S.is_honest store.now) (S.may_fail store.now) (S.table store.now) (id_of tree.now)) }
+        (TreeFault (S.is_honest store.now) (S.may_fail store.now) (S.table store.now)
+        (id_of tree.now)) }
 {
     let mut buffer = Vec::new(alloc);
     let entries = entries_of(alloc, store, tree, &mut buffer)?;
@@ -110,9 +113,11 @@ pub(crate) fn entries_of<'a, S: Find>(
     buffer: &'a mut Vec<u8>,
 ) -> Result<Vec<EntryRef<'a>>, ReadError>
     ensures read { S.is_honest store.now → IfOk result (λ entries.
-        StandsAs (S.table store.now) (id_of tree.now) objects.Tree (Tree (map item_of entries.items))) }
+        StandsAs (S.table store.now) (id_of tree.now) objects.Tree
+        (Tree (map item_of entries.items))) }
     ensures refused { IfErr result
-        (TreeFault (S.is_honest store.now) (S.may_fail store.now) (S.table store.now) (id_of tree.now)) }
+        (TreeFault (S.is_honest store.now) (S.may_fail store.now) (S.table store.now)
+        (id_of tree.now)) }
 {
     let content = store.find_tree_iter(tree.as_oid(), buffer)?;
     match content.entries(alloc) {
@@ -133,7 +138,8 @@ fn unread(error: decode::Error, oid: ObjectId) -> ReadError
 
 // What the first entry of the name names.
 fn named_among(entries: &[EntryRef<'_>], name: &[u8]) -> Option<Found>
-    ensures { option_map entry_of result ≡ option_and_then named_by (named name.now (map item_of entries.now)) }
+    ensures { option_map entry_of result
+        ≡ option_and_then named_by (named name.now (map item_of entries.now)) }
 {
     for entry in entries {
         if name == entry.filename.as_bytes() {

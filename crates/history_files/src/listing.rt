@@ -1,12 +1,13 @@
 //! All files below a root.
 
-ghost use Rattle.std.specs.Prelude.{◌≡◌, map, filter_map, ◌++◌, IfOk, IfErr, OnOk, option_map, option_to_list};
+ghost use Rattle.std.specs.Prelude.{◌≡◌, map, filter_map, ◌++◌, IfOk, IfErr, IsErrOf, OnOk, option_map, option_to_list};
 ghost use Rattle.std.specs.FinMap.{entries};
 ghost use Rattle.gix_hash.specs.Id.{Id, id_of};
 ghost use Rattle.history_model.specs.Bytes.{Bytes};
 ghost use Rattle.gix_object_entries.specs.Mode.{kind_of};
 ghost use Rattle.gix_traverse_tree.specs.Recorder.{recorded_of};
-ghost use Rattle.history_files.specs.Reading.{OfFiles, OwnFault, line_of, file_line, line_named, line_recorded, as_walked};
+ghost use Rattle.history_files.specs.Reading.{OfFiles, OwnFault, StopsBelow, line_of, file_line, line_named, line_recorded, as_walked};
+ghost use Rattle.history_files.specs.declared.error.ReadError.TheVariants.{Failed};
 
 use crate::error::ReadError;
 use gix_hash::ObjectId;
@@ -31,14 +32,17 @@ pub struct File {
 
 /// All files below a root, which is the id of a tree, ascending by the bytes of their paths.
 ///
-/// It is `Failed` where a lookup failed, `Broken` where the root or a tree below it isn't there or can't be read or lies under
-/// itself, and `Memory` where no memory is left.
+/// It is `Failed` where a lookup failed, `Broken` where the root or a tree below it isn't there (which it then tells), or where one
+/// can't be read or lies under itself (it then tells the root), and `Memory` where no memory is left.
 pub fn files<S: Find>(alloc: Global, store: &S, root: &ObjectId) -> Result<Vec<File>, ReadError>
     ensures files { OfFiles (S.is_honest store.now) (S.table store.now) (id_of root.now)
         (λ kind files. IfOk result (λ found.
         map line_of found.items ≡ map (file_line kind) (entries files))) }
     ensures refused { OfFiles (S.is_honest store.now) (S.table store.now) (id_of root.now)
         (λ kind files. IfErr result (OwnFault (S.may_fail store.now))) }
+    ensures stopped { IfErr result
+        (StopsBelow (S.is_honest store.now) (S.may_fail store.now) (S.table store.now) root.now) }
+    ensures failed { IsErrOf result Failed → S.may_fail store.now }
 {
     let recorder = recorded(alloc, store, root)?;
     Ok(files_among(alloc, recorder.records.as_slice())?)
@@ -52,6 +56,9 @@ fn recorded<S: Find>(alloc: Global, store: &S, root: &ObjectId) -> Result<Record
         ≡ map (file_line kind) (entries files))) }
     ensures refused { OfFiles (S.is_honest store.now) (S.table store.now) (id_of root.now)
         (λ kind files. IfErr result (OwnFault (S.may_fail store.now))) }
+    ensures stopped { IfErr result
+        (StopsBelow (S.is_honest store.now) (S.may_fail store.now) (S.table store.now) root.now) }
+    ensures failed { IsErrOf result Failed → S.may_fail store.now }
 {
     let mut recorder = Recorder::new(alloc);
     let mut state = State::new(alloc);
@@ -96,8 +103,8 @@ fn add_file(files: &mut Vec<File>, alloc: Global, entry: &Entry) -> Result<(), A
 }
 
 fn file_of(alloc: Global, kind: FileKind, entry: &Entry) -> Result<File, AllocError>
-    ensures { let told = recorded_of entry.now in
-        IfOk result (λ file. line_of file ≡ record { kind = kind; id = told.id; path = told.path }) }
+    ensures { let told = recorded_of entry.now in IfOk result (λ file.
+        line_of file ≡ record { kind = kind; id = told.id; path = told.path }) }
 {
     Ok(File {
         kind,

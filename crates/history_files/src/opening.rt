@@ -1,11 +1,12 @@
 //! An editor of a root's files.
 
-ghost use Rattle.std.specs.Prelude.{◌≡◌, IfOk, IfErr};
+ghost use Rattle.std.specs.Prelude.{◌≡◌, IfOk, IfErr, Some};
 ghost use Rattle.gix_hash.specs.Id.{id_of};
-ghost use Rattle.gix_object_editor.specs.Files.{Trees, HasStored};
-ghost use Rattle.gix_object_editor.specs.Editor.{files_of, EachEntryHas, IsAsRead};
+ghost use Rattle.gix_object_editor.specs.Files.{Path, Trees, HasStored};
+ghost use Rattle.gix_object_editor.specs.Editor.{asked_by, files_of, EachEntryHas, IsAsRead};
 ghost use Rattle.history_files.specs.Unfolding.{IsUnfolded};
 ghost use Rattle.history_files.specs.Entries.{names_only, own_folders};
+ghost use Rattle.history_files.specs.Lookups.{root_into};
 ghost use Rattle.history_files.specs.Reading.{OfFiles, RootFault, OwnFault};
 
 use crate::error::ReadError;
@@ -37,6 +38,10 @@ where
         (λ kind files. IfErr result (OwnFault (S.may_fail store))) }
     ensures store { IfOk result (λ editor. editor.store ≡ store) }
     ensures uncounted { IfOk result (λ editor. editor.lookups ≡ 0) }
+    // No tree is opened but the root's.
+    ensures unopened { S.is_honest store → (trees : Trees) → HasStored (S.table store) trees
+        → IfOk result (λ editor. (names : Path)
+        → asked_by editor names trees ≡ root_into trees (Some (id_of root.now)) names) }
     ensures refused { IfErr result
         (RootFault (S.is_honest store) (S.may_fail store) (S.table store) (id_of root.now)) }
 {

@@ -1,12 +1,16 @@
-use Rattle.std.proofs.Common.{◌∙◌, ap, sym, subst, map}
+use Rattle.std.proofs.Common.{◌∙◌, ap, sym, subst, map, arith}
 use Rattle.std.specs.List.{list_any}
 use Rattle.std.proofs.lemmas.Result.{err_from_is_err_and}
 use Rattle.gix_hash.specs.Id.{id_of}
-use Rattle.gix_object_editor.specs.Editor.{files_of}
+use Rattle.gix_object_editor.specs.Asked.{CountsUp}
+use Rattle.gix_object_editor.specs.Editor.{asked_by, files_of}
 use Rattle.gix_object_editor.specs.Entries.{PassesDown}
 use Rattle.gix_object_editor.specs.Files.{HasStored, is_null}
 use Rattle.history_files.specs.Edits.{AreEdits, EditsMake, EditsPass}
-use Rattle.history_files.specs.Opening.{EditsFiles, MakingFault}
+use Rattle.history_files.specs.Editing.{root_id}
+use Rattle.history_files.specs.Lookups.{root_count, root_into}
+use Rattle.history_files.specs.Opening.{EditsFiles, MakingFault, TellsBroken}
+use Rattle.history_files.proofs.Counting.{asks_after, root_few}
 use Rattle.history_files.specs.declared.trees.EditedTree.{EditedTree}
 use Rattle.history_files.proofs.Leftover.{emptied_fault, emptied_paths, making_fault}
 use Rattle.history_files.proofs.Outcome.{done, have_paths, no_paths, put_null, tree_null}
@@ -87,3 +91,34 @@ returns-clause-edited g c = λ honest files made base named.
     (λ trees stored read. c.make_edits-2.ensures.as_read here trees (subst (λ s. HasStored (g.S.Lookup.table s.now) trees) (sym store) stored) read)
     c.in_ok-edited.edited c.in_ok-edited.ensures.trees
     (ap (list_any (λ (k : EditedTree). is_null (id_of k.id))) (sym c.as_slice-2.ensures.value) ∙ sym c.has_null_tree.ensures ∙ c.if-has_null_tree.false)
+
+pub returns-clause-asked : goal.returns-clause-asked
+returns-clause-asked g c = λ honest trees stored fit.
+    let store = c.in_ok-editor.ensures.store in
+    let here = subst (λ s. g.S.Lookup.is_honest s.now) (sym store) honest in
+    let opened = c.in_ok-editor.editor in
+    let after = c.make_edits-2.new.editor in
+    let root = root_id c.args.root in
+    asks_after (λ names. asked_by opened names trees) (root_into trees root) c.args.edits.now (root_count root) opened.lookups after.lookups c.in_ok-edited.edited.lookups
+    c.in_ok-editor.ensures.uncounted (c.in_ok-editor.ensures.unopened honest trees stored)
+    (c.in_ok-make_edits-2.ensures.asked here trees (subst (λ s. HasStored (g.S.Lookup.table s.now) trees) (sym store) stored)) c.make_edits-2.ensures.counted
+    (subst (λ n. CountsUp after.lookups c.in_ok-edited.edited.lookups n) c.roots.ensures c.in_ok-edited.ensures.asked) fit
+
+pub returns-clause-counted : goal.returns-clause-counted
+returns-clause-counted g c =
+    let none = c.in_ok-editor.ensures.uncounted in
+    let edits = c.make_edits-2.ensures.counted in
+    let trees = c.in_ok-edited.ensures.counted in
+    let roots = c.roots.ensures in
+    let few = root_few (root_id c.args.root) in
+    omega arith
+
+pub returns-in_err-make_edits-clause-broken : goal.returns-in_err-make_edits-clause-broken
+returns-in_err-make_edits-clause-broken g c =
+    let p = err_from_is_err_and c.from_residual-in_err-make_edits.result c.from_residual-in_err-make_edits.ensures.1 in
+    rw (p.1, p.2) (subst (λ s. TellsBroken (g.S.Lookup.is_honest s.now) (g.S.Lookup.table s.now) c.in_err-make_edits.field-0.0) c.in_ok-editor.ensures.store c.in_err-make_edits.ensures.broken)
+
+pub returns-in_err-make_edits-2-clause-broken : goal.returns-in_err-make_edits-2-clause-broken
+returns-in_err-make_edits-2-clause-broken g c =
+    let p = err_from_is_err_and c.from_residual-in_err-make_edits-2.result c.from_residual-in_err-make_edits-2.ensures.1 in
+    rw (p.1, p.2) (subst (λ s. TellsBroken (g.S.Lookup.is_honest s.now) (g.S.Lookup.table s.now) c.in_err-make_edits-2.field-0.0) c.in_ok-editor.ensures.store c.in_err-make_edits-2.ensures.broken)

@@ -1,13 +1,19 @@
-use Rattle.std.proofs.Common.{◌∙◌, ap, sym, subst, arith, map}
+use Rattle.std.proofs.Common.{◌∙◌, ap, sym, subst, arith, map, []}
 use Rattle.std.specs.FinMap.{empty}
+use Rattle.std.proofs.lemmas.Result.{err_from_is_err_and}
+use Rattle.gix_hash.specs.Id.{id_of}
 use Rattle.gix_object_entries.specs.Entry.{own_item}
 use Rattle.gix_object_editor.specs.Entries.{ItemsHave}
-use Rattle.gix_object_editor.specs.Files.{files_of_tree}
+use Rattle.gix_object_editor.specs.Files.{files_of_tree, no_trees}
+use Rattle.gix_object_editor.specs.Nodes.{slots_of}
+use Rattle.history_files.specs.Lookups.{root_into}
+use Rattle.history_files.proofs.Unopened.{none_into, same_into}
 use Rattle.history_files.specs.Editing.{IsBase, root_id}
 use Rattle.history_files.specs.Entries.{names_only, own_folders}
 use Rattle.history_files.specs.Opening.{EditsFiles}
 use Rattle.history_files.proofs.EmptyFiles.{empty_map, empty_trees, empty_unfolds, no_entries}
 use Rattle.history_files.proofs.Named.{own_trees}
+use Rattle.history_files.proofs.Breaks.{root_broken}
 use Rattle.history_files.proofs.editing.editor_of.Goals as goal
 
 pub returns-in_ok-open_editor-in-Some-clause-base : goal.returns-in_ok-open_editor-in-Some-clause-base
@@ -32,3 +38,19 @@ returns-in_ok-new-in-None-clause-base g c = λ honest kind files base.
       unfolds = λ trees stored. empty_unfolds kind _ (λ q. c.in_ok-new-in-None.ensures.files trees q ∙ ap (λ es. files_of_tree trees (map own_item es) q) none ∙ no_entries trees q);
       each = c.in_ok-new-in-None.ensures.each (names_only kind (own_folders empty)) (subst (λ es. ItemsHave (names_only kind (own_folders empty)) (map own_item es)) (sym none) (λ k d within. absurd (omega arith)));
     })
+
+pub returns-in_ok-open_editor-in-Some-clause-unopened : goal.returns-in_ok-open_editor-in-Some-clause-unopened
+returns-in_ok-open_editor-in-Some-clause-unopened g c = λ honest trees stored names.
+    c.in_ok-open_editor-in-Some.ensures.unopened honest trees stored names ∙ ap (λ root. root_into trees (root_id root) names) (sym c.in-Some.is)
+
+pub returns-in_ok-new-in-None-clause-unopened : goal.returns-in_ok-new-in-None-clause-unopened
+returns-in_ok-new-in-None-clause-unopened g c = λ honest trees stored names.
+    same_into trees (slots_of c.in_ok-new-in-None.field-0.nodes.items) []
+    (λ q. c.in_ok-new-in-None.ensures.files no_trees q ∙ ap (λ es. files_of_tree no_trees (map own_item es) q) c.new-entries.ensures.items) names
+    ∙ none_into trees names ∙ ap (λ root. root_into trees (root_id root) names) (sym c.in-None.is)
+
+pub returns-in_err-open_editor-in-Some-clause-broken : goal.returns-in_err-open_editor-in-Some-clause-broken
+returns-in_err-open_editor-in-Some-clause-broken g c =
+    let store = c.args.store.now in
+    let p = err_from_is_err_and c.from_residual.result c.from_residual.ensures.1 in
+    rw (p.1, p.2) (root_broken (g.S.Lookup.is_honest store) (g.S.Lookup.may_fail store) (g.S.Lookup.table store) (id_of c.in-Some.root.now) _ c.in_err-open_editor-in-Some.ensures.refused)

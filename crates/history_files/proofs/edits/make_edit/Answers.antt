@@ -1,7 +1,8 @@
-use Rattle.std.proofs.Common.{◌∙◌, ap, subst, sym, false, ◌||◌, [], ◌∷◌}
+use Rattle.std.proofs.Common.{◌∙◌, ap, subst, sym, false, ◌||◌, [], ◌∷◌, length}
 use Rattle.gix_object_editor.specs.Files as unfolded
-use Rattle.gix_object_editor.specs.Files.{SameFiles, HasNoneBelow}
-use Rattle.gix_object_editor.specs.Editor.{files_of, names_of, leaf_of_kind}
+use Rattle.gix_object_editor.specs.Files.{Path, SameFiles, HasNoneBelow}
+use Rattle.gix_object_editor.specs.Asked.{CountsUp, front_of}
+use Rattle.gix_object_editor.specs.Editor.{IsFilled, IsFolder, LeadsInto, LeadsThrough, asked_by, files_of, names_of, leaf_of_kind}
 use Rattle.gix_object_editor.specs.Entries.{MayStand}
 use Rattle.std.proofs.lemmas.Result.{err_from_is_err_and}
 use Rattle.history_model.specs.FileMap.{some_refused}
@@ -11,6 +12,8 @@ use Rattle.history_files.proofs.Named.{base_inner, may_put, own_deeper, passes_d
 use Rattle.history_files.proofs.Parsed.{has_stored, trees_in}
 use Rattle.history_files.specs.Unfolding.{entry_kind}
 use Rattle.history_files.specs.Edits.{IsChange}
+use Rattle.history_files.specs.Lookups.{way_of}
+use Rattle.history_files.proofs.Breaks.{edit_broken, leaf_broken}
 use Rattle.history_files.proofs.Changes.{put_made, remove_made, file_removed, none_refused}
 use Rattle.history_files.proofs.edits.make_edit.Goals as goal
 
@@ -104,3 +107,49 @@ returns-in_err-remove_leaf-in-RemoveFile-clause-refused g c = λ honest kind bas
     path fine (names_of c.as_slice-in-RemoveFile.result.now) (ap names_of c.as_slice-in-RemoveFile.ensures.value ∙ c.in_ok-names.ensures)
     (c.in_err-remove_leaf-in-RemoveFile.ensures.unchanged honest (trees_in table) (has_stored table))
     (λ below. ap (λ e. some_refused files (e ∷ [])) is ∙ ap (λ b. b || false) below) _ c.in_err-remove_leaf-in-RemoveFile.ensures.refused)
+
+pub returns-in-Put-clause-asked : goal.returns-in-Put-clause-asked
+returns-in-Put-clause-asked g c = λ honest trees stored.
+    let old = c.args.editor.now in
+    let now = c.upsert.new.self.lookups in
+    let names = ap names_of c.as_slice.ensures.value ∙ c.in_ok-names.ensures in
+    subst (λ change. CountsUp old.lookups now (length (asked_by old (way_of c.args.edit.now.path.now change) trees))) (sym c.in-Put.is)
+    (subst (λ (ps : Path). CountsUp old.lookups now (length (asked_by old (front_of ps) trees))) names (c.in_ok-upsert-in-Put.ensures.asked honest trees stored).1)
+
+pub returns-in-Remove-clause-asked : goal.returns-in-Remove-clause-asked
+returns-in-Remove-clause-asked g c = λ honest trees stored.
+    let old = c.args.editor.now in
+    let now = c.remove.new.self.lookups in
+    let names = ap names_of c.as_slice-in-Remove.ensures.value ∙ c.in_ok-names.ensures in
+    subst (λ change. CountsUp old.lookups now (length (asked_by old (way_of c.args.edit.now.path.now change) trees))) (sym c.in-Remove.is)
+    (subst (λ (ps : Path). CountsUp old.lookups now (length (asked_by old (front_of ps) trees))) names (c.in_ok-remove-in-Remove.ensures.asked honest trees stored).1)
+
+pub returns-clause-asked : goal.returns-clause-asked
+returns-clause-asked g c = λ honest trees stored.
+    let old = c.args.editor.now in
+    let now = c.remove_leaf.new.self.lookups in
+    let names = ap names_of c.as_slice-in-RemoveFile.ensures.value ∙ c.in_ok-names.ensures in
+    subst (λ change. CountsUp old.lookups now (length (asked_by old (way_of c.args.edit.now.path.now change) trees))) (sym c.in-RemoveFile.is)
+    (subst (λ (ps : Path). CountsUp old.lookups now (length (asked_by old (ps) trees))) names (c.in_ok-remove_leaf-in-RemoveFile.ensures.asked honest trees stored).1)
+
+pub returns-in_err-upsert-in-Put-clause-broken : goal.returns-in_err-upsert-in-Put-clause-broken
+returns-in_err-upsert-in-Put-clause-broken g c =
+    let store = c.args.editor.now.store in
+    let names = names_of c.as_slice.result.now in
+    let p = err_from_is_err_and c.from_residual-in_err-upsert-in-Put.result c.from_residual-in_err-upsert-in-Put.ensures.1 in
+    rw (p.1, p.2) (edit_broken (g.S.Lookup.is_honest store) (g.S.Lookup.may_fail store) (g.S.Lookup.table store) names (LeadsThrough (λ trees. files_of trees c.upsert.new.self) names) _ c.in_err-upsert-in-Put.ensures.refused)
+
+pub returns-in_err-remove-in-Remove-clause-broken : goal.returns-in_err-remove-in-Remove-clause-broken
+returns-in_err-remove-in-Remove-clause-broken g c =
+    let store = c.args.editor.now.store in
+    let names = names_of c.as_slice-in-Remove.result.now in
+    let p = err_from_is_err_and c.from_residual-in_err-remove-in-Remove.result c.from_residual-in_err-remove-in-Remove.ensures.1 in
+    rw (p.1, p.2) (edit_broken (g.S.Lookup.is_honest store) (g.S.Lookup.may_fail store) (g.S.Lookup.table store) names (LeadsThrough (λ trees. files_of trees c.remove.new.self) names) _ c.in_err-remove-in-Remove.ensures.refused)
+
+pub returns-in_err-remove_leaf-in-RemoveFile-clause-broken : goal.returns-in_err-remove_leaf-in-RemoveFile-clause-broken
+returns-in_err-remove_leaf-in-RemoveFile-clause-broken g c =
+    let store = c.args.editor.now.store in
+    let names = names_of c.as_slice-in-RemoveFile.result.now in
+    let p = err_from_is_err_and c.from_residual-in_err-remove_leaf-in-RemoveFile.result c.from_residual-in_err-remove_leaf-in-RemoveFile.ensures.1 in
+    rw (p.1, p.2) (leaf_broken (g.S.Lookup.is_honest store) (g.S.Lookup.may_fail store) (g.S.Lookup.table store) names (LeadsInto (λ trees. files_of trees c.remove_leaf.new.self) names)
+    (IsFolder (λ trees. IsFilled trees c.remove_leaf.new.self) (λ trees. files_of trees c.remove_leaf.new.self) names) _ c.in_err-remove_leaf-in-RemoveFile.ensures.refused)

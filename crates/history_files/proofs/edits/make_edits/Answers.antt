@@ -1,13 +1,17 @@
-use Rattle.std.proofs.Common.{◌∙◌, ◌+◌, ap, sym, subst, refl, drop, get_or, arith, Bor, List, ℕ, [], ◌∷◌}
-use Rattle.gix_object_editor.specs.Files.{HasStored}
-use Rattle.gix_object_editor.specs.Editor.{files_of}
+use Rattle.std.proofs.Common.{◌≡◌, ◌≤◌, ◌∙◌, ◌+◌, ap, sym, subst, refl, drop, take, get_or, length, arith, Bor, List, ℕ, [], ◌∷◌}
+use Rattle.gix_object_editor.specs.Files.{HasStored, Path}
+use Rattle.gix_object_editor.specs.Editor.{asked_by, files_of}
+use Rattle.gix_object_editor.specs.Nodes.{slots_of}
 use Rattle.gix_object_editor.specs.Entries.{PassesDown}
 use Rattle.std.proofs.lemmas.Result.{err_from_is_err_and}
 use Rattle.history_files.specs.Entries.{MayBeMade, names_only, own_folders}
-use Rattle.history_files.specs.Opening.{EditsFiles, MakingFault}
+use Rattle.history_files.specs.Lookups.{RisesBy, edit_way}
+use Rattle.history_files.specs.Opening.{EditsFiles, MakingFault, TellsBroken}
+use Rattle.history_files.proofs.Counting.{one_more, some_taken, take_all, take_next, take_none, unopened_short, way_short}
 use Rattle.history_files.proofs.Leftover.{IsLeftOver, left_fault, left_next}
 use Rattle.history_files.proofs.Named.{base_inner, may_put, own_deeper, passes_down}
 use Rattle.history_files.proofs.Parsed.{has_stored, trees_in}
+use Rattle.history_model.specs.FileMap.{components}
 use Rattle.history_files.specs.Edits.{name_count}
 use Rattle.gix_hash.specs.declared.object_id.ObjectId.TheVariants.{Sha1}
 use Rattle.history_model.specs.declared.FileKind.TheVariants.{File as PlainFile}
@@ -54,6 +58,23 @@ loop-edit-preserved g c =
             c.make_edit.ensures.each still has (subst (λ s. PassesDown (g.S.Lookup.table s) has) (sym kept) down) (may_put kind (own_folders base) edit.path.now edit.change fine) there.each,
             c.in_ok-make_edit.ensures.accepted still (trees_in table) kind now one (subst (λ s. HasStored (g.S.Lookup.table s) (trees_in table)) (sym kept) (has_stored table)) is_edit (there.unfolds (trees_in table) (has_stored table)),
           )),
+      λ honest trees stored fit.
+          let still = subst (λ s. g.S.Lookup.is_honest s) (sym kept) honest in
+          let here = subst (λ s. HasStored (g.S.Lookup.table s) trees) (sym kept) stored in
+          let so = c.loop-edit.invariant.6 honest trees stored fit in
+          let first = c.args.editor.now in
+          let now = c.loop-edit.editor in
+          let new = c.make_edit.new.editor in
+          let into = λ (names : Path). asked_by first names trees in
+          let ids = asked_by now (edit_way edit) trees in
+          let short : length ids ≤ length (edit_way edit) = unopened_short trees (slots_of now.nodes.items) 0 (edit_way edit) in
+          let way : length (edit_way edit) ≤ length (components edit.path.now) = way_short edit.path.now edit.change in
+          let up : new.lookups ≡ now.lookups + length ids = c.in_ok-make_edit.ensures.asked still trees here (omega arith) in
+          let taken = take_next edits at other c.loop-edit-test.true in (
+            subst (λ done. RisesBy into done first.lookups new.lookups) (sym taken)
+                (one_more into (take at edits) edit first.lookups now.lookups new.lookups (length ids) so.0 up (λ none. ap (λ e. length (asked_by e (edit_way edit) trees)) (so.1 none))),
+            λ none. absurd (some_taken (take at edits) edit (sym taken ∙ none)),
+          ),
     )
 
 pub loop-edit-init : goal.loop-edit-init
@@ -64,6 +85,10 @@ loop-edit-init g c = (
   λ honest trees stored read. read,
   λ honest has down may each. (each, may),
   λ honest kind base files made can paths are. record { now = files; more = made; can = can; paths = paths; edits_are = are; refused = refl },
+  λ honest trees stored fit. (
+    subst (λ done. RisesBy (λ names. asked_by c.args.editor.now names trees) done c.args.editor.now.lookups c.args.editor.now.lookups) (sym (take_none c.args.edits.now)) refl,
+    λ none. refl,
+  ),
 )
 
 pub returns-in_err-make_edit-clause-refused : goal.returns-in_err-make_edit-clause-refused
@@ -112,3 +137,13 @@ returns-in_err-make_edit-clause-each g c = λ honest has down may each.
     let before = c.loop-edit.invariant.4 honest has down may each in
     let here = subst (MayBeMade has) cut before.1 in
     c.make_edit.ensures.each (subst (λ s. g.S.Lookup.is_honest s) (sym kept) honest) has (subst (λ s. PassesDown (g.S.Lookup.table s) has) (sym kept) down) here.0 before.0
+
+pub returns-clause-asked : goal.returns-clause-asked
+returns-clause-asked g c = λ honest trees stored fit.
+    subst (λ done. RisesBy (λ names. asked_by c.args.editor.now names trees) done c.args.editor.now.lookups c.loop-edit.editor.lookups)
+    (take_all c.args.edits.now c.loop-edit.edit-index c.loop-edit-test.false) (c.loop-edit.invariant.6 honest trees stored fit).0
+
+pub returns-in_err-make_edit-clause-broken : goal.returns-in_err-make_edit-clause-broken
+returns-in_err-make_edit-clause-broken g c =
+    let p = err_from_is_err_and c.from_residual.result c.from_residual.ensures.1 in
+    rw (p.1, p.2) (subst (λ s. TellsBroken (g.S.Lookup.is_honest s) (g.S.Lookup.table s) c.in_err-make_edit.field-0.0) c.loop-edit.invariant.0 c.in_err-make_edit.ensures.broken)

@@ -1,10 +1,11 @@
-use Rattle.std.proofs.Common.{◌≡◌, ◌≤◌, ◌+◌, List, drop}
+use Rattle.std.proofs.Common.{◌≡◌, ◌≤◌, ◌<◌, ◌+◌, ◌^◌, List, [], drop, take}
 use Rattle.gix_hash.specs.declared.kind.Kind.{Kind}
 use Rattle.gix_object_editor.specs.Files.{Trees, HasStored}
-use Rattle.gix_object_editor.specs.Editor.{EachEntryHas, IsAsRead, files_of}
+use Rattle.gix_object_editor.specs.Editor.{EachEntryHas, IsAsRead, asked_by, files_of}
 use Rattle.gix_object_editor.specs.Entries.{PassesDown, Property}
 use Rattle.history_files.specs.Editing.{HavePaths}
 use Rattle.history_files.specs.Entries.{MayBeMade}
+use Rattle.history_files.specs.Lookups.{RisesBy}
 use Rattle.history_files.specs.Opening.{EditsFiles}
 use Rattle.history_files.proofs.Leftover.{IsLeftOver}
 use Rattle.history_model.specs.FileMap as model
@@ -26,3 +27,5 @@ invariant-loop-edit g l =
     → EachEntryHas has l.fn.editor → EachEntryHas has l.editor × MayBeMade has (drop l.edit-index l.edits))
     × (g.S.Lookup.is_honest l.fn.editor.store → (kind : Kind) (base files : FileMap) (made : List model.Edit) → EditsFiles (g.S.Lookup.table l.fn.editor.store) kind base files l.fn.editor
     → HavePaths made → AreEdits kind l.edits made → IsLeftOver (g.S.Lookup.table l.fn.editor.store) kind base files made (drop l.edit-index l.edits) l.editor)
+    × (g.S.Lookup.is_honest l.fn.editor.store → (trees : Trees) → HasStored (g.S.Lookup.table l.fn.editor.store) trees → l.fn.editor.lookups + name_count l.edits < 2 ^ 64
+    → RisesBy (λ names. asked_by l.fn.editor names trees) (take l.edit-index l.edits) l.fn.editor.lookups l.editor.lookups × (take l.edit-index l.edits ≡ [] → l.editor ≡ l.fn.editor))

@@ -5,6 +5,7 @@ use Rattle.history_model.specs.Objects.{entry_at}
 use Rattle.history_files.specs.Reading.{StepsBelow}
 use Rattle.history_files.specs.declared.found.Found.TheVariants.{Folder}
 use Rattle.history_files.proofs.AtNames.{Leads, texts, from_root, step_none, step_some, own, next_name, name_is_plain}
+use Rattle.history_files.proofs.Breaks.{tells_unread}
 use Rattle.history_files.proofs.found.entry_at.Goals as goal
 
 pub loop-name-init : goal.loop-name-init
@@ -43,3 +44,10 @@ loop-name-preserved g c = λ honest kind files is.
     let leads = subst (λ parts. Leads table kind c.loop-name.found parts (entry_at kind files c.args.path.now)) (next_name items at none c.loop-name-test.true) (c.loop-name.invariant honest kind files is) in
     let step = subst (λ next. StepsBelow table c.loop-name.found (get_or items at none).now next) c.in-Some.is (c.in_ok-next.ensures.found honest) in
     step_some table kind c.loop-name.found c.in-Some.next (get_or items at none).now (texts (drop (at + 1) items)) (entry_at kind files c.args.path.now) plain leads step
+
+pub returns-in_err-next-clause-broken : goal.returns-in_err-next-clause-broken
+returns-in_err-next-clause-broken g c =
+    let store = c.args.store.now in
+    let fault = c.in_err-next.ensures.refused in
+    let p = err_from_is_err_and c.from_residual-in_err-next.result c.from_residual-in_err-next.ensures.1 in
+    rw (p.1, p.2) (tells_unread (g.S.Lookup.is_honest store) (g.S.Lookup.may_fail store) (g.S.Lookup.table store) (id_of fault.0) _ fault.2)

@@ -3,7 +3,11 @@ use Rattle.std.proofs.lemmas.Result.{err_from_is_err_and}
 use Rattle.gix_hash.specs.Id.{id_of}
 use Rattle.gix_object_entries.specs.Entry.{item_of, own_item}
 use Rattle.gix_object_entries.specs.WellFormed.{IsWellFormed}
-use Rattle.gix_object_editor.specs.Files.{files_of_tree}
+use Rattle.gix_object_editor.specs.Asked.{ids_from}
+use Rattle.gix_object_editor.specs.Files.{files_of_tree, no_trees}
+use Rattle.gix_object_editor.specs.Nodes.{slots_of}
+use Rattle.history_files.specs.Lookups.{items_into}
+use Rattle.history_files.proofs.Unopened.{same_into}
 use Rattle.gix_object_editor.specs.Editor.{files_of}
 use Rattle.gix_object_editor.specs.Entries.{ItemsHave}
 use Rattle.gix_object_lines.specs.declared.kind.Kind.TheVariants as objects
@@ -67,3 +71,11 @@ returns-clause-each g c = λ honest kind files is.
     c.in_ok-tree.ensures ∙ same_tree table (id_of c.args.root.now) (map item_of c.in_ok-entries.entries.items) (items kind files) (c.in_ok-entries.ensures.read honest) here in
     c.in_ok-new.ensures.each (names_only kind (own_folders files))
     (subst (ItemsHave (names_only kind (own_folders files))) (sym own) (items_have kind (own_folders files) files is.map (λ name file. own_among files name file)))
+
+pub returns-clause-unopened : goal.returns-clause-unopened
+returns-clause-unopened g c = λ honest trees stored names.
+    let all = map item_of c.in_ok-entries.entries.items in
+    let read = c.in_ok-entries.ensures.read honest in
+    let there = stored (id_of c.args.root.now) read.0 all read.1 read.2.spelled in
+    same_into trees (slots_of c.in_ok-new.field-0.nodes.items) all (λ q. c.in_ok-new.ensures.files no_trees q ∙ ap (λ own. files_of_tree no_trees own q) c.in_ok-tree.ensures) names
+    ∙ sym (ap (λ o. ids_from o (λ own. items_into trees own names)) there)

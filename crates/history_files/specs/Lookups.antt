@@ -1,0 +1,46 @@
+-- How many trees edits ask for.
+use Rattle.std.specs.Prelude.{ℕ, ◌≡◌, ◌≤◌, ◌<◌, ◌+◌, ◌^◌, List, [], ◌∷◌, length, Option, Some, None}
+use Rattle.gix_hash.specs.Id.{Id}
+use Rattle.gix_object_entries.specs.Entry.{Item}
+use Rattle.gix_object_editor.specs.Asked.{front_of, ids_from, trees_into}
+use Rattle.gix_object_editor.specs.Files.{Path, Trees, leaf_of, named}
+use Rattle.history_model.specs.Bytes.{Bytes}
+use Rattle.history_model.specs.FileMap.{components}
+use Rattle.history_files.specs.Edits.{name_count}
+use Rattle.history_files.specs.declared.edits.Change.{Change}
+use Rattle.history_files.specs.declared.edits.Change.TheVariants.{Put, Remove, RemoveFile}
+use Rattle.history_files.specs.declared.edits.Edit.{Edit}
+
+-- the names that lead to the trees for which an edit asks: a file's removal looks into a folder at its path too
+abbrev pub way_of : Bytes → Change → Path
+way_of path (Put kind id) = front_of (components path)
+way_of path Remove = front_of (components path)
+way_of path RemoveFile = components path
+
+abbrev pub edit_way : Edit → Path
+edit_way edit = way_of edit.path.now edit.change
+
+-- the trees into which names lead from a tree of these entries, one below the other
+abbrev pub items_into : Trees → List Item → Path → List Id
+items_into trees items [] = []
+items_into trees items (name ∷ rest) = ids_from (named name items) (λ item. trees_into trees rest (leaf_of item))
+
+-- the same from a root, if there is one
+abbrev pub root_into : Trees → Option Id → Path → List Id
+root_into trees None names = []
+root_into trees (Some root) names = ids_from (trees root) (λ items. items_into trees items names)
+
+abbrev pub root_count : Option Id → ℕ
+root_count None = 0
+root_count (Some root) = 1
+
+-- The count rises so, where names lead into these trees at first: by those on the way of one edit, each once, and at more edits by no
+-- fewer than those on the way of the first.
+abbrev pub RisesBy : (Path → List Id) → List Edit → ℕ → ℕ → Type 0
+RisesBy into [] was now = now ≡ was
+RisesBy into (edit ∷ []) was now = now ≡ was + length (into (edit_way edit))
+RisesBy into (edit ∷ next ∷ edits) was now = was + length (into (edit_way edit)) ≤ now
+
+-- as far as a count of 64 bits tells
+abbrev pub AsksOf : (Path → List Id) → List Edit → ℕ → ℕ → Type 0
+AsksOf into edits was now = was + name_count edits < 2 ^ 64 → RisesBy into edits was now

@@ -1,0 +1,88 @@
+//! The parts of words.
+
+use gix_hash::{Kind, ObjectId};
+use history_files::{Change, Edit};
+use history_model::FileKind;
+use std::alloc::Global;
+
+/// An edit with a path of its own.
+#[derive(Drop)]
+pub struct PathEdit {
+    path: Vec<u8>,
+    change: Change,
+}
+
+/// The hash function of this name.
+pub fn read_kind(word: &str) -> Option<Kind> {
+    match word {
+        "sha1" => Some(Kind::Sha1),
+        "sha256" => Some(Kind::Sha256),
+        _ => None,
+    }
+}
+
+/// The bytes of hexadecimal digits; none for `-`.
+pub fn read_bytes(alloc: Global, word: &str) -> Option<Vec<u8>> {
+    hex::decode(alloc, if word == "-" { "" } else { word }).ok()
+}
+
+/// An id in hexadecimal digits.
+pub fn read_id(word: &str) -> Option<ObjectId> {
+    ObjectId::from_hex(word.as_bytes()).ok()
+}
+
+fn read_file_kind(word: &str) -> Option<FileKind> {
+    match word {
+        "file" => Some(FileKind::File),
+        "exec" => Some(FileKind::Exec),
+        "link" => Some(FileKind::Link),
+        _ => None,
+    }
+}
+
+/// The word of a file's kind.
+pub fn kind_word(kind: FileKind) -> &'static str {
+    match kind {
+        FileKind::File => "file",
+        FileKind::Exec => "exec",
+        FileKind::Link => "link",
+    }
+}
+
+/// The edit that a word spells.
+pub fn read_edit(alloc: Global, word: &str) -> Option<PathEdit> {
+    let mut parts = word.split(':');
+    match parts.next()? {
+        "put" => {
+            let kind = read_file_kind(parts.next()?)?;
+            let path = read_bytes(alloc, parts.next()?)?;
+            let id = read_id(parts.next()?)?;
+            let change = Change::Put { kind, id };
+            Some(PathEdit { path, change })
+        }
+        "remove" => {
+            let path = read_bytes(alloc, parts.next()?)?;
+            let change = Change::Remove;
+            Some(PathEdit { path, change })
+        }
+        "remove-file" => {
+            let path = read_bytes(alloc, parts.next()?)?;
+            let change = Change::RemoveFile;
+            Some(PathEdit { path, change })
+        }
+        _ => None,
+    }
+}
+
+/// The edits, with their paths lent.
+pub fn lent(alloc: Global, edits: &[PathEdit]) -> Option<Vec<Edit<'_>>> {
+    let mut all = Vec::new(alloc);
+    for edit in edits {
+        all.push(Edit {
+            path: &edit.path,
+            change: edit.change,
+        })
+        .ok()?;
+    }
+    Some(all)
+}

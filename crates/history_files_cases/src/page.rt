@@ -1,0 +1,69 @@
+//! What is answered, as it is written.
+
+use std::alloc::{AllocError, Global};
+use std::fmt::{self, Write};
+
+/// A text that grows by words, and remembers whether a growth was refused.
+#[derive(Drop)]
+pub struct Page {
+    text: String,
+    full: bool,
+}
+
+impl Page {
+    /// An empty page.
+    pub fn new(alloc: Global) -> Page {
+        Page {
+            text: String::new(alloc),
+            full: false,
+        }
+    }
+
+    /// Adds text as it stands.
+    pub fn text(&mut self, text: &str) {
+        if self.text.push_str(text).is_err() {
+            self.full = true;
+        }
+    }
+
+    /// Adds a word, behind a space where it isn't the first.
+    pub fn word(&mut self, word: &str) {
+        if !self.text.is_empty() {
+            self.text(" ");
+        }
+        self.text(word);
+    }
+
+    /// Adds a value as it is displayed.
+    pub fn put<T: fmt::Display + Drop>(&mut self, value: T) {
+        if write!(&mut self.text, "{value}").is_err() {
+            self.full = true;
+        }
+    }
+
+    /// Adds a value as a word.
+    pub fn value<T: fmt::Display + Drop>(&mut self, value: T) {
+        self.word("");
+        self.put(value);
+    }
+
+    /// Adds bytes in hexadecimal digits.
+    pub fn hex(&mut self, bytes: &[u8]) {
+        for byte in bytes {
+            self.digit(*byte / 16);
+            self.digit(*byte % 16);
+        }
+    }
+
+    fn digit(&mut self, digit: u8) {
+        self.put(char::from_digit(u32::from(digit), 16).unwrap_or('?'));
+    }
+
+    /// The text, where no growth was refused.
+    pub fn finish(self) -> Result<String, AllocError> {
+        if self.full {
+            return Err(AllocError);
+        }
+        Ok(self.text)
+    }
+}
