@@ -1,6 +1,7 @@
 -- How many objects were asked for.
-use Rattle.std.proofs.Common.{◌≡◌, ℕ, zero, suc, ◌+◌, ◌≤◌, List, [], ◌∷◌, ◌++◌, length, take, refl, sym, ◌∙◌, ap, subst, arith, add-one}
+use Rattle.std.proofs.Common.{Option, Bool, ◌≡◌, ℕ, zero, suc, ◌+◌, ◌≤◌, List, [], ◌∷◌, ◌++◌, length, take, refl, sym, ◌∙◌, ap, subst, arith, add-one}
 use Rattle.std.specs.Prelude.{IsTrue}
+use Rattle.gix_hash.specs.Id.{Id}
 use Rattle.gix_hash.specs.declared.object_id.ObjectId.{ObjectId}
 use Rattle.gix_object_find.specs.Table.{Table}
 use Rattle.gix_traverse_commit.specs.Commits.{Commits, Reached, tip, parent}
@@ -10,10 +11,13 @@ use Rattle.gix_traverse_commit.specs.Nodes.{is_hidden}
 use Rattle.gix_traverse_commit.specs.Order.{At, IsListOf}
 use Rattle.gix_traverse_commit.specs.Painting.{ReachedFrom, every}
 use Rattle.gix_traverse_commit.specs.Rows.{Holds}
-use Rattle.gix_traverse_commit.specs.Simply.{CountsAll, CountsFault, CountsOne, error_of}
+use Rattle.gix_traverse_commit.specs.Meeting.{CountsAll, CountsOne}
+use Rattle.gix_traverse_commit.specs.Simply.{CountsFault, MeetsParents, error_of}
+use Rattle.gix_traverse_commit.specs.declared.info.Info.{Info}
+use Rattle.gix_traverse_commit.specs.declared.simple.sorting.Timing.{Timing}
 use Rattle.gix_traverse_commit.specs.declared.fetch.FetchError.{FetchError}
 use Rattle.gix_traverse_commit.specs.declared.fetch.FetchError.TheVariants as fetch
-use Rattle.gix_traverse_commit.specs.declared.nodes.Node.{Node}
+use Rattle.gix_traverse_commit.specs.Nodes.{Node}
 use Rattle.gix_traverse_commit.specs.declared.rows.Row.{Row}
 use Rattle.gix_traverse_commit.proofs.Frontier.{read_all}
 use Rattle.gix_traverse_commit.proofs.Lists.{none_at_nil}
@@ -61,3 +65,12 @@ pub fault_counts : (honest may_fail : Type 0) (rows : List Row) (table : Table) 
 fault_counts honest may_fail rows table id (fetch.Find error) before after f one l = one f.0
 fault_counts honest may_fail rows table id (fetch.ObjectDecode error) before after f one l = one f.0
 fault_counts honest may_fail rows table id fetch.Memory before after f one l = l
+
+-- what is told of a walk is told of one that is the same in all that is spoken of
+pub meets_moved : {P : Type 0} (accepts : P → Id → Bool) (goes : P → Id → P → Type 0) (rows rows' : List Row) (nodes nodes' : List Node) (t t' : Option Timing) (info : Info) (p q : P) (n m : ℕ) (p' : P) (n' : ℕ) → rows ≡ rows' → nodes ≡ nodes' → t ≡ t' → p ≡ q → n ≡ m → MeetsParents accepts goes rows nodes t info p n p' n' → MeetsParents accepts goes rows' nodes' t' info q m p' n'
+meets_moved {P} accepts goes rows rows' nodes nodes' t t' info p q n m p' n' same_rows same_nodes same_order same_predicate same_lookups w =
+    subst (λ (k : ℕ). MeetsParents accepts goes rows' nodes' t' info q k p' n') same_lookups
+    (subst (λ (s : P). MeetsParents accepts goes rows' nodes' t' info s n p' n') same_predicate
+    (subst (λ (u : Option Timing). MeetsParents accepts goes rows' nodes' u info p n p' n') same_order
+    (subst (λ (v : List Node). MeetsParents accepts goes rows' v t info p n p' n') same_nodes
+    (subst (λ (r : List Row). MeetsParents accepts goes r nodes t info p n p' n') same_rows w))))

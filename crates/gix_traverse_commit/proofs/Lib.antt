@@ -22,3 +22,4 @@ mod Times
 mod Pending
 mod Rest
 mod Counting
+pub mod Meeting

@@ -1,5 +1,5 @@
 -- Lemmas on places in a list.
-use Rattle.std.proofs.Common.{◌≡◌, ℕ, zero, suc, ◌<◌, ◌⊎◌, inl, inr, List, [], ◌∷◌, ◌++◌, length, take, refl, ◌∙◌, ap, arith, Some, slice_get}
+use Rattle.std.proofs.Common.{sym, subst, ◌≡◌, ℕ, zero, suc, ◌<◌, ◌⊎◌, inl, inr, List, [], ◌∷◌, ◌++◌, length, take, refl, ◌∙◌, ap, arith, Some, slice_get}
 use Rattle.std.specs.Prelude.{Contains}
 use Rattle.std.proofs.lemmas.Option.{slice_get_within, get_or_from_slice_get, slice_get-get_or}
 use Rattle.gix_traverse_commit.specs.Order.{At, Before}
@@ -77,3 +77,10 @@ at_from_push (w ∷ xs) y (suc k) x a = elim (at_from_push xs y k x a) [ inl h �
 pub at_append : {I : Type 0} (xs : List I) (y : I) (ys : List I) → At (xs ++ y ∷ ys) (length xs) y
 at_append [] y ys = refl
 at_append (x ∷ xs) y ys = at_append xs y ys
+
+-- one more, that wasn't there
+pub once_push : {I : Type 0} (xs : List I) (y : I) → ((j k : ℕ) (x : I) → At xs j x → At xs k x → j ≡ k) → (Contains xs y → ⊥) → (j k : ℕ) (x : I) → At (xs ++ y ∷ []) j x → At (xs ++ y ∷ []) k x → j ≡ k
+once_push {I} xs y once out j k x a b = elim (at_from_push xs y j x a) [
+  | inl h ↦ elim (at_from_push xs y k x b) [ inl i ↦ once j k x h i | inr s ↦ absurd (out (subst (λ (z : I). Contains xs z) s.1 (contains_from_at xs j x h))) ]
+  | inr d ↦ elim (at_from_push xs y k x b) [ inl i ↦ absurd (out (subst (λ (z : I). Contains xs z) d.1 (contains_from_at xs k x i))) | inr s ↦ d.0 ∙ sym s.0 ]
+]

@@ -1,60 +1,30 @@
 -- Nodes and their numbers.
-use Rattle.std.proofs.Common.{◌≡◌, ℕ, zero, suc, ◌<◌, ◌⊎◌, inl, inr, List, [], ◌∷◌, ◌++◌, length, refl, sym, ◌∙◌, ap, subst, arith, Some, None, Option, Bool, true, false, cond, set}
-use Rattle.std.specs.Prelude.{find}
-use Rattle.std.specs.HashMap.{get}
+use Rattle.std.proofs.Common.{◌≡◌, ℕ, zero, suc, ◌+◌, add-one, take, List, [], ◌∷◌, ◌++◌, length, refl, sym, ◌∙◌, ap, subst, arith, Some, None, Option, Bool, true, false, cond, set}
+use Rattle.std.specs.Prelude.{Contains, find}
+use Rattle.std.specs.List.{list_any}
 use Rattle.gix_hash.specs.declared.object_id.ObjectId.{ObjectId}
 use Rattle.gix_traverse_commit.specs.Order.{At}
 use Rattle.gix_traverse_commit.specs.Numbered.{same_id}
-use Rattle.gix_traverse_commit.specs.Nodes.{NodeMap, AreNumbered, marks_in, marks_of, no_marks}
-use Rattle.gix_traverse_commit.specs.declared.nodes.Node.{Node}
-use Rattle.gix_traverse_commit.specs.declared.nodes.Number.{Number}
-use Rattle.gix_traverse_commit.proofs.Ids.{same_from_test, test_from_same}
-use Rattle.gix_traverse_commit.proofs.Lists.{at_one, at_push, at_from_push, at_append, none_at_nil, three}
+use Rattle.gix_traverse_commit.specs.Nodes.{AreNumbered, Node, is_hidden, marks_in, marks_of, no_marks, nodes_in}
+use Rattle.gix_traverse_commit.specs.declared.nodes.Marks.{Marks}
+use Rattle.gix_traverse_commit.proofs.Ids.{same_from_test, same_id_apart, test_from_same}
+use Rattle.gix_traverse_commit.proofs.Lists.{at_from_contains, at_one, contains_from_at, none_at_nil, once_push}
+use Rattle.gix_traverse_commit.proofs.Simply.{take_push}
+use Rattle.gix_traverse_commit.proofs.Slow.{any_from_contains, contains_from_any}
 
-abbrev number_in : Option Number → ℕ
-number_in None = 0
-number_in (Some n) = n.0
+abbrev pub node : ObjectId → Marks → Node
+node id marks = record { id = id; marks = marks }
 
-abbrev pub number_of : ℕ → Number
-number_of k = record { 0 = k }
+pub not_among : (ids : List ObjectId) (n : ℕ) (x : ObjectId) → list_any (same_id x) ids ≡ false → At ids n x → ⊥
+not_among ids n x e a = let t = any_from_contains same_id same_id_apart ids x (contains_from_at ids n x a) in let z : ⊥ = cc in z
 
--- an empty map numbers no nodes
-pub numbered_none : (nodes : List Node) (m : NodeMap) → nodes ≡ [] → m.entries ≡ [] → AreNumbered nodes m
-numbered_none nodes m e f = record {
-  each = λ k node a. absurd (none_at_nil k node (subst (λ (xs : List Node). At xs k node) e a));
-  only = λ id n h. absurd (nothing id n h);
-}
+pub find_passes : {I : Type 0} (p : I → Bool) (xs : List I) (y : I) → find p xs ≡ Some y → p y ≡ true
+find_passes p [] y e = let z : ⊥ = cc in absurd z
+find_passes {I} p (x ∷ xs) y e = go (p x) refl (find_passes p xs y)
   where
-    nothing : (id : ObjectId) (n : Number) → get same_id m id ≡ Some n → ⊥
-    nothing id n h = let g = rw f at h in cc
-
--- one more node, whose commit had none
-pub numbered_push : (nodes : List Node) (m m' : NodeMap) (node : Node) (n : Number) → AreNumbered nodes m → get same_id m node.id ≡ None → n.0 ≡ length nodes → ((q : ObjectId) → get same_id m' q ≡ cond (same_id node.id q) (Some n) (get same_id m q)) → AreNumbered (nodes ++ node ∷ []) m'
-numbered_push nodes m m' node n old fresh place new = record { each = each; only = only }
-  where
-    each : (k : ℕ) (r : Node) → At (nodes ++ node ∷ []) k r → get same_id m' r.id ≡ Some (record { 0 = k })
-    each k r a = elim (at_from_push nodes node k r a) [
-      | inl before ↦ go before (same_id node.id r.id) refl
-      | inr (e, f) ↦ (let t : same_id node.id r.id ≡ true = test_from_same node.id r.id (ap (λ (x : Node). x.id) (sym f)) in
-          let here : n ≡ number_of k = ap number_of (place ∙ sym e) in
-          new r.id ∙ ap (λ (c : Bool). cond c (Some n) (get same_id m r.id)) t ∙ ap Some here)
-    ]
-      where
-        go : At nodes k r → (c : Bool) → same_id node.id r.id ≡ c → get same_id m' r.id ≡ Some (record { 0 = k })
-        go before true t =
-            let f : get same_id m r.id ≡ Some (record { 0 = k }) = old.each k r before in
-            let g : get same_id m r.id ≡ None = subst (λ (i : ObjectId). get same_id m i ≡ None) (same_from_test node.id r.id t) fresh in
-            let z : ⊥ = cc in absurd z
-        go before false t = new r.id ∙ ap (λ (c : Bool). cond c (Some n) (get same_id m r.id)) t ∙ old.each k r before
-
-    only : (id : ObjectId) (i : Number) → get same_id m' id ≡ Some i → (r : Node) × At (nodes ++ node ∷ []) i.0 r × (r.id ≡ id)
-    only id i e = go (same_id node.id id) refl (sym (new id) ∙ e)
-      where
-        go : (c : Bool) → same_id node.id id ≡ c → cond c (Some n) (get same_id m id) ≡ Some i → (r : Node) × At (nodes ++ node ∷ []) i.0 r × (r.id ≡ id)
-        go true t f =
-            let same : length nodes ≡ i.0 = let g : n ≡ i = cc in sym place ∙ ap (λ (x : Number). x.0) g in
-            (node, subst (λ (k : ℕ). At (nodes ++ node ∷ []) k node) same (at_append nodes node []), same_from_test node.id id t)
-        go false t f = let (r, a, h) = old.only id i f in (r, at_push nodes node i.0 r a, h)
+    go : (b : Bool) → p x ≡ b → (find p xs ≡ Some y → p y ≡ true) → p y ≡ true
+    go true f r = let g : Some x ≡ Some y = rw f at e in let same : x ≡ y = cc in ap p (sym same) ∙ f
+    go false f r = let g : find p xs ≡ Some y = rw f at e in r g
 
 -- ---- finding
 
@@ -79,112 +49,135 @@ find_none p (w ∷ xs) h = go (p w) refl (find_none p xs (λ y j a t. h y (suc j
     go true e next = absurd (h w 0 refl e)
     go false e next = rw e next
 
-module _ (nodes : List Node) (m : NodeMap) (numbered : AreNumbered nodes m) where
-  -- nodes of one commit are one
-  pub one_node : (j k : ℕ) (r s : Node) → At nodes j r → At nodes k s → r.id ≡ s.id → (j ≡ k) × (r ≡ s)
-  one_node j k r s a b e =
-      let f = numbered.each j r a in
-      let g = numbered.each k s b in
-      let h : get same_id m s.id ≡ Some (record { 0 = j }) = subst (λ (i : ObjectId). get same_id m i ≡ Some (record { 0 = j })) e f in
-      let both : Some (number_of j) ≡ Some (number_of k) = sym h ∙ g in
-      let same : j ≡ k = ap number_in both in
-      (same, at_one nodes k r s (subst (λ (i : ℕ). At nodes i r) same a) b)
+-- a node stands where its id and its marks do
+pub at_nodes : (ids : List ObjectId) (ms : List Marks) (k : ℕ) (x : ObjectId) (m : Marks) → At ids k x → At ms k m → At (nodes_in ids ms) k (node x m)
+at_nodes [] ms k x m a b = absurd (none_at_nil k x a)
+at_nodes (i ∷ ids) [] k x m a b = absurd (none_at_nil k m b)
+at_nodes (i ∷ ids) (n ∷ ms) zero x m a b = let e : i ≡ x = cc in let f : n ≡ m = cc in ap (λ (z : ObjectId). Some (node z n)) e ∙ ap (λ (z : Marks). Some (node x z)) f
+at_nodes (i ∷ ids) (n ∷ ms) (suc k) x m a b = at_nodes ids ms k x m a b
 
-  -- what is marked of a commit stands in its node
-  pub marks_at : (id : ObjectId) (n : Number) (node : Node) → get same_id m id ≡ Some n → At nodes n.0 node → marks_of nodes id ≡ node.marks
-  marks_at id n node h a =
-      let (r, b, e) = numbered.only id n h in
-      let same : r ≡ node = at_one nodes n.0 r node b a in
-      let f : node.id ≡ id = subst (λ (x : Node). x.id ≡ id) same e in
-      ap marks_in (find_one (λ (x : Node). same_id id x.id) nodes node n.0 a (test_from_same id node.id (sym f)) (λ y j c t. (one_node j n.0 y node c a (sym (same_from_test id y.id t) ∙ sym f)).1))
+pub id_from_node : (ids : List ObjectId) (ms : List Marks) (k : ℕ) (r : Node) → At (nodes_in ids ms) k r → At ids k r.id
+id_from_node [] ms k r a = absurd (none_at_nil k r a)
+id_from_node (i ∷ ids) [] k r a = absurd (none_at_nil k r a)
+id_from_node (i ∷ ids) (n ∷ ms) zero r a = let e : node i n ≡ r = cc in ap (λ (z : Node). Some z.id) e
+id_from_node (i ∷ ids) (n ∷ ms) (suc k) r a = id_from_node ids ms k r a
 
-  pub marks_none : (id : ObjectId) → get same_id m id ≡ None → marks_of nodes id ≡ no_marks
-  marks_none id h = ap marks_in (find_none (λ (x : Node). same_id id x.id) nodes absent)
-    where
-      absent : (y : Node) (j : ℕ) → At nodes j y → same_id id y.id ≡ true → ⊥
-      absent y j a t =
-          let f = numbered.each j y a in
-          let g : get same_id m y.id ≡ None = subst (λ (i : ObjectId). get same_id m i ≡ None) (same_from_test id y.id t) h in
-          let z : ⊥ = cc in z
-
--- ---- a node is written
-
-at_set_here : (xs : List Node) (k : ℕ) (x y : Node) → At xs k x → At (set xs k y) k y
-at_set_here [] k x y a = absurd (none_at_nil k x a)
-at_set_here (w ∷ xs) zero x y a = refl
-at_set_here (w ∷ xs) (suc k) x y a = at_set_here xs k x y a
-
-at_set_other : (xs : List Node) (k j : ℕ) (x y : Node) → (j ≡ k → ⊥) → At xs j x → At (set xs k y) j x
-at_set_other [] k j x y n a = absurd (none_at_nil j x a)
-at_set_other (w ∷ xs) zero zero x y n a = absurd (n refl)
-at_set_other (w ∷ xs) zero (suc j) x y n a = a
-at_set_other (w ∷ xs) (suc k) zero x y n a = a
-at_set_other (w ∷ xs) (suc k) (suc j) x y n a = at_set_other xs k j x y (λ e. n (ap suc e)) a
-
-at_from_set : (xs : List Node) (k j : ℕ) (x y : Node) → At (set xs k y) j x → ((j ≡ k) × (x ≡ y)) ⊎ At xs j x
-at_from_set [] k j x y a = absurd (none_at_nil j x a)
-at_from_set (w ∷ xs) zero zero x y a = inl (refl, cc)
-at_from_set (w ∷ xs) zero (suc j) x y a = inr a
-at_from_set (w ∷ xs) (suc k) zero x y a = inr a
-at_from_set (w ∷ xs) (suc k) (suc j) x y a = elim (at_from_set xs k j x y a) [ inl e ↦ inl (ap suc e.0, e.1) | inr h ↦ inr h ]
-
-module _ (nodes : List Node) (m : NodeMap) (numbered : AreNumbered nodes m) (id : ObjectId) (n : Number) (node new : Node) (has : get same_id m id ≡ Some n) (here : At nodes n.0 node) (same : new.id ≡ node.id) where
-  pub numbered_set : AreNumbered (set nodes n.0 new) m
-  numbered_set = record {
-    each = λ k r a. elim (at_from_set nodes n.0 k r new a) [
-      | inl (e, f) ↦ subst (λ (j : ℕ). get same_id m r.id ≡ Some (record { 0 = j })) (sym e) (subst (λ (i : ObjectId). get same_id m i ≡ Some (record { 0 = n.0 })) (sym (ap (λ (x : Node). x.id) f ∙ same)) (numbered.each n.0 node here))
-      | inr h ↦ numbered.each k r h
-    ];
-    only = λ q i h. let (r, a, e) = numbered.only q i h in go q i r a e (three i.0 n.0);
-  }
-    where
-      go : (q : ObjectId) (i : Number) (r : Node) → At nodes i.0 r → r.id ≡ q → (i.0 < n.0) ⊎ ((i.0 ≡ n.0) ⊎ (n.0 < i.0)) → (s : Node) × At (set nodes n.0 new) i.0 s × (s.id ≡ q)
-      go q i r a e (inl l) = (r, at_set_other nodes n.0 i.0 r new (λ f. let z : ⊥ = omega arith in z) a, e)
-      go q i r a e (inr (inr l)) = (r, at_set_other nodes n.0 i.0 r new (λ f. let z : ⊥ = omega arith in z) a, e)
-      go q i r a e (inr (inl f)) =
-          let one : r ≡ node = at_one nodes n.0 r node (subst (λ (j : ℕ). At nodes j r) f a) here in
-          (new, subst (λ (j : ℕ). At (set nodes n.0 new) j new) (sym f) (at_set_here nodes n.0 node new here), same ∙ ap (λ (x : Node). x.id) (sym one) ∙ e)
-
-  pub marks_set : (q : ObjectId) → marks_of (set nodes n.0 new) q ≡ cond (same_id id q) new.marks (marks_of nodes q)
-  marks_set q = go (same_id id q) refl (get same_id m q) refl
-    where
-      after : AreNumbered (set nodes n.0 new) m
-      after = numbered_set
-
-      go : (b : Bool) → same_id id q ≡ b → (o : Option Number) → get same_id m q ≡ o → marks_of (set nodes n.0 new) q ≡ cond (same_id id q) new.marks (marks_of nodes q)
-      go true t o h =
-          let f : get same_id m q ≡ Some n = subst (λ (i : ObjectId). get same_id m i ≡ Some n) (same_from_test id q t) has in
-          marks_at (set nodes n.0 new) m after q n new f (at_set_here nodes n.0 node new here) ∙ ap (λ (b : Bool). cond b new.marks (marks_of nodes q)) (sym t)
-      go false t None h = marks_none (set nodes n.0 new) m after q h ∙ sym (marks_none nodes m numbered q h) ∙ ap (λ (b : Bool). cond b new.marks (marks_of nodes q)) (sym t)
-      go false t (Some i) h =
-          let (r, a, e) = numbered.only q i h in
-          let apart : i.0 ≡ n.0 → ⊥ = λ (f : i.0 ≡ n.0). other (at_one nodes n.0 r node (subst (λ (j : ℕ). At nodes j r) f a) here) e in
-          marks_at (set nodes n.0 new) m after q i r h (at_set_other nodes n.0 i.0 r new apart a) ∙ sym (marks_at nodes m numbered q i r h a) ∙ ap (λ (b : Bool). cond b new.marks (marks_of nodes q)) (sym t)
-        where
-          other : {r : Node} → r ≡ node → r.id ≡ q → ⊥
-          other one e =
-              let (s, b, f) = numbered.only id n has in
-              let both : s ≡ node = at_one nodes n.0 s node b here in
-              let x : id ≡ q = sym f ∙ ap (λ (x : Node). x.id) (both ∙ sym one) ∙ e in
-              let u : same_id id q ≡ true = test_from_same id q x in
-              let z : ⊥ = cc in z
-
--- one more node
-pub marks_push : (nodes : List Node) (m m' : NodeMap) (node : Node) (n : Number) → AreNumbered nodes m → get same_id m node.id ≡ None → n.0 ≡ length nodes → ((q : ObjectId) → get same_id m' q ≡ cond (same_id node.id q) (Some n) (get same_id m q)) → (q : ObjectId) → marks_of (nodes ++ node ∷ []) q ≡ cond (same_id node.id q) node.marks (marks_of nodes q)
-marks_push nodes m m' node n old fresh place new q = go (same_id node.id q) refl (get same_id m q) refl
+-- what is marked of a commit stands at its number
+pub marks_at : (ids : List ObjectId) (ms : List Marks) → AreNumbered ids ms → (k : ℕ) (x : ObjectId) (m : Marks) → At ids k x → At ms k m → marks_of (nodes_in ids ms) x ≡ m
+marks_at ids ms w k x m a b = ap marks_in (find_one (λ (r : Node). same_id x r.id) (nodes_in ids ms) (node x m) k here (test_from_same x x refl) only)
   where
-    after : AreNumbered (nodes ++ node ∷ []) m'
-    after = numbered_push nodes m m' node n old fresh place new
+    here : At (nodes_in ids ms) k (node x m)
+    here = at_nodes ids ms k x m a b
 
-    go : (b : Bool) → same_id node.id q ≡ b → (o : Option Number) → get same_id m q ≡ o → marks_of (nodes ++ node ∷ []) q ≡ cond (same_id node.id q) node.marks (marks_of nodes q)
-    go true t o h =
-        let f : get same_id m' q ≡ Some n = new q ∙ ap (λ (b : Bool). cond b (Some n) (get same_id m q)) t in
-        let here : At (nodes ++ node ∷ []) n.0 node = subst (λ (k : ℕ). At (nodes ++ node ∷ []) k node) (sym place) (at_append nodes node []) in
-        marks_at (nodes ++ node ∷ []) m' after q n node f here ∙ ap (λ (b : Bool). cond b node.marks (marks_of nodes q)) (sym t)
-    go false t None h =
-        let f : get same_id m' q ≡ None = new q ∙ ap (λ (b : Bool). cond b (Some n) (get same_id m q)) t ∙ h in
-        marks_none (nodes ++ node ∷ []) m' after q f ∙ sym (marks_none nodes m old q h) ∙ ap (λ (b : Bool). cond b node.marks (marks_of nodes q)) (sym t)
-    go false t (Some i) h =
-        let f : get same_id m' q ≡ Some i = new q ∙ ap (λ (b : Bool). cond b (Some n) (get same_id m q)) t ∙ h in
-        let (r, a, e) = old.only q i h in
-        marks_at (nodes ++ node ∷ []) m' after q i r f (at_push nodes node i.0 r a) ∙ sym (marks_at nodes m old q i r h a) ∙ ap (λ (b : Bool). cond b node.marks (marks_of nodes q)) (sym t)
+    only : (y : Node) (j : ℕ) → At (nodes_in ids ms) j y → same_id x y.id ≡ true → y ≡ node x m
+    only y j c t =
+        let there : At ids j x = subst (λ (z : ObjectId). At ids j z) (sym (same_from_test x y.id t)) (id_from_node ids ms j y c) in
+        let e : j ≡ k = w.once j k x there a in
+        at_one (nodes_in ids ms) k y (node x m) (subst (λ (i : ℕ). At (nodes_in ids ms) i y) e c) here
+
+pub marks_none : (ids : List ObjectId) (ms : List Marks) (x : ObjectId) → ((n : ℕ) → At ids n x → ⊥) → marks_of (nodes_in ids ms) x ≡ no_marks
+marks_none ids ms x none = ap marks_in (find_none (λ (r : Node). same_id x r.id) (nodes_in ids ms) (λ y j a t. none j (subst (λ (z : ObjectId). At ids j z) (sym (same_from_test x y.id t)) (id_from_node ids ms j y a))))
+
+-- ---- marks are written
+
+length_set : (ms : List Marks) (k : ℕ) (m : Marks) → length (set ms k m) ≡ length ms
+length_set [] k m = refl
+length_set (n ∷ ms) zero m = refl
+length_set (n ∷ ms) (suc k) m = ap suc (length_set ms k m)
+
+at_set : (ms : List Marks) (k : ℕ) (n m : Marks) → At ms k n → At (set ms k m) k m
+at_set [] k n m a = absurd (none_at_nil k n a)
+at_set (w ∷ ms) zero n m a = refl
+at_set (w ∷ ms) (suc k) n m a = at_set ms k n m a
+
+pub numbered_set : (ids : List ObjectId) (ms : List Marks) → AreNumbered ids ms → (k : ℕ) (m : Marks) → AreNumbered ids (set ms k m)
+numbered_set ids ms w k m = record { once = w.once; as_many = length_set ms k m ∙ w.as_many }
+
+marks_other : (ids : List ObjectId) (ms : List Marks) (k : ℕ) (x q : ObjectId) (m : Marks) → At ids k x → same_id q x ≡ false → marks_of (nodes_in ids (set ms k m)) q ≡ marks_of (nodes_in ids ms) q
+marks_other [] ms k x q m a f = refl
+marks_other (i ∷ ids) [] k x q m a f = refl
+marks_other (i ∷ ids) (n ∷ ms) zero x q m a f =
+    let e : i ≡ x = cc in
+    go (same_id q i) (subst (λ (z : ObjectId). same_id q z ≡ false) (sym e) f)
+  where
+    go : (b : Bool) → b ≡ false → marks_in (cond b (Some (node i m)) (find (λ (r : Node). same_id q r.id) (nodes_in ids ms))) ≡ marks_in (cond b (Some (node i n)) (find (λ (r : Node). same_id q r.id) (nodes_in ids ms)))
+    go false g = refl
+    go true g = let z : ⊥ = cc in absurd z
+marks_other (i ∷ ids) (n ∷ ms) (suc k) x q m a f = go (same_id q i) (marks_other ids ms k x q m a f)
+  where
+    go : (b : Bool) → marks_of (nodes_in ids (set ms k m)) q ≡ marks_of (nodes_in ids ms) q → marks_in (cond b (Some (node i n)) (find (λ (r : Node). same_id q r.id) (nodes_in ids (set ms k m)))) ≡ marks_in (cond b (Some (node i n)) (find (λ (r : Node). same_id q r.id) (nodes_in ids ms)))
+    go true e = refl
+    go false e = e
+
+pub marks_set : (ids : List ObjectId) (ms : List Marks) → AreNumbered ids ms → (k : ℕ) (x : ObjectId) (n m : Marks) → At ids k x → At ms k n → (q : ObjectId) → marks_of (nodes_in ids (set ms k m)) q ≡ cond (same_id x q) m (marks_of (nodes_in ids ms) q)
+marks_set ids ms w k x n m a b q = go (same_id x q) refl
+  where
+    other : same_id x q ≡ false → (b : Bool) → same_id q x ≡ b → same_id q x ≡ false
+    other f false g = g
+    other f true g = let h = test_from_same x q (sym (same_from_test q x g)) in let z : ⊥ = cc in absurd z
+
+    go : (b : Bool) → same_id x q ≡ b → marks_of (nodes_in ids (set ms k m)) q ≡ cond b m (marks_of (nodes_in ids ms) q)
+    go true t = marks_at ids (set ms k m) (numbered_set ids ms w k m) k q m (subst (λ (z : ObjectId). At ids k z) (same_from_test x q t) a) (at_set ms k n m b)
+    go false t = marks_other ids ms k x q m a (other t (same_id q x) refl)
+
+-- ---- one more node
+
+length_push : {A : Type 0} (xs : List A) (x : A) → length (xs ++ x ∷ []) ≡ suc (length xs)
+length_push [] x = refl
+length_push (y ∷ xs) x = ap suc (length_push xs x)
+
+pub numbered_push : (ids : List ObjectId) (ms : List Marks) (x : ObjectId) (m : Marks) → AreNumbered ids ms → ((n : ℕ) → At ids n x → ⊥) → AreNumbered (ids ++ x ∷ []) (ms ++ m ∷ [])
+numbered_push ids ms x m w none = record {
+  once = once_push ids x w.once (λ c. let (n, a) = at_from_contains ids x c in none n a);
+  as_many = length_push ms m ∙ ap suc w.as_many ∙ sym (length_push ids x);
+}
+
+pub marks_push : (ids : List ObjectId) (ms : List Marks) (x : ObjectId) (m : Marks) → length ms ≡ length ids → ((n : ℕ) → At ids n x → ⊥) → (q : ObjectId) → marks_of (nodes_in (ids ++ x ∷ []) (ms ++ m ∷ [])) q ≡ cond (same_id x q) m (marks_of (nodes_in ids ms) q)
+marks_push [] [] x m e none q = go (same_id q x) refl (same_id x q) refl
+  where
+    go : (b : Bool) → same_id q x ≡ b → (d : Bool) → same_id x q ≡ d → marks_in (cond b (Some (node x m)) None) ≡ cond d m no_marks
+    go true f true g = refl
+    go false f false g = refl
+    go true f false g = let h = test_from_same x q (sym (same_from_test q x f)) in let z : ⊥ = cc in absurd z
+    go false f true g = let h = test_from_same q x (sym (same_from_test x q g)) in let z : ⊥ = cc in absurd z
+marks_push [] (n ∷ ms) x m e none q = let z : ⊥ = cc in absurd z
+marks_push (i ∷ ids) [] x m e none q = let z : ⊥ = cc in absurd z
+marks_push (i ∷ ids) (n ∷ ms) x m e none q = go (same_id q i) refl (marks_push ids ms x m (let f : suc (length ms) ≡ suc (length ids) = e in omega arith) (λ k a. none (suc k) a) q)
+  where
+    tail : Option Node
+    tail = find (λ (r : Node). same_id q r.id) (nodes_in ids ms)
+
+    tail' : Option Node
+    tail' = find (λ (r : Node). same_id q r.id) (nodes_in (ids ++ x ∷ []) (ms ++ m ∷ []))
+
+    not_x : same_id q i ≡ true → (d : Bool) → same_id x q ≡ d → n ≡ cond d m n
+    not_x f false g = refl
+    not_x f true g =
+        let same : i ≡ x = sym (same_from_test q i f) ∙ sym (same_from_test x q g) in
+        absurd (none 0 (ap Some same))
+
+    go : (b : Bool) → same_id q i ≡ b → marks_in tail' ≡ cond (same_id x q) m (marks_in tail) → marks_in (cond b (Some (node i n)) tail') ≡ cond (same_id x q) m (marks_in (cond b (Some (node i n)) tail))
+    go true f h = not_x f (same_id x q) refl
+    go false f h = h
+
+-- one more id, that wasn't there
+pub keys_push : (ids ids' : List ObjectId) (x : ObjectId) → ids' ≡ cond (list_any (same_id x) ids) ids (ids ++ x ∷ []) → ((n : ℕ) → At ids n x → ⊥) → ids' ≡ ids ++ x ∷ []
+keys_push ids ids' x e none = go (list_any (same_id x) ids) refl
+  where
+    go : (b : Bool) → list_any (same_id x) ids ≡ b → ids' ≡ ids ++ x ∷ []
+    go false f = rw f at e
+    go true f = let (n, a) = at_from_contains ids x (contains_from_any same_id same_id_apart ids x f) in absurd (none n a)
+
+-- of a list so many are taken, and then the next
+pub taken_more : (ids xs xs' : List ObjectId) (x : ObjectId) → xs ≡ take (length xs) ids → At ids (length xs) x → xs' ≡ xs ++ x ∷ [] → xs' ≡ take (length xs') ids
+taken_more ids xs xs' x e a new =
+    let more : length xs' ≡ length xs + 1 = ap length new ∙ length_push xs x ∙ sym (add-one (length xs)) in
+    new ∙ ap (λ (zs : List ObjectId). zs ++ x ∷ []) e ∙ sym (take_push ids (length xs) x a) ∙ ap (λ (n : ℕ). take n ids) (sym more)
+
+-- what is hidden has an id among these
+pub hidden_among : (ids : List ObjectId) (ms : List Marks) (q : ObjectId) → is_hidden (nodes_in ids ms) q ≡ true → Contains ids q
+hidden_among ids ms q h = go (list_any (same_id q) ids) refl
+  where
+    go : (b : Bool) → list_any (same_id q) ids ≡ b → Contains ids q
+    go true f = contains_from_any same_id same_id_apart ids q f
+    go false f = let e = marks_none ids ms q (λ n a. not_among ids n q f a) in let g : false ≡ true = sym (ap (λ (m : Marks). m.hidden) e) ∙ h in let z : ⊥ = cc in absurd z

@@ -22,7 +22,7 @@ use Rattle.gix_traverse_commit.specs.Simply.{IsKnown}
 use Rattle.gix_traverse_commit.specs.Told.{AreTold}
 use Rattle.gix_traverse_commit.specs.declared.fetch.FetchError.{FetchError}
 use Rattle.gix_traverse_commit.specs.declared.fetch.FetchError.TheVariants as fault
-use Rattle.gix_traverse_commit.specs.declared.nodes.Node.{Node}
+use Rattle.gix_traverse_commit.specs.Nodes.{Node}
 use Rattle.gix_traverse_commit.specs.declared.rows.Row.{Row}
 use Rattle.gix_traverse_commit.proofs.Frontier.{read_all}
 use Rattle.gix_traverse_commit.proofs.Ids.{test_from_same, same_id_apart}

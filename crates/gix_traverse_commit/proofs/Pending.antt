@@ -1,21 +1,17 @@
 -- What is queued when a walk begins anew.
-use Rattle.std.proofs.Common.{◌≡◌, ◌∙◌, ℕ, zero, suc, inl, inr, refl, ap, subst, List, [], ◌∷◌, ◌++◌, map, Result, Ok, Err, Bool, true, false, cond, Some, sym}
-use Rattle.std.specs.Prelude.{Contains, IfOk, OnOk, filter, find, is_some}
+use Rattle.std.proofs.Common.{◌≡◌, ◌∙◌, ℕ, zero, suc, inl, inr, refl, ap, subst, List, [], ◌∷◌, ◌++◌, map, Result, Ok, Err, Bool, true, false, cond}
+use Rattle.std.specs.Prelude.{Contains, IfOk, OnOk, filter, is_some}
 use Rattle.std.specs.BTreeMap.{get}
 use Rattle.std.proofs.lemmas.List.{map-append}
 use Rattle.std.proofs.lemmas.List.Elements.{Contains-append_cases, filter-append}
 use Rattle.std.proofs.lemmas.Map.Views.{btree_map_contains_key_iff}
 use Rattle.gix_hash.specs.declared.object_id.ObjectId.{ObjectId}
-use Rattle.gix_traverse_commit.specs.Nodes.{is_hidden, marks_in}
-use Rattle.gix_traverse_commit.specs.Numbered.{same_id}
 use Rattle.gix_traverse_commit.specs.Order.{At}
 use Rattle.gix_traverse_commit.specs.Rows.{AllHeld, Holds}
 use Rattle.gix_traverse_commit.specs.Timely.{AllRowed, Waits, queued_by, turn_cmp, waiting}
-use Rattle.gix_traverse_commit.specs.declared.nodes.Node.{Node}
 use Rattle.gix_traverse_commit.specs.declared.rows.Row.{Row}
 use Rattle.gix_traverse_commit.specs.declared.simple.waiting.Turn.{Turn}
 use Rattle.gix_traverse_commit.specs.declared.simple.waiting.Waiting.{Waiting}
-use Rattle.gix_traverse_commit.proofs.Ids.{same_from_test}
 use Rattle.gix_traverse_commit.proofs.Lists.{at_from_contains, contains_from_at, none_at_nil}
 use Rattle.gix_traverse_commit.proofs.Timely.{turn_exact, turn_total}
 
@@ -60,15 +56,6 @@ queued_waits w x c =
     let p : Turn → Bool = λ (t : Turn). is_some (get turn_cmp w.turns t) in
     let (t, k, e) = from_map (λ (t : Turn). t.id) (filter p w.order.items) x c in
     (t, (btree_map_contains_key_iff turn_total turn_exact w.turns t).0 (from_filter p w.order.items t k), e)
-
--- what is hidden has a node
-pub hidden_listed : (nodes : List Node) (q : ObjectId) → is_hidden nodes q ≡ true → Contains (map (λ (n : Node). n.id) nodes) q
-hidden_listed [] q h = let z : ⊥ = cc in absurd z
-hidden_listed (n ∷ nodes) q h = go (same_id q n.id) refl h (hidden_listed nodes q)
-  where
-    go : (b : Bool) → same_id q n.id ≡ b → (marks_in (cond b (Some n) (find (λ (m : Node). same_id q m.id) nodes))).hidden ≡ true → (is_hidden nodes q ≡ true → Contains (map (λ (m : Node). m.id) nodes) q) → Contains (n.id ∷ map (λ (m : Node). m.id) nodes) q
-    go true t k next = subst (λ (x : ObjectId). Contains (n.id ∷ map (λ (m : Node). m.id) nodes) x) (sym (same_from_test q n.id t)) (in_head n.id (map (λ (m : Node). m.id) nodes))
-    go false t k next = in_tail n.id (map (λ (m : Node). m.id) nodes) q (next k)
 
 pub is_false : (b : Bool) → (b ≡ true → ⊥) → b ≡ false
 is_false false h = refl

@@ -19,7 +19,7 @@ use Rattle.gix_traverse_commit.specs.declared.simple.faults.HiddenGraphError.The
 use Rattle.gix_traverse_commit.specs.Sorting.{InOrder, IsNextIn}
 use Rattle.gix_traverse_commit.specs.declared.simple.sorting.Timing.{Timing}
 use Rattle.gix_traverse_commit.specs.declared.nodes.Marks.{Marks}
-use Rattle.gix_traverse_commit.specs.declared.nodes.Node.{Node}
+use Rattle.gix_traverse_commit.specs.Nodes.{Node}
 use Rattle.gix_traverse_commit.specs.declared.rows.Row.{Row}
 use Rattle.gix_traverse_commit.proofs.Ids.{same_from_test, test_from_same}
 use Rattle.gix_traverse_commit.proofs.Keeping.{kept_end}

@@ -21,7 +21,7 @@ use Rattle.gix_traverse_commit.specs.Simply.{IsFirstUnread, TipFault, error_of}
 use Rattle.gix_traverse_commit.specs.Told.{AreTold}
 use Rattle.gix_traverse_commit.specs.declared.fetch.FetchError.{FetchError}
 use Rattle.gix_traverse_commit.specs.declared.fetch.FetchError.TheVariants as fault
-use Rattle.gix_traverse_commit.specs.declared.nodes.Node.{Node}
+use Rattle.gix_traverse_commit.specs.Nodes.{Node}
 use Rattle.gix_traverse_commit.specs.declared.rows.Row.{Row}
 use Rattle.gix_traverse_commit.specs.declared.simple.faults.Error.{Error}
 use Rattle.gix_traverse_commit.specs.declared.simple.faults.Error.TheVariants as simple

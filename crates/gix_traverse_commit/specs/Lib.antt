@@ -13,6 +13,7 @@ pub mod Told
 pub mod Fetching
 pub mod Simply
 pub mod Nodes
+pub mod Meeting
 pub mod Keeping
 pub mod Painting
 pub mod Turns

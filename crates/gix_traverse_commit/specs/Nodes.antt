@@ -1,23 +1,25 @@
 -- Commits that a walk knows, and what is marked of them.
-use Rattle.std.specs.Prelude.{◌≡◌, ℕ, List, Option, None, Some, Bool, false, find}
-use Rattle.std.specs.HashMap.{HashMap, get}
-use Rattle.std.specs.declared.hash.FoldHasher.{FoldHasher}
-use Rattle.std.specs.declared.hash.BuildHasherDefault.{BuildHasherDefault}
+use Rattle.std.specs.Prelude.{◌≡◌, ℕ, List, [], ◌∷◌, length, Option, None, Some, Bool, false, find}
 use Rattle.gix_hash.specs.declared.object_id.ObjectId.{ObjectId}
 use Rattle.gix_traverse_commit.specs.Numbered.{same_id}
 use Rattle.gix_traverse_commit.specs.Order.{At}
 use Rattle.gix_traverse_commit.specs.declared.nodes.Marks.{Marks}
-use Rattle.gix_traverse_commit.specs.declared.nodes.Node.{Node}
-use Rattle.gix_traverse_commit.specs.declared.nodes.Number.{Number}
 
--- the number of each commit's node
-abbrev pub NodeMap : Type 0
-NodeMap = HashMap ObjectId Number (BuildHasherDefault FoldHasher)
+-- a commit, and what is marked of it
+pub record Node : Type 0 where
+  pub id : ObjectId
+  pub marks : Marks
 
--- each node's commit has its place as number, and no other commit has one
-pub record AreNumbered (nodes : List Node) (numbers : NodeMap) : Type 0 where
-  pub each : (k : ℕ) (node : Node) → At nodes k node → get same_id numbers node.id ≡ Some (record { 0 = k })
-  pub only : (id : ObjectId) (n : Number) → get same_id numbers id ≡ Some n → (node : Node) × At nodes n.0 node × (node.id ≡ id)
+-- the commits with these ids, each with the marks at its place
+abbrev pub nodes_in : List ObjectId → List Marks → List Node
+nodes_in [] marks = []
+nodes_in (id ∷ ids) [] = []
+nodes_in (id ∷ ids) (m ∷ marks) = record { id = id; marks = m } ∷ nodes_in ids marks
+
+-- no commit has two numbers, and each has marks
+pub record AreNumbered (ids : List ObjectId) (marks : List Marks) : Type 0 where
+  pub once : (j k : ℕ) (x : ObjectId) → At ids j x → At ids k x → j ≡ k
+  pub as_many : length marks ≡ length ids
 
 abbrev pub no_marks : Marks
 no_marks = record { asked = false; met = false; hidden = false }

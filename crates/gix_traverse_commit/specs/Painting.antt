@@ -9,7 +9,7 @@ use Rattle.gix_traverse_commit.specs.Order.{At}
 use Rattle.gix_traverse_commit.specs.Told.{AreTold}
 use Rattle.gix_traverse_commit.specs.declared.fetch.FetchError.{FetchError}
 use Rattle.gix_traverse_commit.specs.declared.fetch.FetchError.TheVariants as fault
-use Rattle.gix_traverse_commit.specs.declared.nodes.Node.{Node}
+use Rattle.gix_traverse_commit.specs.Nodes.{Node}
 use Rattle.gix_traverse_commit.specs.declared.rows.Row.{Row}
 
 -- all are kept

@@ -1,5 +1,5 @@
 -- Where a walk stands, and what it gives.
-use Rattle.std.specs.Prelude.{◌≡◌, ◌⊎◌, ◌↔◌, ◌<◌, ◌≤◌, ◌+◌, ℕ, IfOk, IfErr, IfSome, IfNone, IsNone, OnErr, Bool, true, false, not, ◌&&◌, List, [], ◌∷◌, ◌++◌, length, Option, None, Some, ℤ, Result, Contains, take, ⊤}
+use Rattle.std.specs.Prelude.{◌≡◌, ◌⊎◌, ◌↔◌, ◌<◌, ◌≤◌, ◌+◌, ℕ, IfOk, IfErr, IfSome, IfNone, IsNone, OnErr, Bool, true, false, not, ◌&&◌, List, [], ◌∷◌, ◌++◌, length, Option, None, Some, IsSome, ℤ, Result, Contains, take, ⊤}
 use Rattle.gix_hash.specs.Id.{Id, id_of}
 use Rattle.gix_hash.specs.declared.kind.Kind as hash
 use Rattle.gix_hash.specs.declared.object_id.ObjectId.{ObjectId}
@@ -9,6 +9,7 @@ use Rattle.gix_object_lines.specs.declared.kind.Kind.TheVariants as kinds
 use Rattle.gix_traverse_commit.specs.Commits.{Commit, Commits, WalkRequest, asked_parents}
 use Rattle.gix_traverse_commit.specs.Fetching.{FetchFault, TimeFault, TimeIsTold, HasRowsGeneration, one_more}
 use Rattle.gix_traverse_commit.specs.Keeping.{Kept, KeptAll}
+use Rattle.gix_traverse_commit.specs.Meeting.{Asks, CountsAll, CountsOne, CountsTimes, IsFresh, accepted}
 use Rattle.gix_traverse_commit.specs.Nodes.{is_asked, is_hidden, is_met}
 use Rattle.gix_traverse_commit.specs.Painting.{IsUnpainted, ReachedFrom, StopsPainting}
 use Rattle.gix_traverse_commit.specs.Rows.{AllHeld, Holds}
@@ -21,7 +22,7 @@ use Rattle.gix_traverse_commit.specs.declared.fetch.FetchError.{FetchError}
 use Rattle.gix_traverse_commit.specs.declared.fetch.FetchError.TheVariants as fetch
 use Rattle.gix_traverse_commit.specs.declared.fetch.Source.{Source}
 use Rattle.gix_traverse_commit.specs.declared.info.Info.{Info}
-use Rattle.gix_traverse_commit.specs.declared.nodes.Node.{Node}
+use Rattle.gix_traverse_commit.specs.Nodes.{Node}
 use Rattle.gix_traverse_commit.specs.declared.parents.Parents.{Parents}
 use Rattle.gix_traverse_commit.specs.declared.rows.Row.{Row}
 use Rattle.gix_traverse_commit.specs.declared.simple.faults.Error.{Error}
@@ -44,6 +45,10 @@ objects_of walk = walk.source.objects
 -- the rows that answer before them, where there are any
 abbrev pub graph_of : {F P : Type 0} → Simple F P → Option (List Row)
 graph_of walk = walk.source.rows
+
+-- the predicate
+abbrev pub predicate_of : {F P : Type 0} → Simple F P → P
+predicate_of walk = walk.predicate
 
 -- how many objects it asked for so far
 abbrev pub lookups_of : {F P : Type 0} → Simple F P → ℕ
@@ -349,17 +354,8 @@ pub record IsContentOf (honest : Type 0) (rows : List Row) (table : Table) (id :
   pub rowed : Holds rows id → content ≡ []
   pub stored : honest → ¬ Holds rows id → object.Stands table (id_of id) kinds.Commit content
 
--- one object was asked for where the commit has no row, and none where it has one
-pub record CountsOne (rows : List Row) (id : ObjectId) (before after : ℕ) : Type 0 where
-  pub stored : (¬ Holds rows id) → after ≡ one_more before
-  pub rowed : Holds rows id → after ≡ before
-
--- one after the other was asked for, but those that have rows
-abbrev pub CountsAll : List Row → List ObjectId → ℕ → ℕ → Type 0
-CountsAll rows [] before after = after ≡ before
-CountsAll rows (x ∷ xs) before after = (mid : ℕ) × CountsOne rows x before mid × CountsAll rows xs mid after
-
--- a walk begins: all that is hidden was asked for, each commit once, and by time the tips, for their times
+-- a walk begins: all that is hidden was asked for, each commit once, and by time the tips that are accepted and not hidden, each
+-- once, for their times
 pub record CountsBeginning (honest : Type 0) (rows : List Row) (table : Table) (a : Asked) (before after : ℕ) : Type 0 where
   pub painted : List ObjectId
   pub behind : ℕ
@@ -368,6 +364,10 @@ pub record CountsBeginning (honest : Type 0) (rows : List Row) (table : Table) (
   pub in_breadth : timing a ≡ None → after ≡ behind
   pub least : behind ≤ after
   pub most : after ≤ behind + length a.tips
+  pub timed : List ObjectId
+  pub times : CountsTimes (timing a) rows timed behind after
+  pub are_timed : IsSome (timing a) → honest → (g : Commits ObjectId) → AreTold rows table g
+      → IsListOf (λ x. Contains a.tips x × IsAccepted a x × (¬ ReachedFrom g a.hidden x)) timed
 
 -- at least one was asked for where the commit has no row, and up to so many more; none where it has one
 pub record CountsUpTo (rows : List Row) (id : ObjectId) (more before after : ℕ) : Type 0 where
@@ -375,12 +375,29 @@ pub record CountsUpTo (rows : List Row) (id : ObjectId) (more before after : ℕ
   pub rowed : Holds rows id → after ≡ before
   pub most : after ≤ before + 1 + more
 
--- the same, and the first commit is read
-pub record CountsFirst (honest : Type 0) (rows : List Row) (table : Table) (a : Asked) (info : Info) (before after : ℕ) : Type 0 where
-  pub begun : ℕ
-  pub beginning : CountsBeginning honest rows table a before begun
-  pub one : timing a ≡ None → CountsOne rows info.id begun after
-  pub more : CountsUpTo rows info.id (length info.parent_ids.items) begun after
+-- a commit comes: it is asked for once, and its parents are met that were not met before and are not hidden; the predicate is asked
+-- of each of them once, and of no other commit, and by time those that it accepts are asked for, for their times
+pub record MeetsParents {P : Type 0} (accepts : P → Id → Bool) (goes : P → Id → P → Type 0) (rows : List Row) (nodes : List Node) (t : Option Timing) (info : Info) (before : P) (lookups : ℕ) (after : P) (lookups' : ℕ) : Type 0 where
+  pub met : List ObjectId
+  pub are_met : IsListOf (IsFresh nodes info.parent_ids.items) met
+  pub asked : Asks goes met before after
+  pub read : ℕ
+  pub one : CountsOne rows info.id lookups read
+  pub times : CountsTimes t rows (accepted (accepts before) met) read lookups'
+
+-- a walk gives this commit so
+abbrev pub Meets : {F P : Type 0} → (P → Id → Bool) → (P → Id → P → Type 0) → List Row → Simple F P → Info → Simple F P → Type 0
+Meets accepts goes rows before info after = MeetsParents accepts goes rows before.nodes (timing_of before.parents before.sorting) info before.predicate before.source.lookups after.predicate after.source.lookups
+
+-- the walk begins, for which the predicate isn't asked, and the first commit comes
+pub record CountsFirst {F P : Type 0} (accepts : P → Id → Bool) (goes : P → Id → P → Type 0) (honest may_fail : Type 0) (table : Table) (ids : List Id) (a : Asked) (before : Simple F P) (info : Info) (after : Simple F P) : Type 0 where
+  pub begun : Simple F P
+  pub under_way : honest → (g : Commits ObjectId) → AreTold (rows_of before.source.rows) table g → IsSure may_fail a → IsUnderWay accepts ids g a [] begun
+  pub unasked : begun.predicate ≡ before.predicate
+  pub beginning : CountsBeginning honest (rows_of before.source.rows) table a before.source.lookups begun.source.lookups
+  pub meets : Meets accepts goes (rows_of before.source.rows) begun info after
+  pub one : timing a ≡ None → CountsOne (rows_of before.source.rows) info.id begun.source.lookups after.source.lookups
+  pub more : CountsUpTo (rows_of before.source.rows) info.id (length info.parent_ids.items) begun.source.lookups after.source.lookups
 
 -- one object was asked for where a commit isn't read; where memory is wanting none that was counted is lost
 abbrev pub CountsFault : ℕ → ℕ → Error → Type 0
@@ -396,7 +413,7 @@ pub record IsNext {F P : Type 0} (accepts : P → Id → Bool) (ids : List Id) (
   pub stands : IsUnderWay accepts ids g a (listed ++ info.id ∷ []) after
 
 -- the answer to one that asks a walk for its next commit, of a store that is honest, may fail, has this table and finds none but these ids
-pub record GivesNext {F P : Type 0} (accepts : P → Id → Bool) (honest may_fail : Type 0) (table : Table) (ids : List Id) (before : Simple F P) (item : Option (Result Info Error)) (after : Simple F P) : Type 0 where
+pub record GivesNext {F P : Type 0} (accepts : P → Id → Bool) (goes : P → Id → P → Type 0) (honest may_fail : Type 0) (table : Table) (ids : List Id) (before : Simple F P) (item : Option (Result Info Error)) (after : Simple F P) : Type 0 where
   pub objects : after.source.objects ≡ before.source.objects
   pub rows : after.source.rows ≡ before.source.rows
   pub given : honest → (g : Commits ObjectId) → AreTold (rows_of before.source.rows) table g → (a : Asked) (listed : List ObjectId) → IsSure may_fail a → Stands accepts ids g a listed before
@@ -412,11 +429,13 @@ pub record GivesNext {F P : Type 0} (accepts : P → Id → Bool) (honest may_fa
   pub counted_one : before.begun ≡ true → timing_of before.parents before.sorting ≡ None → IfSome item (λ answer. IfOk answer (λ info. CountsOne (rows_of before.source.rows) info.id before.source.lookups after.source.lookups))
   pub counted_by_time : before.begun ≡ true → IfSome item (λ answer. IfOk answer (λ info. CountsUpTo (rows_of before.source.rows) info.id (length info.parent_ids.items) before.source.lookups after.source.lookups))
   pub rowed : InRows before → IfSome item (λ answer. IfOk answer (λ _. InRows after × (after.source.lookups ≡ before.source.lookups)))
+  pub meets : before.begun ≡ true → IfSome item (λ answer. IfOk answer (λ info. Meets accepts goes (rows_of before.source.rows) before info after))
+  pub unasked : IfNone item (after.predicate ≡ before.predicate)
   pub over : IfNone item (IsOver after)
   pub content_end : IfNone item (after.source.buffer.items ≡ before.source.buffer.items)
   pub content_fault : IfSome item (λ answer. OnErr answer (after.source.buffer.items ≡ []))
   pub counted_end : before.begun ≡ true → IfNone item (after.source.lookups ≡ before.source.lookups)
   pub counted_fault : before.begun ≡ true → IfSome item (λ answer. IfErr answer (CountsFault before.source.lookups after.source.lookups))
   pub rowed_end : InRows before → IfNone item (after.source.lookups ≡ before.source.lookups)
-  pub first : (a : Asked) → IsMade accepts a before → IfSome item (λ answer. IfOk answer (λ info. CountsFirst honest (rows_of before.source.rows) table a info before.source.lookups after.source.lookups))
+  pub first : (a : Asked) → IsMade accepts a before → IfSome item (λ answer. IfOk answer (λ info. CountsFirst accepts goes honest may_fail table ids a before info after))
   pub first_end : (a : Asked) → IsMade accepts a before → IfNone item (CountsBeginning honest (rows_of before.source.rows) table a before.source.lookups after.source.lookups)

@@ -11,10 +11,14 @@ pub trait Accept {
     /// The ids that are accepted.
     ghost accepts: { Self → Id → Bool };
 
+    /// What a question makes of the predicate.
+    ghost goes: { Self → Id → Self → Type 0 };
+
     /// Whether this id is accepted. An answer changes no later one.
     fn accept(&mut self, id: oid<'_>) -> bool
         ensures told { result ≡ Self.accepts self.old (viewed_id id.entry) }
-        ensures kept { Self.accepts self.new ≡ Self.accepts self.old };
+        ensures kept { Self.accepts self.new ≡ Self.accepts self.old }
+        ensures gone { Self.goes self.old (viewed_id id.entry) self.new };
 }
 
 /// Accepts each commit.
@@ -23,6 +27,8 @@ pub struct All;
 
 impl Accept for All {
     ghost accepts = { λ _ _. true };
+
+    ghost goes = { λ before _ after. after ≡ before };
 
     fn accept(&mut self, _id: oid<'_>) -> bool {
         true

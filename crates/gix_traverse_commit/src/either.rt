@@ -54,7 +54,8 @@ impl<'buf, 'cache> Either<'buf, 'cache> {
 // The committer's seconds, from the parts to come.
 pub(crate) fn seconds(reader: CommitRefIter<'_>) -> Result<i64, decode::Error>
     ensures told { IfOk result (TellsSeconds (place_of reader.entry)) }
-    ensures every { (seconds : ℤ) → TellsSeconds (place_of reader.entry) seconds → result ≡ Ok seconds }
+    ensures every { (seconds : ℤ) → TellsSeconds (place_of reader.entry) seconds
+        → result ≡ Ok seconds }
     ensures refused { IfErr result (TellsNone committer_told (place_of reader.entry)) }
 {
     let committer = reader.committer()?;
@@ -70,9 +71,10 @@ pub fn find<'buf, 'cache, F: Find>(
     id: &ObjectId,
     buffer: &'buf mut Vec<u8>,
 ) -> Result<Either<'buf, 'cache>, existing_iter::Error>
-    ensures found { F.is_honest objects.now → IfOk result (IsFound (rows_of (option_copied cache.entry)) (F.table objects.now) id.now) }
-    ensures refused { IfErr result (KindFault (F.is_honest objects.now) (F.may_fail objects.now) (F.table objects.now)
-        (id_of id.now) kinds.Commit) }
+    ensures found { F.is_honest objects.now
+        → IfOk result (IsFound (rows_of (option_copied cache.entry)) (F.table objects.now) id.now) }
+    ensures refused { IfErr result (KindFault (F.is_honest objects.now) (F.may_fail objects.now)
+        (F.table objects.now) (id_of id.now) kinds.Commit) }
 {
     match row_in(cache, id) {
         Some(row) => Ok(Either::CachedCommit(row)),

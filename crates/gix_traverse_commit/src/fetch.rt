@@ -101,7 +101,8 @@ fn read_parents(
     reader: CommitRefIter<'_>,
     along: Parents,
 ) -> Result<ParentIds, FetchError>
-    ensures told { IfOk result (λ ids. ReadsParents along (place_of reader.entry) (map id_of ids.items)) }
+    ensures told { IfOk result (λ ids. ReadsParents along (place_of reader.entry)
+        (map id_of ids.items)) }
     ensures refused { IfErr result (ParentsFault (place_of reader.entry)) }
 {
     let mut ids = ParentIds::new(alloc);
@@ -178,11 +179,14 @@ impl<F: Find> Source<F> {
             → IfOk result (λ commit. AllHeld (rows_of self.old.rows) commit.parents.items) }
         ensures counted { self.new.lookups ≤ self.old.lookups + 1 }
         ensures rising { self.old.lookups ≤ self.new.lookups }
-        ensures asked { (¬ Holds (rows_of self.old.rows) id.now) → self.new.lookups ≡ one_more self.old.lookups }
+        ensures asked { (¬ Holds (rows_of self.old.rows) id.now)
+            → self.new.lookups ≡ one_more self.old.lookups }
         ensures content { F.is_honest self.old.objects → ¬ Holds (rows_of self.old.rows) id.now
-            → OnOk result (Stands (F.table self.old.objects) (id_of id.now) kinds.Commit self.new.buffer.items) }
-        ensures refused { IfErr result (FetchFault (F.is_honest self.old.objects) (F.may_fail self.old.objects)
-            (rows_of self.old.rows) (F.table self.old.objects) id.now) }
+            → OnOk result (Stands (F.table self.old.objects) (id_of id.now) kinds.Commit
+            self.new.buffer.items) }
+        ensures refused { IfErr result (FetchFault (F.is_honest self.old.objects)
+            (F.may_fail self.old.objects) (rows_of self.old.rows) (F.table self.old.objects)
+            id.now) }
     {
         let alloc: Global = *self.buffer.allocator();
         if let Some(row) = row_in(self.rows.as_ref(), id) {
@@ -211,15 +215,20 @@ impl<F: Find> Source<F> {
             → AreTold (rows_of self.old.rows) (F.table self.old.objects) g
             → IfOk result (λ seconds. seconds ≡ (g id.now).time) }
         ensures told { F.is_honest self.old.objects
-            → IfOk result (λ _. TimeIsTold (rows_of self.old.rows) (F.table self.old.objects) id.now) }
-        ensures none { F.is_honest self.old.objects → ¬ F.may_fail self.old.objects → (g : Commits ObjectId)
-            → AreTold (rows_of self.old.rows) (F.table self.old.objects) g
+            → IfOk result (λ _. TimeIsTold (rows_of self.old.rows) (F.table self.old.objects)
+            id.now) }
+        ensures none { F.is_honest self.old.objects → ¬ F.may_fail self.old.objects
+            → (g : Commits ObjectId) → AreTold (rows_of self.old.rows) (F.table self.old.objects) g
             → IfErr result (λ error. error ≢ Memory → (g id.now).time ≡ pos 0) }
-        ensures rowed { Holds (rows_of self.old.rows) id.now → IsOk result × (self.new.lookups ≡ self.old.lookups) }
+        ensures rowed { Holds (rows_of self.old.rows) id.now → IsOk result
+            × (self.new.lookups ≡ self.old.lookups) }
+        ensures asked { (¬ Holds (rows_of self.old.rows) id.now)
+            → self.new.lookups ≡ one_more self.old.lookups }
         ensures counted { self.new.lookups ≤ self.old.lookups + 1 }
         ensures rising { self.old.lookups ≤ self.new.lookups }
-        ensures refused { IfErr result (TimeFault (F.is_honest self.old.objects) (F.may_fail self.old.objects)
-            (rows_of self.old.rows) (F.table self.old.objects) id.now) }
+        ensures refused { IfErr result (TimeFault (F.is_honest self.old.objects)
+            (F.may_fail self.old.objects) (rows_of self.old.rows) (F.table self.old.objects)
+            id.now) }
     {
         if let Some(row) = row_in(self.rows.as_ref(), id) {
             return Ok(row.time);

@@ -18,6 +18,7 @@ pub fn topological_is_one<I>()
 
 /// All orders list one set, where no commit is refused.
 pub fn orders_list_one_set<I>()
-    ensures { (g : Commits I) (q : WalkRequest I) (xs ys : List I) → ((x : I) → IsTrue (q.accepts x))
-        → InSomeOrder g q xs → InSomeOrder g q ys → (x : I) → Contains xs x ↔ Contains ys x }
+    ensures { (g : Commits I) (q : WalkRequest I) (xs ys : List I)
+        → ((x : I) → IsTrue (q.accepts x)) → InSomeOrder g q xs → InSomeOrder g q ys → (x : I)
+        → Contains xs x ↔ Contains ys x }
 {}

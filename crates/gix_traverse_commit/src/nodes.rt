@@ -1,13 +1,14 @@
 //! The commits that a walk knows, by their numbers, and what was marked of each.
 
-ghost use Rattle.std.specs.Prelude.{◌≡◌, [], if◌then◌else◌, true, Contains, IfOk, OnOk};
+ghost use Rattle.std.specs.Prelude.{◌≡◌, ℕ, [], if◌then◌else◌, true, Contains, IfOk, IfSome, IfNone, OnOk};
 ghost use Rattle.gix_hash.specs.declared.object_id.ObjectId.{ObjectId};
 ghost use Rattle.gix_traverse_commit.specs.Numbered.{same_id};
 ghost use Rattle.gix_traverse_commit.specs.Nodes.{is_hidden, marks_of};
+ghost use Rattle.gix_traverse_commit.specs.Order.{At};
 
 use gix_hash::ObjectId;
+use indexmap::IndexSet;
 use std::alloc::{AllocError, Global};
-use std::collections::HashMap;
 use std::marker::Model;
 
 /// What is marked of a commit.
@@ -21,37 +22,48 @@ pub struct Marks {
     pub hidden: bool,
 }
 
-/// The number of a commit, by which its node stands.
+/// The number of a commit: its place among those that the walk knows.
 #[derive(Debug, Clone, Copy, PartialEq, Eq)]
 pub struct Number(usize);
 
-/// A commit, and what is marked of it.
-#[derive(Debug, Clone, Copy, PartialEq, Eq)]
-pub struct Node {
-    /// The commit's id.
-    pub id: ObjectId,
-    /// What is marked of it.
-    pub marks: Marks,
-}
-
-/// Nodes in the order in which their commits were met first.
+/// Nodes in the order in which their commits were met first. An id stands here once.
 #[derive(Drop)]
 pub struct Nodes {
-    nodes: Vec<Node>,
-    numbers: HashMap<ObjectId, Number>,
+    ids: IndexSet<ObjectId>,
+    marks: Vec<Marks>,
 }
 
 impl Model for Nodes {
     ghost use Rattle.std.specs.Prelude.{List};
-    ghost use Rattle.gix_traverse_commit.specs.declared.nodes.Node.{Node};
+    ghost use Rattle.gix_traverse_commit.specs.Nodes.{Node};
 
     ghost Value = { List Node };
 
-    ghost use Rattle.gix_traverse_commit.specs.Nodes.{AreNumbered};
+    ghost use Rattle.gix_traverse_commit.specs.Nodes.{AreNumbered, nodes_in};
 
-    ghost view = { λ all. all.nodes.items };
+    ghost view = { λ all. nodes_in all.ids.keys all.marks.items };
 
-    ghost invariant = { λ all. AreNumbered all.nodes.items all.numbers };
+    ghost invariant = { λ all. AreNumbered all.ids.keys all.marks.items };
+}
+
+// The number of a commit, where it has one.
+fn number_of(ids: &IndexSet<ObjectId>, id: &ObjectId) -> Option<Number>
+    ensures found { IfSome result (λ number. At ids.now.keys number.0 id.now) }
+    ensures none { IfNone result ((n : ℕ) → At ids.now.keys n id.now → ⊥) }
+{
+    let (place, _) = ids.get_full(id)?;
+    Some(Number(place))
+}
+
+// All ids, in their order.
+fn all_ids(ids: &IndexSet<ObjectId>, alloc: Global) -> Result<Vec<ObjectId>, AllocError>
+    ensures { IfOk result (λ all. all.items ≡ ids.now.keys) }
+{
+    let mut all = Vec::new(alloc);
+    'ids: while let Some(id) = ids.get_index(all.as_slice().len()) {
+        all.push(*id)?;
+    }
+    Ok(all)
 }
 
 impl Nodes {
@@ -60,8 +72,8 @@ impl Nodes {
         ensures { result ≡ [] }
     {
         Nodes {
-            nodes: Vec::new(alloc),
-            numbers: HashMap::new(alloc),
+            ids: IndexSet::new(alloc),
+            marks: Vec::new(alloc),
         }
     }
 
@@ -69,8 +81,8 @@ impl Nodes {
     pub fn marks(&self, id: &ObjectId) -> Marks
         ensures { result ≡ marks_of self.now id.now }
     {
-        match self.numbers.get(id) {
-            Some(number) => self.nodes[number.0].marks,
+        match number_of(&self.ids, id) {
+            Some(number) => self.marks[number.0],
             None => Marks {
                 asked: false,
                 met: false,
@@ -84,26 +96,21 @@ impl Nodes {
         ensures { OnOk result ((q : ObjectId) → marks_of self.new q
             ≡ (if same_id id q then marks else marks_of self.old q)) }
     {
-        if let Some(number) = self.numbers.get(&id) {
-            let at = number.0;
-            self.nodes[at].marks = marks;
+        if let Some(number) = number_of(&self.ids, &id) {
+            self.marks[number.0] = marks;
             return Ok(());
         }
-        self.nodes.reserve(1)?;
-        self.numbers
-            .insert(id, Number(self.nodes.as_slice().len()))?;
-        self.nodes.push(Node { id, marks })?;
+        self.marks.reserve(1)?;
+        self.ids.insert(id)?;
+        self.marks.push(marks)?;
         Ok(())
     }
 
     /// The ids of the commits that have nodes, in the order in which they were met first.
     pub fn ids(&self, alloc: Global) -> Result<Vec<ObjectId>, AllocError>
-        ensures { IfOk result (λ ids. (q : ObjectId) → is_hidden self.now q ≡ true → Contains ids.items q) }
+        ensures { IfOk result (λ ids. (q : ObjectId) → is_hidden self.now q ≡ true
+            → Contains ids.items q) }
     {
-        let mut ids = Vec::new(alloc);
-        for node in &self.nodes {
-            ids.push(node.id)?;
-        }
-        Ok(ids)
+        all_ids(&self.ids, alloc)
     }
 }

@@ -9,7 +9,7 @@ ghost use Rattle.gix_traverse_commit.specs.Numbered.{same_id};
 ghost use Rattle.gix_traverse_commit.specs.Order.{At, IsListOf};
 ghost use Rattle.gix_traverse_commit.specs.Painting.{IsPainted, IsUnpainted, Paints, PaintFault, ReachedFrom, every};
 ghost use Rattle.gix_traverse_commit.specs.Rows.{AllHeld};
-ghost use Rattle.gix_traverse_commit.specs.Simply.{CountsAll};
+ghost use Rattle.gix_traverse_commit.specs.Meeting.{CountsAll};
 ghost use Rattle.gix_traverse_commit.specs.Standing.{Reads};
 ghost use Rattle.gix_traverse_commit.specs.Told.{AreTold, rows_of};
 ghost use Rattle.gix_traverse_commit.specs.declared.rows.Row.{Row};
@@ -52,9 +52,10 @@ fn paint_tips(
     hidden: &[ObjectId],
 ) -> Result<(), AllocError>
     ensures met { OnOk result ((q : ObjectId) → is_met nodes.new q ≡ is_met nodes.old q) }
-    ensures painted { OnOk result (IsPainted nodes.old painted.old.items → IsPainted nodes.new painted.new.items) }
-    ensures rowed { OnOk result ((rows : List Row) → AllHeld rows painted.old.items → AllHeld rows hidden.now
-        → AllHeld rows painted.new.items) }
+    ensures painted { OnOk result (IsPainted nodes.old painted.old.items
+        → IsPainted nodes.new painted.new.items) }
+    ensures rowed { OnOk result ((rows : List Row) → AllHeld rows painted.old.items
+        → AllHeld rows hidden.now → AllHeld rows painted.new.items) }
     ensures walked { OnOk result ((along : ObjectId → List ObjectId)
         → Kept along hidden.now every (is_hidden nodes.old) painted.old.items 0 0
         → KeptAll along hidden.now every (is_hidden nodes.new) painted.new.items 0) }
@@ -72,15 +73,17 @@ fn paint_parents(
     parents: &[ObjectId],
 ) -> Result<(), AllocError>
     ensures met { OnOk result ((q : ObjectId) → is_met nodes.new q ≡ is_met nodes.old q) }
-    ensures painted { OnOk result (IsPainted nodes.old painted.old.items → IsPainted nodes.new painted.new.items) }
-    ensures rowed { OnOk result ((rows : List Row) → AllHeld rows painted.old.items → AllHeld rows parents.now
-        → AllHeld rows painted.new.items) }
-    ensures longer { OnOk result ((k : ℕ) (x : ObjectId) → At painted.old.items k x → At painted.new.items k x) }
-    ensures walked { OnOk result ((along : ObjectId → List ObjectId) (tips : List ObjectId) (id : ObjectId) (p : ℕ)
-        → parents.now ≡ along id
+    ensures painted { OnOk result (IsPainted nodes.old painted.old.items
+        → IsPainted nodes.new painted.new.items) }
+    ensures rowed { OnOk result ((rows : List Row) → AllHeld rows painted.old.items
+        → AllHeld rows parents.now → AllHeld rows painted.new.items) }
+    ensures longer { OnOk result ((k : ℕ) (x : ObjectId) → At painted.old.items k x
+        → At painted.new.items k x) }
+    ensures walked { OnOk result ((along : ObjectId → List ObjectId) (tips : List ObjectId)
+        (id : ObjectId) (p : ℕ) → parents.now ≡ along id
         → Kept along tips every (is_hidden nodes.old) painted.old.items p 0
-        → Reads painted.old.items p id
-        → KeptAll along tips every (is_hidden nodes.new) painted.new.items p) }
+        → Reads painted.old.items p id → KeptAll along tips every (is_hidden nodes.new)
+        painted.new.items p) }
 {
     'parents: for parent in parents {
         paint_one(nodes, painted, *parent)?;
@@ -97,16 +100,19 @@ pub fn paint<F: Find>(
     ensures objects { source.new.objects ≡ source.old.objects }
     ensures rows { source.new.rows ≡ source.old.rows }
     ensures met { OnOk result ((q : ObjectId) → is_met nodes.new q ≡ is_met nodes.old q) }
-    ensures painted { OnOk result (IsUnpainted nodes.old → F.is_honest source.old.objects → (g : Commits ObjectId)
-        → AreTold (rows_of source.old.rows) (F.table source.old.objects) g → Paints g hidden.now nodes.new) }
-    ensures rowed { OnOk result (AllHeld (rows_of source.old.rows) hidden.now → source.new.lookups ≡ source.old.lookups) }
+    ensures painted { OnOk result (IsUnpainted nodes.old → F.is_honest source.old.objects
+        → (g : Commits ObjectId) → AreTold (rows_of source.old.rows) (F.table source.old.objects) g
+        → Paints g hidden.now nodes.new) }
+    ensures rowed { OnOk result (AllHeld (rows_of source.old.rows) hidden.now
+        → source.new.lookups ≡ source.old.lookups) }
     ensures counted { OnOk result ((asked : List ObjectId)
         × CountsAll (rows_of source.old.rows) asked source.old.lookups source.new.lookups
         × (IsUnpainted nodes.old → F.is_honest source.old.objects → (g : Commits ObjectId)
         → AreTold (rows_of source.old.rows) (F.table source.old.objects) g
         → IsListOf (ReachedFrom g hidden.now) asked)) }
-    ensures refused { IsUnpainted nodes.old → IfErr result (PaintFault (F.is_honest source.old.objects)
-        (F.may_fail source.old.objects) (rows_of source.old.rows) (F.table source.old.objects) hidden.now) }
+    ensures refused { IsUnpainted nodes.old
+        → IfErr result (PaintFault (F.is_honest source.old.objects) (F.may_fail source.old.objects)
+        (rows_of source.old.rows) (F.table source.old.objects) hidden.now) }
 {
     let alloc: Global = *source.buffer.allocator();
     let mut painted: Vec<ObjectId> = Vec::new(alloc);

@@ -14,22 +14,22 @@ pub fn slow_rows()
         ≡ Some (8 ∷ 6 ∷ 5 ∷ 3 ∷ []) }
     ensures first { slow_breadth history (8 ∷ []) [] Parents.First ≡ Some (8 ∷ 6 ∷ 5 ∷ 3 ∷ 1 ∷ []) }
     ensures skewed { slow_breadth skewed (3 ∷ []) (4 ∷ []) Parents.All ≡ Some (3 ∷ []) }
-    ensures topological { topological_rows history (request (8 ∷ []) [] Parents.All) (8 ∷ 7 ∷ 4 ∷ 2 ∷ 6 ∷ 5 ∷ 3 ∷ 1 ∷ [])
-        ≡ true }
-    ensures topological_not { topological_rows history (request (8 ∷ []) [] Parents.All) (8 ∷ 6 ∷ 5 ∷ 3 ∷ 7 ∷ 4 ∷ 2 ∷ 1 ∷ [])
-        ≡ false }
-    ensures topological_skewed { topological_rows skewed (request (3 ∷ []) (4 ∷ []) Parents.All) (3 ∷ [])
-        ≡ true }
-    ensures topological_hidden_tip { topological_rows history (request (8 ∷ []) (8 ∷ []) Parents.All) []
-        ≡ true }
-    ensures date { date_rows history (request (8 ∷ []) [] Parents.All) (8 ∷ 7 ∷ 6 ∷ 5 ∷ 4 ∷ 3 ∷ 2 ∷ 1 ∷ [])
-        ≡ true }
-    ensures date_not { date_rows history (request (8 ∷ []) [] Parents.All) (8 ∷ 7 ∷ 5 ∷ 6 ∷ 4 ∷ 3 ∷ 2 ∷ 1 ∷ [])
-        ≡ false }
-    ensures oldest { oldest_rows history (request (8 ∷ []) [] Parents.All) (8 ∷ 6 ∷ 5 ∷ 3 ∷ 1 ∷ 7 ∷ 4 ∷ 2 ∷ [])
-        ≡ true }
-    ensures oldest_not { oldest_rows history (request (8 ∷ []) [] Parents.All) (1 ∷ 2 ∷ 3 ∷ 4 ∷ 5 ∷ 6 ∷ 7 ∷ 8 ∷ [])
-        ≡ false }
+    ensures topological { topological_rows history (request (8 ∷ []) [] Parents.All)
+        (8 ∷ 7 ∷ 4 ∷ 2 ∷ 6 ∷ 5 ∷ 3 ∷ 1 ∷ []) ≡ true }
+    ensures topological_not { topological_rows history (request (8 ∷ []) [] Parents.All)
+        (8 ∷ 6 ∷ 5 ∷ 3 ∷ 7 ∷ 4 ∷ 2 ∷ 1 ∷ []) ≡ false }
+    ensures topological_skewed { topological_rows skewed (request (3 ∷ []) (4 ∷ []) Parents.All)
+        (3 ∷ []) ≡ true }
+    ensures topological_hidden_tip { topological_rows history (request (8 ∷ [])
+        (8 ∷ []) Parents.All) [] ≡ true }
+    ensures date { date_rows history (request (8 ∷ []) [] Parents.All)
+        (8 ∷ 7 ∷ 6 ∷ 5 ∷ 4 ∷ 3 ∷ 2 ∷ 1 ∷ []) ≡ true }
+    ensures date_not { date_rows history (request (8 ∷ []) [] Parents.All)
+        (8 ∷ 7 ∷ 5 ∷ 6 ∷ 4 ∷ 3 ∷ 2 ∷ 1 ∷ []) ≡ false }
+    ensures oldest { oldest_rows history (request (8 ∷ []) [] Parents.All)
+        (8 ∷ 6 ∷ 5 ∷ 3 ∷ 1 ∷ 7 ∷ 4 ∷ 2 ∷ []) ≡ true }
+    ensures oldest_not { oldest_rows history (request (8 ∷ []) [] Parents.All)
+        (1 ∷ 2 ∷ 3 ∷ 4 ∷ 5 ∷ 6 ∷ 7 ∷ 8 ∷ []) ≡ false }
     ensures newest { newest_rows history (since_request (8 ∷ []) 4) (8 ∷ 7 ∷ 6 ∷ 5 ∷ 4 ∷ [])
         ≡ true }
     ensures newest_not { newest_rows history (since_request (8 ∷ []) 4) (8 ∷ 7 ∷ 6 ∷ 4 ∷ [])
@@ -59,7 +59,8 @@ pub fn rows()
         (8 ∷ 7 ∷ 4 ∷ 2 ∷ 6 ∷ 5 ∷ 3 ∷ 1 ∷ []) }
     ensures topological_not { InTopological (graph_of history) (request (8 ∷ []) [] Parents.All)
         (8 ∷ 6 ∷ 5 ∷ 3 ∷ 7 ∷ 4 ∷ 2 ∷ 1 ∷ []) → ⊥ }
-    ensures hidden_tip { InTopological (graph_of history) (request (8 ∷ []) (8 ∷ []) Parents.All) [] }
+    ensures hidden_tip { InTopological (graph_of history) (request (8 ∷ []) (8 ∷ []) Parents.All)
+        [] }
     ensures date { InDate (graph_of history) (request (8 ∷ []) [] Parents.All)
         (8 ∷ 7 ∷ 6 ∷ 5 ∷ 4 ∷ 3 ∷ 2 ∷ 1 ∷ []) }
     ensures date_refused { InDate (graph_of history) (refusing_request (8 ∷ []) 6)

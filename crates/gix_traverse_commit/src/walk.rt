@@ -95,7 +95,8 @@ fn enter(
         → Walked (ways rows.now parents) tips hides (λ q. contains same_id seen.old q)
         (listed ++ queue.old.items) (length listed) 0
         → Reads (listed ++ queue.old.items) (length listed) id
-        → StandsAt rows.now parents (λ q. contains same_id seen.new q) queue.new.items tips hides listed) }
+        → StandsAt rows.now parents (λ q. contains same_id seen.new q) queue.new.items tips hides
+        listed) }
 {
     let Some(names) = parents_along(rows, &id, parents) else {
         return Err(WalkError::Missing(id));
@@ -126,8 +127,8 @@ impl<'g> Walk<'g> {
     ) -> Result<Self, WalkError>
         ensures rows { IfOk result (λ walk. walk.rows.now ≡ rows.now) }
         ensures parents { IfOk result (λ walk. walk.parents ≡ parents) }
-        ensures walked { IfOk result (λ walk. StandsAt rows.now parents (λ q. contains same_id walk.seen q)
-            walk.queue.items tips.now hides.now []) }
+        ensures walked { IfOk result (λ walk. StandsAt rows.now parents
+            (λ q. contains same_id walk.seen q) walk.queue.items tips.now hides.now []) }
         ensures failed { IfErr result (λ error. error ≡ Memory) }
     {
         let mut seen: HashSet<ObjectId> = HashSet::new(alloc);
@@ -156,8 +157,8 @@ impl<'g> Walk<'g> {
             self.old.queue.items tips hides listed
             → StandsAt self.old.rows.now self.old.parents (λ q. contains same_id self.new.seen q)
             self.new.queue.items tips hides (listed ++ id ∷ []))) }
-        ensures missing { IfSome result (λ r. IfErr r (OfMissing (λ id. (¬ Holds self.old.rows.now id)
-            × ((tips hides listed : List ObjectId)
+        ensures missing { IfSome result (λ r. IfErr r (OfMissing
+            (λ id. (¬ Holds self.old.rows.now id) × ((tips hides listed : List ObjectId)
             → StandsAt self.old.rows.now self.old.parents (λ q. contains same_id self.old.seen q)
             self.old.queue.items tips hides listed
             → GoesTo self.old.rows.now self.old.parents tips hides id)))) }

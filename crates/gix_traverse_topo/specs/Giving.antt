@@ -3,12 +3,13 @@ use Rattle.std.specs.Prelude.{◌≡◌, ◌⊎◌, ℕ, ◌<◌, List, [], ◌�
 use Rattle.gix_hash.specs.Id.{Id, id_of}
 use Rattle.gix_hash.specs.declared.object_id.ObjectId.{ObjectId}
 use Rattle.gix_traverse_commit.specs.Commits.{Commits}
+use Rattle.gix_traverse_commit.specs.Meeting.{Asks}
 use Rattle.gix_traverse_commit.specs.declared.info.Info.{Info}
 use Rattle.gix_traverse_commit.specs.declared.rows.Row.{Row}
 use Rattle.gix_object_find.specs.Table.{Table}
 use Rattle.gix_traverse_commit.specs.Told.{rows_of}
 use Rattle.gix_traverse_topo.specs.Asking.{Asked}
-use Rattle.gix_traverse_topo.specs.Standing.{Answers, Begins, IsInfo, IsTurn, NoneReachesItself, Stands, all_accepted, topo_request, weight}
+use Rattle.gix_traverse_topo.specs.Standing.{Answers, Begins, IsInfo, IsTurn, NoneReachesItself, Standing, Stands, all_accepted, topo_request, weight}
 use Rattle.gix_traverse_topo.specs.Waiting.{waiting}
 use Rattle.gix_traverse_topo.specs.declared.error.Error.{Error}
 use Rattle.gix_traverse_topo.specs.declared.error.Error.TheVariants.{Memory}
@@ -31,7 +32,22 @@ HasGiven accepts walk sorting rows faults g tips ends given = Stands sorting row
 abbrev pub left_of : {P : Type 0} → Topo P → ℕ
 left_of walk = weight walk.known walk.ready
 
-pub record GivesNext {P : Type 0} (accepts : P → Id → Bool) (before : Topo P) (item : Option (Result Info Error)) (after : Topo P) : Type 0 where
+-- these commits were finished, in this order, and the predicate was asked of each of them once
+pub record AsksEach {P : Type 0} (goes : P → Id → P → Type 0) (before after : Topo P) (more : List ObjectId) : Type 0 where
+  pub asked : Asks goes more before.predicate after.predicate
+  pub finishes : (sorting : Sorting) (rows : List Row) (h : Commits ObjectId) (tips hs xs finished : List ObjectId)
+      → Standing sorting rows h tips before.parents hs xs finished before.known before.ready
+      → Standing sorting rows h tips before.parents hs xs (finished ++ more) after.known after.ready
+
+-- the rest was finished and asked of so, up to a walk in which none waits
+pub record AsksRest {P : Type 0} (goes : P → Id → P → Type 0) (before after : Topo P) : Type 0 where
+  pub passed : List ObjectId
+  pub last : Topo P
+  pub each : AsksEach goes before last passed
+  pub none_waits : waiting last.ready ≡ []
+  pub same : after.predicate ≡ last.predicate
+
+pub record GivesNext {P : Type 0} (accepts : P → Id → Bool) (goes : P → Id → P → Type 0) (before : Topo P) (item : Option (Result Info Error)) (after : Topo P) : Type 0 where
   pub lookups : after.lookups ≡ before.lookups
   pub more : (sorting : Sorting) (rows : List Row) (faults : ObjectId → Option Error) (g : Commits ObjectId) (tips ends given : List ObjectId) → HasGiven accepts before sorting rows faults g tips ends given
       → IfSome item (λ answer. IfOk answer (λ info. HasGiven accepts after sorting rows faults g tips ends (given ++ info.id ∷ []) × IsInfo rows g info))
@@ -40,6 +56,8 @@ pub record GivesNext {P : Type 0} (accepts : P → Id → Bool) (before : Topo P
       → IfNone item (Answers sorting g (topo_request tips ends before.parents (accepted_by accepts before)) given)
   pub refused : (sorting : Sorting) (rows : List Row) (faults : ObjectId → Option Error) (g : Commits ObjectId) (tips ends given : List ObjectId) → HasGiven accepts before sorting rows faults g tips ends given
       → IfSome item (λ answer. IfErr answer (λ error. (error ≡ Memory) ⊎ ((x : ObjectId) × (faults x ≡ Some error) × IsTurn sorting faults g (topo_request tips ends before.parents (accepted_by accepts before)) given x)))
+  pub asked : IfSome item (λ answer. IfOk answer (λ info. (passed : List ObjectId) × AsksEach goes before after (passed ++ info.id ∷ [])))
+  pub asked_end : IfNone item (AsksRest goes before after)
   pub failed : IfSome item (λ answer. OnErr answer (waiting after.ready ≡ []))
   pub over : IfNone item (waiting after.ready ≡ [])
   pub ended : waiting before.ready ≡ [] → IsNone item

@@ -81,8 +81,10 @@ impl<F: Find + Drop> Builder<F, All> {
     ) -> Result<Builder<F, All>, Error>
         ensures objects { IfOk result (λ builder. (asked_of builder).objects ≡ find) }
         ensures tips { IfOk result (λ builder. (asked_of builder).tips ≡ tips.now) }
-        ensures ends { IfSome ends.entry (λ ids. IfOk result (λ builder. (asked_of builder).ends ≡ ids.now)) }
-        ensures no_ends { IfNone ends.entry (IfOk result (λ builder. (asked_of builder).ends ≡ [])) }
+        ensures ends { IfSome ends.entry (λ ids. IfOk result (λ builder. (asked_of builder).ends
+            ≡ ids.now)) }
+        ensures no_ends { IfNone ends.entry (IfOk result (λ builder. (asked_of builder).ends
+            ≡ [])) }
         ensures sorting { IfOk result (λ builder. (asked_of builder).sorting ≡ DateOrder) }
         ensures parents { IfOk result (λ builder. (asked_of builder).parents ≡ AllParents) }
         ensures graph { IfOk result (λ builder. (asked_of builder).graph ≡ None) }
@@ -169,14 +171,17 @@ impl<F: Find + Drop, P: Accept + Drop> Builder<F, P> {
         ensures predicate { IfOk result (λ walk. predicate_of walk ≡ (asked_of self).predicate) }
         ensures parents { IfOk result (λ walk. parents_of walk ≡ (asked_of self).parents) }
         ensures begins { IfOk result (BeginsAs P.accepts (F.is_honest (asked_of self).objects)
-            (F.may_fail (asked_of self).objects) (F.table (asked_of self).objects) (asked_of self)) }
+            (F.may_fail (asked_of self).objects) (F.table (asked_of self).objects) (asked_of
+            self)) }
         ensures counted { IfOk result (λ walk. lookups_of walk ≤ length (commits_of walk)) }
-        ensures each { (asked_of self).graph ≡ None → IfOk result (λ walk. lookups_of walk ≡ length (commits_of walk)) }
+        ensures each { (asked_of self).graph ≡ None
+            → IfOk result (λ walk. lookups_of walk ≡ length (commits_of walk)) }
         ensures rowed { AllHeld (rows_of (asked_of self).graph) (asked_of self).tips
-            → AllHeld (rows_of (asked_of self).graph) (asked_of self).ends → IfOk result (λ walk. lookups_of walk ≡ 0) }
+            → AllHeld (rows_of (asked_of self).graph) (asked_of self).ends
+            → IfOk result (λ walk. lookups_of walk ≡ 0) }
         ensures refused { IfErr result (IsBuildFault (F.is_honest (asked_of self).objects)
-            (F.may_fail (asked_of self).objects) (rows_of (asked_of self).graph) (F.table (asked_of self).objects)
-            (asked_of self).ends) }
+            (F.may_fail (asked_of self).objects) (rows_of (asked_of self).graph)
+            (F.table (asked_of self).objects) (asked_of self).ends) }
     {
         let alloc: Global = *self.tips.allocator();
         let mut source = Source {
@@ -211,15 +216,19 @@ fn explore_ends<F: Find>(
 ) -> Result<Known, Error>
     ensures objects { source.new.objects ≡ source.old.objects }
     ensures rows { source.new.rows ≡ source.old.rows }
-    ensures painted { IfOk result (IsPainted (F.is_honest source.old.objects) (F.may_fail source.old.objects)
-        (rows_of source.old.rows) (F.table source.old.objects) ends.now) }
-    ensures counted { IfOk result (λ known. source.new.lookups ≤ source.old.lookups + length known.ids.keys) }
-    ensures rowed { AllHeld (rows_of source.old.rows) ends.now → IfOk result (λ known.
-        AllHeld (rows_of source.old.rows) known.ids.keys × (source.new.lookups ≡ source.old.lookups)) }
+    ensures painted { IfOk result (IsPainted (F.is_honest source.old.objects)
+        (F.may_fail source.old.objects) (rows_of source.old.rows) (F.table source.old.objects)
+        ends.now) }
+    ensures counted { IfOk result (λ known. source.new.lookups
+        ≤ source.old.lookups + length known.ids.keys) }
+    ensures rowed { AllHeld (rows_of source.old.rows) ends.now
+        → IfOk result (λ known. AllHeld (rows_of source.old.rows) known.ids.keys
+        × (source.new.lookups ≡ source.old.lookups)) }
     ensures each { ((x : ObjectId) → ¬ Holds (rows_of source.old.rows) x) → source.old.lookups ≡ 0
         → IfOk result (λ known. source.new.lookups ≡ length known.ids.keys) }
-    ensures refused { IfErr result (IsBuildFault (F.is_honest source.old.objects) (F.may_fail source.old.objects)
-        (rows_of source.old.rows) (F.table source.old.objects) ends.now) }
+    ensures refused { IfErr result (IsBuildFault (F.is_honest source.old.objects)
+        (F.may_fail source.old.objects) (rows_of source.old.rows) (F.table source.old.objects)
+        ends.now) }
 {
     let mut known = Known::new(alloc);
     known.walk(source, ends, Parents::All)?;
@@ -240,15 +249,19 @@ fn explore<F: Find>(
     ends: &[ObjectId],
     parents: Parents,
 ) -> Result<Known, Error>
-    ensures explored { IfOk result (IsExplored (F.is_honest source.old.objects) (F.may_fail source.old.objects)
-        (rows_of source.old.rows) (F.table source.old.objects) tips.now ends.now parents) }
-    ensures counted { IfOk result (λ known. source.new.lookups ≤ source.old.lookups + length known.ids.keys) }
-    ensures rowed { AllHeld (rows_of source.old.rows) tips.now → AllHeld (rows_of source.old.rows) ends.now
+    ensures explored { IfOk result (IsExplored (F.is_honest source.old.objects)
+        (F.may_fail source.old.objects) (rows_of source.old.rows) (F.table source.old.objects)
+        tips.now ends.now parents) }
+    ensures counted { IfOk result (λ known. source.new.lookups
+        ≤ source.old.lookups + length known.ids.keys) }
+    ensures rowed { AllHeld (rows_of source.old.rows) tips.now
+        → AllHeld (rows_of source.old.rows) ends.now
         → IfOk result (λ _. source.new.lookups ≡ source.old.lookups) }
     ensures each { ((x : ObjectId) → ¬ Holds (rows_of source.old.rows) x) → source.old.lookups ≡ 0
         → IfOk result (λ known. source.new.lookups ≡ length known.ids.keys) }
-    ensures refused { IfErr result (IsBuildFault (F.is_honest source.old.objects) (F.may_fail source.old.objects)
-        (rows_of source.old.rows) (F.table source.old.objects) ends.now) }
+    ensures refused { IfErr result (IsBuildFault (F.is_honest source.old.objects)
+        (F.may_fail source.old.objects) (rows_of source.old.rows) (F.table source.old.objects)
+        ends.now) }
 {
     let mut known = explore_ends(alloc, source, ends)?;
     known.walk(source, tips, parents)?;

@@ -8,7 +8,7 @@ ghost use Rattle.gix_traverse_commit.specs.declared.rows.Row.{Row};
 ghost use Rattle.gix_traverse_topo.specs.declared.init.Sorting.{Sorting};
 ghost use Rattle.gix_traverse_topo.specs.Nodes.{readings, counts, IsOnce};
 ghost use Rattle.gix_traverse_topo.specs.Asking.{lookups_of};
-ghost use Rattle.gix_traverse_topo.specs.Giving.{GivesNext};
+ghost use Rattle.gix_traverse_topo.specs.Giving.{AsksEach, AsksRest, GivesNext};
 ghost use Rattle.gix_traverse_topo.specs.Standing.{Answers, CountsOff, Gives, GoesOff, IsInfo, IsTurn, IsTurnOf, NoneReachesItself, NotCounted, RowOff, Standing, Stands, Steps, all_accepted, topo_request, weight};
 ghost use Rattle.gix_traverse_topo.specs.Waiting.{waiting};
 ghost use Rattle.gix_hash.specs.Id.{id_of};
@@ -40,8 +40,9 @@ fn count_off(known: &mut Known, ready: &mut Ready, id: &ObjectId) -> Result<(), 
     ensures hidden { known.new.hidden ≡ known.old.hidden }
     ensures as_many { length known.new.nodes.items ≡ length known.old.nodes.items }
     ensures readings { readings known.new.nodes.items ≡ readings known.old.nodes.items }
-    ensures counted { OnOk result (CountsOff known.old.hidden known.old.ids.keys (readings known.old.nodes.items)
-        (counts known.old.nodes.items) ready.old id.now (counts known.new.nodes.items) ready.new) }
+    ensures counted { OnOk result (CountsOff known.old.hidden known.old.ids.keys
+        (readings known.old.nodes.items) (counts known.old.nodes.items) ready.old id.now
+        (counts known.new.nodes.items) ready.new) }
     ensures refused { IfErr result (λ error. (error ≡ Memory)
         ⊎ NotCounted known.old.hidden known.old.ids.keys (counts known.old.nodes.items) id.now) }
     ensures falls { OnOk result (weight known.new ready.new ≤ weight known.old ready.old) }
@@ -67,15 +68,19 @@ fn count_row_off(
     ensures hidden { known.new.hidden ≡ known.old.hidden }
     ensures as_many { length known.new.nodes.items ≡ length known.old.nodes.items }
     ensures readings { readings known.new.nodes.items ≡ readings known.old.nodes.items }
-    ensures off { (way : ObjectId → List ObjectId) (h : Commits ObjectId) (before hs xs : List ObjectId) (reading : Reading)
+    ensures off { (way : ObjectId → List ObjectId) (h : Commits ObjectId)
+        (before hs xs : List ObjectId) (reading : Reading)
         → At (readings known.old.nodes.items) number.0 reading
         → GoesOff way h before (asked along reading.parents.items) hs xs known.old → IsOnce xs
         → OnOk result ((m : ℕ) × (length (asked along reading.parents.items) ≤ m)
-        × RowOff known.old.hidden known.old.ids.keys way h before (asked along reading.parents.items) xs ready.old m
-        (counts known.new.nodes.items) ready.new) }
+        × RowOff known.old.hidden known.old.ids.keys way h before
+        (asked along reading.parents.items) xs ready.old m (counts known.new.nodes.items)
+        ready.new) }
     ensures refused { IfErr result (λ error. (way : ObjectId → List ObjectId) (h : Commits ObjectId)
-        (before hs xs : List ObjectId) (reading : Reading) → At (readings known.old.nodes.items) number.0 reading
-        → GoesOff way h before (asked along reading.parents.items) hs xs known.old → IsOnce xs → error ≡ Memory) }
+        (before hs xs : List ObjectId) (reading : Reading)
+        → At (readings known.old.nodes.items) number.0 reading
+        → GoesOff way h before (asked along reading.parents.items) hs xs known.old → IsOnce xs
+        → error ≡ Memory) }
     ensures falls { OnOk result (weight known.new ready.new ≤ weight known.old ready.old) }
 {
     let mut index: usize = 0;
@@ -92,7 +97,8 @@ fn give(known: &mut Known, ready: &mut Ready, number: Number, along: Parents) ->
     ensures hidden { known.new.hidden ≡ known.old.hidden }
     ensures gives { IfOk result (Gives number.0 along known.old ready.old known.new ready.new) }
     ensures refused { IfErr result (λ error. (way : ObjectId → List ObjectId) (h : Commits ObjectId)
-        (before hs xs : List ObjectId) (reading : Reading) → At (readings known.old.nodes.items) number.0 reading
+        (before hs xs : List ObjectId) (reading : Reading)
+        → At (readings known.old.nodes.items) number.0 reading
         → GoesOff way h before (asked along reading.parents.items) hs xs known.old → IsOnce xs
         → (error ≡ Memory) ⊎ (reading.fault ≡ Some error)) }
     ensures falls { OnOk result (weight known.new ready.new ≤ weight known.old ready.old) }
@@ -104,9 +110,11 @@ fn give(known: &mut Known, ready: &mut Ready, number: Number, along: Parents) ->
 
 // This commit, where the predicate accepts it.
 fn accepted<P: Accept>(predicate: &mut P, info: Info) -> Option<Info>
-    ensures kept { IfSome result (λ given. (given ≡ info) × (P.accepts predicate.old (id_of info.id) ≡ true)) }
+    ensures kept { IfSome result (λ given. (given ≡ info)
+        × (P.accepts predicate.old (id_of info.id) ≡ true)) }
     ensures passed { IfNone result (P.accepts predicate.old (id_of info.id) ≡ false) }
     ensures accepts { P.accepts predicate.new ≡ P.accepts predicate.old }
+    ensures asked { P.goes predicate.old (id_of info.id) predicate.new }
 {
     if predicate.accept(info.id.as_oid()) {
         Some(info)
@@ -130,15 +138,17 @@ impl<P: Accept + Drop> Topo<P> {
         ensures parents { self.new.parents ≡ self.old.parents }
         ensures predicate { self.new.predicate ≡ self.old.predicate }
         ensures lookups { self.new.lookups ≡ self.old.lookups }
-        ensures stood { IfSome result (λ given. IfOk given (λ info. (sorting : Sorting) (rows : List Row)
-            (h : Commits ObjectId) (tips hs xs finished : List ObjectId)
-            → Standing sorting rows h tips self.old.parents hs xs finished self.old.known self.old.ready
-            → Steps sorting rows h tips self.old.parents hs xs finished self.old.known self.old.ready self.new.known
-            self.new.ready info)) }
+        ensures stood { IfSome result (λ given. IfOk given
+            (λ info. (sorting : Sorting) (rows : List Row) (h : Commits ObjectId)
+            (tips hs xs finished : List ObjectId)
+            → Standing sorting rows h tips self.old.parents hs xs finished self.old.known
+            self.old.ready → Steps sorting rows h tips self.old.parents hs xs finished
+            self.old.known self.old.ready self.new.known self.new.ready info)) }
         ensures end { IfNone result (waiting self.old.ready ≡ []) }
-        ensures refused { IfSome result (λ given. IfErr given (λ error. (sorting : Sorting) (rows : List Row)
-            (tips finished : List ObjectId)
-            → IsTurnOf sorting rows tips self.old.parents finished self.old.known self.old.ready error)) }
+        ensures refused { IfSome result (λ given. IfErr given
+            (λ error. (sorting : Sorting) (rows : List Row) (tips finished : List ObjectId)
+            → IsTurnOf sorting rows tips self.old.parents finished self.old.known self.old.ready
+            error)) }
         ensures failed { IfSome result (λ given. OnErr given (waiting self.new.ready ≡ [])) }
         ensures over { IfNone result (waiting self.new.ready ≡ []) }
         ensures ended { waiting self.old.ready ≡ [] → IsNone result }
@@ -165,26 +175,33 @@ impl<P: Accept + Drop> Topo<P> {
         ensures parents { self.new.parents ≡ self.old.parents }
         ensures accepts { P.accepts self.new.predicate ≡ P.accepts self.old.predicate }
         ensures lookups { self.new.lookups ≡ self.old.lookups }
-        ensures more { IfSome result (λ given. IfOk given (λ info. (sorting : Sorting) (rows : List Row)
-            (faults : ObjectId → Option Error) (g : Commits ObjectId) (tips ends listed : List ObjectId)
-            → Stands sorting rows faults g tips ends self.old.parents (λ x. P.accepts self.old.predicate (id_of x))
-            listed self.old.known self.old.ready
-            → Stands sorting rows faults g tips ends self.old.parents (λ x. P.accepts self.old.predicate (id_of x))
-            (listed ++ info.id ∷ []) self.new.known self.new.ready × IsInfo rows g info)) }
-        ensures end { IfNone result ((sorting : Sorting) (rows : List Row) (faults : ObjectId → Option Error)
+        ensures more { IfSome result (λ given. IfOk given
+            (λ info. (sorting : Sorting) (rows : List Row) (faults : ObjectId → Option Error)
             (g : Commits ObjectId) (tips ends listed : List ObjectId)
-            → Stands sorting rows faults g tips ends self.old.parents (λ x. P.accepts self.old.predicate (id_of x))
-            listed self.old.known self.old.ready
+            → Stands sorting rows faults g tips ends self.old.parents
+            (λ x. P.accepts self.old.predicate (id_of x)) listed self.old.known self.old.ready
+            → Stands sorting rows faults g tips ends self.old.parents
+            (λ x. P.accepts self.old.predicate (id_of x)) (listed ++ info.id ∷ []) self.new.known
+            self.new.ready × IsInfo rows g info)) }
+        ensures end { IfNone result ((sorting : Sorting) (rows : List Row)
+            (faults : ObjectId → Option Error) (g : Commits ObjectId)
+            (tips ends listed : List ObjectId)
+            → Stands sorting rows faults g tips ends self.old.parents
+            (λ x. P.accepts self.old.predicate (id_of x)) listed self.old.known self.old.ready
             → NoneReachesItself g (topo_request tips ends self.old.parents all_accepted)
-            → Answers sorting g (topo_request tips ends self.old.parents (λ x. P.accepts self.old.predicate (id_of x)))
-            listed) }
-        ensures refused { IfSome result (λ given. IfErr given (λ error. (sorting : Sorting) (rows : List Row)
-            (faults : ObjectId → Option Error) (g : Commits ObjectId) (tips ends listed : List ObjectId)
-            → Stands sorting rows faults g tips ends self.old.parents (λ x. P.accepts self.old.predicate (id_of x))
-            listed self.old.known self.old.ready
+            → Answers sorting g (topo_request tips ends self.old.parents
+            (λ x. P.accepts self.old.predicate (id_of x))) listed) }
+        ensures refused { IfSome result (λ given. IfErr given
+            (λ error. (sorting : Sorting) (rows : List Row) (faults : ObjectId → Option Error)
+            (g : Commits ObjectId) (tips ends listed : List ObjectId)
+            → Stands sorting rows faults g tips ends self.old.parents
+            (λ x. P.accepts self.old.predicate (id_of x)) listed self.old.known self.old.ready
             → (error ≡ Memory) ⊎ ((x : ObjectId) × (faults x ≡ Some error)
             × IsTurn sorting faults g (topo_request tips ends self.old.parents
             (λ x. P.accepts self.old.predicate (id_of x))) listed x))) }
+        ensures asked { IfSome result (λ given. IfOk given (λ info. (passed : List ObjectId)
+            × AsksEach P.goes self.old self.new (passed ++ info.id ∷ []))) }
+        ensures asked_end { IfNone result (AsksRest P.goes self.old self.new) }
         ensures failed { IfSome result (λ given. OnErr given (waiting self.new.ready ≡ [])) }
         ensures over { IfNone result (waiting self.new.ready ≡ []) }
         ensures ended { waiting self.old.ready ≡ [] → IsNone result }
@@ -207,7 +224,7 @@ impl<P: Accept + Drop> Topo<P> {
 impl<P: Accept + Drop> Iterator for Topo<P> {
     type Item = Result<Info, Error>;
 
-    ghost next_gives = { λ before item after. GivesNext P.accepts before item after };
+    ghost next_gives = { λ before item after. GivesNext P.accepts P.goes before item after };
 
     /// The next commit. It is an error where that isn't read, and where no memory is left; and nothing where all are given, or an
     /// error was.

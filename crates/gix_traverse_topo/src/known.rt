@@ -71,7 +71,8 @@ fn meet(ids: &mut IndexSet<ObjectId>, met: &[ObjectId]) -> Result<(), Error>
     ensures met { OnOk result ((way : ObjectId → List ObjectId) (tips hs xs : List ObjectId) (p : ℕ)
         → ids.old.keys ≡ hs ++ xs → Read way tips (NotIn hs) xs p 0 → IsRow way tips xs p met.now
         → Met way tips hs ids.new.keys p) }
-    ensures kept { OnOk result ((k : ℕ) (x : ObjectId) → At ids.old.keys k x → At ids.new.keys k x) }
+    ensures kept { OnOk result ((k : ℕ) (x : ObjectId) → At ids.old.keys k x
+        → At ids.new.keys k x) }
     ensures refused { IfErr result (λ error. error ≡ Memory) }
 {
     'met: for id in met {
@@ -100,11 +101,14 @@ fn blank(alloc: Global, fault: FetchError) -> Result<Reading, Error>
 fn read<F: Find>(source: &mut Source<F>, id: &ObjectId) -> Result<Reading, Error>
     ensures objects { source.new.objects ≡ source.old.objects }
     ensures rows { source.new.rows ≡ source.old.rows }
-    ensures read { IfOk result (IsReading (F.is_honest source.old.objects) (F.may_fail source.old.objects)
-        (rows_of source.old.rows) (F.table source.old.objects) id.now) }
+    ensures read { IfOk result (IsReading (F.is_honest source.old.objects)
+        (F.may_fail source.old.objects) (rows_of source.old.rows) (F.table source.old.objects)
+        id.now) }
     ensures counted { source.new.lookups ≤ source.old.lookups + 1 }
-    ensures rowed { Holds (rows_of source.old.rows) id.now → source.new.lookups ≡ source.old.lookups }
-    ensures asked { (¬ Holds (rows_of source.old.rows) id.now) → source.new.lookups ≡ one_more source.old.lookups }
+    ensures rowed { Holds (rows_of source.old.rows) id.now
+        → source.new.lookups ≡ source.old.lookups }
+    ensures asked { (¬ Holds (rows_of source.old.rows) id.now)
+        → source.new.lookups ≡ one_more source.old.lookups }
     ensures closed { Holds (rows_of source.old.rows) id.now
         → IfOk result (λ reading. AllHeld (rows_of source.old.rows) reading.parents.items) }
     ensures refused { IfErr result (λ error. error ≡ Memory) }
@@ -126,7 +130,8 @@ fn add_name(nodes: &mut Vec<Node>, number: Number) -> Result<(), Error>
     ensures readings { readings nodes.new.items ≡ readings nodes.old.items }
     ensures added { OnOk result ((count : ℕ) × At (counts nodes.old.items) number.0 count
         × (counts nodes.new.items ≡ slice_set (counts nodes.old.items) number.0 (count + 1))) }
-    ensures refused { IfErr result (λ error. (error ≡ Memory) ⊎ (length nodes.old.items ≤ number.0)) }
+    ensures refused { IfErr result (λ error. (error ≡ Memory)
+        ⊎ (length nodes.old.items ≤ number.0)) }
 {
     let names = nodes
         .get(number.0)
@@ -140,11 +145,13 @@ fn add_name(nodes: &mut Vec<Node>, number: Number) -> Result<(), Error>
 pub(crate) fn take_name(nodes: &mut Vec<Node>, number: Number) -> Result<bool, Error>
     ensures as_many { length nodes.new.items ≡ length nodes.old.items }
     ensures readings { readings nodes.new.items ≡ readings nodes.old.items }
-    ensures taken { IfOk result (λ last. (count : ℕ) × At (counts nodes.old.items) number.0 (count + 1)
+    ensures taken { IfOk result (λ last. (count : ℕ)
+        × At (counts nodes.old.items) number.0 (count + 1)
         × (counts nodes.new.items ≡ slice_set (counts nodes.old.items) number.0 count)
         × (last ≡ (count == 0))) }
-    ensures refused { IfErr result (λ error. (error ≡ MissingStateUnexpected × (length (counts nodes.old.items) ≤ number.0))
-        ⊎ (error ≡ MissingIndegreeUnexpected × At (counts nodes.old.items) number.0 0)) }
+    ensures refused { IfErr result (λ error. (error ≡ MissingStateUnexpected
+        × (length (counts nodes.old.items) ≤ number.0)) ⊎ (error ≡ MissingIndegreeUnexpected
+        × At (counts nodes.old.items) number.0 0)) }
 {
     let names = nodes
         .get(number.0)
@@ -195,13 +202,15 @@ impl Known {
         ensures hidden { self.new.hidden ≡ self.old.hidden }
         ensures objects { source.new.objects ≡ source.old.objects }
         ensures rows { source.new.rows ≡ source.old.rows }
-        ensures visited { OnOk result (Visits (F.is_honest source.old.objects) (F.may_fail source.old.objects)
-            (rows_of source.old.rows) (F.table source.old.objects) along id.now
-            self.old.ids.keys self.old.nodes.items self.new.ids.keys self.new.nodes.items) }
+        ensures visited { OnOk result (Visits (F.is_honest source.old.objects)
+            (F.may_fail source.old.objects) (rows_of source.old.rows) (F.table source.old.objects)
+            along id.now self.old.ids.keys self.old.nodes.items self.new.ids.keys
+            self.new.nodes.items) }
         ensures counted { source.new.lookups ≤ source.old.lookups + 1 }
         ensures asked { (¬ Holds (rows_of source.old.rows) id.now)
             → source.new.lookups ≡ one_more source.old.lookups }
-        ensures rowed { Holds (rows_of source.old.rows) id.now → AllHeld (rows_of source.old.rows) self.old.ids.keys
+        ensures rowed { Holds (rows_of source.old.rows) id.now
+            → AllHeld (rows_of source.old.rows) self.old.ids.keys
             → OnOk result (AllHeld (rows_of source.old.rows) self.new.ids.keys
             × (source.new.lookups ≡ source.old.lookups)) }
         ensures refused { IfErr result (λ error. error ≡ Memory) }
@@ -222,17 +231,20 @@ impl Known {
         ensures hidden { self.new.hidden ≡ self.old.hidden }
         ensures objects { source.new.objects ≡ source.old.objects }
         ensures rows { source.new.rows ≡ source.old.rows }
-        ensures walking { OnOk result (Walking (F.is_honest source.old.objects) (F.may_fail source.old.objects)
-            (rows_of source.old.rows) (F.table source.old.objects) along tips.now
-            self.old.ids.keys self.old.nodes.items self.new.ids.keys self.new.nodes.items) }
+        ensures walking { OnOk result (Walking (F.is_honest source.old.objects)
+            (F.may_fail source.old.objects) (rows_of source.old.rows) (F.table source.old.objects)
+            along tips.now self.old.ids.keys self.old.nodes.items self.new.ids.keys
+            self.new.nodes.items) }
         ensures all { OnOk result (length self.new.ids.keys ≤ length self.new.nodes.items) }
         ensures counted { OnOk result (source.new.lookups + length self.old.nodes.items
             ≤ source.old.lookups + length self.new.nodes.items) }
         ensures each { OnOk result (((x : ObjectId) → ¬ Holds (rows_of source.old.rows) x)
             → source.old.lookups ≤ length self.old.nodes.items
-            → source.new.lookups + length self.old.nodes.items ≡ source.old.lookups + length self.new.nodes.items) }
+            → source.new.lookups + length self.old.nodes.items
+            ≡ source.old.lookups + length self.new.nodes.items) }
         ensures rowed { OnOk result (AllHeld (rows_of source.old.rows) self.old.ids.keys
-            → AllHeld (rows_of source.old.rows) tips.now → AllHeld (rows_of source.old.rows) self.new.ids.keys
+            → AllHeld (rows_of source.old.rows) tips.now
+            → AllHeld (rows_of source.old.rows) self.new.ids.keys
             × (source.new.lookups ≡ source.old.lookups)) }
         ensures refused { IfErr result (λ error. error ≡ Memory) }
     {
@@ -260,9 +272,10 @@ impl Known {
 
     /// The number of a commit, unless it has none or the ends reach it.
     pub fn number_of(&self, id: &ObjectId) -> Option<Number>
-        ensures found { IfSome result (λ number. (self.now.hidden ≤ number.0) × At self.now.ids.keys number.0 id.now) }
-        ensures none { IfNone result (IsOnce self.now.ids.keys → (n : ℕ) → At self.now.ids.keys n id.now
-            → n < self.now.hidden) }
+        ensures found { IfSome result (λ number. (self.now.hidden ≤ number.0)
+            × At self.now.ids.keys number.0 id.now) }
+        ensures none { IfNone result (IsOnce self.now.ids.keys → (n : ℕ)
+            → At self.now.ids.keys n id.now → n < self.now.hidden) }
     {
         let (place, _) = self.ids.get_full(id)?;
         if self.hidden <= place {
@@ -289,8 +302,8 @@ impl Known {
         ensures ids { self.new.ids ≡ self.old.ids }
         ensures hidden { self.new.hidden ≡ self.old.hidden }
         ensures readings { readings self.new.nodes.items ≡ readings self.old.nodes.items }
-        ensures counted { OnOk result (NamesOne self.old.hidden self.old.ids.keys (counts self.old.nodes.items) id.now
-            (counts self.new.nodes.items)) }
+        ensures counted { OnOk result (NamesOne self.old.hidden self.old.ids.keys
+            (counts self.old.nodes.items) id.now (counts self.new.nodes.items)) }
         ensures refused { length self.old.ids.keys ≤ length self.old.nodes.items
             → IfErr result (λ error. error ≡ Memory) }
     {
@@ -305,12 +318,14 @@ impl Known {
         ensures ids { self.new.ids ≡ self.old.ids }
         ensures hidden { self.new.hidden ≡ self.old.hidden }
         ensures readings { readings self.new.nodes.items ≡ readings self.old.nodes.items }
-        ensures counted { OnOk result ((way : ObjectId → List ObjectId) (before : List ObjectId) (reading : Reading)
-            → IsOnce self.old.ids.keys → At (readings self.old.nodes.items) number.0 reading
+        ensures counted { OnOk result ((way : ObjectId → List ObjectId) (before : List ObjectId)
+            (reading : Reading) → IsOnce self.old.ids.keys
+            → At (readings self.old.nodes.items) number.0 reading
             → EachCount self.old.hidden self.old.ids.keys (counts self.old.nodes.items)
             (λ y count. count ≡ names_of same_id way y before)
             → EachCount self.old.hidden self.old.ids.keys (counts self.new.nodes.items)
-            (λ y count. count ≡ names_of same_id way y before + times (same_id y) (asked along reading.parents.items))) }
+            (λ y count. count ≡ names_of same_id way y before + times (same_id y)
+            (asked along reading.parents.items))) }
         ensures refused { length self.old.ids.keys ≤ length self.old.nodes.items
             → IfErr result (λ error. error ≡ Memory) }
     {
@@ -328,12 +343,13 @@ impl Known {
         ensures hidden { self.new.hidden ≡ self.old.hidden }
         ensures readings { readings self.new.nodes.items ≡ readings self.old.nodes.items }
         ensures counted { OnOk result ((h : Commits ObjectId) (hs xs : List ObjectId)
-            → self.old.ids.keys ≡ hs ++ xs → self.old.hidden ≡ length hs → IsOnce self.old.ids.keys
-            → length self.old.nodes.items ≡ length self.old.ids.keys
+            → self.old.ids.keys ≡ hs ++ xs → self.old.hidden ≡ length hs
+            → IsOnce self.old.ids.keys → length self.old.nodes.items ≡ length self.old.ids.keys
             → ParentsFrom self.old.hidden h self.old.ids.keys (readings self.old.nodes.items)
-            → EachCount self.old.hidden self.old.ids.keys (counts self.old.nodes.items) (λ _ count. count ≡ 0)
-            → EachCount self.old.hidden self.old.ids.keys (counts self.new.nodes.items)
-            (λ y count. count ≡ names_of same_id (asked_parents along h) y xs)) }
+            → EachCount self.old.hidden self.old.ids.keys (counts self.old.nodes.items)
+            (λ _ count. count ≡ 0) → EachCount self.old.hidden self.old.ids.keys
+            (counts self.new.nodes.items) (λ y count. count
+            ≡ names_of same_id (asked_parents along h) y xs)) }
         ensures refused { length self.old.ids.keys ≤ length self.old.nodes.items
             → IfErr result (λ error. error ≡ Memory) }
     {
@@ -345,8 +361,9 @@ impl Known {
 
     /// A commit that waits for its turn.
     pub fn pending(&self, number: Number) -> Option<Pending>
-        ensures pending { IfSome result (λ pending. (pending.number ≡ number) × ((reading : Reading)
-            × At (readings self.now.nodes.items) number.0 reading × (pending.time ≡ reading.time))) }
+        ensures pending { IfSome result (λ pending. (pending.number ≡ number)
+            × ((reading : Reading) × At (readings self.now.nodes.items) number.0 reading
+            × (pending.time ≡ reading.time))) }
         ensures none { IfNone result (length (readings self.now.nodes.items) ≤ number.0) }
     {
         let node = self.nodes.get(number.0)?;
@@ -358,7 +375,8 @@ impl Known {
 
     // Whether no commit that is still to be given names this one.
     fn is_free(&self, number: Number) -> bool
-        ensures { (count : ℕ) → At (counts self.now.nodes.items) number.0 count → result ≡ (count == 0) }
+        ensures { (count : ℕ) → At (counts self.now.nodes.items) number.0 count
+            → result ≡ (count == 0) }
     {
         match self.nodes.get(number.0) {
             Some(node) => node.names == 0,
@@ -385,10 +403,10 @@ impl Known {
 
     /// Whether this commit is read. It is an error that tells why where it isn't.
     pub fn check(&self, number: Number) -> Result<(), Error>
-        ensures read { OnOk result ((reading : Reading) → At (readings self.now.nodes.items) number.0 reading
-            → reading.fault ≡ None) }
-        ensures refused { IfErr result (λ error. (reading : Reading) → At (readings self.now.nodes.items) number.0 reading
-            → reading.fault ≡ Some error) }
+        ensures read { OnOk result ((reading : Reading)
+            → At (readings self.now.nodes.items) number.0 reading → reading.fault ≡ None) }
+        ensures refused { IfErr result (λ error. (reading : Reading)
+            → At (readings self.now.nodes.items) number.0 reading → reading.fault ≡ Some error) }
     {
         let node = self
             .nodes
@@ -407,9 +425,10 @@ impl Known {
         ensures hidden { self.new.hidden ≡ self.old.hidden }
         ensures counts { counts self.new.nodes.items ≡ counts self.old.nodes.items }
         ensures others { (k : ℕ) (reading : Reading) → (k ≡ number.0 → ⊥)
-            → At (readings self.new.nodes.items) k reading → At (readings self.old.nodes.items) k reading }
-        ensures taken { IfOk result (λ info. At self.old.ids.keys number.0 info.id × ((reading : Reading)
-            × At (readings self.old.nodes.items) number.0 reading
+            → At (readings self.new.nodes.items) k reading
+            → At (readings self.old.nodes.items) k reading }
+        ensures taken { IfOk result (λ info. At self.old.ids.keys number.0 info.id
+            × ((reading : Reading) × At (readings self.old.nodes.items) number.0 reading
             × (info.parent_ids.items ≡ reading.parents.items)
             × (info.generation ≡ reading.generation) × (info.commit_time ≡ Some reading.time))) }
         ensures refused { IfErr result (λ _. (length (readings self.old.nodes.items) ≤ number.0)

@@ -9,7 +9,7 @@ ghost use Rattle.gix_traverse_topo.specs.declared.init.Sorting.{Sorting};
 
 /// A walk by date or by topology lists the set that a walk in any order lists, where no commit is refused.
 pub fn lists_one_set()
-    ensures { (sorting : Sorting) (g : Commits ObjectId) (q : WalkRequest ObjectId) (xs ys : List ObjectId)
-        → ((x : ObjectId) → IsTrue (q.accepts x)) → Answers sorting g q xs → InSomeOrder g q ys
-        → (x : ObjectId) → Contains xs x ↔ Contains ys x }
+    ensures { (sorting : Sorting) (g : Commits ObjectId) (q : WalkRequest ObjectId)
+        (xs ys : List ObjectId) → ((x : ObjectId) → IsTrue (q.accepts x)) → Answers sorting g q xs
+        → InSomeOrder g q ys → (x : ObjectId) → Contains xs x ↔ Contains ys x }
 {}

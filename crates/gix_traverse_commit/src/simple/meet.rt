@@ -4,7 +4,8 @@ ghost use Rattle.std.specs.Prelude.{◌≡◌, List, Bool, true, false, not, ◌
 ghost use Rattle.gix_hash.specs.Id.{id_of};
 ghost use Rattle.gix_hash.specs.declared.object_id.ObjectId.{ObjectId};
 ghost use Rattle.gix_traverse_commit.specs.Keeping.{Kept, KeptAll};
-ghost use Rattle.gix_traverse_commit.specs.Nodes.{is_met, is_hidden};
+ghost use Rattle.gix_traverse_commit.specs.Meeting.{Asks, AsksOnce, IsFresh, fresh};
+ghost use Rattle.gix_traverse_commit.specs.Nodes.{is_asked, is_met, is_hidden};
 ghost use Rattle.gix_traverse_commit.specs.Numbered.{same_id};
 ghost use Rattle.gix_traverse_commit.specs.Rows.{AllHeld};
 ghost use Rattle.gix_traverse_commit.specs.Simply.{AreAsked, AreRefused};
@@ -20,8 +21,13 @@ use std::collections::VecDeque;
 // Asks the predicate of a tip of which it was not asked.
 fn ask_tip<P: Accept>(nodes: &mut Nodes, predicate: &mut P, tip: ObjectId) -> Result<(), AllocError>
     ensures accepts { P.accepts predicate.new ≡ P.accepts predicate.old }
-    ensures asked { OnOk result ((tips : List ObjectId) → AreAsked (P.accepts predicate.old) tips nodes.old
+    ensures asked { OnOk result ((tips : List ObjectId)
+        → AreAsked (P.accepts predicate.old) tips nodes.old
         → AreAsked (P.accepts predicate.old) (tips ++ tip ∷ []) nodes.new) }
+    ensures marked { OnOk result ((q : ObjectId) → is_asked nodes.new q
+        ≡ (if same_id tip q then true else is_asked nodes.old q)) }
+    ensures once { OnOk result (Asks P.goes (if is_asked nodes.old tip then [] else tip ∷ [])
+        predicate.old predicate.new) }
 {
     let marks = nodes.marks(&tip);
     if marks.asked {
@@ -48,6 +54,8 @@ pub fn ask_tips<P: Accept>(
     ensures accepts { P.accepts predicate.new ≡ P.accepts predicate.old }
     ensures asked { OnOk result (AreAsked (P.accepts predicate.old) [] nodes.old
         → AreRefused (P.accepts predicate.old) tips.now nodes.new) }
+    ensures once { OnOk result (((x : ObjectId) → is_asked nodes.old x ≡ false)
+        → AsksOnce P.goes (Contains tips.now) predicate.old predicate.new) }
 {
     'tips: for tip in tips {
         ask_tip(nodes, predicate, *tip)?;
@@ -81,8 +89,10 @@ fn queue_tip(
     ensures met { OnOk result ((q : ObjectId) → is_met nodes.new q
         ≡ (if same_id id q then true else is_met nodes.old q)) }
     ensures hidden { OnOk result ((q : ObjectId) → is_hidden nodes.new q ≡ is_hidden nodes.old q) }
-    ensures queued { OnOk result (queue.new.items ≡ (if is_met nodes.old id then queue.old.items
-        else (if not (is_hidden nodes.old id) then queue.old.items ++ id ∷ [] else queue.old.items))) }
+    ensures queued { OnOk result (queue.new.items
+        ≡ (if is_met nodes.old id then queue.old.items
+        else (if not (is_hidden nodes.old id) then queue.old.items ++ id ∷ []
+        else queue.old.items))) }
 {
     let marks = nodes.marks(&id);
     if marks.met {
@@ -102,11 +112,13 @@ pub fn queue_tips(
     tips: &[ObjectId],
 ) -> Result<(), AllocError>
     ensures hidden { OnOk result ((q : ObjectId) → is_hidden nodes.new q ≡ is_hidden nodes.old q) }
-    ensures grown { OnOk result ((q : ObjectId) → is_met nodes.old q ≡ true → is_met nodes.new q ≡ true) }
-    ensures rowed { OnOk result ((rows : List Row) → AllHeld rows queue.old.items → AllHeld rows tips.now
-        → AllHeld rows queue.new.items) }
+    ensures grown { OnOk result ((q : ObjectId) → is_met nodes.old q ≡ true
+        → is_met nodes.new q ≡ true) }
+    ensures rowed { OnOk result ((rows : List Row) → AllHeld rows queue.old.items
+        → AllHeld rows tips.now → AllHeld rows queue.new.items) }
     ensures walked { OnOk result ((along : ObjectId → List ObjectId) (keep : ObjectId → Bool)
-        → ((x : ObjectId) → Contains tips.now x → is_met nodes.old x ≡ false → keep x ≡ not (is_hidden nodes.old x))
+        → ((x : ObjectId) → Contains tips.now x → is_met nodes.old x ≡ false
+        → keep x ≡ not (is_hidden nodes.old x))
         → Kept along tips.now keep (is_met nodes.old) queue.old.items 0 0
         → KeptAll along tips.now keep (is_met nodes.new) queue.new.items 0) }
 {
@@ -130,6 +142,7 @@ fn meet<P: Accept>(
     ensures queued { OnOk result (queue.new.items ≡ (if is_met nodes.old id then queue.old.items
         else (if not (is_hidden nodes.old id) && P.accepts predicate.old (id_of id)
         then queue.old.items ++ id ∷ [] else queue.old.items))) }
+    ensures asked { OnOk result (Asks P.goes (fresh nodes.old id) predicate.old predicate.new) }
 {
     let marks = nodes.marks(&id);
     if marks.hidden {
@@ -154,9 +167,10 @@ pub fn meet_parents<P: Accept>(
 ) -> Result<(), AllocError>
     ensures accepts { P.accepts predicate.new ≡ P.accepts predicate.old }
     ensures hidden { OnOk result ((q : ObjectId) → is_hidden nodes.new q ≡ is_hidden nodes.old q) }
-    ensures grown { OnOk result ((q : ObjectId) → is_met nodes.old q ≡ true → is_met nodes.new q ≡ true) }
-    ensures rowed { OnOk result ((rows : List Row) → AllHeld rows queue.old.items → AllHeld rows parents.now
-        → AllHeld rows queue.new.items) }
+    ensures grown { OnOk result ((q : ObjectId) → is_met nodes.old q ≡ true
+        → is_met nodes.new q ≡ true) }
+    ensures rowed { OnOk result ((rows : List Row) → AllHeld rows queue.old.items
+        → AllHeld rows parents.now → AllHeld rows queue.new.items) }
     ensures walked { OnOk result ((along : ObjectId → List ObjectId) (keep : ObjectId → Bool)
         (tips listed : List ObjectId) (id : ObjectId)
         → ((x : ObjectId) → is_met nodes.old x ≡ false
@@ -165,6 +179,8 @@ pub fn meet_parents<P: Accept>(
         → Kept along tips keep (is_met nodes.old) (listed ++ queue.old.items) (length listed) 0
         → Reads (listed ++ queue.old.items) (length listed) id
         → KeptAll along tips keep (is_met nodes.new) (listed ++ queue.new.items) (length listed)) }
+    ensures asked { OnOk result (AsksOnce P.goes (IsFresh nodes.old parents.now) predicate.old
+        predicate.new) }
 {
     'parents: for parent in parents {
         meet(nodes, predicate, queue, *parent)?;

@@ -1,13 +1,14 @@
 //! Meeting commits in a walk by time: tips and parents, each once.
 
-ghost use Rattle.std.specs.Prelude.{◌≡◌, ◌⊎◌, ℕ, ◌≤◌, ◌+◌, ◌&&◌, not, List, Bool, true, length, if◌then◌else◌, [], false, Contains, IfOk, IfErr, OnOk};
+ghost use Rattle.std.specs.Prelude.{◌≡◌, ◌⊎◌, ◌∷◌, ℕ, ◌≤◌, ◌+◌, ◌&&◌, not, List, Bool, true, length, if◌then◌else◌, [], false, Contains, IfOk, IfErr, OnOk};
 ghost use Rattle.gix_hash.specs.Id.{Id, id_of};
 ghost use Rattle.gix_hash.specs.declared.object_id.ObjectId.{ObjectId};
 ghost use Rattle.gix_traverse_commit.specs.Commits.{Commits};
-ghost use Rattle.gix_traverse_commit.specs.Fetching.{TimeIsTold};
+ghost use Rattle.gix_traverse_commit.specs.Fetching.{TimeIsTold, one_more};
+ghost use Rattle.gix_traverse_commit.specs.Meeting.{Asks, CountsAll, IsFresh, accepted, fresh, unmet};
 ghost use Rattle.gix_traverse_commit.specs.Nodes.{is_met, is_hidden};
 ghost use Rattle.gix_traverse_commit.specs.Numbered.{same_id};
-ghost use Rattle.gix_traverse_commit.specs.Order.{At, IsOpen};
+ghost use Rattle.gix_traverse_commit.specs.Order.{At, IsListOf, IsOpen};
 ghost use Rattle.gix_traverse_commit.specs.Rows.{AllHeld, Holds};
 ghost use Rattle.gix_traverse_commit.specs.Simply.{IsReadBefore, IsUnmet, TipFault};
 ghost use Rattle.gix_traverse_commit.specs.Sorting.{in_time};
@@ -31,9 +32,12 @@ fn seconds_or_zero<F: Find>(source: &mut Source<F>, id: &ObjectId) -> Result<i64
     ensures rows { source.new.rows ≡ source.old.rows }
     ensures counted { source.new.lookups ≤ source.old.lookups + 1 }
     ensures rising { source.old.lookups ≤ source.new.lookups }
-    ensures rowed { Holds (rows_of source.old.rows) id.now → source.new.lookups ≡ source.old.lookups }
-    ensures time { F.is_honest source.old.objects → ¬ F.may_fail source.old.objects → (g : Commits ObjectId)
-        → AreTold (rows_of source.old.rows) (F.table source.old.objects) g
+    ensures rowed { Holds (rows_of source.old.rows) id.now
+        → source.new.lookups ≡ source.old.lookups }
+    ensures asked { (¬ Holds (rows_of source.old.rows) id.now)
+        → source.new.lookups ≡ one_more source.old.lookups }
+    ensures time { F.is_honest source.old.objects → ¬ F.may_fail source.old.objects
+        → (g : Commits ObjectId) → AreTold (rows_of source.old.rows) (F.table source.old.objects) g
         → IfOk result (λ seconds. seconds ≡ (g id.now).time) }
     ensures refused { IfErr result (λ error. error ≡ Memory) }
 {
@@ -49,12 +53,16 @@ fn read_time<F: Find>(source: &mut Source<F>, nodes: &Nodes, tip: &ObjectId) -> 
     ensures objects { source.new.objects ≡ source.old.objects }
     ensures rows { source.new.rows ≡ source.old.rows }
     ensures counted { source.new.lookups ≤ source.old.lookups + 1 }
-    ensures rowed { Holds (rows_of source.old.rows) tip.now → source.new.lookups ≡ source.old.lookups }
+    ensures rowed { Holds (rows_of source.old.rows) tip.now
+        → source.new.lookups ≡ source.old.lookups }
+    ensures each { OnOk result (CountsAll (rows_of source.old.rows) (unmet nodes.now (tip.now ∷ []))
+        source.old.lookups source.new.lookups) }
     ensures told { F.is_honest source.old.objects → OnOk result (IsUnmet nodes.now tip.now
         → TimeIsTold (rows_of source.old.rows) (F.table source.old.objects) tip.now) }
-    ensures refused { IfErr result (λ error. (tips : List ObjectId) (place : ℕ) → At tips place tip.now
-        → IsReadBefore (F.is_honest source.old.objects) (rows_of source.old.rows) (F.table source.old.objects)
-        nodes.now tips place → TipFault (F.is_honest source.old.objects) (F.may_fail source.old.objects)
+    ensures refused { IfErr result (λ error. (tips : List ObjectId) (place : ℕ)
+        → At tips place tip.now → IsReadBefore (F.is_honest source.old.objects)
+        (rows_of source.old.rows) (F.table source.old.objects) nodes.now tips place
+        → TipFault (F.is_honest source.old.objects) (F.may_fail source.old.objects)
         (rows_of source.old.rows) (F.table source.old.objects) tips (IsUnmet nodes.now) error) }
 {
     if nodes.marks(tip).met {
@@ -73,11 +81,16 @@ pub fn read_times<F: Find>(
     ensures objects { source.new.objects ≡ source.old.objects }
     ensures rows { source.new.rows ≡ source.old.rows }
     ensures counted { source.new.lookups ≤ source.old.lookups + length tips.now }
-    ensures rowed { AllHeld (rows_of source.old.rows) tips.now → source.new.lookups ≡ source.old.lookups }
-    ensures told { F.is_honest source.old.objects → OnOk result ((x : ObjectId) → Contains tips.now x
-        → IsUnmet nodes.now x → TimeIsTold (rows_of source.old.rows) (F.table source.old.objects) x) }
-    ensures refused { IfErr result (TipFault (F.is_honest source.old.objects) (F.may_fail source.old.objects)
-        (rows_of source.old.rows) (F.table source.old.objects) tips.now (IsUnmet nodes.now)) }
+    ensures rowed { AllHeld (rows_of source.old.rows) tips.now
+        → source.new.lookups ≡ source.old.lookups }
+    ensures each { OnOk result (CountsAll (rows_of source.old.rows) (unmet nodes.now tips.now)
+        source.old.lookups source.new.lookups) }
+    ensures told { F.is_honest source.old.objects → OnOk result ((x : ObjectId)
+        → Contains tips.now x → IsUnmet nodes.now x
+        → TimeIsTold (rows_of source.old.rows) (F.table source.old.objects) x) }
+    ensures refused { IfErr result (TipFault (F.is_honest source.old.objects)
+        (F.may_fail source.old.objects) (rows_of source.old.rows) (F.table source.old.objects)
+        tips.now (IsUnmet nodes.now)) }
 {
     'tips: for tip in tips {
         read_time(source, nodes, tip)?;
@@ -101,7 +114,10 @@ fn wait<F: Find>(
         → AllRowed (rows_of source.old.rows) (waiting_turns waiting.new)) }
     ensures waits { OnOk result (F.is_honest source.old.objects → ¬ F.may_fail source.old.objects
         → (g : Commits ObjectId) → AreTold (rows_of source.old.rows) (F.table source.old.objects) g
-        → Joins (in_time since (g id).time) (waiting_turns waiting.old) (turn_of g id) (waiting_turns waiting.new)) }
+        → Joins (in_time since (g id).time) (waiting_turns waiting.old) (turn_of g id)
+        (waiting_turns waiting.new)) }
+    ensures asked { (¬ Holds (rows_of source.old.rows) id)
+        → source.new.lookups ≡ one_more source.old.lookups }
     ensures refused { IfErr result (λ error. error ≡ Memory) }
 {
     let time = seconds_or_zero(source, &id)?;
@@ -126,13 +142,16 @@ fn await_tip<F: Find>(
     ensures met { OnOk result ((q : ObjectId) → is_met nodes.new q
         ≡ (if same_id id q then true else is_met nodes.old q)) }
     ensures hidden { OnOk result ((q : ObjectId) → is_hidden nodes.new q ≡ is_hidden nodes.old q) }
-    ensures rowed { Holds (rows_of source.old.rows) id → OnOk result ((source.new.lookups ≡ source.old.lookups)
+    ensures rowed { Holds (rows_of source.old.rows) id
+        → OnOk result ((source.new.lookups ≡ source.old.lookups)
         × (AllRowed (rows_of source.old.rows) (waiting_turns waiting.old)
         → AllRowed (rows_of source.old.rows) (waiting_turns waiting.new))) }
     ensures waits { OnOk result (F.is_honest source.old.objects → ¬ F.may_fail source.old.objects
         → (g : Commits ObjectId) → AreTold (rows_of source.old.rows) (F.table source.old.objects) g
-        → Joins (not (is_met nodes.old id) && (not (is_hidden nodes.old id) && in_time since (g id).time))
-        (waiting_turns waiting.old) (turn_of g id) (waiting_turns waiting.new)) }
+        → Joins (not (is_met nodes.old id) && (not (is_hidden nodes.old id) && in_time since
+        (g id).time)) (waiting_turns waiting.old) (turn_of g id) (waiting_turns waiting.new)) }
+    ensures timed { OnOk result (CountsAll (rows_of source.old.rows) (fresh nodes.old id)
+        source.old.lookups source.new.lookups) }
     ensures refused { IfErr result (λ error. error ≡ Memory) }
 {
     let marks = nodes.marks(&id);
@@ -159,17 +178,23 @@ pub fn await_tips<F: Find>(
     ensures counted { source.new.lookups ≤ source.old.lookups + length tips.now }
     ensures rising { source.old.lookups ≤ source.new.lookups }
     ensures hidden { OnOk result ((q : ObjectId) → is_hidden nodes.new q ≡ is_hidden nodes.old q) }
-    ensures grown { OnOk result ((q : ObjectId) → is_met nodes.old q ≡ true → is_met nodes.new q ≡ true) }
-    ensures rowed { AllHeld (rows_of source.old.rows) tips.now → OnOk result ((source.new.lookups ≡ source.old.lookups)
+    ensures grown { OnOk result ((q : ObjectId) → is_met nodes.old q ≡ true
+        → is_met nodes.new q ≡ true) }
+    ensures rowed { AllHeld (rows_of source.old.rows) tips.now
+        → OnOk result ((source.new.lookups ≡ source.old.lookups)
         × (AllRowed (rows_of source.old.rows) (waiting_turns waiting.old)
         → AllRowed (rows_of source.old.rows) (waiting_turns waiting.new))) }
     ensures walked { OnOk result (F.is_honest source.old.objects → ¬ F.may_fail source.old.objects
         → (g : Commits ObjectId) → AreTold (rows_of source.old.rows) (F.table source.old.objects) g
-        → (accepts : Id → Bool)
-        → ((x : ObjectId) → Contains tips.now x → is_met nodes.old x ≡ false → accepts (id_of x) ≡ true)
-        → IsMetSoFar g (keep_since since g (is_hidden nodes.old) accepts) (is_met nodes.old) (λ _. ⊥) [] (waiting_turns waiting.old)
-        → IsMetSoFar g (keep_since since g (is_hidden nodes.old) accepts) (is_met nodes.new) (Contains tips.now) []
-        (waiting_turns waiting.new)) }
+        → (accepts : Id → Bool) → ((x : ObjectId) → Contains tips.now x
+        → is_met nodes.old x ≡ false → accepts (id_of x) ≡ true)
+        → IsMetSoFar g (keep_since since g (is_hidden nodes.old) accepts) (is_met nodes.old)
+        (λ _. ⊥) [] (waiting_turns waiting.old)
+        → IsMetSoFar g (keep_since since g (is_hidden nodes.old) accepts) (is_met nodes.new)
+        (Contains tips.now) [] (waiting_turns waiting.new)) }
+    ensures timed { OnOk result ((timed : List ObjectId)
+        × IsListOf (IsFresh nodes.old tips.now) timed
+        × CountsAll (rows_of source.old.rows) timed source.old.lookups source.new.lookups) }
     ensures refused { IfErr result (λ error. error ≡ Memory) }
 {
     'tips: for tip in tips {
@@ -195,13 +220,19 @@ fn await_parent<F: Find, P: Accept>(
     ensures met { OnOk result ((q : ObjectId) → is_met nodes.new q ≡ (if is_hidden nodes.old id
         then is_met nodes.old q else (if same_id id q then true else is_met nodes.old q))) }
     ensures hidden { OnOk result ((q : ObjectId) → is_hidden nodes.new q ≡ is_hidden nodes.old q) }
-    ensures rowed { Holds (rows_of source.old.rows) id → OnOk result ((source.new.lookups ≡ source.old.lookups)
+    ensures rowed { Holds (rows_of source.old.rows) id
+        → OnOk result ((source.new.lookups ≡ source.old.lookups)
         × (AllRowed (rows_of source.old.rows) (waiting_turns waiting.old)
         → AllRowed (rows_of source.old.rows) (waiting_turns waiting.new))) }
     ensures waits { OnOk result (F.is_honest source.old.objects → ¬ F.may_fail source.old.objects
         → (g : Commits ObjectId) → AreTold (rows_of source.old.rows) (F.table source.old.objects) g
-        → Joins (not (is_met nodes.old id) && keep_since since g (is_hidden nodes.old) (P.accepts predicate.old) id)
-        (waiting_turns waiting.old) (turn_of g id) (waiting_turns waiting.new)) }
+        → Joins (not (is_met nodes.old id) && keep_since since g (is_hidden nodes.old)
+        (P.accepts predicate.old) id) (waiting_turns waiting.old) (turn_of g id)
+        (waiting_turns waiting.new)) }
+    ensures asked { OnOk result (Asks P.goes (fresh nodes.old id) predicate.old predicate.new) }
+    ensures timed { OnOk result (CountsAll (rows_of source.old.rows)
+        (accepted (P.accepts predicate.old) (fresh nodes.old id)) source.old.lookups
+        source.new.lookups) }
     ensures refused { IfErr result (λ error. error ≡ Memory) }
 {
     let marks = nodes.marks(&id);
@@ -233,18 +264,27 @@ pub fn await_parents<F: Find, P: Accept>(
     ensures rising { source.old.lookups ≤ source.new.lookups }
     ensures accepts { P.accepts predicate.new ≡ P.accepts predicate.old }
     ensures hidden { OnOk result ((q : ObjectId) → is_hidden nodes.new q ≡ is_hidden nodes.old q) }
-    ensures grown { OnOk result ((q : ObjectId) → is_met nodes.old q ≡ true → is_met nodes.new q ≡ true) }
-    ensures rowed { AllHeld (rows_of source.old.rows) parents.now → OnOk result ((source.new.lookups ≡ source.old.lookups)
+    ensures grown { OnOk result ((q : ObjectId) → is_met nodes.old q ≡ true
+        → is_met nodes.new q ≡ true) }
+    ensures rowed { AllHeld (rows_of source.old.rows) parents.now
+        → OnOk result ((source.new.lookups ≡ source.old.lookups)
         × (AllRowed (rows_of source.old.rows) (waiting_turns waiting.old)
         → AllRowed (rows_of source.old.rows) (waiting_turns waiting.new))) }
     ensures walked { OnOk result (F.is_honest source.old.objects → ¬ F.may_fail source.old.objects
         → (g : Commits ObjectId) → AreTold (rows_of source.old.rows) (F.table source.old.objects) g
-        → (accepts : Id → Bool) (along : ObjectId → List ObjectId) (tips front listed : List ObjectId)
-        → ((x : ObjectId) → is_met nodes.old x ≡ false → P.accepts predicate.old (id_of x) ≡ accepts (id_of x))
+        → (accepts : Id → Bool) (along : ObjectId → List ObjectId)
+        (tips front listed : List ObjectId) → ((x : ObjectId) → is_met nodes.old x ≡ false
+        → P.accepts predicate.old (id_of x) ≡ accepts (id_of x))
         → IsMetSoFar g (keep_since since g (is_hidden nodes.old) accepts) (is_met nodes.old)
         (IsOpen along tips front) listed (waiting_turns waiting.old)
         → IsMetSoFar g (keep_since since g (is_hidden nodes.old) accepts) (is_met nodes.new)
-        (λ x. IsOpen along tips front x ⊎ Contains parents.now x) listed (waiting_turns waiting.new)) }
+        (λ x. IsOpen along tips front x ⊎ Contains parents.now x) listed
+        (waiting_turns waiting.new)) }
+    ensures asked { OnOk result ((met : List ObjectId)
+        × IsListOf (IsFresh nodes.old parents.now) met
+        × Asks P.goes met predicate.old predicate.new
+        × CountsAll (rows_of source.old.rows) (accepted (P.accepts predicate.old) met)
+        source.old.lookups source.new.lookups) }
     ensures refused { IfErr result (λ error. error ≡ Memory) }
 {
     'parents: for parent in parents {

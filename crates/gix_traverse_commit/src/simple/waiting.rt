@@ -47,7 +47,8 @@ impl Waiting {
 
     /// Takes the one whose turn it is.
     pub fn take(&mut self, order: CommitTimeOrder) -> Option<Turn>
-        ensures taken { IfSome result (λ turn. IsTaken order (waiting self.old) turn (waiting self.new)) }
+        ensures taken { IfSome result (λ turn. IsTaken order (waiting self.old) turn
+            (waiting self.new)) }
         ensures none { IfNone result (waiting self.old ≡ []) }
         ensures emptied { IfNone result (waiting self.new ≡ []) }
     {

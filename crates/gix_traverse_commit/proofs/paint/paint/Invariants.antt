@@ -6,7 +6,8 @@ use Rattle.gix_traverse_commit.specs.Nodes.{is_hidden, is_met}
 use Rattle.gix_traverse_commit.specs.Order.{At}
 use Rattle.gix_traverse_commit.specs.Painting.{IsPainted, IsUnpainted, every}
 use Rattle.gix_traverse_commit.specs.Rows.{AllHeld}
-use Rattle.gix_traverse_commit.specs.Simply.{CountsAll, IsKnown}
+use Rattle.gix_traverse_commit.specs.Meeting.{CountsAll}
+use Rattle.gix_traverse_commit.specs.Simply.{IsKnown}
 use Rattle.gix_traverse_commit.specs.Told.{AreTold, rows_of}
 use Rattle.gix_traverse_commit.proofs.paint.paint.Given as goal
 

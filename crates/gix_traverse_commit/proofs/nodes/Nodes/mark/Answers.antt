@@ -1,41 +1,42 @@
-use Rattle.std.proofs.Common.{◌≡◌, List, ◌∷◌, ◌++◌, [], length, Some, None, sym, ◌∙◌, ap, refl, subst, cond}
-use Rattle.std.specs.HashMap.{get}
+use Rattle.std.proofs.Common.{◌≡◌, ℕ, ◌<◌, List, ◌∷◌, ◌++◌, [], length, sym, ◌∙◌, ap, subst, cond}
 use Rattle.std.proofs.lemmas.Option.{slice_get_within}
-use Rattle.gix_traverse_commit.specs.Nodes.{AreNumbered, marks_of}
+use Rattle.gix_hash.specs.declared.object_id.ObjectId.{ObjectId}
+use Rattle.gix_traverse_commit.specs.Nodes.{AreNumbered, Node, marks_of, nodes_in}
 use Rattle.gix_traverse_commit.specs.Numbered.{same_id}
 use Rattle.gix_traverse_commit.specs.Order.{At}
-use Rattle.gix_traverse_commit.specs.declared.nodes.Node.{Node}
-use Rattle.gix_traverse_commit.proofs.NodeLemmas.{numbered_set, marks_set, numbered_push, marks_push}
+use Rattle.gix_traverse_commit.specs.declared.nodes.Marks.{Marks}
+use Rattle.gix_traverse_commit.proofs.NodeLemmas.{keys_push, marks_push, marks_set, numbered_push, numbered_set}
 use Rattle.gix_traverse_commit.proofs.RowLemmas.{at_item}
 use Rattle.gix_traverse_commit.proofs.nodes.Nodes.mark.Goals as goal
 
 pub invariant_of-self : goal.invariant_of-self
-invariant_of-self c =
-    let items : List Node = c.self.inside.nodes.items in
-    let n = c.in-Some.number.now in
-    let h : get same_id c.self.inside.numbers c.args.id ≡ Some n = sym c.in-Some.ensures.value in
-    let (node, a, e) = c.self.invariant.only c.args.id n h in
-    let here : At items n.0 c.index_mut.result.now = at_item items n.0 c.index_mut.result.now (slice_get_within items n.0 node a) c.index_mut.ensures.value in
-    numbered_set items c.self.inside.numbers c.self.invariant c.args.id n c.index_mut.result.now _ h here refl
+invariant_of-self c = numbered_set c.self.inside.ids.keys c.self.inside.marks.items c.self.invariant c.in-Some.number.0 c.args.marks
 
 pub returns-in-Some : goal.returns-in-Some
 returns-in-Some c = λ q.
-    let items : List Node = c.self.inside.nodes.items in
-    let n = c.in-Some.number.now in
-    let h : get same_id c.self.inside.numbers c.args.id ≡ Some n = sym c.in-Some.ensures.value in
-    let (node, a, e) = c.self.invariant.only c.args.id n h in
-    let here : At items n.0 c.index_mut.result.now = at_item items n.0 c.index_mut.result.now (slice_get_within items n.0 node a) c.index_mut.ensures.value in
-    marks_set items c.self.inside.numbers c.self.invariant c.args.id n c.index_mut.result.now (record { id = c.index_mut.result.now.id; marks = c.args.marks }) h here refl q ∙ ap (λ (xs : List Node). cond (same_id c.args.id q) c.args.marks (marks_of xs q)) c.self.view_is
+    let ids : List ObjectId = c.self.inside.ids.keys in
+    let items : List Marks = c.self.inside.marks.items in
+    let n : ℕ = c.in-Some.number.0 in
+    let within : n < length items = subst (λ (l : ℕ). n < l) (sym c.self.invariant.as_many) (slice_get_within ids n c.args.id c.in-Some.ensures.found) in
+    let here : At items n c.index_mut.result.now = at_item items n c.index_mut.result.now within c.index_mut.ensures.value in
+    marks_set ids items c.self.invariant n c.args.id c.index_mut.result.now c.args.marks c.in-Some.ensures.found here q ∙ ap (λ (xs : List Node). cond (same_id c.args.id q) c.args.marks (marks_of xs q)) c.self.view_is
 
 pub invariant_of-self-2 : goal.invariant_of-self-2
 invariant_of-self-2 c =
-    let h : get same_id c.self.inside.numbers c.args.id ≡ None = sym c.in_default.ensures.value in
-    subst (λ (xs : List Node). AreNumbered xs c.insert.new.self) (sym (c.in_ok-push.ensures.items ∙ ap (λ (xs : List Node). xs ++ record { id = c.args.id; marks = c.args.marks } ∷ []) c.reserve.ensures.items))
-    (numbered_push c.self.inside.nodes.items c.self.inside.numbers c.insert.new.self (record { id = c.args.id; marks = c.args.marks }) (record { 0 = length c.as_slice.result.now }) c.self.invariant h (ap length (c.as_slice.ensures.value ∙ c.reserve.ensures.items)) c.in_ok-insert.ensures.updates.0)
+    let ids : List ObjectId = c.self.inside.ids.keys in
+    let items : List Marks = c.self.inside.marks.items in
+    let new_ids : c.insert.new.self.keys ≡ ids ++ c.args.id ∷ [] = keys_push ids c.insert.new.self.keys c.args.id c.in_ok-insert.ensures.keys c.in_default.ensures.none in
+    let new_marks : c.push.new.self.items ≡ items ++ c.args.marks ∷ [] = c.in_ok-push.ensures.items ∙ ap (λ (ms : List Marks). ms ++ c.args.marks ∷ []) c.reserve.ensures.items in
+    subst (λ (xs : List ObjectId). AreNumbered xs c.push.new.self.items) (sym new_ids)
+    (subst (λ (ms : List Marks). AreNumbered (ids ++ c.args.id ∷ []) ms) (sym new_marks) (numbered_push ids items c.args.id c.args.marks c.self.invariant c.in_default.ensures.none))
 
 pub returns : goal.returns
 returns c = λ q.
-    let h : get same_id c.self.inside.numbers c.args.id ≡ None = sym c.in_default.ensures.value in
-    ap (λ (xs : List Node). marks_of xs q) (c.in_ok-push.ensures.items ∙ ap (λ (xs : List Node). xs ++ record { id = c.args.id; marks = c.args.marks } ∷ []) c.reserve.ensures.items)
-    ∙ marks_push c.self.inside.nodes.items c.self.inside.numbers c.insert.new.self (record { id = c.args.id; marks = c.args.marks }) (record { 0 = length c.as_slice.result.now }) c.self.invariant h (ap length (c.as_slice.ensures.value ∙ c.reserve.ensures.items)) c.in_ok-insert.ensures.updates.0 q
+    let ids : List ObjectId = c.self.inside.ids.keys in
+    let items : List Marks = c.self.inside.marks.items in
+    let new_ids : c.insert.new.self.keys ≡ ids ++ c.args.id ∷ [] = keys_push ids c.insert.new.self.keys c.args.id c.in_ok-insert.ensures.keys c.in_default.ensures.none in
+    let new_marks : c.push.new.self.items ≡ items ++ c.args.marks ∷ [] = c.in_ok-push.ensures.items ∙ ap (λ (ms : List Marks). ms ++ c.args.marks ∷ []) c.reserve.ensures.items in
+    ap (λ (xs : List ObjectId). marks_of (nodes_in xs c.push.new.self.items) q) new_ids
+    ∙ ap (λ (ms : List Marks). marks_of (nodes_in (ids ++ c.args.id ∷ []) ms) q) new_marks
+    ∙ marks_push ids items c.args.id c.args.marks c.self.invariant.as_many c.in_default.ensures.none q
     ∙ ap (λ (xs : List Node). cond (same_id c.args.id q) c.args.marks (marks_of xs q)) c.self.view_is

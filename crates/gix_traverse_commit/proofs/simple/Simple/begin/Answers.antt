@@ -3,16 +3,24 @@ use Rattle.gix_hash.specs.declared.object_id.ObjectId.{ObjectId}
 use Rattle.gix_traverse_commit.specs.Painting.{PaintFault, Paints, ReachedFrom}
 use Rattle.gix_traverse_commit.specs.Order.{IsListOf}
 use Rattle.gix_traverse_commit.specs.Rows.{AllHeld}
-use Rattle.gix_traverse_commit.specs.Simply.{CountsAll, IsNew, IsSure, SimpleFault, hidden_error}
+use Rattle.std.specs.Prelude.{Contains, IsSome}
+use Rattle.gix_traverse_commit.specs.Meeting.{CountsAll, CountsTimes, IsFresh}
+use Rattle.gix_traverse_commit.specs.Nodes.{is_hidden}
+use Rattle.gix_traverse_commit.specs.Sorting.{timing_of}
+use Rattle.gix_traverse_commit.specs.Simply.{IsAccepted, IsNew, IsSure, SimpleFault, hidden_error, timing}
 use Rattle.gix_traverse_commit.specs.Timely.{AllRowed, waiting}
 use Rattle.gix_traverse_commit.specs.Told.{AreTold, rows_of}
 use Rattle.gix_object_find.specs.Table.{Table}
 use Rattle.gix_traverse_commit.specs.declared.fetch.FetchError.{FetchError}
 use Rattle.gix_traverse_commit.specs.declared.fetch.FetchError.TheVariants as fault
 use Rattle.gix_traverse_commit.specs.declared.rows.Row.{Row}
+use Rattle.gix_traverse_commit.specs.declared.simple.sorting.Timing.{Timing}
 use Rattle.gix_traverse_commit.specs.declared.simple.faults.Error.{Error}
 use Rattle.gix_traverse_commit.proofs.ByTime.{timing_same, under_source}
+use Rattle.gix_traverse_commit.proofs.Meeting.{list_same}
+use Rattle.gix_traverse_commit.proofs.Pending.{is_false}
 use Rattle.gix_traverse_commit.proofs.Simply.{accepts_more}
+use Rattle.gix_traverse_commit.proofs.Times.{met_or_accepted}
 use Rattle.gix_traverse_commit.proofs.simple.Simple.begin.Goals as goal
 
 pub returns-clause-going : goal.returns-clause-going
@@ -43,6 +51,8 @@ returns-clause-counted g c = λ a m.
     let still = c.gather.ensures.source in
     let w : IsNew g.P.Accept.accepts a c.gather.new.self = c.in_ok-gather.ensures.made a m in
     let (asked, each, list) = c.in_default.ensures.counted in
+    let tips = c.in_ok-line_up.ensures.timed in
+    let order : timing_of c.gather.new.self.parents c.gather.new.self.sorting ≡ timing a = timing_same a c.gather.new.self.parents c.gather.new.self.sorting w.parents w.sorting in
     let hidden : c.as_slice.result.now ≡ a.hidden = c.as_slice.ensures.value ∙ w.hidden in
     record {
       painted = asked;
@@ -53,6 +63,25 @@ returns-clause-counted g c = λ a m.
       in_breadth = λ n. c.line_up.ensures.in_breadth (timing_same a c.gather.new.self.parents c.gather.new.self.sorting w.parents w.sorting ∙ n);
       least = c.line_up.ensures.rising;
       most = subst (λ (ts : List ObjectId). c.line_up.new.self.source.lookups ≤ c.paint.new.source.lookups + length ts) w.tips c.line_up.ensures.counted;
+      timed = tips.timed;
+      times = subst (λ s. CountsTimes (timing a) (rows_of s.rows) tips.timed c.paint.new.source.lookups c.line_up.new.self.source.lookups) still
+          (subst (λ (r : Option (List Row)). CountsTimes (timing a) (rows_of r) tips.timed c.paint.new.source.lookups c.line_up.new.self.source.lookups) c.paint.ensures.rows
+          (subst (λ (t : Option Timing). CountsTimes t (rows_of c.paint.new.source.rows) tips.timed c.paint.new.source.lookups c.line_up.new.self.source.lookups) order tips.each));
+      are_timed = (λ some honest commits told.
+          let painted = subst (λ (hs : List ObjectId). Paints commits hs c.paint.new.nodes) hidden
+          (c.in_default.ensures.painted w.asked.unpainted (subst (λ s. g.F.Lookup.is_honest s.objects) (sym still) honest) commits (subst (λ s. AreTold (rows_of s.rows) (g.F.Lookup.table s.objects) commits) (sym still) told)) in
+          list_same (IsFresh c.paint.new.nodes c.gather.new.self.tips.items) (λ x. Contains a.tips x × IsAccepted a x × (ReachedFrom commits a.hidden x → ⊥)) tips.timed
+          (λ x (k, m, h). (
+            subst (λ (ts : List ObjectId). Contains ts x) w.tips k,
+            w.asked.accepted x (subst (λ (ts : List ObjectId). Contains ts x) w.tips k) (sym (c.in_default.ensures.met x) ∙ m),
+            (λ r. let t = (painted x).1 r in let z : ⊥ = cc in z),
+          ))
+          (λ x (k, y, out). (
+            subst (λ (ts : List ObjectId). Contains ts x) (sym w.tips) k,
+            c.in_default.ensures.met x ∙ met_or_accepted a.accepts c.gather.new.self.nodes x (w.asked.refused x) y,
+            is_false (is_hidden c.paint.new.nodes x) (λ t. out ((painted x).0 t)),
+          ))
+          (tips.list (subst (λ (t : Option Timing). IsSome t) (sym order) some)));
     }
 
 pub returns-clause-rowed : goal.returns-clause-rowed

@@ -1,6 +1,11 @@
-use Rattle.std.proofs.Common.{ℕ, ◌≤◌, sym, ◌∙◌, ap, refl, subst, arith, List, [], ◌∷◌, ◌++◌, length, Option}
+use Rattle.std.proofs.Common.{◌≡◌, ℕ, ◌≤◌, sym, ◌∙◌, ap, refl, subst, arith, List, [], ◌∷◌, ◌++◌, length, Option}
+use Rattle.gix_hash.specs.Id.{id_of}
 use Rattle.gix_hash.specs.declared.object_id.ObjectId.{ObjectId}
+use Rattle.gix_object_find.specs.Existing.{Stands}
+use Rattle.gix_object_lines.specs.declared.kind.Kind.TheVariants as kinds
 use Rattle.gix_traverse_commit.specs.Commits.{asked_parents}
+use Rattle.gix_traverse_commit.specs.Meeting.{CountsTimes, IsFresh, accepted}
+use Rattle.gix_traverse_commit.specs.Order.{IsListOf}
 use Rattle.gix_traverse_commit.specs.Rows.{AllHeld}
 use Rattle.gix_traverse_commit.specs.Simply.{IsKnown, IsSure, IsTime}
 use Rattle.gix_traverse_commit.specs.Sorting.{timing_of}
@@ -58,3 +63,26 @@ returns-clause-counted g c = record {
   rowed = λ held. c.in_ok-meet_all.ensures.still (subst (λ (o : Option (List Row)). AllHeld (rows_of o) c.as_slice.result.now) (sym c.fetch.ensures.rows) (subst (λ (xs : List ObjectId). AllHeld (rows_of c.args.self.now.source.rows) xs) (sym c.as_slice.ensures) (c.in_ok-commit.ensures.closed held))) ∙ (c.fetch.ensures.rowed held).0;
   most = (let long = ap length c.as_slice.ensures in omega (arith, c.meet_all.ensures.counted, c.fetch.ensures.counted, long));
 }
+
+pub returns-clause-met : goal.returns-clause-met
+returns-clause-met g c =
+    let (met, list, asks, times) = c.in_ok-meet_all.ensures.met in
+    record {
+      met = met;
+      are_met = subst (λ (ps : List ObjectId). IsListOf (IsFresh c.args.self.now.nodes ps) met) c.as_slice.ensures list;
+      asked = asks;
+      read = c.fetch.new.self.lookups;
+      one = record { stored = c.fetch.ensures.asked; rowed = λ held. (c.fetch.ensures.rowed held).0 };
+      times = subst (λ (r : Option (List Row)). CountsTimes (timing_of c.args.self.now.parents c.args.self.now.sorting) (rows_of r) (accepted (g.P.Accept.accepts c.args.self.now.predicate) met) c.fetch.new.self.lookups c.meet_all.new.self.source.lookups) c.fetch.ensures.rows times;
+    }
+
+pub returns-clause-content : goal.returns-clause-content
+returns-clause-content g c =
+    let table = g.F.Lookup.table c.args.self.now.source.objects in
+    let same : c.replace-content.result.items ≡ c.fetch.new.self.buffer.items = ap (λ v. v.items) c.replace-content.ensures.value in (
+      record {
+        rowed = λ held. same ∙ (c.in_ok-commit.ensures.rowed held).1;
+        stored = λ honest n. subst (λ (bytes : List ℕ). Stands table (id_of c.args.id) kinds.Commit bytes) (sym same) (c.in_ok-commit.ensures.content honest n);
+      },
+      c.kind-self.ensures,
+    )

@@ -3,6 +3,9 @@ use Rattle.std.specs.Prelude.{Contains, not, ◌&&◌}
 use Rattle.gix_hash.specs.Id.{id_of}
 use Rattle.gix_hash.specs.declared.object_id.ObjectId.{ObjectId}
 use Rattle.gix_traverse_commit.specs.Commits.{asked_parents}
+use Rattle.std.specs.Prelude.{IsSome}
+use Rattle.gix_traverse_commit.specs.Meeting.{CountsTimes, IsFresh}
+use Rattle.gix_traverse_commit.specs.Order.{IsListOf}
 use Rattle.gix_traverse_commit.specs.Nodes.{is_hidden, is_met}
 use Rattle.gix_traverse_commit.specs.Rows.{AllHeld}
 use Rattle.gix_traverse_commit.specs.Simply.{keep_of, timing}
@@ -87,3 +90,23 @@ returns-clause-rowed g c = λ r.
       },
       step.0,
     )
+
+pub returns-in_default-clause-timed : goal.returns-in_default-clause-timed
+returns-in_default-clause-timed g c =
+    let none : timing_of c.args.self.now.parents c.args.self.now.sorting ≡ None = search rules in
+    let lookups = c.args.self.now.source.lookups in
+    record {
+      timed = [];
+      each = subst (λ (t : Option Timing). CountsTimes t (rows_of c.args.self.now.source.rows) [] lookups lookups) (sym none) refl;
+      list = λ some. absurd (let s : false ≡ true = subst (λ (t : Option Timing). IsSome t) none some in let z : ⊥ = cc in z);
+    }
+
+pub returns-clause-timed : goal.returns-clause-timed
+returns-clause-timed g c =
+    let is : timing_of c.args.self.now.parents c.args.self.now.sorting ≡ Some c.in-Some.timing = sym c.time_order.ensures ∙ c.in-Some.is in
+    let (timed, list, counts) = c.in_ok-await_tips.ensures.timed in
+    record {
+      timed = timed;
+      each = subst (λ (t : Option Timing). CountsTimes t (rows_of c.args.self.now.source.rows) timed c.args.self.now.source.lookups c.await_tips.new.source.lookups) (sym is) counts;
+      list = λ some. subst (λ (ts : List ObjectId). IsListOf (IsFresh c.args.self.now.nodes ts) timed) c.as_slice-2.ensures.value list;
+    }

@@ -1,8 +1,9 @@
-use Rattle.std.proofs.Common.{rules, ◌≡◌, ◌⊎◌, sym, ◌∙◌, ap, subst, inl, inr, List, [], ◌∷◌, ◌++◌, Option, Some, None, Bool}
+use Rattle.std.proofs.Common.{refl, rules, ◌≡◌, ◌⊎◌, sym, ◌∙◌, ap, subst, inl, inr, List, [], ◌∷◌, ◌++◌, Option, Some, None, Bool}
 use Rattle.std.specs.Prelude.{Contains, not, ◌&&◌}
 use Rattle.gix_hash.specs.Id.{id_of}
 use Rattle.gix_hash.specs.declared.object_id.ObjectId.{ObjectId}
 use Rattle.gix_traverse_commit.specs.Commits.{asked_parents}
+use Rattle.gix_traverse_commit.specs.Meeting.{CountsTimes, accepted}
 use Rattle.gix_traverse_commit.specs.Nodes.{is_hidden, is_met}
 use Rattle.gix_traverse_commit.specs.Rows.{AllHeld}
 use Rattle.gix_traverse_commit.specs.Simply.{IsKnown, keep_of}
@@ -87,3 +88,16 @@ returns-clause-rowed g c = λ r held.
       },
       step.0,
     )
+
+pub returns-in_default-clause-met : goal.returns-in_default-clause-met
+returns-in_default-clause-met g c =
+    let none : timing_of c.args.self.now.parents c.args.self.now.sorting ≡ None = search rules in
+    let lookups = c.args.self.now.source.lookups in
+    let (met, list, asks) = c.in_ok-meet_parents.ensures.asked in
+    (met, list, asks, subst (λ (t : Option Timing). CountsTimes t (rows_of c.args.self.now.source.rows) (accepted (g.P.Accept.accepts c.args.self.now.predicate) met) lookups lookups) (sym none) refl)
+
+pub returns-clause-met : goal.returns-clause-met
+returns-clause-met g c =
+    let is : timing_of c.args.self.now.parents c.args.self.now.sorting ≡ Some c.in-Some.timing = sym c.time_order.ensures ∙ c.in-Some.is in
+    let (met, list, asks, counts) = c.in_ok-await_parents.ensures.asked in
+    (met, list, asks, subst (λ (t : Option Timing). CountsTimes t (rows_of c.args.self.now.source.rows) (accepted (g.P.Accept.accepts c.args.self.now.predicate) met) c.args.self.now.source.lookups c.await_parents.new.source.lookups) (sym is) counts)

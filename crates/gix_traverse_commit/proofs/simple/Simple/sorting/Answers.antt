@@ -3,9 +3,13 @@ use Rattle.std.proofs.lemmas.Result.{err_from_is_err_and}
 use Rattle.std.specs.Prelude.{Contains}
 use Rattle.gix_hash.specs.declared.object_id.ObjectId.{ObjectId}
 use Rattle.gix_traverse_commit.specs.Fetching.{TimeIsTold}
+use Rattle.gix_traverse_commit.specs.Meeting.{CountsTimes, accepted, unmet}
 use Rattle.gix_traverse_commit.specs.Rows.{AllHeld}
+use Rattle.gix_traverse_commit.specs.Sorting.{timing_of}
+use Rattle.gix_traverse_commit.specs.declared.parents.Parents.TheVariants.{All}
 use Rattle.gix_traverse_commit.specs.Simply.{IsAccepted, IsNew, IsOver, IsUnmet, TipFault}
 use Rattle.gix_traverse_commit.specs.Told.{rows_of}
+use Rattle.gix_traverse_commit.proofs.Meeting.{unmet_accepted}
 use Rattle.gix_traverse_commit.proofs.Times.{met_or_accepted, tip_fault_more}
 use Rattle.gix_traverse_commit.proofs.simple.Simple.sorting.Goals as goal
 
@@ -62,3 +66,14 @@ returns-clause-over g c = λ o.
     let s : IsOver c.gather.new.self = subst IsOver (sym (c.gather.ensures.same t.empty t.none_waits).0) t in
     let n = c.read_tips.ensures.over s in
     record { begun = n.begun; empty = n.empty; none_waits = n.none_waits }
+
+pub returns-clause-each : goal.returns-clause-each
+returns-clause-each g c = λ a m.
+    let v : IsNew g.P.Accept.accepts a c.gather.new.self = c.in_ok-gather.ensures.made a (c.turn.ensures.ahead a m) in
+    let e = c.gather.ensures.source ∙ c.turn.ensures.source in
+    let t = timing_of All c.args.sorting in
+    let tips : List ObjectId = c.gather.new.self.tips.items in
+    let nodes = c.gather.new.self.nodes in
+    let same = unmet_accepted nodes a.accepts tips v.asked.refused (λ x k. v.asked.accepted x (subst (λ (ts : List ObjectId). Contains ts x) v.tips k)) ∙ ap (accepted a.accepts) v.tips in
+    subst (λ (xs : List ObjectId). CountsTimes t (rows_of c.args.self.source.rows) xs c.args.self.source.lookups c.read_tips.new.self.source.lookups) same
+    (subst (λ s. CountsTimes t (rows_of s.rows) (unmet nodes tips) s.lookups c.read_tips.new.self.source.lookups) e c.in_ok-read_tips.ensures.each)

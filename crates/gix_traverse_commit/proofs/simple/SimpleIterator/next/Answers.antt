@@ -1,7 +1,8 @@
-use Rattle.std.proofs.Common.{◌≡◌, ◌∙◌, sym, refl, ap, subst, arith, ℕ, length, List, [], ◌∷◌, ◌++◌, Option, None, true, false}
+use Rattle.std.proofs.Common.{inl, ◌≡◌, ◌∙◌, sym, refl, ap, subst, arith, ℕ, length, List, [], ◌∷◌, ◌++◌, Option, None, true, false}
 use Rattle.gix_hash.specs.Id.{id_of}
 use Rattle.gix_hash.specs.declared.object_id.ObjectId.{ObjectId}
-use Rattle.gix_traverse_commit.specs.Simply.{CountsBeginning, CountsFault, CountsOne, CountsUpTo, IsAtTurn, IsContentOf, IsInfo, IsOver, IsKnown, IsSure, IsTurn, IsUnderWay, StopsFetch}
+use Rattle.gix_traverse_commit.specs.Meeting.{CountsOne}
+use Rattle.gix_traverse_commit.specs.Simply.{CountsBeginning, CountsFault, CountsUpTo, IsAtTurn, IsContentOf, IsInfo, IsOver, IsKnown, IsSure, IsTurn, IsUnderWay, StopsFetch}
 use Rattle.gix_traverse_commit.specs.Rows.{Holds}
 use Rattle.gix_traverse_commit.specs.Sorting.{timing_of}
 use Rattle.gix_traverse_commit.specs.Told.{AreTold, rows_of}
@@ -9,6 +10,7 @@ use Rattle.gix_traverse_commit.specs.declared.parents.Parents.{Parents}
 use Rattle.gix_traverse_commit.specs.declared.rows.Row.{Row}
 use Rattle.gix_traverse_commit.specs.declared.simple.sorting.Sorting.{Sorting}
 use Rattle.gix_traverse_commit.proofs.ByTime.{at_fewer, at_order, timing_same}
+use Rattle.gix_traverse_commit.proofs.Counting.{meets_moved}
 use Rattle.gix_traverse_commit.proofs.Rest.{made_order}
 use Rattle.gix_traverse_commit.proofs.Simply.{fault_more, fetch_fault}
 use Rattle.gix_traverse_commit.proofs.simple.SimpleIterator.next.Goals as goal
@@ -30,6 +32,8 @@ returns-in-Err-clause-steps g c = record {
   counted_one = λ b n. tt;
   counted_by_time = λ b. tt;
   rowed = λ r. tt;
+  meets = λ b. tt;
+  unasked = tt;
   over = tt;
   content_end = tt;
   content_fault = c.stop.ensures.emptied;
@@ -56,6 +60,8 @@ returns-in_default-take-clause-steps g c =
       counted_one = λ b n. tt;
       counted_by_time = λ b. tt;
       rowed = λ r. tt;
+      meets = λ b. tt;
+      unasked = c.finish.ensures.predicate ∙ (c.take.ensures.predicate ∙ c.ready.ensures.predicate);
       over = c.finish.ensures.over;
       content_end = ap (λ s. s.buffer.items) (c.finish.ensures.source ∙ c.take.ensures.source) ∙ c.in_default.ensures.content;
       content_fault = tt;
@@ -73,6 +79,7 @@ returns-in-Ok-clause-steps g c =
     let id : ObjectId = c.in-Some.id in
     let objects : c.take.new.self.source.objects ≡ c.args.self.now.source.objects = ap (λ s. s.objects) c.take.ensures.source ∙ c.ready.ensures.objects in
     let same_rows : c.take.new.self.source.rows ≡ c.args.self.now.source.rows = ap (λ s. s.rows) c.take.ensures.source ∙ c.ready.ensures.rows in
+    let in_order : timing_of c.take.new.self.parents c.take.new.self.sorting ≡ timing_of c.ready.new.self.parents c.ready.new.self.sorting = ap (λ (p : Parents). timing_of p c.take.new.self.sorting) c.take.ensures.order.0 ∙ ap (λ (s : Sorting). timing_of c.ready.new.self.parents s) c.take.ensures.order.1 in
     let known : IsKnown rows ids id = subst (λ (o : g.row.F.Denot). IsKnown rows (g.F.Lookup.ids o) id) objects (subst (λ (r : Option (List Row)). IsKnown (rows_of r) (g.F.Lookup.ids c.take.new.self.source.objects) id) same_rows c.in-Ok.ensures.known) in
     record {
       objects = c.enter.ensures.objects ∙ objects;
@@ -115,6 +122,10 @@ returns-in-Ok-clause-steps g c =
           let (r2, held) = c.in-Some.ensures.rowed r' in
           let (n, f) = c.in-Ok.ensures.rowed r2 (subst (λ s. Holds (rows_of s.rows) id) (sym c.take.ensures.source) held) in
           (n, f ∙ (ap (λ s. s.lookups) c.take.ensures.source ∙ e)));
+      meets = (λ b. let s = c.in_default.ensures.same b in
+          meets_moved g.P.Accept.accepts g.P.Accept.goes (rows_of c.take.new.self.source.rows) rows c.take.new.self.nodes c.args.self.now.nodes (timing_of c.take.new.self.parents c.take.new.self.sorting) (timing_of c.args.self.now.parents c.args.self.now.sorting) c.in-Ok.info c.take.new.self.predicate c.args.self.now.predicate c.take.new.self.source.lookups c.args.self.now.source.lookups c.enter.new.self.predicate c.enter.new.self.source.lookups
+          (ap rows_of same_rows) (c.take.ensures.nodes ∙ ap (λ walk. walk.nodes) s) (in_order ∙ ap (λ walk. timing_of walk.parents walk.sorting) s) (c.take.ensures.predicate ∙ ap (λ walk. walk.predicate) s) (ap (λ source. source.lookups) c.take.ensures.source ∙ ap (λ walk. walk.source.lookups) s) c.in-Ok.ensures.met);
+      unasked = tt;
       over = tt;
       content_end = tt;
       content_fault = tt;
@@ -129,8 +140,12 @@ returns-in-Ok-clause-steps g c =
           let parents : c.take.new.self.parents ≡ a.parents = c.take.ensures.order.0 ∙ (c.in_default.ensures.order.0 ∙ order.0) in
           let sorting : c.take.new.self.sorting ≡ a.sorting = c.take.ensures.order.1 ∙ (c.in_default.ensures.order.1 ∙ order.1) in
           record {
-            begun = c.ready.new.self.source.lookups;
+            begun = c.ready.new.self;
+            under_way = λ honest commits told sure. c.in_default.ensures.going honest commits told ids a [] sure (inl (refl, m));
+            unasked = c.ready.ensures.predicate;
             beginning = begin;
+            meets = meets_moved g.P.Accept.accepts g.P.Accept.goes (rows_of c.take.new.self.source.rows) rows c.take.new.self.nodes c.ready.new.self.nodes (timing_of c.take.new.self.parents c.take.new.self.sorting) (timing_of c.ready.new.self.parents c.ready.new.self.sorting) c.in-Ok.info c.take.new.self.predicate c.ready.new.self.predicate c.take.new.self.source.lookups c.ready.new.self.source.lookups c.enter.new.self.predicate c.enter.new.self.source.lookups
+                (ap rows_of same_rows) c.take.ensures.nodes in_order c.take.ensures.predicate f c.in-Ok.ensures.met;
             one = (λ n. subst (λ (x : ObjectId). CountsOne rows x c.ready.new.self.source.lookups c.enter.new.self.source.lookups) (sym c.in-Ok.ensures.id)
                 (subst (λ (k : ℕ). CountsOne rows id k c.enter.new.self.source.lookups) f
                 (subst (λ (r : Option (List Row)). CountsOne (rows_of r) id c.take.new.self.source.lookups c.enter.new.self.source.lookups) same_rows (c.in-Ok.ensures.one (timing_same a c.take.new.self.parents c.take.new.self.sorting parents sorting ∙ n)))));
@@ -168,6 +183,8 @@ returns-in-Err-enter-clause-steps g c =
       counted_one = λ b n. tt;
       counted_by_time = λ b. tt;
       rowed = λ r. tt;
+      meets = λ b. tt;
+      unasked = tt;
       over = tt;
       content_end = tt;
       content_fault = c.stop-in-Err-enter.ensures.emptied;

@@ -1,4 +1,4 @@
-use Rattle.std.proofs.Common.{List, [], ◌++◌, get_or, ◌∙◌, ◌≡◌, ◌≤◌, length, subst, Some, slice_get, sym, ap, Bool}
+use Rattle.std.proofs.Common.{refl, cond, ◌∷◌, List, [], ◌++◌, get_or, ◌∙◌, ◌≡◌, ◌≤◌, length, subst, Some, slice_get, sym, ap, Bool}
 use Rattle.std.specs.Prelude.{not, ◌&&◌}
 use Rattle.std.proofs.lemmas.Option.{slice_get-get_or}
 use Rattle.gix_hash.specs.Id.{Id, id_of}
@@ -8,6 +8,9 @@ use Rattle.gix_traverse_commit.specs.Nodes.{is_hidden, is_met}
 use Rattle.gix_traverse_commit.proofs.Keeping.{kept_row, kept_step, stays_met, unmet_before}
 use Rattle.gix_traverse_commit.proofs.Lists.{contains_from_at}
 use Rattle.gix_traverse_commit.proofs.Painting.{queues_held}
+use Rattle.gix_traverse_commit.specs.Order.{IsListOf}
+use Rattle.gix_traverse_commit.proofs.Chosen.{take_all}
+use Rattle.gix_traverse_commit.proofs.Meeting.{Fresh, asks_more, meets_none, meets_step, parent_met, parent_or_met}
 use Rattle.gix_traverse_commit.proofs.simple.meet.meet_parents.Goals as goal
 
 pub parents-preserved : goal.parents-preserved
@@ -24,6 +27,17 @@ parents-preserved g c =
       walked = λ along keep tips listed child which e w r. kept_step along tips keep (is_met c.parents.nodes) (is_met c.meet.new.nodes) (is_hidden c.parents.nodes id) (accepts c.parents.predicate (id_of id)) listed c.parents.queue.items c.meet.new.queue.items (length listed) c.parents.parent-index id child (c.parents.invariant.walked along keep tips listed child which e w r)
           (subst (λ (zs : List ObjectId). slice_get zs c.parents.parent-index ≡ Some id) e here) c.in_ok-meet.ensures.queued c.in_ok-meet.ensures.met
           (λ f. which id (unmet_before (is_met c.args.nodes.now) (is_met c.parents.nodes) id (c.parents.invariant.grown id) f) ∙ ap (λ (b : Bool). not b && accepts c.args.predicate.now (id_of id)) (sym (c.parents.invariant.hidden id)) ∙ ap (λ (a : Id → Bool). not (is_hidden c.parents.nodes id) && a (id_of id)) (sym c.parents.invariant.accepts));
+      once = (let (xs, asks, w) = c.parents.invariant.once in
+          let has = is_met c.parents.nodes in
+          let has' = is_met c.meet.new.nodes in
+          let hidden = is_hidden c.parents.nodes id in
+          let more : List ObjectId = cond (has id) [] (cond hidden [] (id ∷ [])) in
+          let now = c.in_ok-meet.ensures.met in (
+            xs ++ more,
+            asks_more g.P.Accept.goes xs more c.args.predicate.now c.parents.predicate c.meet.new.predicate asks c.in_ok-meet.ensures.asked,
+            meets_step (is_met c.args.nodes.now) (is_hidden c.args.nodes.now) has has' hidden ids xs c.parents.parent-index id here w (c.parents.invariant.hidden id)
+                (λ x h. stays_met has has' hidden id x now h) (parent_or_met has has' hidden id now) (parent_met has has' hidden id now),
+          ));
     }
 
 pub returns-clause-walked : goal.returns-clause-walked
@@ -32,3 +46,18 @@ returns-clause-walked g c = λ along keep tips listed child which e w r.
 
 pub returns-clause-grown : goal.returns-clause-grown
 returns-clause-grown g c = c.parents.invariant.grown
+
+pub parents-init : goal.parents-init
+parents-init g c = record {
+  accepts = refl;
+  hidden = λ q. refl;
+  grown = λ q h. h;
+  rowed = λ rows a b. a;
+  walked = λ along keep tips listed child which e w r. (w, r);
+  once = ([], refl, meets_none (is_met c.args.nodes.now) (is_hidden c.args.nodes.now));
+}
+
+pub returns-clause-asked : goal.returns-clause-asked
+returns-clause-asked g c =
+    let (xs, asks, w) = c.parents.invariant.once in
+    (xs, subst (λ (ps : List ObjectId). IsListOf (Fresh (is_met c.args.nodes.now) (is_hidden c.args.nodes.now) ps) xs) (take_all c.args.parents.now c.parents.parent-index c.parents-test.false) w.list, asks)

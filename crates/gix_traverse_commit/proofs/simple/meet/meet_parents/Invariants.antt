@@ -1,12 +1,14 @@
-use Rattle.std.proofs.Common.{◌≡◌, List, ◌++◌, length, Bool, true, false}
+use Rattle.std.proofs.Common.{take, ◌≡◌, List, ◌++◌, length, Bool, true, false}
 use Rattle.std.specs.Prelude.{not, ◌&&◌}
 use Rattle.gix_hash.specs.Id.{id_of}
 use Rattle.gix_hash.specs.declared.object_id.ObjectId.{ObjectId}
 use Rattle.gix_traverse_commit.specs.Keeping.{Kept}
+use Rattle.gix_traverse_commit.specs.Meeting.{Asks}
 use Rattle.gix_traverse_commit.specs.Nodes.{is_hidden, is_met}
 use Rattle.gix_traverse_commit.specs.Standing.{Reads}
 use Rattle.gix_traverse_commit.specs.Rows.{AllHeld}
 use Rattle.gix_traverse_commit.specs.declared.rows.Row.{Row}
+use Rattle.gix_traverse_commit.proofs.Meeting.{MeetsOnce}
 use Rattle.gix_traverse_commit.proofs.simple.meet.meet_parents.Given as goal
 
 abbrev pub invariant-parents : goal.invariant-parents
@@ -21,4 +23,5 @@ invariant-parents g l = record {
       → Kept along tips keep (is_met l.fn.nodes) (listed ++ l.fn.queue.items) (length listed) 0
       → Reads (listed ++ l.fn.queue.items) (length listed) id
       → Kept along tips keep (is_met l.nodes) (listed ++ l.queue.items) (length listed) l.parent-index × Reads (listed ++ l.queue.items) (length listed) id;
+  once : (xs : List ObjectId) × Asks g.P.Accept.goes xs l.fn.predicate l.predicate × MeetsOnce (is_met l.fn.nodes) (is_hidden l.fn.nodes) (is_met l.nodes) (take l.parent-index l.parents) xs;
 }

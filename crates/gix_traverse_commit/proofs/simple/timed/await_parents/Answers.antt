@@ -1,4 +1,4 @@
-use Rattle.std.proofs.Common.{◌≡◌, ◌∙◌, sym, ap, refl, subst, ◌⊎◌, inl, inr, List, [], take, get_or, Option, Bool}
+use Rattle.std.proofs.Common.{◌++◌, ◌∷◌, cond, ◌≡◌, ◌∙◌, sym, ap, refl, subst, ◌⊎◌, inl, inr, List, [], take, get_or, Option, Bool}
 use Rattle.std.specs.Prelude.{Contains, not, ◌&&◌}
 use Rattle.std.proofs.lemmas.Option.{slice_get-get_or}
 use Rattle.gix_hash.specs.Id.{Id, id_of}
@@ -16,6 +16,9 @@ use Rattle.gix_traverse_commit.proofs.Lists.{contains_from_at}
 use Rattle.gix_traverse_commit.proofs.Timely.{hides_out, in_nil, joins_same, met_renamed, parent_joins, step_parent}
 use Rattle.std.proofs.Common.{arith}
 use Rattle.gix_traverse_commit.specs.Order.{IsOpen}
+use Rattle.gix_traverse_commit.specs.Meeting.{CountsAll, accepted}
+use Rattle.gix_traverse_commit.specs.Order.{IsListOf}
+use Rattle.gix_traverse_commit.proofs.Meeting.{Fresh, asks_more, counts_accepted, meets_none, meets_step, parent_met, parent_or_met}
 use Rattle.gix_traverse_commit.proofs.simple.timed.await_parents.Goals as goal
 
 pub parents-init : goal.parents-init
@@ -30,6 +33,7 @@ parents-init g c = record {
   same = λ all. refl;
   rowed = λ all before. before;
   walked = λ honest sure h told accepts along tips front listed which w. met_renamed h (keep_since c.args.since h (is_hidden c.args.nodes.now) accepts) listed (is_met c.args.nodes.now) (IsOpen along tips front) (λ x. IsOpen along tips front x ⊎ Contains (take 0 c.args.parents.now) x) (waiting c.args.waiting.now) w (λ x. ((λ o. inl o), (λ d. elim d [ inl o ↦ o | inr c ↦ absurd (in_nil x c) ])));
+  once = ([], refl, refl, meets_none (is_met c.args.nodes.now) (is_hidden c.args.nodes.now));
 }
 
 pub parents-preserved : goal.parents-preserved
@@ -61,6 +65,20 @@ parents-preserved g c =
           let j = joins_same (not met && (not (is_hidden c.parents.nodes id) && (g.P.Accept.accepts c.parents.predicate (id_of id) && time))) (not met && keep id) (waiting c.parents.waiting) (turn_of h id) (turn_of h id) (waiting c.await_parent.new.waiting) so refl (c.in_ok-await_parent.ensures.waits honest' sure' h told') in
           step_parent h keep (is_met c.parents.nodes) (is_met c.await_parent.new.nodes) (is_hidden c.parents.nodes id) ids c.parents.parent-index (waiting c.parents.waiting) (waiting c.await_parent.new.waiting) id here j c.in_ok-await_parent.ensures.met
           (λ e. hides_out (is_hidden c.args.nodes.now id) (accepts (id_of id) && time) (sym (inv.hidden id) ∙ e)) (IsOpen along tips front) listed (inv.walked honest sure h told accepts along tips front listed which w));
+      once = (let (xs, asks, counts, w) = inv.once in
+          let has = is_met c.parents.nodes in
+          let has' = is_met c.await_parent.new.nodes in
+          let hidden = is_hidden c.parents.nodes id in
+          let more : List ObjectId = cond (has id) [] (cond hidden [] (id ∷ [])) in
+          let now = c.in_ok-await_parent.ensures.met in
+          let one = subst (λ (o : Option (List Row)). CountsAll (rows_of o) (accepted (g.P.Accept.accepts c.parents.predicate) more) c.parents.source.lookups c.await_parent.new.source.lookups) inv.rows c.in_ok-await_parent.ensures.timed in
+          let same = subst (λ (p : Id → Bool). CountsAll (rows_of c.args.source.now.rows) (accepted p more) c.parents.source.lookups c.await_parent.new.source.lookups) inv.accepts one in (
+            xs ++ more,
+            asks_more g.P.Accept.goes xs more c.args.predicate.now c.parents.predicate c.await_parent.new.predicate asks c.in_ok-await_parent.ensures.asked,
+            counts_accepted (rows_of c.args.source.now.rows) (g.P.Accept.accepts c.args.predicate.now) xs more c.args.source.now.lookups c.parents.source.lookups c.await_parent.new.source.lookups counts same,
+            meets_step (is_met c.args.nodes.now) (is_hidden c.args.nodes.now) has has' hidden ids xs c.parents.parent-index id here w (inv.hidden id)
+                (λ x h. stays_met has has' hidden id x now h) (parent_or_met has has' hidden id now) (parent_met has has' hidden id now),
+          ));
     }
 
 pub returns-clause-walked : goal.returns-clause-walked
@@ -70,3 +88,8 @@ returns-clause-walked g c = λ honest sure h told accepts along tips front liste
 
 pub returns-clause-grown : goal.returns-clause-grown
 returns-clause-grown g c = c.parents.invariant.grown
+
+pub returns-clause-asked : goal.returns-clause-asked
+returns-clause-asked g c =
+    let (xs, asks, counts, w) = c.parents.invariant.once in
+    (xs, subst (λ (ps : List ObjectId). IsListOf (Fresh (is_met c.args.nodes.now) (is_hidden c.args.nodes.now) ps) xs) (take_all c.args.parents.now c.parents.parent-index c.parents-test.false) w.list, asks, counts)

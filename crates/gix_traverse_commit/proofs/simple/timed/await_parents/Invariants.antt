@@ -3,11 +3,13 @@ use Rattle.std.specs.Prelude.{Contains}
 use Rattle.gix_hash.specs.Id.{Id, id_of}
 use Rattle.gix_hash.specs.declared.object_id.ObjectId.{ObjectId}
 use Rattle.gix_traverse_commit.specs.Commits.{Commits}
+use Rattle.gix_traverse_commit.specs.Meeting.{Asks, CountsAll, accepted}
 use Rattle.gix_traverse_commit.specs.Nodes.{is_hidden, is_met}
 use Rattle.gix_traverse_commit.specs.Order.{IsOpen}
 use Rattle.gix_traverse_commit.specs.Rows.{AllHeld}
 use Rattle.gix_traverse_commit.specs.Timely.{AllRowed, IsMetSoFar, keep_since, waiting}
 use Rattle.gix_traverse_commit.specs.Told.{AreTold, rows_of}
+use Rattle.gix_traverse_commit.proofs.Meeting.{MeetsOnce}
 use Rattle.gix_traverse_commit.proofs.simple.timed.await_parents.Given as goal
 
 abbrev pub invariant-parents : goal.invariant-parents
@@ -26,4 +28,7 @@ invariant-parents g l = record {
       → ((x : ObjectId) → is_met l.fn.nodes x ≡ false → g.P.Accept.accepts l.fn.predicate (id_of x) ≡ accepts (id_of x))
       → IsMetSoFar h (keep_since l.since h (is_hidden l.fn.nodes) accepts) (is_met l.fn.nodes) (IsOpen along tips front) listed (waiting l.fn.waiting)
       → IsMetSoFar h (keep_since l.since h (is_hidden l.fn.nodes) accepts) (is_met l.nodes) (λ x. IsOpen along tips front x ⊎ Contains (take l.parent-index l.parents) x) listed (waiting l.waiting);
+  once : (xs : List ObjectId) × Asks g.P.Accept.goes xs l.fn.predicate l.predicate
+      × CountsAll (rows_of l.fn.source.rows) (accepted (g.P.Accept.accepts l.fn.predicate) xs) l.fn.source.lookups l.source.lookups
+      × MeetsOnce (is_met l.fn.nodes) (is_hidden l.fn.nodes) (is_met l.nodes) (take l.parent-index l.parents) xs;
 }

@@ -1,4 +1,4 @@
-use Rattle.std.proofs.Common.{◌≡◌, ◌∙◌, sym, refl, subst, List, [], take, get_or, Option, arith}
+use Rattle.std.proofs.Common.{◌++◌, ◌∷◌, cond, ◌≡◌, ◌∙◌, sym, refl, subst, List, [], take, get_or, Option, arith}
 use Rattle.std.specs.Prelude.{Contains, not, ◌&&◌}
 use Rattle.std.proofs.lemmas.Option.{slice_get-get_or}
 use Rattle.gix_hash.specs.Id.{id_of}
@@ -14,6 +14,10 @@ use Rattle.gix_traverse_commit.proofs.Chosen.{take_all}
 use Rattle.gix_traverse_commit.proofs.Keeping.{met_more, unmet_before}
 use Rattle.gix_traverse_commit.proofs.Lists.{contains_from_at}
 use Rattle.gix_traverse_commit.proofs.Timely.{in_nil, joins_same, met_renamed, next_tip, tip_joins}
+use Rattle.gix_traverse_commit.specs.Meeting.{CountsAll}
+use Rattle.gix_traverse_commit.specs.Order.{IsListOf}
+use Rattle.gix_traverse_commit.proofs.Keeping.{met_itself}
+use Rattle.gix_traverse_commit.proofs.Meeting.{Fresh, counts_more, meets_none, meets_step, tip_or_met}
 use Rattle.gix_traverse_commit.proofs.simple.timed.await_tips.Goals as goal
 
 pub tips-init : goal.tips-init
@@ -27,6 +31,7 @@ tips-init g c = record {
   counted = λ all. refl;
   rowed = λ all before. before;
   walked = λ honest sure h told accepts which w. met_renamed h (keep_since c.args.since h (is_hidden c.args.nodes.now) accepts) [] (is_met c.args.nodes.now) (λ _. ⊥) (Contains (take 0 c.args.tips.now)) (waiting c.args.waiting.now) w (λ x. ((λ z. absurd z), (λ d. in_nil x d)));
+  timed = ([], refl, meets_none (is_met c.args.nodes.now) (is_hidden c.args.nodes.now));
 }
 
 pub tips-preserved : goal.tips-preserved
@@ -56,6 +61,18 @@ tips-preserved g c =
           (λ f. which id (contains_from_at ids c.tips.tip-index id here) (unmet_before (is_met c.args.nodes.now) (is_met c.tips.nodes) id (inv.grown id) f)) in
           let j = joins_same (not met && (not (is_hidden c.tips.nodes id) && time)) (not met && keep id) (waiting c.tips.waiting) (turn_of h id) (turn_of h id) (waiting c.await_tip.new.waiting) so refl (c.in_ok-await_tip.ensures.waits honest' sure' h told') in
           next_tip h keep (is_met c.tips.nodes) (is_met c.await_tip.new.nodes) ids c.tips.tip-index (waiting c.tips.waiting) (waiting c.await_tip.new.waiting) id here j c.in_ok-await_tip.ensures.met (inv.walked honest sure h told accepts which w));
+      timed = (let (xs, counts, w) = inv.timed in
+          let has = is_met c.tips.nodes in
+          let has' = is_met c.await_tip.new.nodes in
+          let hidden = is_hidden c.tips.nodes id in
+          let more : List ObjectId = cond (has id) [] (cond hidden [] (id ∷ [])) in
+          let now = c.in_ok-await_tip.ensures.met in
+          let one = subst (λ (o : Option (List Row)). CountsAll (rows_of o) more c.tips.source.lookups c.await_tip.new.source.lookups) inv.rows c.in_ok-await_tip.ensures.timed in (
+            xs ++ more,
+            counts_more (rows_of c.args.source.now.rows) xs more c.args.source.now.lookups c.tips.source.lookups c.await_tip.new.source.lookups counts one,
+            meets_step (is_met c.args.nodes.now) (is_hidden c.args.nodes.now) has has' hidden ids xs c.tips.tip-index id here w (inv.hidden id)
+                (λ x h. met_more has has' id x now h) (tip_or_met has has' id now) (λ _. met_itself has has' id now),
+          ));
     }
 
 pub returns-clause-walked : goal.returns-clause-walked
@@ -65,3 +82,8 @@ returns-clause-walked g c = λ honest sure h told accepts which w.
 
 pub returns-clause-grown : goal.returns-clause-grown
 returns-clause-grown g c = c.tips.invariant.grown
+
+pub returns-clause-timed : goal.returns-clause-timed
+returns-clause-timed g c =
+    let (xs, counts, w) = c.tips.invariant.timed in
+    (xs, subst (λ (ts : List ObjectId). IsListOf (Fresh (is_met c.args.nodes.now) (is_hidden c.args.nodes.now) ts) xs) (take_all c.args.tips.now c.tips.tip-index c.tips-test.false) w.list, counts)

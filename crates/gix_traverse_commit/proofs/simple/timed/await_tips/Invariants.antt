@@ -1,12 +1,14 @@
-use Rattle.std.proofs.Common.{◌≡◌, ◌≤◌, ◌+◌, [], Bool, true, false, take}
+use Rattle.std.proofs.Common.{List, ◌≡◌, ◌≤◌, ◌+◌, [], Bool, true, false, take}
 use Rattle.std.specs.Prelude.{Contains}
 use Rattle.gix_hash.specs.Id.{Id, id_of}
 use Rattle.gix_hash.specs.declared.object_id.ObjectId.{ObjectId}
 use Rattle.gix_traverse_commit.specs.Commits.{Commits}
+use Rattle.gix_traverse_commit.specs.Meeting.{CountsAll}
 use Rattle.gix_traverse_commit.specs.Nodes.{is_hidden, is_met}
 use Rattle.gix_traverse_commit.specs.Rows.{AllHeld}
 use Rattle.gix_traverse_commit.specs.Timely.{AllRowed, IsMetSoFar, keep_since, waiting}
 use Rattle.gix_traverse_commit.specs.Told.{AreTold, rows_of}
+use Rattle.gix_traverse_commit.proofs.Meeting.{MeetsOnce}
 use Rattle.gix_traverse_commit.proofs.simple.timed.await_tips.Given as goal
 
 abbrev pub invariant-tips : goal.invariant-tips
@@ -23,4 +25,5 @@ invariant-tips g l = record {
       → (accepts : Id → Bool) → ((x : ObjectId) → Contains l.tips x → is_met l.fn.nodes x ≡ false → accepts (id_of x) ≡ true)
       → IsMetSoFar h (keep_since l.since h (is_hidden l.fn.nodes) accepts) (is_met l.fn.nodes) (λ _. ⊥) [] (waiting l.fn.waiting)
       → IsMetSoFar h (keep_since l.since h (is_hidden l.fn.nodes) accepts) (is_met l.nodes) (Contains (take l.tip-index l.tips)) [] (waiting l.waiting);
+  timed : (xs : List ObjectId) × CountsAll (rows_of l.fn.source.rows) xs l.fn.source.lookups l.source.lookups × MeetsOnce (is_met l.fn.nodes) (is_hidden l.fn.nodes) (is_met l.nodes) (take l.tip-index l.tips) xs;
 }

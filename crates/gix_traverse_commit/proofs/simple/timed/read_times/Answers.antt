@@ -1,9 +1,10 @@
-use Rattle.std.proofs.Common.{◌≡◌, ◌∙◌, refl, sym, subst, arith, inl, inr, List, [], get_or, take, Option}
+use Rattle.std.proofs.Common.{◌≡◌, ◌∙◌, ◌∷◌, refl, sym, subst, arith, inl, inr, List, [], get_or, take, Option}
 use Rattle.std.specs.Prelude.{Contains}
 use Rattle.std.proofs.lemmas.Option.{slice_get-get_or}
 use Rattle.std.proofs.lemmas.Result.{err_from_is_err_and}
 use Rattle.gix_hash.specs.declared.object_id.ObjectId.{ObjectId}
 use Rattle.gix_hash.specs.declared.object_id.ObjectId.TheVariants.{Sha1}
+use Rattle.gix_traverse_commit.specs.Meeting.{CountsAll, unmet}
 use Rattle.gix_traverse_commit.specs.Rows.{Holds}
 use Rattle.gix_traverse_commit.specs.Simply.{IsReadBefore, IsUnmet, TipFault}
 use Rattle.gix_traverse_commit.specs.Fetching.{TimeIsTold}
@@ -13,6 +14,7 @@ use Rattle.gix_traverse_commit.proofs.Timely.{in_nil}
 use Rattle.gix_traverse_commit.specs.Told.{rows_of}
 use Rattle.gix_traverse_commit.specs.declared.rows.Row.{Row}
 use Rattle.gix_traverse_commit.proofs.Lists.{contains_from_at}
+use Rattle.gix_traverse_commit.proofs.Meeting.{unmet_more}
 use Rattle.gix_traverse_commit.proofs.simple.timed.read_times.Goals as goal
 
 pub returns-in_err-read_time-clause-rowed : goal.returns-in_err-read_time-clause-rowed
@@ -43,6 +45,7 @@ tips-init g c = record {
   objects = refl;
   rows = refl;
   counted = omega arith;
+  each = refl;
   rowed = λ all. refl;
   told = λ honest x k unmet. absurd (in_nil x k);
 }
@@ -57,6 +60,8 @@ tips-preserved g c =
       objects = c.read_time.ensures.objects ∙ c.tips.invariant.objects;
       rows = c.read_time.ensures.rows ∙ c.tips.invariant.rows;
       counted = omega (arith, c.read_time.ensures.counted, c.tips.invariant.counted);
+      each = unmet_more (rows_of c.args.source.now.rows) c.args.nodes.now ids c.tips.tip-index id c.args.source.now.lookups c.tips.source.lookups c.read_time.new.source.lookups here c.tips.invariant.each
+          (subst (λ (o : Option (List Row)). CountsAll (rows_of o) (unmet c.args.nodes.now (id ∷ [])) c.tips.source.lookups c.read_time.new.source.lookups) c.tips.invariant.rows c.in_ok-read_time.ensures.each);
       rowed = λ all. rowed (all id (contains_from_at ids c.tips.tip-index id here)) ∙ c.tips.invariant.rowed all;
       told = (λ honest x k unmet.
           let now = subst (λ (o : g.row.F.Denot). IsUnmet c.args.nodes.now id → TimeIsTold (rows_of c.args.source.now.rows) (g.F.Lookup.table o) id) c.tips.invariant.objects
@@ -71,3 +76,7 @@ tips-preserved g c =
 pub returns-clause-told : goal.returns-clause-told
 returns-clause-told g c = λ honest x k unmet.
     c.tips.invariant.told honest x (subst (λ (zs : List ObjectId). Contains zs x) (sym (take_all c.args.tips.now c.tips.tip-index c.tips-test.false)) k) unmet
+
+pub returns-clause-each : goal.returns-clause-each
+returns-clause-each g c =
+    subst (λ (ts : List ObjectId). CountsAll (rows_of c.args.source.now.rows) (unmet c.args.nodes.now ts) c.args.source.now.lookups c.tips.source.lookups) (take_all c.args.tips.now c.tips.tip-index c.tips-test.false) c.tips.invariant.each

@@ -1,10 +1,40 @@
-use Rattle.std.proofs.Common.{◌≡◌, [], ◌∷◌, ◌++◌, sym, ◌∙◌, ap, subst, Bool, true, false, arith}
+use Rattle.std.proofs.Common.{◌≡◌, List, [], ◌∷◌, ◌++◌, append-nil, append_assoc, refl, sym, ◌∙◌, ap, subst, Bool, true, false, arith}
 use Rattle.gix_hash.specs.declared.object_id.ObjectId.{ObjectId}
 use Rattle.gix_hash.specs.Id.{id_of}
-use Rattle.gix_traverse_topo.specs.Standing.{Stands, IsInfo}
+use Rattle.gix_traverse_commit.specs.Commits.{Commits}
+use Rattle.gix_traverse_commit.specs.declared.parents.Parents.{Parents}
+use Rattle.gix_traverse_commit.specs.declared.rows.Row.{Row}
+use Rattle.gix_traverse_commit.proofs.Meeting.{asks_more}
+use Rattle.gix_traverse_topo.specs.Giving.{AsksEach}
+use Rattle.gix_traverse_topo.specs.Standing.{Standing, Stands, Steps, IsInfo}
+use Rattle.gix_traverse_topo.specs.declared.init.Sorting.{Sorting}
+use Rattle.gix_traverse_topo.specs.declared.known.Known.{Known}
+use Rattle.gix_traverse_topo.specs.declared.ready.Ready.{Ready}
 use Rattle.gix_traverse_topo.proofs.Turning.{stands_yes, stands_no, answers, turn_fault}
 use Rattle.gix_traverse_commit.specs.declared.info.Info.{Info}
 use Rattle.gix_traverse_topo.proofs.iter.Topo.advance.Goals as goal
+
+-- one more commit is finished
+finished_more : (parents parents' : Parents) (known known' known'' : Known) (ready ready' ready'' : Ready) (passed : List ObjectId) (info : Info) → parents' ≡ parents
+    → ((sorting : Sorting) (rows : List Row) (h : Commits ObjectId) (tips hs xs finished : List ObjectId) → Standing sorting rows h tips parents hs xs finished known ready → Standing sorting rows h tips parents hs xs (finished ++ passed) known' ready')
+    → ((sorting : Sorting) (rows : List Row) (h : Commits ObjectId) (tips hs xs finished : List ObjectId) → Standing sorting rows h tips parents' hs xs finished known' ready' → Steps sorting rows h tips parents' hs xs finished known' ready' known'' ready'' info)
+    → (sorting : Sorting) (rows : List Row) (h : Commits ObjectId) (tips hs xs finished : List ObjectId) → Standing sorting rows h tips parents hs xs finished known ready → Standing sorting rows h tips parents hs xs (finished ++ (passed ++ info.id ∷ [])) known'' ready''
+finished_more parents parents' known known' known'' ready ready' ready'' passed info e before step sorting rows h tips hs xs finished st =
+    let now = subst (λ (p : Parents). Standing sorting rows h tips p hs xs (finished ++ passed) known' ready') (sym e) (before sorting rows h tips hs xs finished st) in
+    let next = (step sorting rows h tips hs xs (finished ++ passed) now).standing in
+    subst (λ (zs : List ObjectId). Standing sorting rows h tips parents hs xs zs known'' ready'') (append_assoc finished passed (info.id ∷ []))
+    (subst (λ (p : Parents). Standing sorting rows h tips p hs xs ((finished ++ passed) ++ info.id ∷ []) known'' ready'') e next)
+
+pub turns-init : goal.turns-init
+turns-init g c = record {
+  parents = refl;
+  predicate = refl;
+  lookups = refl;
+  stands = λ sorting rows faults h tips ends listed sd. sd;
+  weight = omega arith;
+  ended = λ e. e;
+  asked = ([], refl, λ sorting rows h tips hs xs finished st. subst (λ (zs : List ObjectId). Standing sorting rows h tips c.args.self.now.parents hs xs zs c.args.self.now.known c.args.self.now.ready) (sym (append-nil finished)) st);
+}
 
 pub turns-preserved : goal.turns-preserved
 turns-preserved g c =
@@ -20,6 +50,12 @@ turns-preserved g c =
           stands_no sorting rows faults h tips ends c.args.self.now.parents c.turns.self.parents inv.parents (λ x. g.P.Accept.accepts c.args.self.now.predicate (id_of x)) listed c.turns.self.known c.turn.new.self.known c.turns.self.ready c.turn.new.self.ready c.in-Ok.info c.in-Some.ensures.ids (inv.stands sorting rows faults h tips ends listed sd) stood none;
       weight = (let falls = rw c.in-Ok.is at c.in-Some.ensures.falls in omega (arith, falls, inv.weight));
       ended = λ e. let z : true ≡ false = c.in-Some.ensures.ended (inv.ended e) in absurd (let w : ⊥ = cc in w);
+      asked = (let (passed, asks, before) = inv.asked in (
+        passed ++ c.in-Ok.info.id ∷ [],
+        asks_more g.P.Accept.goes passed (c.in-Ok.info.id ∷ []) c.args.self.now.predicate c.turns.self.predicate c.accepted.new.predicate asks
+            (c.accepted.new.predicate, subst (λ p. g.P.Accept.goes p (id_of c.in-Ok.info.id) c.accepted.new.predicate) c.in-Some.ensures.predicate c.in_default-accepted.ensures.asked, refl),
+        finished_more c.args.self.now.parents c.turns.self.parents c.args.self.now.known c.turns.self.known c.turn.new.self.known c.args.self.now.ready c.turns.self.ready c.turn.new.self.ready passed c.in-Ok.info inv.parents before stood,
+      ));
     }
 
 pub turns-smaller : goal.turns-smaller
@@ -49,3 +85,20 @@ returns-in-Err-clause-refused g c = λ sorting rows faults h tips ends listed sd
     let inv = c.turns.invariant in
     let refused = rw c.in-Err.is at c.in-Some.ensures.refused in
     turn_fault sorting rows faults h tips ends c.args.self.now.parents c.turns.self.parents inv.parents (λ x. g.P.Accept.accepts c.args.self.now.predicate (id_of x)) listed c.turns.self.known c.turns.self.ready (inv.stands sorting rows faults h tips ends listed sd) c.in-Err.error refused
+
+pub returns-in-Some-accepted-clause-asked : goal.returns-in-Some-accepted-clause-asked
+returns-in-Some-accepted-clause-asked g c =
+    let inv = c.turns.invariant in
+    let stood = rw c.in-Ok.is at c.in-Some.ensures.stood in
+    let kept = c.in-Some-accepted.ensures.kept in
+    let (passed, asks, before) = inv.asked in
+    let id = c.in-Ok.info.id in
+    let all : AsksEach g.P.Accept.goes c.args.self.now (record c.turn.new.self { predicate = c.accepted.new.predicate }) (passed ++ id ∷ []) = record {
+      asked = asks_more g.P.Accept.goes passed (id ∷ []) c.args.self.now.predicate c.turns.self.predicate c.accepted.new.predicate asks
+          (c.accepted.new.predicate, subst (λ p. g.P.Accept.goes p (id_of id) c.accepted.new.predicate) c.in-Some.ensures.predicate c.in-Some-accepted.ensures.asked, refl);
+      finishes = finished_more c.args.self.now.parents c.turns.self.parents c.args.self.now.known c.turns.self.known c.turn.new.self.known c.args.self.now.ready c.turns.self.ready c.turn.new.self.ready passed c.in-Ok.info inv.parents before stood;
+    } in
+    (passed, subst (λ (i : Info). AsksEach g.P.Accept.goes c.args.self.now (record c.turn.new.self { predicate = c.accepted.new.predicate }) (passed ++ i.id ∷ [])) (sym kept.0) all)
+
+pub returns-clause-asked_end : goal.returns-clause-asked_end
+returns-clause-asked_end g c = let (passed, asks, before) = c.turns.invariant.asked in record { passed = passed; last = c.turns.self; each = record { asked = asks; finishes = before }; none_waits = c.in_default.ensures.end; same = c.in_default.ensures.predicate }
