@@ -13,7 +13,7 @@ use Rattle.gix_ref_format.specs.PackedKept.{kept}
 use Rattle.gix_ref_format.specs.Lookup.{packed_key, packed_hit, lookup_names, tag_names, word_names, placed, is_complete}
 use Rattle.gix_ref_format.specs.declared.packed.buffer.Buffer.{Buffer}
 use Rattle.gix_ref_store.specs.Places.{Base}
-use Rattle.gix_ref_store.specs.Readings.{Reading, Stands, Absent, Faulty, loose_reading, packed_reading, read_by, reading_among, loose_text_at, packed_text_in, records_of, told_by, reading, first_met, met_or, IsFaulty, Met}
+use Rattle.gix_ref_store.specs.Readings.{Reading, Stands, Absent, Faulty, InFile, InRecords, loose_reading, packed_reading, read_by, reading_among, loose_text_at, packed_text_in, records_of, told_by, reading, first_met, met_or, IsFaulty, Met}
 use Rattle.gix_ref_store.specs.Finds.{met_of, reading_of, records_in, TellsReading, TellsFile, LookupFault, FindFault, OpenedFault, FindsOpened}
 use Rattle.gix_ref_store.specs.Searches.{Finds}
 use Rattle.gix_ref_format.specs.Loose.{loose_target}
@@ -106,7 +106,7 @@ pub stands_by_file : (b : Base) (tree : Tree) (name : List ℕ) (r : Reference) 
 stands_by_file b tree name r (same, is) = (same, own_file b tree name (reading_of r) is (λ e. cc))
 
 pub faulty_by_file : (b : Base) (tree : Tree) (name : List ℕ) (error : Error) → TellsReading name (reading_among b tree [] name) (Err error) → TellsReading name (reading b tree name) (Err error)
-faulty_by_file b tree name (ReferenceCreation e) is = own_file b tree name Faulty is (λ e. cc)
+faulty_by_file b tree name (ReferenceCreation e) is = own_file b tree name (Faulty (InFile e)) is (λ h. cc)
 faulty_by_file b tree name (PackedOpen e) told = told
 faulty_by_file b tree name ReadFileContents told = tt
 faulty_by_file b tree name Memory told = tt
@@ -116,7 +116,7 @@ no_hit records None no_key = refl
 no_hit records (Some k) no_key = cc
 
 told_none : (records : Option (List Record)) (name : List ℕ) → is_some (packed_key name) ≡ false → told_by records name ≡ Absent
-told_none None name no_key = ap (λ b. cond b Faulty Absent) no_key
+told_none None name no_key = ap (λ b. cond b (Faulty InRecords) Absent) no_key
 told_none (Some records) name no_key = ap packed_reading (no_hit records (packed_key name) no_key)
 
 -- a full name that no record stands for and that has no file reads as absent
@@ -176,7 +176,7 @@ found_by_first b tree word r (first, rest, names, told) = found_first (reading b
 pub fault_by_first : (b : Base) (tree : Tree) (word : List ℕ) (error : Error) → TellsFirst (reading_among b tree []) word (Err error)
     → FindFault b tree (lookup_names word) (first_met (reading b tree) (lookup_names word)) error
 fault_by_first b tree word (ReferenceCreation e) (first, rest, names, told) =
-    subst IsFaulty (sym (ap (first_met (reading b tree)) names)) (fault_first (reading b tree) first rest (ReferenceCreation e) (faulty_by_file b tree first (ReferenceCreation e) told))
+    subst (IsFaulty (InFile e)) (sym (ap (first_met (reading b tree)) names)) (fault_first (reading b tree) first rest (ReferenceCreation e) (faulty_by_file b tree first (ReferenceCreation e) told))
 fault_by_first b tree word (PackedOpen e) (first, rest, names, told) = absurd told
 fault_by_first b tree word ReadFileContents told = tt
 fault_by_first b tree word Memory told = tt
@@ -215,12 +215,12 @@ then_opened b tree word (Err Memory) first finds = tt
 only_files : (b : Base) (tree : Tree) (name : List ℕ) (points : Points) (peeled : Option Id) → reading_among b tree [] name ≡ Stands points peeled → peeled ≡ None
 only_files b tree name points peeled is = by_full (is_full_name name) (loose_text_at b tree name) (none_without name) is
   where
-    by_target : (o : Option Points) → loose_reading o ≡ Stands points peeled → peeled ≡ None
-    by_target None h = cc
-    by_target (Some p) h = cc
+    by_target : (text : List ℕ) (o : Option Points) → loose_reading text o ≡ Stands points peeled → peeled ≡ None
+    by_target text None h = cc
+    by_target text (Some p) h = cc
 
     by_full : (full : Bool) (text : Option (List ℕ)) → packed_reading (packed_hit [] name) ≡ Absent → cond full (read_by b.kind text (packed_reading (packed_hit [] name))) Absent ≡ Stands points peeled → peeled ≡ None
-    by_full true (Some text) none is = by_target (loose_target b.kind text) is
+    by_full true (Some text) none is = by_target text (loose_target b.kind text) is
     by_full true None none is = absurd (clash (sym none ∙ is))
       where
         clash : Absent ≡ Stands points peeled → ⊥
@@ -230,7 +230,7 @@ only_files b tree name points peeled is = by_full (is_full_name name) (loose_tex
 abbrev peeled_in : Reading → Option Id
 peeled_in (Stands points peeled) = peeled
 peeled_in Absent = None
-peeled_in Faulty = None
+peeled_in (Faulty why) = None
 
 abbrev peeled_met : Option Met → Option Id
 peeled_met None = None
@@ -239,7 +239,7 @@ peeled_met (Some met) = peeled_in met.reading
 abbrev stands_in : Reading → Bool
 stands_in (Stands points peeled) = true
 stands_in Absent = false
-stands_in Faulty = false
+stands_in (Faulty why) = false
 
 abbrev stands_met : Option Met → Bool
 stands_met None = false
@@ -257,7 +257,7 @@ no_peeled b tree (first ∷ names) name points peeled is = by_reading (reading_a
     by_reading : (r : Reading) → reading_among b tree [] first ≡ r → Some (record { name = name; reading = Stands points peeled }) ≡ met_or first r (first_met (reading_among b tree []) names)
         → (Some (record { name = name; reading = Stands points peeled }) ≡ first_met (reading_among b tree []) names → peeled ≡ None) → peeled ≡ None
     by_reading Absent r_is is later = later is
-    by_reading Faulty r_is is later = absurd (apart (ap stands_met is))
+    by_reading (Faulty why) r_is is later = absurd (apart (ap stands_met is))
     by_reading (Stands p q) r_is is later = let same : peeled ≡ q = ap (λ o. peeled_met o) is in same ∙ only_files b tree first p q r_is
 
 -- ---- all names of a word

@@ -29,7 +29,7 @@ module _ (read : List ℕ → Reading) (seen : List (List ℕ)) (from name : Lis
       ∙ ap (λ n. follow read n (seen ++ name ∷ []) name (read name)) less
 
   pub not_read : (left : ℕ) (r : Reading) (error : ExistingError) → r ≡ Stands (ToName name) peeled → is_among seen name ≡ false → (left ≡ 0 → ⊥)
-      → OnExisting (read name ≡ Absent) (ReadFault IsGiven (read name ≡ Faulty)) error → FollowFault IsGiven (follow read left seen from r) (Follow error)
+      → OnExisting (read name ≡ Absent) (ReadFault IsGiven (λ why. read name ≡ Faulty why)) error → FollowFault IsGiven (follow read left seen from r) (Follow error)
   not_read left r existing.NotFound is among some absent = goes_on left r is among some ∙ ap (follow read (left - 1) (seen ++ name ∷ []) name) absent
   not_read left r (existing.Find (find.ReferenceCreation e)) is among some faulty = goes_on left r is among some ∙ ap (follow read (left - 1) (seen ++ name ∷ []) name) faulty
   not_read left r (existing.Find (find.PackedOpen e)) is among some told = told
@@ -43,8 +43,8 @@ module _ (read : List ℕ → Reading) (seen : List (List ℕ)) (from name : Lis
 
 -- the same is told of packed references that were opened
 pub opened_told : (b : Base) (tree : Tree) (name : List ℕ) (one other : Reading) (result : Result Reference ExistingError) → one ≡ other
-    → MatchResult result (λ r. (r.name ≡ name) × (one ≡ reading_of r)) (OnExisting (one ≡ Absent) (ReadFault IsGiven (one ≡ Faulty)))
-    → MatchResult result (λ r. (r.name ≡ name) × (other ≡ reading_of r)) (OnExisting (other ≡ Absent) (ReadFault (CantOpen b tree) (other ≡ Faulty)))
+    → MatchResult result (λ r. (r.name ≡ name) × (one ≡ reading_of r)) (OnExisting (one ≡ Absent) (ReadFault IsGiven (λ why. one ≡ Faulty why)))
+    → MatchResult result (λ r. (r.name ≡ name) × (other ≡ reading_of r)) (OnExisting (other ≡ Absent) (ReadFault (CantOpen b tree) (λ why. other ≡ Faulty why)))
 opened_told b tree name one other (Ok r) same (named, reads) = (named, sym same ∙ reads)
 opened_told b tree name one other (Err existing.NotFound) same absent = sym same ∙ absent
 opened_told b tree name one other (Err (existing.Find (find.ReferenceCreation e))) same faulty = sym same ∙ faulty

@@ -10,7 +10,7 @@ use Rattle.gix_ref_format.specs.Packed.{Record}
 use Rattle.gix_ref_format.specs.PackedBuffer.{hit}
 use Rattle.gix_ref_format.specs.Lookup.{packed_hit, packed_key, is_own}
 use Rattle.gix_ref_format.specs.declared.packed.buffer.Buffer.{Buffer}
-use Rattle.gix_ref_store.specs.Readings.{Reading, Met, reading_among}
+use Rattle.gix_ref_store.specs.Readings.{Reading, Stands, Absent, Faulty, Met, reading_among}
 use Rattle.gix_ref_store.specs.Finds.{records_in, TellsReading}
 use Rattle.gix_ref_store.specs.Searches.{reads_in}
 use Rattle.gix_ref_store.specs.Items.{is_there, met_by, mets_of, left_in, GivesNext, TellsName}
@@ -24,6 +24,11 @@ use Rattle.gix_ref_store.specs.declared.store.file.iter.Error.{Error}
 use Rattle.gix_ref_store.specs.declared.store.file.iter.Error.TheVariants.{Traversal, ReadFileContents, ReferenceCreation, Memory}
 use Rattle.gix_ref_store.specs.declared.store.file.iter.LooseThenPacked.{LooseThenPacked}
 
+not_there : (r : Reading) → is_there r ≡ false → r ≡ Absent
+not_there Absent is = refl
+not_there (Stands points peeled) is = cc
+not_there (Faulty why) is = cc
+
 module _ (read : List ℕ → Reading) (n : List ℕ) (rest : List (List ℕ)) where
   is_next : is_there (read n) ≡ true → mets_of read (n ∷ rest) ≡ met_by read n ∷ mets_of read rest
   is_next is = ap (λ b. map (met_by read) (cond b (n ∷ filter (λ name. is_there (read name)) rest) (filter (λ name. is_there (read name)) rest))) is
@@ -36,14 +41,14 @@ module _ (read : List ℕ → Reading) (n : List ℕ) (rest : List (List ℕ)) w
   passed_over absent = is_over (ap is_there absent)
 
   -- another is given
-  pub given : (item : Result Reference Error) → TellsName n (read n) (Some item) → GivesNext (mets_of read (n ∷ rest)) (Some item) (mets_of read rest)
+  pub given : (item : Result Reference Error) → TellsName n (read n) (Some item) → GivesNext read (mets_of read (n ∷ rest)) (Some item) (mets_of read rest)
   given (Ok r) (same, reads) = is_next (ap is_there reads) ∙ (λ i. record { name = same i; reading = reads i } ∷ mets_of read rest)
   given (Err (ReferenceCreation name reason)) (same, reads) = is_next (ap is_there reads) ∙ (λ i. record { name = same i; reading = reads i } ∷ mets_of read rest)
   given (Err (ReadFileContents name)) same = by_case (is_there (read n)) refl
     where
-      by_case : (b : Bool) → is_there (read n) ≡ b → (mets_of read (n ∷ rest) ≡ mets_of read rest) ⊎ ((r : Reading) × (mets_of read (n ∷ rest) ≡ record { name = name; reading = r } ∷ mets_of read rest))
+      by_case : (b : Bool) → is_there (read n) ≡ b → ((read name ≡ Absent) × (mets_of read (n ∷ rest) ≡ mets_of read rest)) ⊎ ((r : Reading) × (mets_of read (n ∷ rest) ≡ record { name = name; reading = r } ∷ mets_of read rest))
       by_case true is = inr (read n, is_next is ∙ (λ i. record { name = same i; reading = read n } ∷ mets_of read rest))
-      by_case false is = inl (is_over is)
+      by_case false is = inl (sym (ap read same) ∙ not_there (read n) is, is_over is)
   given (Err Memory) told = by_case (is_there (read n)) refl
     where
       by_case : (b : Bool) → is_there (read n) ≡ b → (mets_of read (n ∷ rest) ≡ mets_of read rest) ⊎ ((met : Met) × (mets_of read (n ∷ rest) ≡ met ∷ mets_of read rest))
@@ -51,8 +56,9 @@ module _ (read : List ℕ → Reading) (n : List ℕ) (rest : List (List ℕ)) w
       by_case false is = inl (is_over is)
   given (Err Traversal) told = told
 
-pub gives_from : (before left after : List Met) (item : Option (Result Reference Error)) → left ≡ before → GivesNext left item after → GivesNext before item after
-gives_from before left after item is gives = subst (λ (l : List Met). GivesNext l item after) is gives
+pub gives_from : (read : List ℕ → Reading) (before left after : List Met) (item : Option (Result Reference Error)) → left ≡ before → GivesNext read left item after
+    → GivesNext read before item after
+gives_from read before left after item is gives = subst (λ (l : List Met). GivesNext read l item after) is gives
 
 -- ---- what a listing is made of
 pub of_items : {F : Type 0} (tree : Tree) (asked : List ℕ → Bool) (store : Store F) (packed : Option (Bor Buffer)) (names : List (List ℕ)) (items : LooseThenPacked F)
@@ -88,11 +94,13 @@ no_record name is = by_key (packed_key name) is
 
 -- ---- one call of `next`
 pub step : {F : Type 0} (tree : Tree) (start now : LooseThenPacked F) (name : List ℕ) (rest : List (List ℕ)) (item : Result Reference Error) → now.search ≡ start.search → now.names ≡ name ∷ rest → left_in tree now ≡ left_in tree start
-    → TellsName name (reads_in tree start.search name) (Some item) → GivesNext (left_in tree start) (Some item) (left_in {F = F} tree (record { search = now.search; names = rest }))
+    → TellsName name (reads_in tree start.search name) (Some item) → GivesNext (reads_in tree start.search) (left_in tree start) (Some item) (left_in {F = F} tree (record { search = now.search; names = rest }))
 step {F} tree start now name rest item same names left told =
-    gives_from (left_in tree start) (left_in tree now) (left_in {F = F} tree (record { search = now.search; names = rest })) (Some item) left
-    (subst (λ (ns : List (List ℕ)). GivesNext (mets_of (reads_in tree now.search) ns) (Some item) (mets_of (reads_in tree now.search) rest)) (sym names)
-    (given (reads_in tree now.search) name rest item (subst (λ s. TellsName name (reads_in tree s name) (Some item)) (sym same) told)))
+    let after = left_in {F = F} tree (record { search = now.search; names = rest }) in
+    gives_from (reads_in tree start.search) (left_in tree start) (left_in tree now) after (Some item) left
+    (subst (λ s. GivesNext (reads_in tree s) (left_in tree now) (Some item) after) same
+    (subst (λ (ns : List (List ℕ)). GivesNext (reads_in tree now.search) (mets_of (reads_in tree now.search) ns) (Some item) (mets_of (reads_in tree now.search) rest)) (sym names)
+    (given (reads_in tree now.search) name rest item (subst (λ s. TellsName name (reads_in tree s name) (Some item)) (sym same) told))))
 
 pub told_found : (name : List ℕ) (r : Reading) (found : Reference) → TellsReading name r (Ok (Some found)) → TellsName name r (Some (Ok found))
 told_found name r found (same, reads) = (sym same, reads)

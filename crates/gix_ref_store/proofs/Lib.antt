@@ -7,6 +7,8 @@ pub mod Descents
 pub mod WalkSteps
 pub mod GatherLemmas
 pub mod ListingLemmas
+pub mod FaultLemmas
+pub mod LogLemmas
 pub mod ItemLemmas
 pub mod FollowLemmas
 pub mod PeelLemmas

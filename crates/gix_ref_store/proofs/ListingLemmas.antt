@@ -19,12 +19,12 @@ use Rattle.gix_ref_store.specs.Walks.{has, BringsAsked, GathersPlaces}
 there_none : (r : Reading) → is_there r ≡ true → r ≢ Absent
 there_none Absent is e = cc
 there_none (Stands p q) is e = cc
-there_none Faulty is e = cc
+there_none (Faulty why) is e = cc
 
 none_there : (r : Reading) → (r ≡ Absent → ⊥) → is_there r ≡ true
 none_there Absent h = absurd (h refl)
 none_there (Stands p q) h = refl
-none_there Faulty h = refl
+none_there (Faulty why) h = refl
 
 or_true : (b : Bool) → (b || true) ≡ true
 or_true true = refl

@@ -3,19 +3,22 @@ use Rattle.std.proofs.Common.{◌≡◌, ◌∙◌, ◌⊎◌, inl, inr, sym, ap
 use Rattle.std.specs.Prelude.{◌↔◌, IsTrue, not, is_some}
 use Rattle.std.specs.List.{Contains}
 use Rattle.std.proofs.lemmas.List.Elements.{Contains-append_left, Contains-append_cases, Contains-append_right, Contains-push, Contains-push_cases}
-use Rattle.gix_object_lines.specs.NameTest.{begins}
 use Rattle.gix_ref_file.specs.Tree.{Tree}
 use Rattle.gix_ref_name.specs.Targets.{Points, ToName}
-use Rattle.gix_ref_store.specs.Places.{Base}
-use Rattle.gix_ref_store.specs.Readings.{Reading, Faulty, Stands, Met, reading_among, packed_text_in}
+use Rattle.gix_ref_store.specs.Readings.{Reading, Fault, Faulty, Stands, Met, reading_among, packed_text_in}
 use Rattle.gix_ref_store.specs.Finds.{met_of}
-use Rattle.gix_ref_store.specs.Listings.{IsListing, is_listed}
+use Rattle.gix_ref_store.specs.Listings.{IsListing, all_names}
 use Rattle.gix_ref_store.specs.Pristine.{SomeStands, IsPristine, head_in}
+use Rattle.gix_ref_store.specs.Stores.{base_of}
+use Rattle.gix_ref_store.specs.declared.store.file.Store.{Store}
 use Rattle.gix_ref_store.specs.declared.reference.Reference.{Reference}
+
+abbrev pub CantBeRead : Reading → Type 0
+CantBeRead r = (why : Fault) × (r ≡ Faulty why)
 
 -- what was passed by can't be read, and the rest is still to come
 pub record Passed (out left : List Met) : Type 0 where
-  pub gone : (met : Met) → Contains out met → Contains left met ⊎ (met.reading ≡ Faulty)
+  pub gone : (met : Met) → Contains out met → Contains left met ⊎ CantBeRead met.reading
   pub here : (met : Met) → Contains left met → Contains out met
 
 pub passed_none : (out : List Met) → Passed out out
@@ -35,20 +38,21 @@ first_or first met rest is = by_case (Contains-append_cases (first ∷ []) rest 
     by_case (inl one) = at_first (Contains-push_cases [] first met one)
     by_case (inr later) = inr later
 
-pub passed_on : (out left after : List Met) (name : List ℕ) → Passed out left → left ≡ record { name = name; reading = Faulty } ∷ after → Passed out after
-passed_on out left after name passed is = record {
+pub passed_on : (out left after : List Met) (name : List ℕ) (why : Fault) → Passed out left → left ≡ record { name = name; reading = Faulty why } ∷ after
+    → Passed out after
+passed_on out left after name why passed is = record {
   gone = λ met there. by_case met (passed.gone met there);
   here = λ met there. passed.here met (subst (λ (l : List Met). Contains l met) (sym is) (Contains-append_right (first ∷ []) after met there));
 }
   where
     first : Met
-    first = record { name = name; reading = Faulty }
+    first = record { name = name; reading = Faulty why }
 
-    by_first : (met : Met) → (first ≡ met) ⊎ Contains after met → Contains after met ⊎ (met.reading ≡ Faulty)
-    by_first met (inl same) = inr (sym (ap (λ (m : Met). m.reading) same))
+    by_first : (met : Met) → (first ≡ met) ⊎ Contains after met → Contains after met ⊎ CantBeRead met.reading
+    by_first met (inl same) = inr (why, sym (ap (λ (m : Met). m.reading) same))
     by_first met (inr later) = inl later
 
-    by_case : (met : Met) → Contains left met ⊎ (met.reading ≡ Faulty) → Contains after met ⊎ (met.reading ≡ Faulty)
+    by_case : (met : Met) → Contains left met ⊎ CantBeRead met.reading → Contains after met ⊎ CantBeRead met.reading
     by_case met (inr faulty) = inr faulty
     by_case met (inl there) = by_first met (first_or first met after (subst (λ (l : List Met). Contains l met) is there))
 
@@ -64,26 +68,26 @@ pub none_stands : (read : List ℕ → Reading) (asked : List ℕ → Bool) (out
 none_stands read asked out left listing passed none (name, points, peeled, so, reads) =
     by_case (passed.gone (record { name = name; reading = Stands points peeled }) ((listing.each name (Stands points peeled)).1 (so, reads, λ e. cc)))
   where
-    by_case : Contains left (record { name = name; reading = Stands points peeled }) ⊎ (Stands points peeled ≡ Faulty) → ⊥
+    by_case : Contains left (record { name = name; reading = Stands points peeled }) ⊎ CantBeRead (Stands points peeled) → ⊥
     by_case (inl there) = none_in (record { name = name; reading = Stands points peeled }) (subst (λ (l : List Met). Contains l (record { name = name; reading = Stands points peeled })) none there)
-    by_case (inr same) = cc
+    by_case (inr (why, same)) = cc
 
 -- ---- the whole answer
-module _ (b : Base) (composes : Bool) (tree : Tree) (branch : List ℕ) where
-  never : (IsPristine b composes tree branch → ⊥) → IsTrue false ↔ IsPristine b composes tree branch
+module _ {F : Type 0} (store : Store F) (tree : Tree) (branch : List ℕ) where
+  never : (IsPristine store tree branch → ⊥) → IsTrue false ↔ IsPristine store tree branch
   never isnt = (λ so. let z : ⊥ = cc in absurd z, λ is. absurd (isnt is))
 
   none_packed : (text : Option (List ℕ)) → is_some text ≡ false → text ≡ None
   none_packed None h = refl
   none_packed (Some text) h = let z : ⊥ = cc in absurd z
 
-  pub by_loose : (points : Points) (headed packed used : Bool) → head_in b tree ≡ Stands points None → IsTrue headed ↔ (points ≡ ToName branch) → headed ≡ true → packed ≡ is_some (packed_text_in b tree) → packed ≡ false
-      → IsTrue used ↔ SomeStands (reading_among b tree []) (is_listed composes (begins [])) → IsTrue (not used) ↔ IsPristine b composes tree branch
+  pub by_loose : (points : Points) (headed packed used : Bool) → head_in (base_of store) tree ≡ Stands points None → IsTrue headed ↔ (points ≡ ToName branch) → headed ≡ true → packed ≡ is_some (packed_text_in (base_of store) tree) → packed ≡ false
+      → IsTrue used ↔ SomeStands (reading_among (base_of store) tree []) (all_names store) → IsTrue (not used) ↔ IsPristine store tree branch
   by_loose points headed packed true is told so records none some = never (λ p. p.alone (some.0 refl))
   by_loose points headed packed false is told so records none some = (
     λ _. record {
       head = is ∙ ap (λ (q : Points). Stands q None) (told.0 so);
-      unpacked = none_packed (packed_text_in b tree) (sym records ∙ none);
+      unpacked = none_packed (packed_text_in (base_of store) tree) (sym records ∙ none);
       alone = λ there. let z : false ≡ true = some.1 there in let y : ⊥ = cc in y;
     },
     λ _. refl,

@@ -14,7 +14,7 @@ use Rattle.gix_ref_format.specs.declared.packed.buffer.Buffer.{Buffer}
 use Rattle.gix_ref_format.specs.declared.packed.buffer.Error.{Error as OpenError}
 use Rattle.gix_ref_format.specs.declared.packed.buffer.Error.TheVariants.{Io}
 use Rattle.gix_ref_store.specs.Places.{Base}
-use Rattle.gix_ref_store.specs.Readings.{Reading, Stands, Absent, Faulty, Met, first_met, IsFaulty, read_by, reading, reading_among, packed_text_in}
+use Rattle.gix_ref_store.specs.Readings.{Reading, Stands, Absent, Faulty, InFile, Met, first_met, IsFaulty, read_by, reading, reading_among, packed_text_in}
 use Rattle.gix_ref_store.specs.declared.reference.Reference.{Reference}
 use Rattle.gix_ref_store.specs.declared.store.file.find.Error.{Error}
 use Rattle.gix_ref_store.specs.declared.store.file.find.Error.TheVariants.{ReadFileContents, ReferenceCreation, PackedOpen, Memory}
@@ -39,7 +39,7 @@ records_in (Some buffer) = kept buffer.now
 
 -- why a lookup gives up that meets this name first
 abbrev pub LookupFault : Option Met → Error → Type 0
-LookupFault met (ReferenceCreation error) = IsFaulty met
+LookupFault met (ReferenceCreation error) = IsFaulty (InFile error) met
 LookupFault met (PackedOpen error) = ⊥
 LookupFault met ReadFileContents = Unit {0}
 LookupFault met Memory = Unit {0}
@@ -54,14 +54,14 @@ pub record PackedFault (b : Base) (tree : Tree) (names : List (List ℕ)) (error
 
 -- the same of a lookup that opens the packed records of the tree
 abbrev pub FindFault : Base → Tree → List (List ℕ) → Option Met → Error → Type 0
-FindFault b tree names met (ReferenceCreation error) = IsFaulty met
+FindFault b tree names met (ReferenceCreation error) = IsFaulty (InFile error) met
 FindFault b tree names met (PackedOpen error) = PackedFault b tree names error
 FindFault b tree names met ReadFileContents = Unit {0}
 FindFault b tree names met Memory = Unit {0}
 
 -- the same before the names are known
 abbrev pub OpenedFault : Base → Tree → Option Met → Error → Type 0
-OpenedFault b tree met (ReferenceCreation error) = IsFaulty met
+OpenedFault b tree met (ReferenceCreation error) = IsFaulty (InFile error) met
 OpenedFault b tree met (PackedOpen error) = FileFault b.kind (packed_text_in b tree) error
 OpenedFault b tree met ReadFileContents = Unit {0}
 OpenedFault b tree met Memory = Unit {0}
@@ -90,7 +90,7 @@ OnExisting absent fault (existing.Find error) = fault error
 abbrev pub TellsReading : List ℕ → Reading → Result (Option Reference) Error → Type 0
 TellsReading name reading (Ok None) = reading ≡ Absent
 TellsReading name reading (Ok (Some r)) = (r.name ≡ name) × (reading ≡ reading_of r)
-TellsReading name reading (Err (ReferenceCreation error)) = reading ≡ Faulty
+TellsReading name reading (Err (ReferenceCreation error)) = reading ≡ Faulty (InFile error)
 TellsReading name reading (Err (PackedOpen error)) = ⊥
 TellsReading name reading (Err ReadFileContents) = Unit {0}
 TellsReading name reading (Err Memory) = Unit {0}
@@ -99,7 +99,7 @@ TellsReading name reading (Err Memory) = Unit {0}
 abbrev pub TellsFile : Kind → Option (List ℕ) → Result (Option Target) Error → Type 0
 TellsFile kind text (Ok None) = (other : Reading) → read_by kind text other ≡ other
 TellsFile kind text (Ok (Some target)) = (other : Reading) → read_by kind text other ≡ Stands (target_view target) None
-TellsFile kind text (Err (ReferenceCreation error)) = (other : Reading) → read_by kind text other ≡ Faulty
+TellsFile kind text (Err (ReferenceCreation error)) = (other : Reading) → read_by kind text other ≡ Faulty (InFile error)
 TellsFile kind text (Err (PackedOpen error)) = ⊥
 TellsFile kind text (Err ReadFileContents) = Unit {0}
 TellsFile kind text (Err Memory) = Unit {0}

@@ -4,6 +4,7 @@ use Rattle.gix_object_lines.specs.NameTest.{begins}
 use Rattle.gix_ref_file.specs.Tree.{is_path}
 use Rattle.gix_ref_store.specs.declared.options.Options.{Options}
 use Rattle.gix_ref_store.specs.declared.store.file.Store.{Store}
+use Rattle.gix_ref_store.specs.declared.store.file.init.Refused.{Refused}
 use Rattle.gix_ref_store.specs.declared.store.file.init.FolderError.{FolderError}
 use Rattle.gix_ref_store.specs.declared.store.file.init.FolderError.TheVariants.{NoPath, Nested}
 
@@ -49,3 +50,7 @@ pub record IsStoreOf {F : Type 0} (files : F) (git : List ℕ) (common : Option 
 abbrev pub IsFolderFault : List ℕ → Option (List ℕ) → FolderError → Type 0
 IsFolderFault git common NoPath = IsFalse (are_clean git common)
 IsFolderFault git common Nested = IsTrue (are_clean git common) × IsFalse (are_unnested git common)
+
+-- the files come back, with why they are refused
+abbrev pub IsRefused : {F : Type 0} → F → List ℕ → Option (List ℕ) → Refused F → Type 0
+IsRefused files git common refused = (refused.files ≡ files) × IsFolderFault git common refused.error

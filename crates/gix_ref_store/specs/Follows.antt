@@ -1,5 +1,5 @@
 -- Where symbolic references lead: a chain of readings.
-use Rattle.std.specs.Prelude.{ℕ, zero, suc, ◌≡◌, Bool, List, [], ◌∷◌, ◌++◌, Option, Some, None, option_map, Result, Ok, Err, bytes_eq, if◌then◌else◌}
+use Rattle.std.specs.Prelude.{ℕ, zero, suc, ◌≡◌, Bool, List, [], ◌∷◌, ◌++◌, Option, Some, None, option_map, Result, Ok, Err, MatchResult, bytes_eq, if◌then◌else◌}
 use Rattle.std.specs.List.{list_any}
 use Rattle.gix_hash.specs.Id.{Id, id_of}
 use Rattle.gix_hash.specs.declared.object_id.ObjectId.{ObjectId}
@@ -10,7 +10,7 @@ use Rattle.gix_ref_format.specs.declared.packed.buffer.Error.{Error as OpenError
 use Rattle.gix_ref_store.specs.Finds as finds
 use Rattle.gix_ref_store.specs.Finds.{reading_of, OnExisting}
 use Rattle.gix_ref_store.specs.Places.{Base}
-use Rattle.gix_ref_store.specs.Readings.{Reading, Stands, Absent, Faulty, packed_text_in}
+use Rattle.gix_ref_store.specs.Readings.{Reading, Fault, InFile, Stands, Absent, Faulty, packed_text_in}
 use Rattle.gix_ref_store.specs.declared.reference.Reference.{Reference}
 use Rattle.gix_ref_store.specs.declared.store.file.find.Error.{Error as FindError}
 use Rattle.gix_ref_store.specs.declared.store.file.find.Error.TheVariants as find
@@ -19,13 +19,13 @@ use Rattle.gix_ref_store.specs.declared.store.file.follow.Error.{Error}
 use Rattle.gix_ref_store.specs.declared.store.file.follow.Error.TheVariants.{Follow, Cycle, DepthLimitExceeded, Memory}
 
 -- The chain ends at a name that points to an object, with the peeled id told of it; or it meets a name again, is too long, or
--- leads to a name that isn't there or can't be read.
+-- leads to a name that isn't there or can't be read, for this reason.
 pub data Followed : Type 0 where
   Ends : List ℕ → Id → Option Id → Followed
   Cycles : Followed
   TooDeep : Followed
   Dangles : Followed
-  Breaks : Followed
+  Breaks : Fault → Followed
 
 abbrev pub is_among : List (List ℕ) → List ℕ → Bool
 is_among seen name = list_any (λ other. bytes_eq other name) seen
@@ -33,7 +33,7 @@ is_among seen name = list_any (λ other. bytes_eq other name) seen
 -- from a name and what it reads as, over at most so many other names, of which some were met
 abbrev pub follow : (List ℕ → Reading) → ℕ → List (List ℕ) → List ℕ → Reading → Followed
 follow read left seen from Absent = Dangles
-follow read left seen from Faulty = Breaks
+follow read left seen from (Faulty why) = Breaks why
 follow read left seen from (Stands (ToObject id) peeled) = Ends from id peeled
 follow read zero seen from (Stands (ToName name) peeled) = if is_among seen name then Cycles else TooDeep
 follow read (suc left) seen from (Stands (ToName name) peeled) =
@@ -61,23 +61,31 @@ IsGiven error = ⊥
 abbrev pub CantOpen : Base → Tree → OpenError → Type 0
 CantOpen b tree error = FileFault b.kind (packed_text_in b tree) error
 
--- why a name isn't read
-abbrev pub ReadFault : (OpenError → Type 0) → Type 0 → FindError → Type 0
-ReadFault Unopened faulty (find.ReferenceCreation error) = faulty
-ReadFault Unopened faulty (find.PackedOpen error) = Unopened error
-ReadFault Unopened faulty find.ReadFileContents = Unit {0}
-ReadFault Unopened faulty find.Memory = Unit {0}
+-- why a name isn't read, where `Broken` says why it can't be
+abbrev pub ReadFault : (OpenError → Type 0) → (Fault → Type 0) → FindError → Type 0
+ReadFault Unopened Broken (find.ReferenceCreation error) = Broken (InFile error)
+ReadFault Unopened Broken (find.PackedOpen error) = Unopened error
+ReadFault Unopened Broken find.ReadFileContents = Unit {0}
+ReadFault Unopened Broken find.Memory = Unit {0}
+
+-- what is told of a name that must stand
+abbrev pub TellsExisting : (OpenError → Type 0) → (List ℕ → Reading) → List ℕ → Result Reference ExistingError → Type 0
+TellsExisting Unopened read name result =
+    MatchResult result (λ r. (r.name ≡ name) × (read name ≡ reading_of r))
+    (OnExisting (read name ≡ Absent) (ReadFault Unopened (λ why. read name ≡ Faulty why)))
 
 -- the reference that a target names: none where it is an object
 abbrev pub FollowsTo : (OpenError → Type 0) → (List ℕ → Reading) → Points → Option (Result Reference ExistingError) → Type 0
 FollowsTo Unopened read target None = IsObject target
 FollowsTo Unopened read target (Some (Ok r)) = (target ≡ ToName r.name) × (read r.name ≡ reading_of r)
 FollowsTo Unopened read target (Some (Err error)) =
-    (name : List ℕ) × (target ≡ ToName name) × OnExisting (read name ≡ Absent) (ReadFault Unopened (read name ≡ Faulty)) error
+    (name : List ℕ) × (target ≡ ToName name)
+    × OnExisting (read name ≡ Absent) (ReadFault Unopened (λ why. read name ≡ Faulty why)) error
 
 -- why no object is reached
 abbrev pub FollowFault : (OpenError → Type 0) → Followed → Error → Type 0
-FollowFault Unopened followed (Follow error) = OnExisting (followed ≡ Dangles) (ReadFault Unopened (followed ≡ Breaks)) error
+FollowFault Unopened followed (Follow error) =
+    OnExisting (followed ≡ Dangles) (ReadFault Unopened (λ why. followed ≡ Breaks why)) error
 FollowFault Unopened followed Cycle = followed ≡ Cycles
 FollowFault Unopened followed DepthLimitExceeded = followed ≡ TooDeep
 FollowFault Unopened followed Memory = Unit {0}

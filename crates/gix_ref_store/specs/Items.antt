@@ -5,7 +5,7 @@ use Rattle.gix_ref_file.specs.Tree.{Tree}
 use Rattle.gix_ref_format.specs.Packed.{Record}
 use Rattle.gix_ref_format.specs.PackedKept.{kept}
 use Rattle.gix_ref_format.specs.declared.packed.buffer.Buffer.{Buffer}
-use Rattle.gix_ref_store.specs.Readings.{Reading, Stands, Absent, Faulty, Met}
+use Rattle.gix_ref_store.specs.Readings.{Reading, Stands, Absent, Faulty, InFile, Met}
 use Rattle.gix_ref_store.specs.Finds.{met_of, reading_of}
 use Rattle.gix_ref_store.specs.Searches.{reads_in}
 use Rattle.gix_ref_store.specs.Walks.{MayTell}
@@ -17,7 +17,7 @@ use Rattle.gix_ref_store.specs.declared.store.file.iter.LooseThenPacked.{LooseTh
 abbrev pub is_there : Reading → Bool
 is_there Absent = false
 is_there (Stands points peeled) = true
-is_there Faulty = true
+is_there (Faulty why) = true
 
 abbrev pub met_by : (List ℕ → Reading) → List ℕ → Met
 met_by read name = record { name = name; reading = read name }
@@ -37,13 +37,15 @@ kept_in (Some buffer) = kept buffer
 
 -- The next of what is to come, and the rest stays; nothing at the end. A failed reading or refused memory takes the next, or
 -- none, where it concerns a name that has no reference.
-abbrev pub GivesNext : List Met → Option (Result Reference Error) → List Met → Type 0
-GivesNext left None after = (left ≡ []) × (after ≡ [])
-GivesNext left (Some (Ok r)) after = left ≡ met_of r ∷ after
-GivesNext left (Some (Err (ReferenceCreation name reason))) after = left ≡ record { name = name; reading = Faulty } ∷ after
-GivesNext left (Some (Err (ReadFileContents name))) after = (left ≡ after) ⊎ ((r : Reading) × (left ≡ record { name = name; reading = r } ∷ after))
-GivesNext left (Some (Err Memory)) after = (left ≡ after) ⊎ ((met : Met) × (left ≡ met ∷ after))
-GivesNext left (Some (Err Traversal)) after = ⊥
+abbrev pub GivesNext : (List ℕ → Reading) → List Met → Option (Result Reference Error) → List Met → Type 0
+GivesNext read left None after = (left ≡ []) × (after ≡ [])
+GivesNext read left (Some (Ok r)) after = left ≡ met_of r ∷ after
+GivesNext read left (Some (Err (ReferenceCreation name reason))) after =
+    left ≡ record { name = name; reading = Faulty (InFile reason) } ∷ after
+GivesNext read left (Some (Err (ReadFileContents name))) after =
+    ((read name ≡ Absent) × (left ≡ after)) ⊎ ((r : Reading) × (left ≡ record { name = name; reading = r } ∷ after))
+GivesNext read left (Some (Err Memory)) after = (left ≡ after) ⊎ ((met : Met) × (left ≡ met ∷ after))
+GivesNext read left (Some (Err Traversal)) after = ⊥
 
 -- what is told of one name: nothing where it reads as absent
 abbrev pub TellsName : List ℕ → Reading → Option (Result Reference Error) → Type 0
@@ -51,7 +53,7 @@ TellsName name r None = r ≡ Absent
 TellsName name r (Some (Ok found)) = (name ≡ found.name) × (r ≡ reading_of found)
 TellsName name r (Some (Err Traversal)) = ⊥
 TellsName name r (Some (Err (ReadFileContents n))) = name ≡ n
-TellsName name r (Some (Err (ReferenceCreation n source))) = (name ≡ n) × (r ≡ Faulty)
+TellsName name r (Some (Err (ReferenceCreation n reason))) = (name ≡ n) × (r ≡ Faulty (InFile reason))
 TellsName name r (Some (Err Memory)) = Unit {0}
 
 -- what an item tells of failed readings

@@ -1,14 +1,22 @@
 -- What is told of a name's log.
 use Rattle.std.specs.Prelude.{ℕ, ◌≡◌, List, Option, Some, None}
 use Rattle.std.specs.Prelude.{reverse as reversed}
+use Rattle.gix_ref_file.specs.Tree.{Tree, node_at, bytes_of}
 use Rattle.gix_ref_file.specs.declared.files.FileError.{FileError}
 use Rattle.gix_ref_file.specs.declared.files.FileError.TheVariants as files
 use Rattle.gix_ref_format.specs.LogLine.{split_lines}
 use Rattle.gix_ref_format.specs.LogForward.{Lines}
 use Rattle.gix_ref_format.specs.LogBackward.{Stand, StandsAt}
 use Rattle.gix_ref_format.specs.declared.log.iter.error.IoError.TheVariants as io
+use Rattle.gix_ref_store.specs.Places.{log_place}
+use Rattle.gix_ref_store.specs.Stores.{base_of}
+use Rattle.gix_ref_store.specs.declared.store.file.Store.{Store}
 use Rattle.gix_ref_store.specs.declared.store.file.log.Error.{Error}
 use Rattle.gix_ref_store.specs.declared.store.file.log.Error.TheVariants.{Io, Memory}
+
+-- the bytes of a name's log in this tree
+abbrev pub log_text : {F : Type 0} → Store F → Tree → List ℕ → Option (List ℕ)
+log_text store tree name = bytes_of (node_at tree (log_place (base_of store) name))
 
 -- the lines of the log from its beginning, and nothing where there is none
 abbrev pub ReadsForward : Option (List ℕ) → Option Lines → Type 0
@@ -24,14 +32,19 @@ ReadsBackward (Some text) (Some stand) = StandsAt text stand (reversed (split_li
 ReadsBackward None (Some stand) = ⊥
 ReadsBackward (Some text) None = ⊥
 
--- a failed reading is told only where a reading may fail
+-- Why a log isn't read from its end: a failed reading is told only where a reading may fail, a short one only where readings
+-- don't tell the tree (`Untold`), and a missing buffer only where it is `Empty`.
+abbrev pub BackFault : Type 0 → Type 0 → Type 0 → Error → Type 0
+BackFault may_fail Untold Empty Memory = Unit {0}
+BackFault may_fail Untold Empty (Io (io.Reader files.Failed)) = may_fail
+BackFault may_fail Untold Empty (Io (io.Reader files.Memory)) = ⊥
+BackFault may_fail Untold Empty (Io io.Short) = Untold
+BackFault may_fail Untold Empty (Io io.NoBuffer) = Empty
+BackFault may_fail Untold Empty (Io io.LineTooLong) = ⊥
+
+-- why it isn't read from its beginning, or isn't looked for
 abbrev pub MayTell : Type 0 → Error → Type 0
-MayTell may_fail Memory = Unit {0}
-MayTell may_fail (Io (io.Reader files.Failed)) = may_fail
-MayTell may_fail (Io (io.Reader files.Memory)) = ⊥
-MayTell may_fail (Io io.Short) = Unit {0}
-MayTell may_fail (Io io.NoBuffer) = Unit {0}
-MayTell may_fail (Io io.LineTooLong) = ⊥
+MayTell may_fail error = BackFault may_fail ⊥ ⊥ error
 
 -- what is told of a failed call of files
 abbrev pub told_of : FileError → Error

@@ -6,20 +6,31 @@ use Rattle.gix_hash.specs.declared.kind.Kind.{Kind}
 use Rattle.gix_object_lines.specs.NameTest.{is_full_name}
 use Rattle.gix_ref_file.specs.Tree.{Tree, node_at, bytes_of}
 use Rattle.gix_ref_name.specs.Targets.{Points, ToObject}
-use Rattle.gix_ref_format.specs.Loose.{loose_target}
+use Rattle.gix_ref_format.specs.Loose.{loose_target, is_symbolic}
 use Rattle.gix_ref_format.specs.Packed.{Record, packed_records}
 use Rattle.gix_ref_format.specs.Lookup.{packed_key, packed_hit}
+use Rattle.gix_ref_format.specs.declared.loose.Error.{Error as LooseError}
+use Rattle.gix_ref_format.specs.declared.loose.Error.TheVariants.{Parse, RefnameValidation}
 use Rattle.gix_ref_store.specs.Places.{Base, place, packed_place}
+
+-- why a name can't be read: its file tells no target, for this reason; or the packed records can't be read
+pub data Fault : Type 0 where
+  InFile : LooseError → Fault
+  InRecords : Fault
 
 -- what a name points to, with the peeled id that its record tells; or it doesn't stand, or can't be read
 pub data Reading : Type 0 where
   Stands : Points → Option Id → Reading
   Absent : Reading
-  Faulty : Reading
+  Faulty : Fault → Reading
 
-abbrev pub loose_reading : Option Points → Reading
-loose_reading (Some points) = Stands points None
-loose_reading None = Faulty
+-- why a text tells no target: no full name follows `ref: `, or it begins with neither that nor an id
+abbrev pub text_fault : List ℕ → LooseError
+text_fault text = if is_symbolic text then RefnameValidation else Parse
+
+abbrev pub loose_reading : List ℕ → Option Points → Reading
+loose_reading text (Some points) = Stands points None
+loose_reading text None = Faulty (InFile (text_fault text))
 
 abbrev pub packed_reading : Option Record → Reading
 packed_reading (Some r) = Stands (ToObject r.target) r.peeled
@@ -27,7 +38,7 @@ packed_reading None = Absent
 
 -- the file of its own, else what the records tell
 abbrev pub read_by : Kind → Option (List ℕ) → Reading → Reading
-read_by kind (Some text) packed = loose_reading (loose_target kind text)
+read_by kind (Some text) packed = loose_reading text (loose_target kind text)
 read_by kind None packed = packed
 
 -- the text of the file of its own
@@ -51,7 +62,7 @@ records_of kind (Some text) = packed_records kind text
 -- what these records tell of a name; names of which each worktree has its own have none
 abbrev pub told_by : Option (List Record) → List ℕ → Reading
 told_by (Some records) name = packed_reading (packed_hit records name)
-told_by None name = if is_some (packed_key name) then Faulty else Absent
+told_by None name = if is_some (packed_key name) then Faulty InRecords else Absent
 
 -- what a name reads as
 abbrev pub reading : Base → Tree → List ℕ → Reading
@@ -69,13 +80,13 @@ pub record Met : Type 0 where
 abbrev pub met_or : List ℕ → Reading → Option Met → Option Met
 met_or name Absent later = later
 met_or name (Stands points peeled) later = Some (record { name = name; reading = Stands points peeled })
-met_or name Faulty later = Some (record { name = name; reading = Faulty })
+met_or name (Faulty why) later = Some (record { name = name; reading = Faulty why })
 
 -- the first of the names that stands or can't be read
 abbrev pub first_met : (List ℕ → Reading) → List (List ℕ) → Option Met
 first_met read [] = None
 first_met read (name ∷ names) = met_or name (read name) (first_met read names)
 
--- that one can't be read
-abbrev pub IsFaulty : Option Met → Type 0
-IsFaulty met = (name : List ℕ) × (met ≡ Some (record { name = name; reading = Faulty }))
+-- that one can't be read, for this reason
+abbrev pub IsFaulty : Fault → Option Met → Type 0
+IsFaulty why met = (name : List ℕ) × (met ≡ Some (record { name = name; reading = Faulty why }))

@@ -1,11 +1,10 @@
 //! References that own what they hold.
 
-ghost use Rattle.std.specs.Prelude.{◌≡◌, ◌++◌, ℕ, List, None, IsFalse, IfOk, IfErr, MatchOption, MatchResult};
-ghost use Rattle.gix_hash.specs.Id.{id_of};
+ghost use Rattle.std.specs.Prelude.{◌≡◌, ◌++◌, ℕ, List, None, IsFalse, IfOk, OnOk, OnErr, MatchOption};
 ghost use Rattle.gix_object_lines.specs.NameTest.{is_full_name};
 ghost use Rattle.gix_ref_name.specs.Names.{name_of};
-ghost use Rattle.gix_ref_name.specs.Namespaces.{outside_of};
-ghost use Rattle.gix_ref_name.specs.Targets.{ToObject, kind_of, target_view};
+ghost use Rattle.gix_ref_name.specs.Targets.{kind_of, target_view};
+ghost use Rattle.gix_ref_store.specs.References.{IsOfRecord, IsOutside};
 ghost use Rattle.gix_ref_store.specs.Stripped.{points_outside};
 
 use gix_hash::ObjectId;
@@ -27,16 +26,13 @@ pub struct Reference {
 
 impl Reference {
     /// The reference that a packed record holds, with a copy of its name.
-    pub fn from_packed(
-        alloc: Global,
-        record: packed::Reference<'_>,
-    ) -> Result<Reference, AllocError>
-        ensures { IfOk result (λ r. (r.name ≡ name_of record.entry.name) × (target_view r.target ≡ ToObject (id_of record.entry.target)) × (r.peeled ≡ record.entry.object)) }
+    pub fn from_packed(alloc: Global, held: packed::Reference<'_>) -> Result<Reference, AllocError>
+        ensures { IfOk result (IsOfRecord held.entry) }
     {
         Ok(Reference {
-            name: record.name.to_owned(alloc)?,
-            target: Target::Object(record.target),
-            peeled: record.object,
+            name: held.name.to_owned(alloc)?,
+            target: Target::Object(held.target),
+            peeled: held.object,
         })
     }
 
@@ -49,7 +45,8 @@ impl Reference {
 
     /// The name without the namespace's front; `None` where it doesn't begin with the front, or what is left is no full name.
     pub fn name_without_namespace(&self, namespace: &Namespace) -> Option<FullNameRef<'_>>
-        ensures { MatchOption result ((rest : List ℕ) → self.now.name ≡ namespace.now ++ rest → IsFalse (is_full_name rest))
+        ensures { MatchOption result
+            ((rest : List ℕ) → self.now.name ≡ namespace.now ++ rest → IsFalse (is_full_name rest))
             (λ name. self.now.name ≡ namespace.now ++ name_of name) }
     {
         let rest = behind(self.name.to_path(), namespace.as_bytes())?;
@@ -66,9 +63,8 @@ impl Reference {
         alloc: Global,
         namespace: &Namespace,
     ) -> Result<(), AllocError>
-        ensures stripped { MatchResult result (λ _. (self.new.name ≡ outside_of namespace.now self.old.name)
-            × (target_view self.new.target ≡ points_outside namespace.now (target_view self.old.target)) × (self.new.peeled ≡ self.old.peeled))
-            (λ _. self.new ≡ self.old) }
+        ensures stripped { OnOk result (IsOutside namespace.now self.old self.new) }
+        ensures refused { OnErr result (self.new ≡ self.old) }
     {
         let name = self.name.strip_namespace(alloc, namespace)?;
         let target = stripped(alloc, &self.target, namespace)?;
@@ -80,7 +76,8 @@ impl Reference {
 
 // The target without the namespace's front.
 fn stripped(alloc: Global, target: &Target, namespace: &Namespace) -> Result<Target, AllocError>
-    ensures { MatchResult result (λ stripped. target_view stripped ≡ points_outside namespace.now (target_view target.now)) (λ _. Unit {0}) }
+    ensures { IfOk result (λ stripped.
+        target_view stripped ≡ points_outside namespace.now (target_view target.now)) }
 {
     match target {
         Target::Object(id) => Ok(Target::Object(*id)),

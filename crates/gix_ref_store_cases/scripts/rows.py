@@ -390,6 +390,21 @@ marks.find("o\u0308", "refs/heads/o\u0308")
 marks.ask("find", "o\u0308", "none", "+")
 marks.ask("find", "ö", "none", "+")
 
+# The same where a record has the name, and not a file.
+marks.git("pack-refs", "--all")
+assert not os.path.exists(marks.path("refs/heads/o\u0308"))
+for prefix in ["", "refs/heads/o", "refs/heads/o\u0308", "refs/heads/ö"]:
+    for folder, names in [("-", marks.names()), ("+", known)]:
+        front = unicodedata.normalize("NFC", prefix) if folder == "+" else prefix
+        marks.ask("prefixed", prefix, "".join(marks.shown(name) + ";" for name in names if name.startswith(front)), folder)
+marks.ask("within", "refs/heads/o\u0308", "", "+")
+for word in ["o\u0308", "refs/heads/o\u0308"]:
+    marks.find(word, "refs/heads/o\u0308")
+    marks.find(word, "refs/heads/o\u0308", "packed")
+    for operation in ["find", "packed", "loose"]:
+        for asked in [word, unicodedata.normalize("NFC", word)]:
+            marks.ask(operation, asked, "none", "+")
+
 here = os.path.dirname(os.path.abspath(__file__))
 with open(os.path.join(here, "../stdin"), "w") as file:
     file.writelines(asked + "\n" for asked, _ in rows)

@@ -1,6 +1,6 @@
 //! Files in memory, from a line's text of them.
 
-use gix_ref_file::{FileError, Files, MemoryFiles};
+use gix_ref_file::{FileError, Files, MemoryFiles, Place};
 use std::alloc::{AllocError, Global};
 
 /// The files of this text: a path, `=` and the bytes in hexadecimal digits, with `;` between files. `None` where it tells none.
@@ -27,8 +27,8 @@ pub fn read(alloc: Global, text: &str) -> Result<Option<MemoryFiles>, AllocError
 // Makes the folders that a path stands in, as far as they don't stand.
 fn make_folders(alloc: Global, files: &mut MemoryFiles, path: &[u8]) -> Result<(), FileError> {
     for (i, byte) in path.iter().enumerate() {
-        if *byte == b'/' && files.list(alloc, &path[..i])?.is_empty() {
-            let _ = files.make_folder(alloc, &path[..i]);
+        if *byte == b'/' && files.kind_of(&path[..i])? == Place::Absent {
+            files.make_folder(alloc, &path[..i])?;
         }
     }
     Ok(())

@@ -72,7 +72,8 @@ impl<F: Files> Store<F> {
 
     /// The folder that all worktrees share, where it is another; `None` where it is the worktree's own.
     pub fn common_dir(&self) -> Option<&[u8]>
-        ensures { option_map (λ folder. folder.now) result ≡ option_map (λ folder. folder.items) self.now.common_dir }
+        ensures { option_map (λ folder. folder.now) result
+            ≡ option_map (λ folder. folder.items) self.now.common_dir }
     {
         match &self.common_dir {
             Some(folder) => Some(folder.as_slice()),

@@ -42,7 +42,8 @@ impl Asked<'_> {
 
     // Whether names that are asked for may stand at this path of a file or below it.
     pub(crate) fn may_stand_at(self, alloc: Global, path: &[u8]) -> Result<bool, AllocError>
-        ensures { IfOk result (λ may. IsTrue (may_lead_to path.now self.entry.front.now) → IsTrue may) }
+        ensures { IfOk result (λ may.
+            IsTrue (may_lead_to path.now self.entry.front.now) → IsTrue may) }
     {
         if leads_to(path, self.front) {
             return Ok(true);
@@ -63,7 +64,8 @@ impl Asked<'_> {
     ) -> Result<(), Error>
         ensures kept { Keeps names.old.keys names.new.keys }
         ensures asked { BringsAsked (is_asked self.entry) names.old.keys names.new.keys }
-        ensures there { IsTrue (is_full_name path.items) → IsTrue (is_asked self.entry path.items) → OnOk result (IsTrue (has names.new.keys path.items)) }
+        ensures there { IsTrue (is_full_name path.items) → IsTrue (is_asked self.entry path.items)
+            → OnOk result (IsTrue (has names.new.keys path.items)) }
         ensures failed { IfErr result (MayStop ⊥) }
     {
         let name = as_known(alloc, self.composes, ByteString::new(path))?;

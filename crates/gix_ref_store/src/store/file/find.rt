@@ -1,12 +1,12 @@
 //! Lookups of references.
 
-ghost use Rattle.std.specs.Prelude.{◌≡◌, ◌&&◌, [], not, is_some, Some, None, MatchResult, option_map};
+ghost use Rattle.std.specs.Prelude.{◌≡◌, ◌&&◌, not, is_some, IfErr};
 ghost use Rattle.gix_ref_name.specs.Names.{part_of};
 ghost use Rattle.gix_ref_format.specs.Lookup.{lookup_names, is_complete, packed_key};
-ghost use Rattle.gix_ref_store.specs.Readings.{reading, reading_among, first_met};
+ghost use Rattle.gix_ref_store.specs.Finds.{FindsOpened, MayTell, OnExisting};
+ghost use Rattle.gix_ref_store.specs.Lookups.{reads_with, FindsNames, FindsWord, FindsWith, FindsLoose, FindsOne, FindsOneWith, FindsOneLoose};
 ghost use Rattle.gix_ref_store.specs.Searches.{Finds};
-ghost use Rattle.gix_ref_store.specs.Stores.{base_of, names_of};
-ghost use Rattle.gix_ref_store.specs.Finds.{met_of, loose_met, records_in, LookupFault, FindFault, FindsOpened, MayTell, OnExisting};
+ghost use Rattle.gix_ref_store.specs.Stores.{base_of};
 ghost use Rattle.gix_ref_store.specs.declared.store.file.find.Error.TheVariants.{Memory};
 
 use crate::reference::Reference;
@@ -69,10 +69,9 @@ impl<F: Files> Store<F> {
         alloc: Global,
         name: PartialNameRef<'_>,
     ) -> Result<Option<Reference>, Error>
-        ensures found { F.is_honest self.now.files → let met = first_met (reading (base_of self.now) (F.history self.now.files).tree) (names_of self.now (part_of name.entry)) in
-            MatchResult result (λ found. option_map met_of found ≡ met)
-            (FindFault (base_of self.now) (F.history self.now.files).tree (names_of self.now (part_of name.entry)) met) }
-        ensures failed { MatchResult result (λ _. Unit {0}) (MayTell F.reading_may_fail) }
+        ensures found { F.is_honest self.now.files
+            → FindsWord self.now (F.history self.now.files).tree (part_of name.entry) result }
+        ensures failed { IfErr result (MayTell F.reading_may_fail) }
     {
         let word = self.known(alloc, name.to_partial_path())?;
         self.find_word(alloc, word.as_bytes())
@@ -80,10 +79,10 @@ impl<F: Files> Store<F> {
 
     // The reference that a word stands for, as the store knows words.
     fn find_word(&self, alloc: Global, word: &[u8]) -> Result<Option<Reference>, Error>
-        ensures found { F.is_honest self.now.files → let met = first_met (reading (base_of self.now) (F.history self.now.files).tree) (lookup_names word.now) in
-            MatchResult result (λ found. option_map met_of found ≡ met)
-            (FindFault (base_of self.now) (F.history self.now.files).tree (lookup_names word.now) met) }
-        ensures failed { MatchResult result (λ _. Unit {0}) (MayTell F.reading_may_fail) }
+        ensures found { F.is_honest self.now.files
+            → FindsNames (base_of self.now) (F.history self.now.files).tree
+            (lookup_names word.now) result }
+        ensures failed { IfErr result (MayTell F.reading_may_fail) }
     {
         let loose = Search {
             alloc,
@@ -99,8 +98,10 @@ impl<F: Files> Store<F> {
 
     // The reference that a word stands for, by the packed references as they are now.
     fn find_opened(&self, alloc: Global, word: &[u8]) -> Result<Option<Reference>, Error>
-        ensures found { F.is_honest self.now.files → FindsOpened (base_of self.now) (F.history self.now.files).tree (lookup_names word.now) result }
-        ensures failed { MatchResult result (λ _. Unit {0}) (MayTell F.reading_may_fail) }
+        ensures found { F.is_honest self.now.files
+            → FindsOpened (base_of self.now) (F.history self.now.files).tree
+            (lookup_names word.now) result }
+        ensures failed { IfErr result (MayTell F.reading_may_fail) }
     {
         match self.open_packed_buffer(alloc) {
             Ok(Some(packed)) => self.find_among(alloc, word, Some(&packed)),
@@ -116,8 +117,10 @@ impl<F: Files> Store<F> {
         word: &[u8],
         packed: Option<&Buffer>,
     ) -> Result<Option<Reference>, Error>
-        ensures found { F.is_honest self.now.files → Finds (reading_among (base_of self.now) (F.history self.now.files).tree (records_in packed.entry)) (lookup_names word.now) result }
-        ensures failed { MatchResult result (λ _. Unit {0}) (MayTell F.reading_may_fail) }
+        ensures found { F.is_honest self.now.files
+            → Finds (reads_with self.now (F.history self.now.files).tree packed.entry)
+            (lookup_names word.now) result }
+        ensures failed { IfErr result (MayTell F.reading_may_fail) }
     {
         let search = Search {
             alloc,
@@ -135,9 +138,10 @@ impl<F: Files> Store<F> {
         name: PartialNameRef<'_>,
         packed: Option<&Buffer>,
     ) -> Result<Option<Reference>, Error>
-        ensures found { F.is_honest self.now.files → let met = first_met (reading_among (base_of self.now) (F.history self.now.files).tree (records_in packed.entry)) (names_of self.now (part_of name.entry)) in
-            MatchResult result (λ found. option_map met_of found ≡ met) (LookupFault met) }
-        ensures failed { MatchResult result (λ _. Unit {0}) (MayTell F.reading_may_fail) }
+        ensures found { F.is_honest self.now.files
+            → FindsWith self.now (F.history self.now.files).tree packed.entry
+            (part_of name.entry) result }
+        ensures failed { IfErr result (MayTell F.reading_may_fail) }
     {
         let word = self.known(alloc, name.to_partial_path())?;
         self.find_among(alloc, word.as_bytes(), packed)
@@ -149,9 +153,9 @@ impl<F: Files> Store<F> {
         alloc: Global,
         name: PartialNameRef<'_>,
     ) -> Result<Option<loose::Reference>, Error>
-        ensures found { F.is_honest self.now.files → let met = first_met (reading_among (base_of self.now) (F.history self.now.files).tree []) (names_of self.now (part_of name.entry)) in
-            MatchResult result (λ found. option_map loose_met found ≡ met) (LookupFault met) }
-        ensures failed { MatchResult result (λ _. Unit {0}) (MayTell F.reading_may_fail) }
+        ensures found { F.is_honest self.now.files
+            → FindsLoose self.now (F.history self.now.files).tree (part_of name.entry) result }
+        ensures failed { IfErr result (MayTell F.reading_may_fail) }
     {
         match self.try_find_packed(alloc, name, None)? {
             Some(Reference { name, target, .. }) => Ok(Some(loose::Reference { name, target })),
@@ -161,10 +165,9 @@ impl<F: Files> Store<F> {
 
     /// The reference that a name stands for, as `try_find` has it; `NotFound` where there is none.
     pub fn find(&self, alloc: Global, name: PartialNameRef<'_>) -> Result<Reference, ExistingError>
-        ensures found { F.is_honest self.now.files → let met = first_met (reading (base_of self.now) (F.history self.now.files).tree) (names_of self.now (part_of name.entry)) in
-            MatchResult result (λ r. met ≡ Some (met_of r))
-            (OnExisting (met ≡ None) (FindFault (base_of self.now) (F.history self.now.files).tree (names_of self.now (part_of name.entry)) met)) }
-        ensures failed { MatchResult result (λ _. Unit {0}) (OnExisting (Unit {0}) (MayTell F.reading_may_fail)) }
+        ensures found { F.is_honest self.now.files
+            → FindsOne self.now (F.history self.now.files).tree (part_of name.entry) result }
+        ensures failed { IfErr result (OnExisting (Unit {0}) (MayTell F.reading_may_fail)) }
     {
         match self.try_find(alloc, name) {
             Ok(found) => found.ok_or(ExistingError::NotFound),
@@ -179,9 +182,10 @@ impl<F: Files> Store<F> {
         name: PartialNameRef<'_>,
         packed: Option<&Buffer>,
     ) -> Result<Reference, ExistingError>
-        ensures found { F.is_honest self.now.files → let met = first_met (reading_among (base_of self.now) (F.history self.now.files).tree (records_in packed.entry)) (names_of self.now (part_of name.entry)) in
-            MatchResult result (λ r. met ≡ Some (met_of r)) (OnExisting (met ≡ None) (LookupFault met)) }
-        ensures failed { MatchResult result (λ _. Unit {0}) (OnExisting (Unit {0}) (MayTell F.reading_may_fail)) }
+        ensures found { F.is_honest self.now.files
+            → FindsOneWith self.now (F.history self.now.files).tree packed.entry
+            (part_of name.entry) result }
+        ensures failed { IfErr result (OnExisting (Unit {0}) (MayTell F.reading_may_fail)) }
     {
         match self.try_find_packed(alloc, name, packed) {
             Ok(found) => found.ok_or(ExistingError::NotFound),
@@ -195,9 +199,9 @@ impl<F: Files> Store<F> {
         alloc: Global,
         name: PartialNameRef<'_>,
     ) -> Result<loose::Reference, ExistingError>
-        ensures found { F.is_honest self.now.files → let met = first_met (reading_among (base_of self.now) (F.history self.now.files).tree []) (names_of self.now (part_of name.entry)) in
-            MatchResult result (λ r. met ≡ Some (loose_met r)) (OnExisting (met ≡ None) (LookupFault met)) }
-        ensures failed { MatchResult result (λ _. Unit {0}) (OnExisting (Unit {0}) (MayTell F.reading_may_fail)) }
+        ensures found { F.is_honest self.now.files
+            → FindsOneLoose self.now (F.history self.now.files).tree (part_of name.entry) result }
+        ensures failed { IfErr result (OnExisting (Unit {0}) (MayTell F.reading_may_fail)) }
     {
         match self.try_find_loose(alloc, name) {
             Ok(found) => found.ok_or(ExistingError::NotFound),

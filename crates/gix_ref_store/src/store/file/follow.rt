@@ -1,15 +1,15 @@
 //! Following symbolic references.
 
-ghost use Rattle.std.specs.Prelude.{◌≡◌, [], IfErr, IfOk, MatchResult, MatchOption, unwrap_or, option_map};
+ghost use Rattle.std.specs.Prelude.{◌≡◌, IfErr, IfSome, MatchResult, unwrap_or};
 ghost use Rattle.gix_hash.specs.Id.{id_of};
 ghost use Rattle.gix_ref_name.specs.Targets.{target_view};
-ghost use Rattle.gix_ref_store.specs.Finds.{reading_of, records_in, OnExisting};
+ghost use Rattle.gix_ref_store.specs.Finds.{reading_of, OnExisting};
 ghost use Rattle.gix_ref_store.specs.Finds as finds;
-ghost use Rattle.gix_ref_store.specs.Follows.{EndsAt, EndsBy, FollowsTo, FollowFault, ReadFault, IsGiven, CantOpen, MayTell, follow, follow_from};
-ghost use Rattle.gix_ref_store.specs.Readings.{Absent, Faulty, reading, reading_among};
+ghost use Rattle.gix_ref_store.specs.Follows.{EndsAt, EndsBy, FollowsTo, FollowFault, TellsExisting, IsGiven, CantOpen, MayTell, follow, follow_from};
+ghost use Rattle.gix_ref_store.specs.Lookups.{reads_now, reads_with};
 ghost use Rattle.gix_ref_store.specs.Searches.{reads_in};
 ghost use Rattle.gix_ref_store.specs.Stores.{base_of};
-ghost use Rattle.gix_ref_store.specs.declared.store.file.follow.Error.TheVariants.{Memory, Follow};
+ghost use Rattle.gix_ref_store.specs.declared.store.file.follow.Error.TheVariants.{Memory};
 
 use crate::reference::Reference;
 use crate::store::file::find::ExistingError;
@@ -66,9 +66,12 @@ impl Reference {
         alloc: Global,
         store: &Store<F>,
     ) -> Option<Result<Reference, ExistingError>>
-        ensures followed { F.is_honest store.now.files → let b = base_of store.now in let tree = (F.history store.now.files).tree in
-            FollowsTo (CantOpen b tree) (reading b tree) (target_view self.now.target) result }
-        ensures failed { MatchOption result (Unit {0}) (λ next. IfErr next (OnExisting (Unit {0}) (finds.MayTell F.reading_may_fail))) }
+        ensures followed { F.is_honest store.now.files
+            → let tree = (F.history store.now.files).tree in
+            FollowsTo (CantOpen (base_of store.now) tree) (reads_now store.now tree)
+            (target_view self.now.target) result }
+        ensures failed { IfSome result (λ next. IfErr next
+            (OnExisting (Unit {0}) (finds.MayTell F.reading_may_fail))) }
     {
         let Target::Symbolic(name) = &self.target else {
             return None;
@@ -85,8 +88,10 @@ impl Reference {
         packed: Option<&Buffer>,
     ) -> Option<Result<Reference, ExistingError>>
         ensures followed { F.is_honest store.now.files
-            → FollowsTo IsGiven (reading_among (base_of store.now) (F.history store.now.files).tree (records_in packed.entry)) (target_view self.now.target) result }
-        ensures failed { MatchOption result (Unit {0}) (λ next. IfErr next (OnExisting (Unit {0}) (finds.MayTell F.reading_may_fail))) }
+            → let read = reads_with store.now (F.history store.now.files).tree packed.entry in
+            FollowsTo IsGiven read (target_view self.now.target) result }
+        ensures failed { IfSome result (λ next. IfErr next
+            (OnExisting (Unit {0}) (finds.MayTell F.reading_may_fail))) }
     {
         let search = Search {
             alloc,
@@ -108,7 +113,8 @@ impl Reference {
         packed: Option<&Buffer>,
     ) -> Result<ObjectId, Error>
         ensures followed { F.is_honest store.now.files
-            → let end = follow_from (reading_among (base_of store.now) (F.history store.now.files).tree (records_in packed.entry)) self.now in
+            → let read = reads_with store.now (F.history store.now.files).tree packed.entry in
+            let end = follow_from read self.now in
             MatchResult result (λ id. EndsAt (id_of id) end) (FollowFault IsGiven end) }
         ensures failed { IfErr result (MayTell F.reading_may_fail) }
     {
@@ -130,7 +136,8 @@ impl Reference {
         packed: Option<&Buffer>,
     ) -> Result<ObjectId, Error>
         ensures followed { F.is_honest store.now.files
-            → let end = follow_from (reading_among (base_of store.now) (F.history store.now.files).tree (records_in packed.entry)) self.old in
+            → let read = reads_with store.now (F.history store.now.files).tree packed.entry in
+            let end = follow_from read self.old in
             MatchResult result (λ id. EndsBy self.new id end) (FollowFault IsGiven end) }
         ensures refused { IfErr result (λ _. self.new ≡ self.old) }
         ensures failed { IfErr result (MayTell F.reading_may_fail) }
@@ -154,9 +161,10 @@ fn named_in<F: Files>(
     store: &Store<F>,
     name: &FullName,
 ) -> Result<Reference, ExistingError>
-    ensures told { F.is_honest store.now.files → let b = base_of store.now in let tree = (F.history store.now.files).tree in
-        MatchResult result (λ r. (r.name ≡ name.now) × (reading b tree name.now ≡ reading_of r))
-        (OnExisting (reading b tree name.now ≡ Absent) (ReadFault (CantOpen b tree) (reading b tree name.now ≡ Faulty))) }
+    ensures told { F.is_honest store.now.files
+        → let tree = (F.history store.now.files).tree in
+        TellsExisting (CantOpen (base_of store.now) tree) (reads_now store.now tree) name.now
+        result }
     ensures failed { IfErr result (OnExisting (Unit {0}) (finds.MayTell F.reading_may_fail)) }
 {
     match store.open_packed_buffer(alloc) {
@@ -182,8 +190,9 @@ fn named_in<F: Files>(
 
 // The reference of a full name, which must stand.
 fn named<F: Files>(search: &Search<'_, '_, F>, name: &FullName) -> Result<Reference, ExistingError>
-    ensures told { F.is_honest search.now.store.now.files → let reading = reads_in (F.history search.now.store.now.files).tree search.now name.now in
-        MatchResult result (λ r. (r.name ≡ name.now) × (reading ≡ reading_of r)) (OnExisting (reading ≡ Absent) (ReadFault IsGiven (reading ≡ Faulty))) }
+    ensures told { F.is_honest search.now.store.now.files
+        → let read = reads_in (F.history search.now.store.now.files).tree search.now in
+        TellsExisting IsGiven read name.now result }
     ensures failed { IfErr result (OnExisting (Unit {0}) (finds.MayTell F.reading_may_fail)) }
 {
     let Ok(copy) = name.try_clone() else {
@@ -202,8 +211,10 @@ pub(crate) fn end_from<F: Files>(
     from: &Reference,
 ) -> Result<(ObjectId, Option<Reference>), Error>
     ensures followed { F.is_honest search.now.store.now.files
-        → let end = follow_from (reads_in (F.history search.now.store.now.files).tree search.now) from.now in
-        MatchResult result (λ found. EndsBy (unwrap_or found.1 from.now) found.0 end) (FollowFault IsGiven end) }
+        → let read = reads_in (F.history search.now.store.now.files).tree search.now in
+        let end = follow_from read from.now in
+        MatchResult result (λ found. EndsBy (unwrap_or found.1 from.now) found.0 end)
+        (FollowFault IsGiven end) }
     ensures failed { IfErr result (MayTell F.reading_may_fail) }
 {
     end_of(search, from, MAX_DEPTH, Vec::new(search.alloc))
@@ -217,8 +228,10 @@ fn end_of<F: Files>(
     mut seen: Vec<FullName>,
 ) -> Result<(ObjectId, Option<Reference>), Error>
     ensures followed { F.is_honest search.now.store.now.files
-        → let end = follow (reads_in (F.history search.now.store.now.files).tree search.now) left seen.items from.now.name (reading_of from.now) in
-        MatchResult result (λ found. EndsBy (unwrap_or found.1 from.now) found.0 end) (FollowFault IsGiven end) }
+        → let read = reads_in (F.history search.now.store.now.files).tree search.now in
+        let end = follow read left seen.items from.now.name (reading_of from.now) in
+        MatchResult result (λ found. EndsBy (unwrap_or found.1 from.now) found.0 end)
+        (FollowFault IsGiven end) }
     ensures failed { IfErr result (MayTell F.reading_may_fail) }
 {
     let name = match &from.target {

@@ -28,7 +28,9 @@ impl<F: Files> Store<F> {
     ) -> Result<(), Error>
         ensures kept { Keeps names.old.keys names.new.keys }
         ensures asked { BringsAsked (is_asked asked.entry) names.old.keys names.new.keys }
-        ensures all { F.is_honest self.now.files → OnOk result (GathersPlaces (base_of self.now) (F.history self.now.files).tree (is_asked asked.entry) names.new.keys) }
+        ensures all { F.is_honest self.now.files
+            → OnOk result (GathersPlaces (base_of self.now) (F.history self.now.files).tree
+            (is_asked asked.entry) names.new.keys) }
         ensures failed { IfErr result (MayStop F.reading_may_fail) }
     {
         self.put_below(alloc, self.git_dir(), asked, names)?;
@@ -48,7 +50,9 @@ impl<F: Files> Store<F> {
     ) -> Result<(), Error>
         ensures kept { Keeps names.old.keys names.new.keys }
         ensures asked { BringsAsked (is_asked asked.entry) names.old.keys names.new.keys }
-        ensures all { F.is_honest self.now.files → OnOk result (Gathers (F.history self.now.files).tree base.now (is_asked asked.entry) names.new.keys) }
+        ensures all { F.is_honest self.now.files
+            → OnOk result (Gathers (F.history self.now.files).tree base.now
+            (is_asked asked.entry) names.new.keys) }
         ensures failed { IfErr result (MayStop F.reading_may_fail) }
     {
         let walk = Walk {
@@ -68,7 +72,9 @@ impl<F: Files> Store<F> {
     ) -> Result<(), Error>
         ensures kept { Keeps names.old.keys names.new.keys }
         ensures asked { BringsAsked is_pseudo names.old.keys names.new.keys }
-        ensures all { F.is_honest self.now.files → OnOk result (GathersPlaces (base_of self.now) (F.history self.now.files).tree is_pseudo names.new.keys) }
+        ensures all { F.is_honest self.now.files
+            → OnOk result (GathersPlaces (base_of self.now) (F.history self.now.files).tree
+            is_pseudo names.new.keys) }
         ensures failed { IfErr result (MayStop F.reading_may_fail) }
     {
         let walk = Walk {
@@ -94,7 +100,8 @@ pub(crate) fn put_packed(
 ) -> Result<(), Error>
     ensures kept { Keeps names.old.keys names.new.keys }
     ensures asked { BringsAsked (is_asked asked.entry) names.old.keys names.new.keys }
-    ensures all { OnOk result (GathersRecords (kept packed.now) (is_asked asked.entry) names.new.keys) }
+    ensures all { OnOk result
+        (GathersRecords (kept packed.now) (is_asked asked.entry) names.new.keys) }
     ensures failed { IfErr result (MayStop ⊥) }
 {
     let mut records = packed.iter_prefixed(asked.front);
@@ -113,7 +120,8 @@ fn put_record(
 ) -> Result<(), Error>
     ensures kept { Keeps names.old.keys names.new.keys }
     ensures asked { BringsAsked (is_asked asked.entry) names.old.keys names.new.keys }
-    ensures there { IsTrue (is_asked asked.entry (record_of found.entry).name) → OnOk result (IsTrue (has names.new.keys (record_of found.entry).name)) }
+    ensures there { let name = (record_of found.entry).name in
+        IsTrue (is_asked asked.entry name) → OnOk result (IsTrue (has names.new.keys name)) }
     ensures failed { IfErr result (MayStop ⊥) }
 {
     let name = found.name.as_bstr().as_bytes();

@@ -1,9 +1,9 @@
 //! Stores of folders, and which folders no store is of.
 
-ghost use Rattle.std.specs.Prelude.{◌≡◌, ◌<◌, Some, None, length, MatchResult, IsTrue};
+ghost use Rattle.std.specs.Prelude.{◌≡◌, ◌<◌, Some, None, length, IfOk, IfErr, IsTrue};
 ghost use Rattle.gix_ref_file.specs.Tree as tree;
 ghost use Rattle.gix_ref_store.specs.Folders as spec;
-ghost use Rattle.gix_ref_store.specs.Folders.{IsStoreOf, IsFolderFault};
+ghost use Rattle.gix_ref_store.specs.Folders.{IsStoreOf, IsRefused};
 ghost use Rattle.gix_ref_store.specs.Stores.{IsUsual};
 
 use crate::options::Options;
@@ -37,18 +37,17 @@ const USUAL_THRESHOLD: u64 = 32 * 1024;
 impl<F: Files> Store<F> {
     /// The store of the repository in this folder, with the usual options.
     pub fn at(files: F, git_dir: Vec<u8>) -> Result<Store<F>, Refused<F>>
-        ensures { MatchResult result
-            (λ store. IsUsual store.options × IsStoreOf files git_dir.items None store.options store)
-            (λ refused. (refused.files ≡ files) × IsFolderFault git_dir.items None refused.error) }
+        ensures made { IfOk result (λ store. IsUsual store.options
+            × IsStoreOf files git_dir.items None store.options store) }
+        ensures refused { IfErr result (IsRefused files git_dir.items None) }
     {
         Store::at_opts(files, git_dir, Options::default())
     }
 
     /// The store of the repository in this folder. `NoPath` where the folder has no clean path.
     pub fn at_opts(files: F, git_dir: Vec<u8>, options: Options) -> Result<Store<F>, Refused<F>>
-        ensures { MatchResult result
-            (λ store. IsStoreOf files git_dir.items None options store)
-            (λ refused. (refused.files ≡ files) × IsFolderFault git_dir.items None refused.error) }
+        ensures made { IfOk result (IsStoreOf files git_dir.items None options) }
+        ensures refused { IfErr result (IsRefused files git_dir.items None) }
     {
         if !is_folder_path(&git_dir) {
             return Err(Refused {
@@ -71,9 +70,9 @@ impl<F: Files> Store<F> {
         git_dir: Vec<u8>,
         common_dir: Vec<u8>,
     ) -> Result<Store<F>, Refused<F>>
-        ensures { MatchResult result
-            (λ store. IsUsual store.options × IsStoreOf files git_dir.items (Some common_dir.items) store.options store)
-            (λ refused. (refused.files ≡ files) × IsFolderFault git_dir.items (Some common_dir.items) refused.error) }
+        ensures made { IfOk result (λ store. IsUsual store.options
+            × IsStoreOf files git_dir.items (Some common_dir.items) store.options store) }
+        ensures refused { IfErr result (IsRefused files git_dir.items (Some common_dir.items)) }
     {
         Store::for_linked_worktree_opts(files, git_dir, common_dir, Options::default())
     }
@@ -86,9 +85,8 @@ impl<F: Files> Store<F> {
         common_dir: Vec<u8>,
         options: Options,
     ) -> Result<Store<F>, Refused<F>>
-        ensures { MatchResult result
-            (λ store. IsStoreOf files git_dir.items (Some common_dir.items) options store)
-            (λ refused. (refused.files ≡ files) × IsFolderFault git_dir.items (Some common_dir.items) refused.error) }
+        ensures made { IfOk result (IsStoreOf files git_dir.items (Some common_dir.items) options) }
+        ensures refused { IfErr result (IsRefused files git_dir.items (Some common_dir.items)) }
     {
         if !is_folder_path(&git_dir) || !is_folder_path(&common_dir) {
             return Err(Refused {

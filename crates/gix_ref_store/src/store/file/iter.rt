@@ -81,7 +81,9 @@ impl<F: Files> LooseThenPacked<'_, '_, F> {
 
     // What is told of a name; `None` where there is no reference of this name.
     fn item(&self, name: FullName) -> Option<Result<Reference, Error>>
-        ensures told { F.is_honest self.now.search.store.now.files → TellsName name (reads_in (F.history self.now.search.store.now.files).tree self.now.search name) result }
+        ensures told { F.is_honest self.now.search.store.now.files
+            → let tree = (F.history self.now.search.store.now.files).tree in
+            TellsName name (reads_in tree self.now.search name) result }
         ensures failed { ItemMayTell F.reading_may_fail result }
     {
         match self
@@ -110,12 +112,14 @@ impl<F: Files> LooseThenPacked<'_, '_, F> {
 
 impl<F: Files> Iterator for LooseThenPacked<'_, '_, F> {
     ghost use Rattle.gix_ref_store.specs.Items.{GivesNext, ItemMayTell, left_in};
+    ghost use Rattle.gix_ref_store.specs.Searches.{reads_in};
 
     type Item = Result<Reference, Error>;
 
     ghost next_gives = { λ before item after. (after.search ≡ before.search)
         × (F.is_honest before.search.store.now.files
-        → GivesNext (left_in (F.history before.search.store.now.files).tree before) item (left_in (F.history before.search.store.now.files).tree after))
+        → let tree = (F.history before.search.store.now.files).tree in
+        GivesNext (reads_in tree before.search) (left_in tree before) item (left_in tree after))
         × ItemMayTell F.reading_may_fail item };
 
     ghost remaining = { λ items. at_most (length items.names) };

@@ -12,7 +12,8 @@ use std::alloc::{AllocError, Global};
 impl<F: Files> Store<F> {
     // A copy of a name's bytes, as the store knows them.
     pub(crate) fn known(&self, alloc: Global, bytes: &[u8]) -> Result<ByteString, AllocError>
-        ensures { IfOk result (λ text. text ≡ known_as self.now.options.precompose_unicode bytes.now) }
+        ensures { IfOk result (λ text.
+            text ≡ known_as self.now.options.precompose_unicode bytes.now) }
     {
         as_known(
             alloc,

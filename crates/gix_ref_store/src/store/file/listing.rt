@@ -1,17 +1,14 @@
 //! Listings of a store: what they are made of.
 
-ghost use Rattle.std.specs.Prelude.{◌≡◌, [], IfOk, IfErr, IsErrOf, MatchResult, option_map};
+ghost use Rattle.std.specs.Prelude.{◌≡◌, None, IfOk, IfErr, IsErrOf, MatchResult};
 ghost use Rattle.std.specs.List.Sorted.{IsStrictlySortedBy};
 ghost use Rattle.gix_ref_file.specs.Tree.{path_cmp};
-ghost use Rattle.gix_ref_format.specs.PackedBuffer.{KeepsFile, FileFault};
-ghost use Rattle.gix_ref_format.specs.PackedKept.{kept};
 ghost use Rattle.gix_ref_format.specs.declared.packed.buffer.Error.TheVariants.{Io};
-ghost use Rattle.gix_ref_store.specs.Finds.{records_in};
-ghost use Rattle.gix_ref_store.specs.Items.{left_in, kept_in};
 ghost use Rattle.gix_ref_store.specs.Asks.{is_asked};
+ghost use Rattle.gix_ref_store.specs.Items.{left_in};
 ghost use Rattle.gix_ref_store.specs.Listings.{IsListing, all_names, names_with, names_within, is_pseudo};
-ghost use Rattle.gix_ref_store.specs.Readings.{reading_among, packed_text_in};
-ghost use Rattle.gix_ref_store.specs.Stores.{base_of};
+ghost use Rattle.gix_ref_store.specs.Lookups.{reads_with, reads_kept};
+ghost use Rattle.gix_ref_store.specs.Opened.{KeepsPacked, PackedUnread};
 ghost use Rattle.gix_ref_store.specs.Walks.{MayStop};
 
 use crate::store::file::Store;
@@ -36,8 +33,10 @@ impl<F: Files> Platform<'_, F> {
     /// All references below `refs/`, as `Store::iter_packed` has them.
     pub fn all(&self, alloc: Global) -> Result<LooseThenPacked<'_, '_, F>, Error>
         ensures store { IfOk result (λ items. items.search.store.now ≡ self.now.store.now) }
-        ensures listed { F.is_honest self.now.store.now.files → IfOk result (λ items.
-            IsListing (reading_among (base_of self.now.store.now) (F.history self.now.store.now.files).tree (kept_in self.now.packed)) (all_names self.now.store.now) (left_in (F.history self.now.store.now.files).tree items)) }
+        ensures listed { F.is_honest self.now.store.now.files
+            → let tree = (F.history self.now.store.now.files).tree in
+            IfOk result (λ items. IsListing (reads_kept self.now.store.now tree self.now.packed)
+            (all_names self.now.store.now) (left_in tree items)) }
         ensures failed { IfErr result (MayStop F.reading_may_fail) }
     {
         self.store.iter_packed(alloc, self.packed.as_ref())
@@ -50,8 +49,10 @@ impl<F: Files> Platform<'_, F> {
         prefix: &[u8],
     ) -> Result<LooseThenPacked<'_, '_, F>, Error>
         ensures store { IfOk result (λ items. items.search.store.now ≡ self.now.store.now) }
-        ensures listed { F.is_honest self.now.store.now.files → IfOk result (λ items.
-            IsListing (reading_among (base_of self.now.store.now) (F.history self.now.store.now.files).tree (kept_in self.now.packed)) (names_with self.now.store.now prefix.now) (left_in (F.history self.now.store.now.files).tree items)) }
+        ensures listed { F.is_honest self.now.store.now.files
+            → let tree = (F.history self.now.store.now.files).tree in
+            IfOk result (λ items. IsListing (reads_kept self.now.store.now tree self.now.packed)
+            (names_with self.now.store.now prefix.now) (left_in tree items)) }
         ensures failed { IfErr result (MayStop F.reading_may_fail) }
     {
         self.store
@@ -61,8 +62,10 @@ impl<F: Files> Platform<'_, F> {
     /// The reference of this name and those below it, as `Store::iter_within_packed` has them.
     pub fn within(&self, alloc: Global, folder: &[u8]) -> Result<LooseThenPacked<'_, '_, F>, Error>
         ensures store { IfOk result (λ items. items.search.store.now ≡ self.now.store.now) }
-        ensures listed { F.is_honest self.now.store.now.files → IfOk result (λ items.
-            IsListing (reading_among (base_of self.now.store.now) (F.history self.now.store.now.files).tree (kept_in self.now.packed)) (names_within self.now.store.now folder.now) (left_in (F.history self.now.store.now.files).tree items)) }
+        ensures listed { F.is_honest self.now.store.now.files
+            → let tree = (F.history self.now.store.now.files).tree in
+            IfOk result (λ items. IsListing (reads_kept self.now.store.now tree self.now.packed)
+            (names_within self.now.store.now folder.now) (left_in tree items)) }
         ensures failed { IfErr result (MayStop F.reading_may_fail) }
     {
         self.store
@@ -72,8 +75,10 @@ impl<F: Files> Platform<'_, F> {
     /// The pseudo references, as `Store::iter_pseudo` has them.
     pub fn pseudo(&self, alloc: Global) -> Result<LooseThenPacked<'_, '_, F>, Error>
         ensures store { IfOk result (λ items. items.search.store.now ≡ self.now.store.now) }
-        ensures listed { F.is_honest self.now.store.now.files → IfOk result (λ items.
-            IsListing (reading_among (base_of self.now.store.now) (F.history self.now.store.now.files).tree []) is_pseudo (left_in (F.history self.now.store.now.files).tree items)) }
+        ensures listed { F.is_honest self.now.store.now.files
+            → let tree = (F.history self.now.store.now.files).tree in
+            IfOk result (λ items. IsListing (reads_with self.now.store.now tree None) is_pseudo
+            (left_in tree items)) }
         ensures failed { IfErr result (MayStop F.reading_may_fail) }
     {
         self.store.iter_pseudo(alloc)
@@ -84,9 +89,9 @@ impl<F: Files> Store<F> {
     /// Opens the packed references as they are now, for listings with them. It is refused as `open_packed_buffer` is.
     pub fn iter(&self, alloc: Global) -> Result<Platform<'_, F>, buffer::Error>
         ensures store { IfOk result (λ platform. platform.store.now ≡ self.now) }
-        ensures kept { F.is_honest self.now.files → MatchResult result
-            (λ platform. KeepsFile (base_of self.now).kind (packed_text_in (base_of self.now) (F.history self.now.files).tree) (option_map kept platform.packed))
-            (FileFault (base_of self.now).kind (packed_text_in (base_of self.now) (F.history self.now.files).tree)) }
+        ensures kept { F.is_honest self.now.files → let tree = (F.history self.now.files).tree in
+            MatchResult result (λ platform. KeepsPacked self.now tree platform.packed)
+            (PackedUnread self.now tree) }
         ensures failed { IsErrOf result Io → F.reading_may_fail }
     {
         let packed = self.open_packed_buffer(alloc)?;
@@ -105,8 +110,9 @@ impl<F: Files> Store<F> {
         packed: Option<&'p Buffer>,
     ) -> Result<LooseThenPacked<'s, 'p, F>, Error>
         ensures store { IfOk result (λ items. items.search.store.now ≡ self.now) }
-        ensures listed { F.is_honest self.now.files → IfOk result (λ items.
-            IsListing (reading_among (base_of self.now) (F.history self.now.files).tree (records_in packed.entry)) (all_names self.now) (left_in (F.history self.now.files).tree items)) }
+        ensures listed { F.is_honest self.now.files → let tree = (F.history self.now.files).tree in
+            IfOk result (λ items. IsListing (reads_with self.now tree packed.entry)
+            (all_names self.now) (left_in tree items)) }
         ensures failed { IfErr result (MayStop F.reading_may_fail) }
     {
         self.listed(alloc, self.every_name(), packed)
@@ -121,8 +127,9 @@ impl<F: Files> Store<F> {
         packed: Option<&'p Buffer>,
     ) -> Result<LooseThenPacked<'s, 'p, F>, Error>
         ensures store { IfOk result (λ items. items.search.store.now ≡ self.now) }
-        ensures listed { F.is_honest self.now.files → IfOk result (λ items.
-            IsListing (reading_among (base_of self.now) (F.history self.now.files).tree (records_in packed.entry)) (names_with self.now prefix.now) (left_in (F.history self.now.files).tree items)) }
+        ensures listed { F.is_honest self.now.files → let tree = (F.history self.now.files).tree in
+            IfOk result (λ items. IsListing (reads_with self.now tree packed.entry)
+            (names_with self.now prefix.now) (left_in tree items)) }
         ensures failed { IfErr result (MayStop F.reading_may_fail) }
     {
         let front = self.known(alloc, prefix)?;
@@ -144,8 +151,9 @@ impl<F: Files> Store<F> {
         packed: Option<&'p Buffer>,
     ) -> Result<LooseThenPacked<'s, 'p, F>, Error>
         ensures store { IfOk result (λ items. items.search.store.now ≡ self.now) }
-        ensures listed { F.is_honest self.now.files → IfOk result (λ items.
-            IsListing (reading_among (base_of self.now) (F.history self.now.files).tree (records_in packed.entry)) (names_within self.now folder.now) (left_in (F.history self.now.files).tree items)) }
+        ensures listed { F.is_honest self.now.files → let tree = (F.history self.now.files).tree in
+            IfOk result (λ items. IsListing (reads_with self.now tree packed.entry)
+            (names_within self.now folder.now) (left_in tree items)) }
         ensures failed { IfErr result (MayStop F.reading_may_fail) }
     {
         let front = self.known(alloc, folder)?;
@@ -160,8 +168,9 @@ impl<F: Files> Store<F> {
     /// The references below `refs/` with files of their own, ascending by name.
     pub fn loose_iter(&self, alloc: Global) -> Result<LooseThenPacked<'_, '_, F>, Error>
         ensures store { IfOk result (λ items. items.search.store.now ≡ self.now) }
-        ensures listed { F.is_honest self.now.files → IfOk result (λ items.
-            IsListing (reading_among (base_of self.now) (F.history self.now.files).tree []) (all_names self.now) (left_in (F.history self.now.files).tree items)) }
+        ensures listed { F.is_honest self.now.files → let tree = (F.history self.now.files).tree in
+            IfOk result (λ items. IsListing (reads_with self.now tree None) (all_names self.now)
+            (left_in tree items)) }
         ensures failed { IfErr result (MayStop F.reading_may_fail) }
     {
         self.listed(alloc, self.every_name(), None)
@@ -174,8 +183,9 @@ impl<F: Files> Store<F> {
         prefix: &[u8],
     ) -> Result<LooseThenPacked<'_, '_, F>, Error>
         ensures store { IfOk result (λ items. items.search.store.now ≡ self.now) }
-        ensures listed { F.is_honest self.now.files → IfOk result (λ items.
-            IsListing (reading_among (base_of self.now) (F.history self.now.files).tree []) (names_with self.now prefix.now) (left_in (F.history self.now.files).tree items)) }
+        ensures listed { F.is_honest self.now.files → let tree = (F.history self.now.files).tree in
+            IfOk result (λ items. IsListing (reads_with self.now tree None)
+            (names_with self.now prefix.now) (left_in tree items)) }
         ensures failed { IfErr result (MayStop F.reading_may_fail) }
     {
         self.iter_prefixed_packed(alloc, prefix, None)
@@ -184,8 +194,9 @@ impl<F: Files> Store<F> {
     /// The pseudo references of the worktree, ascending by name: `HEAD`, and names of capital letters and `_` that end so.
     pub fn iter_pseudo(&self, alloc: Global) -> Result<LooseThenPacked<'_, '_, F>, Error>
         ensures store { IfOk result (λ items. items.search.store.now ≡ self.now) }
-        ensures listed { F.is_honest self.now.files → IfOk result (λ items.
-            IsListing (reading_among (base_of self.now) (F.history self.now.files).tree []) is_pseudo (left_in (F.history self.now.files).tree items)) }
+        ensures listed { F.is_honest self.now.files → let tree = (F.history self.now.files).tree in
+            IfOk result (λ items. IsListing (reads_with self.now tree None) is_pseudo
+            (left_in tree items)) }
         ensures failed { IfErr result (MayStop F.reading_may_fail) }
     {
         let mut names = BTreeSet::new(alloc);
@@ -212,8 +223,9 @@ impl<F: Files> Store<F> {
         packed: Option<&'p Buffer>,
     ) -> Result<LooseThenPacked<'s, 'p, F>, Error>
         ensures store { IfOk result (λ items. items.search.store.now ≡ self.now) }
-        ensures listed { F.is_honest self.now.files → IfOk result (λ items.
-            IsListing (reading_among (base_of self.now) (F.history self.now.files).tree (records_in packed.entry)) (is_asked asked.entry) (left_in (F.history self.now.files).tree items)) }
+        ensures listed { F.is_honest self.now.files → let tree = (F.history self.now.files).tree in
+            IfOk result (λ items. IsListing (reads_with self.now tree packed.entry)
+            (is_asked asked.entry) (left_in tree items)) }
         ensures failed { IfErr result (MayStop F.reading_may_fail) }
     {
         let mut names = BTreeSet::new(alloc);

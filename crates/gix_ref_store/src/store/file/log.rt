@@ -1,14 +1,14 @@
 //! Logs of references.
 
-ghost use Rattle.std.specs.Prelude.{◌≡◌, is_some, length, option_map, IfOk, IfErr, IfSome};
-ghost use Rattle.gix_ref_file.specs.Tree.{node_at, bytes_of, bytes_at};
+ghost use Rattle.std.specs.Prelude.{◌≡◌, [], None, is_some, length, option_map, IfOk, IfErr, IfSome, IsSome, IsErrOf};
+ghost use Rattle.gix_ref_file.specs.Tree.{bytes_at};
 ghost use Rattle.gix_ref_name.specs.Names.{name_of};
 ghost use Rattle.gix_ref_format.specs.LogForward.{lines_of};
 ghost use Rattle.gix_ref_format.specs.LogReverse.{stand_of};
-ghost use Rattle.gix_ref_store.specs.Places.{log_place};
-ghost use Rattle.gix_ref_store.specs.Stores.{base_of};
-ghost use Rattle.gix_ref_store.specs.Logs.{ReadsForward, ReadsBackward, MayTell, told_of};
-ghost use Rattle.gix_ref_store.specs.declared.store.file.log.Error.TheVariants.{Memory};
+ghost use Rattle.gix_ref_store.specs.Logs.{ReadsForward, ReadsBackward, BackFault, MayTell, log_text, told_of};
+ghost use Rattle.gix_ref_store.specs.LogReaders.{IsBegun, IsOfLog};
+ghost use Rattle.gix_ref_store.specs.declared.store.file.log.Error.TheVariants.{Io, Memory};
+ghost use Rattle.gix_ref_format.specs.declared.log.iter.error.IoError.TheVariants.{NoBuffer};
 
 use crate::store::file::Store;
 use gix_ref_file::{FileError, Files, Place};
@@ -76,7 +76,9 @@ impl<F: Files> ReadAt for LogFile<'_, F> {
 impl<F: Files> Store<F> {
     /// Whether a name has a log.
     pub fn reflog_exists(&self, alloc: Global, name: FullNameRef<'_>) -> Result<bool, Error>
-        ensures exists { F.is_honest self.now.files → IfOk result (λ found. found ≡ is_some (bytes_of (node_at (F.history self.now.files).tree (log_place (base_of self.now) (name_of name.entry))))) }
+        ensures exists { F.is_honest self.now.files
+            → let text = log_text self.now (F.history self.now.files).tree (name_of name.entry) in
+            IfOk result (λ found. found ≡ is_some text) }
         ensures failed { IfErr result (MayTell F.reading_may_fail) }
     {
         let path = self.home(name.to_path()).log_place(alloc)?;
@@ -94,7 +96,9 @@ impl<F: Files> Store<F> {
         name: FullNameRef<'_>,
         buffer: &'b mut Vec<u8>,
     ) -> Result<Option<Forward<'b>>, Error>
-        ensures lines { F.is_honest self.now.files → IfOk result (λ found. ReadsForward (bytes_of (node_at (F.history self.now.files).tree (log_place (base_of self.now) (name_of name.entry)))) (option_map lines_of found)) }
+        ensures lines { F.is_honest self.now.files
+            → let text = log_text self.now (F.history self.now.files).tree (name_of name.entry) in
+            IfOk result (λ found. ReadsForward text (option_map lines_of found)) }
         ensures failed { IfErr result (MayTell F.reading_may_fail) }
     {
         let path = self.home(name.to_path()).log_place(alloc)?;
@@ -113,10 +117,17 @@ impl<F: Files> Store<F> {
         name: FullNameRef<'_>,
         buffer: &'b mut [u8],
     ) -> Result<Option<Reverse<'b, LogFile<'s, F>>>, Error>
-        ensures lines { F.is_honest self.now.files → IfOk result (λ found. ReadsBackward (bytes_of (node_at (F.history self.now.files).tree (log_place (base_of self.now) (name_of name.entry)))) (option_map stand_of found)) }
-        ensures file { F.is_honest self.now.files → IfOk result (λ found. IfSome found (λ reader. (reader.log.files.now ≡ self.now.files) × (reader.log.path.items ≡ log_place (base_of self.now) (name_of name.entry)))) }
-        ensures begun { IfOk result (λ found. IfSome found (λ reader. (reader.given ≡ 0) × (length reader.buffer.now ≡ length buffer.old))) }
-        ensures failed { IfErr result (MayTell F.reading_may_fail) }
+        ensures lines { F.is_honest self.now.files
+            → let text = log_text self.now (F.history self.now.files).tree (name_of name.entry) in
+            IfOk result (λ found. ReadsBackward text (option_map stand_of found)) }
+        ensures file { F.is_honest self.now.files
+            → IfOk result (λ found. IfSome found (IsOfLog self.now (name_of name.entry))) }
+        ensures begun { IfOk result (λ found. IfSome found (IsBegun (length buffer.old))) }
+        ensures empty { buffer.old ≡ [] → IfOk result (λ found. found ≡ None) }
+        ensures unbuffered { F.is_honest self.now.files → IsErrOf result (Io NoBuffer)
+            → IsSome (log_text self.now (F.history self.now.files).tree (name_of name.entry)) }
+        ensures failed { IfErr result (BackFault F.reading_may_fail (¬ F.is_honest self.now.files)
+            (buffer.old ≡ [])) }
     {
         if !self.reflog_exists(alloc, name)? {
             return Ok(None);

@@ -1,13 +1,13 @@
 //! The logs of references.
 
-ghost use Rattle.std.specs.Prelude.{◌≡◌, is_some, length, IfErr, IfOk, IfSome, option_map};
-ghost use Rattle.gix_ref_file.specs.Tree.{node_at, bytes_of};
+ghost use Rattle.std.specs.Prelude.{◌≡◌, [], None, is_some, length, IfErr, IfOk, IfSome, IsSome, IsErrOf, option_map};
 ghost use Rattle.gix_ref_name.specs.Names.{name_of};
 ghost use Rattle.gix_ref_format.specs.LogForward.{lines_of};
 ghost use Rattle.gix_ref_format.specs.LogReverse.{stand_of};
-ghost use Rattle.gix_ref_store.specs.Logs.{ReadsForward, ReadsBackward, MayTell};
-ghost use Rattle.gix_ref_store.specs.Places.{log_place};
-ghost use Rattle.gix_ref_store.specs.Stores.{base_of};
+ghost use Rattle.gix_ref_store.specs.Logs.{ReadsForward, ReadsBackward, BackFault, MayTell, log_text};
+ghost use Rattle.gix_ref_store.specs.LogReaders.{IsBegun, IsOfLog};
+ghost use Rattle.gix_ref_store.specs.declared.store.file.log.Error.TheVariants.{Io};
+ghost use Rattle.gix_ref_format.specs.declared.log.iter.error.IoError.TheVariants.{NoBuffer};
 
 use crate::reference::Reference;
 use crate::store::file::Store;
@@ -31,7 +31,10 @@ pub struct Platform<'s, 'n, F: Files> {
 impl<'s, F: Files> Platform<'s, '_, F> {
     /// The lines from the beginning, as `Store::reflog_iter` has them.
     pub fn all(&mut self, alloc: Global) -> Result<Option<Forward<'_>>, Error>
-        ensures lines { F.is_honest self.old.store.now.files → IfOk result (λ found. ReadsForward (bytes_of (node_at (F.history self.old.store.now.files).tree (log_place (base_of self.old.store.now) (name_of self.old.name)))) (option_map lines_of found)) }
+        ensures lines { F.is_honest self.old.store.now.files
+            → let tree = (F.history self.old.store.now.files).tree in
+            let text = log_text self.old.store.now tree (name_of self.old.name) in
+            IfOk result (λ found. ReadsForward text (option_map lines_of found)) }
         ensures failed { IfErr result (MayTell F.reading_may_fail) }
     {
         self.store.reflog_iter(alloc, self.name, &mut self.buffer)
@@ -39,9 +42,13 @@ impl<'s, F: Files> Platform<'s, '_, F> {
 
     /// The lines from the end, as `Store::reflog_iter_rev` has them with a buffer of 4,096 bytes.
     pub fn rev(&mut self, alloc: Global) -> Result<Option<Reverse<'_, LogFile<'s, F>>>, Error>
-        ensures lines { F.is_honest self.old.store.now.files → IfOk result (λ found. ReadsBackward (bytes_of (node_at (F.history self.old.store.now.files).tree (log_place (base_of self.old.store.now) (name_of self.old.name)))) (option_map stand_of found)) }
-        ensures begun { IfOk result (λ found. IfSome found (λ reader. (reader.given ≡ 0) × (length reader.buffer.now ≡ 4096))) }
-        ensures failed { IfErr result (MayTell F.reading_may_fail) }
+        ensures lines { F.is_honest self.old.store.now.files
+            → let tree = (F.history self.old.store.now.files).tree in
+            let text = log_text self.old.store.now tree (name_of self.old.name) in
+            IfOk result (λ found. ReadsBackward text (option_map stand_of found)) }
+        ensures begun { IfOk result (λ found. IfSome found (IsBegun 4096)) }
+        ensures failed { IfErr result
+            (BackFault F.reading_may_fail (¬ F.is_honest self.old.store.now.files) ⊥) }
     {
         self.buffer.clear();
         self.buffer.resize(BUFFER_SIZE, 0)?;
@@ -53,7 +60,9 @@ impl<'s, F: Files> Platform<'s, '_, F> {
 impl Reference {
     /// Whether the reference has a log.
     pub fn log_exists<F: Files>(&self, alloc: Global, store: &Store<F>) -> Result<bool, Error>
-        ensures exists { F.is_honest store.now.files → IfOk result (λ found. found ≡ is_some (bytes_of (node_at (F.history store.now.files).tree (log_place (base_of store.now) self.now.name)))) }
+        ensures exists { F.is_honest store.now.files
+            → let text = log_text store.now (F.history store.now.files).tree self.now.name in
+            IfOk result (λ found. found ≡ is_some text) }
         ensures failed { IfErr result (MayTell F.reading_may_fail) }
     {
         store.reflog_exists(alloc, self.name.as_ref())
@@ -78,7 +87,9 @@ impl Reference {
         store: &Store<F>,
         buffer: &'b mut Vec<u8>,
     ) -> Result<Option<Forward<'b>>, Error>
-        ensures lines { F.is_honest store.now.files → IfOk result (λ found. ReadsForward (bytes_of (node_at (F.history store.now.files).tree (log_place (base_of store.now) self.now.name))) (option_map lines_of found)) }
+        ensures lines { F.is_honest store.now.files
+            → let text = log_text store.now (F.history store.now.files).tree self.now.name in
+            IfOk result (λ found. ReadsForward text (option_map lines_of found)) }
         ensures failed { IfErr result (MayTell F.reading_may_fail) }
     {
         store.reflog_iter(alloc, self.name.as_ref(), buffer)
@@ -92,10 +103,17 @@ impl Reference {
         store: &'s Store<F>,
         buffer: &'b mut [u8],
     ) -> Result<Option<Reverse<'b, LogFile<'s, F>>>, Error>
-        ensures lines { F.is_honest store.now.files → IfOk result (λ found. ReadsBackward (bytes_of (node_at (F.history store.now.files).tree (log_place (base_of store.now) self.now.name))) (option_map stand_of found)) }
-        ensures file { F.is_honest store.now.files → IfOk result (λ found. IfSome found (λ reader. (reader.log.files.now ≡ store.now.files) × (reader.log.path.items ≡ log_place (base_of store.now) self.now.name))) }
-        ensures begun { IfOk result (λ found. IfSome found (λ reader. (reader.given ≡ 0) × (length reader.buffer.now ≡ length buffer.old))) }
-        ensures failed { IfErr result (MayTell F.reading_may_fail) }
+        ensures lines { F.is_honest store.now.files
+            → let text = log_text store.now (F.history store.now.files).tree self.now.name in
+            IfOk result (λ found. ReadsBackward text (option_map stand_of found)) }
+        ensures file { F.is_honest store.now.files
+            → IfOk result (λ found. IfSome found (IsOfLog store.now self.now.name)) }
+        ensures begun { IfOk result (λ found. IfSome found (IsBegun (length buffer.old))) }
+        ensures empty { buffer.old ≡ [] → IfOk result (λ found. found ≡ None) }
+        ensures unbuffered { F.is_honest store.now.files → IsErrOf result (Io NoBuffer)
+            → IsSome (log_text store.now (F.history store.now.files).tree self.now.name) }
+        ensures failed { IfErr result (BackFault F.reading_may_fail (¬ F.is_honest store.now.files)
+            (buffer.old ≡ [])) }
     {
         store.reflog_iter_rev(alloc, self.name.as_ref(), buffer)
     }

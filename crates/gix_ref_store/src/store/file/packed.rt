@@ -1,11 +1,8 @@
 //! The packed references of a store.
 
-ghost use Rattle.std.specs.Prelude.{IsSome, IsErrOf, MatchResult, option_map};
-ghost use Rattle.gix_ref_format.specs.PackedBuffer.{KeepsFile, FileFault};
-ghost use Rattle.gix_ref_format.specs.PackedKept.{kept};
+ghost use Rattle.std.specs.Prelude.{IsErrOf, MatchResult};
 ghost use Rattle.gix_ref_format.specs.declared.packed.buffer.Error.TheVariants.{Io};
-ghost use Rattle.gix_ref_store.specs.Readings.{packed_text_in, records_of};
-ghost use Rattle.gix_ref_store.specs.Stores.{base_of};
+ghost use Rattle.gix_ref_store.specs.Opened.{KeepsPacked, PackedUnread, CanOpenPacked};
 
 use crate::store::file::Store;
 use gix_ref_file::Files;
@@ -16,9 +13,8 @@ impl<F: Files> Store<F> {
     /// The packed references; `None` where no file holds any. `Iter` and `HeaderParsing` where a line can't be read, `Io` where
     /// the file can't.
     pub fn open_packed_buffer(&self, alloc: Global) -> Result<Option<Buffer>, buffer::Error>
-        ensures kept { F.is_honest self.now.files → MatchResult result
-            (λ found. KeepsFile (base_of self.now).kind (packed_text_in (base_of self.now) (F.history self.now.files).tree) (option_map kept found))
-            (FileFault (base_of self.now).kind (packed_text_in (base_of self.now) (F.history self.now.files).tree)) }
+        ensures kept { F.is_honest self.now.files → let tree = (F.history self.now.files).tree in
+            MatchResult result (KeepsPacked self.now tree) (PackedUnread self.now tree) }
         ensures failed { IsErrOf result Io → F.reading_may_fail }
     {
         let path = self.packed_refs_path(alloc)?;
@@ -27,9 +23,8 @@ impl<F: Files> Store<F> {
 
     /// The packed references as they are now: a buffer of its own for each call.
     pub fn cached_packed_buffer(&self, alloc: Global) -> Result<Option<Buffer>, buffer::Error>
-        ensures kept { F.is_honest self.now.files → MatchResult result
-            (λ found. KeepsFile (base_of self.now).kind (packed_text_in (base_of self.now) (F.history self.now.files).tree) (option_map kept found))
-            (FileFault (base_of self.now).kind (packed_text_in (base_of self.now) (F.history self.now.files).tree)) }
+        ensures kept { F.is_honest self.now.files → let tree = (F.history self.now.files).tree in
+            MatchResult result (KeepsPacked self.now tree) (PackedUnread self.now tree) }
         ensures failed { IsErrOf result Io → F.reading_may_fail }
     {
         self.open_packed_buffer(alloc)
@@ -37,9 +32,8 @@ impl<F: Files> Store<F> {
 
     /// Tries to open the packed references, and keeps nothing of them, since no call goes by what an earlier one opened.
     pub fn force_refresh_packed_buffer(&self, alloc: Global) -> Result<(), buffer::Error>
-        ensures opened { F.is_honest self.now.files → MatchResult result
-            (λ _. IsSome (records_of (base_of self.now).kind (packed_text_in (base_of self.now) (F.history self.now.files).tree)))
-            (FileFault (base_of self.now).kind (packed_text_in (base_of self.now) (F.history self.now.files).tree)) }
+        ensures opened { F.is_honest self.now.files → let tree = (F.history self.now.files).tree in
+            MatchResult result (λ _. CanOpenPacked self.now tree) (PackedUnread self.now tree) }
         ensures failed { IsErrOf result Io → F.reading_may_fail }
     {
         self.open_packed_buffer(alloc)?;

@@ -5,10 +5,9 @@ ghost use Rattle.std.specs.List.{list_any};
 ghost use Rattle.gix_hash.specs.Id.{id_of};
 ghost use Rattle.gix_hash.specs.Order.{id_eq};
 ghost use Rattle.gix_ref_name.specs.Targets.{ToObject, target_view};
-ghost use Rattle.gix_ref_store.specs.Finds.{records_in};
 ghost use Rattle.gix_ref_store.specs.Follows.{IsGiven, CantOpen};
 ghost use Rattle.gix_ref_store.specs.Peels.{TagNames, IsPlain, PeelsTo, TagFault, StepFault, Peels, PeelFault, MayTell, IsPeeled};
-ghost use Rattle.gix_ref_store.specs.Readings.{reading, reading_among};
+ghost use Rattle.gix_ref_store.specs.Lookups.{reads_now, reads_with};
 ghost use Rattle.gix_ref_store.specs.Searches.{reads_in};
 ghost use Rattle.gix_ref_store.specs.Stores.{base_of};
 ghost use Rattle.gix_ref_store.specs.declared.store.file.peel.Error.TheVariants.{FollowToObject, Find, Memory};
@@ -91,8 +90,10 @@ impl Reference {
         store: &Store<F>,
         objects: &T,
     ) -> Result<ObjectId, Error>
-        ensures peeled { F.is_honest store.now.files → T.is_honest objects.now → let b = base_of store.now in let tree = (F.history store.now.files).tree in
-            MatchResult result (λ id. IsPeeled (reading b tree) (T.table objects.now) self.now (id_of id)) (PeelFault (CantOpen b tree) (reading b tree) (T.table objects.now) self.now) }
+        ensures peeled { F.is_honest store.now.files → T.is_honest objects.now
+            → let tree = (F.history store.now.files).tree in let read = reads_now store.now tree in
+            MatchResult result (λ id. IsPeeled read (T.table objects.now) self.now (id_of id))
+            (PeelFault (CantOpen (base_of store.now) tree) read (T.table objects.now) self.now) }
         ensures failed { IfErr result (MayTell F.reading_may_fail (T.may_fail objects.now)) }
     {
         match store.open_packed_buffer(alloc)? {
@@ -109,8 +110,10 @@ impl Reference {
         objects: &T,
         packed: Option<&Buffer>,
     ) -> Result<ObjectId, Error>
-        ensures peeled { F.is_honest store.now.files → T.is_honest objects.now → let read = reading_among (base_of store.now) (F.history store.now.files).tree (records_in packed.entry) in
-            MatchResult result (λ id. IsPeeled read (T.table objects.now) self.now (id_of id)) (PeelFault IsGiven read (T.table objects.now) self.now) }
+        ensures peeled { F.is_honest store.now.files → T.is_honest objects.now
+            → let read = reads_with store.now (F.history store.now.files).tree packed.entry in
+            MatchResult result (λ id. IsPeeled read (T.table objects.now) self.now (id_of id))
+            (PeelFault IsGiven read (T.table objects.now) self.now) }
         ensures failed { IfErr result (MayTell F.reading_may_fail (T.may_fail objects.now)) }
     {
         let search = Search {
@@ -130,9 +133,13 @@ impl Reference {
         store: &Store<F>,
         objects: &T,
     ) -> Result<ObjectId, Error>
-        ensures peeled { F.is_honest store.now.files → T.is_honest objects.now → let b = base_of store.now in let tree = (F.history store.now.files).tree in
-            MatchResult result (λ id. Peels (reading b tree) (T.table objects.now) self.old self.new.name (id_of id)) (PeelFault (CantOpen b tree) (reading b tree) (T.table objects.now) self.old) }
-        ensures target { IfOk result (λ id. (target_view self.new.target ≡ ToObject (id_of id)) × (self.new.peeled ≡ Some id)) }
+        ensures peeled { F.is_honest store.now.files → T.is_honest objects.now
+            → let tree = (F.history store.now.files).tree in let read = reads_now store.now tree in
+            MatchResult result
+            (λ id. Peels read (T.table objects.now) self.old self.new.name (id_of id))
+            (PeelFault (CantOpen (base_of store.now) tree) read (T.table objects.now) self.old) }
+        ensures target { IfOk result (λ id. target_view self.new.target ≡ ToObject (id_of id)) }
+        ensures told { IfOk result (λ id. self.new.peeled ≡ Some id) }
         ensures refused { IfErr result (λ _. self.new ≡ self.old) }
         ensures failed { IfErr result (MayTell F.reading_may_fail (T.may_fail objects.now)) }
     {
@@ -152,9 +159,13 @@ impl Reference {
         objects: &T,
         packed: Option<&Buffer>,
     ) -> Result<ObjectId, Error>
-        ensures peeled { F.is_honest store.now.files → T.is_honest objects.now → let read = reading_among (base_of store.now) (F.history store.now.files).tree (records_in packed.entry) in
-            MatchResult result (λ id. Peels read (T.table objects.now) self.old self.new.name (id_of id)) (PeelFault IsGiven read (T.table objects.now) self.old) }
-        ensures target { IfOk result (λ id. (target_view self.new.target ≡ ToObject (id_of id)) × (self.new.peeled ≡ Some id)) }
+        ensures peeled { F.is_honest store.now.files → T.is_honest objects.now
+            → let read = reads_with store.now (F.history store.now.files).tree packed.entry in
+            MatchResult result
+            (λ id. Peels read (T.table objects.now) self.old self.new.name (id_of id))
+            (PeelFault IsGiven read (T.table objects.now) self.old) }
+        ensures target { IfOk result (λ id. target_view self.new.target ≡ ToObject (id_of id)) }
+        ensures told { IfOk result (λ id. self.new.peeled ≡ Some id) }
         ensures refused { IfErr result (λ _. self.new ≡ self.old) }
         ensures failed { IfErr result (MayTell F.reading_may_fail (T.may_fail objects.now)) }
     {
@@ -179,8 +190,11 @@ fn peeled_end<F: Files, T: Find>(
     from: &Reference,
     objects: &T,
 ) -> Result<(ObjectId, Option<Reference>), Error>
-    ensures peeled { F.is_honest search.now.store.now.files → T.is_honest objects.now → let read = reads_in (F.history search.now.store.now.files).tree search.now in
-        MatchResult result (λ found. Peels read (T.table objects.now) from.now (unwrap_or found.1 from.now).name (id_of found.0)) (PeelFault IsGiven read (T.table objects.now) from.now) }
+    ensures peeled { F.is_honest search.now.store.now.files → T.is_honest objects.now
+        → let read = reads_in (F.history search.now.store.now.files).tree search.now in
+        MatchResult result (λ found. Peels read (T.table objects.now) from.now
+        (unwrap_or found.1 from.now).name (id_of found.0))
+        (PeelFault IsGiven read (T.table objects.now) from.now) }
     ensures failed { IfErr result (MayTell F.reading_may_fail (T.may_fail objects.now)) }
 {
     match from.peeled {
@@ -195,8 +209,10 @@ fn peeled_end<F: Files, T: Find>(
 
 // The object that an id stands for: its own, or the one that tags lead to.
 fn object_named<T: Find>(alloc: Global, objects: &T, id: ObjectId) -> Result<ObjectId, Error>
-    ensures peeled { T.is_honest objects.now → IfOk result (λ end. PeelsTo (T.table objects.now) (id_of id) (id_of end)) }
-    ensures refused { IfErr result (TagFault (T.is_honest objects.now) (T.may_fail objects.now) (T.table objects.now) (id_of id)) }
+    ensures peeled { T.is_honest objects.now
+        → IfOk result (λ end. PeelsTo (T.table objects.now) (id_of id) (id_of end)) }
+    ensures refused { IfErr result (TagFault (T.is_honest objects.now) (T.may_fail objects.now)
+        (T.table objects.now) (id_of id)) }
 {
     let mut buffer = Vec::new(alloc);
     let mut tags = Vec::new(alloc);
@@ -217,9 +233,12 @@ fn named_by_tag<T: Find>(
     id: ObjectId,
     buffer: &mut Vec<u8>,
 ) -> Result<Option<ObjectId>, Error>
-    ensures named { T.is_honest objects.now → IfOk result (λ next. MatchOption next (IsPlain (T.table objects.now) (id_of id)) (λ target. TagNames (T.table objects.now) (id_of id) (id_of target))) }
+    ensures named { T.is_honest objects.now
+        → IfOk result (λ next. MatchOption next (IsPlain (T.table objects.now) (id_of id))
+        (λ target. TagNames (T.table objects.now) (id_of id) (id_of target))) }
     ensures listed { IfOk result (λ next. IsSome next → Contains (T.ids objects.now) (id_of id)) }
-    ensures refused { IfErr result (StepFault (T.is_honest objects.now) (T.may_fail objects.now) (T.table objects.now) (id_of id)) }
+    ensures refused { IfErr result (StepFault (T.is_honest objects.now) (T.may_fail objects.now)
+        (T.table objects.now) (id_of id)) }
 {
     let Some(found) = objects.try_find(id.as_oid(), buffer)? else {
         return Err(Error::NotFound { oid: id });

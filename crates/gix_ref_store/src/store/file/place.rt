@@ -65,7 +65,8 @@ impl<F: Files> Store<F> {
 
     // The home of a name that has this rest behind a linked worktree's front.
     fn home_in_linked<'a>(&'a self, name: &'a [u8], rest: Option<&'a [u8]>) -> Home<'a>
-        ensures { home_of result ≡ linked_home (base_of self.now) name.now (option_map (λ rest. rest.now) rest.entry) }
+        ensures { home_of result
+            ≡ linked_home (base_of self.now) name.now (option_map (λ rest. rest.now) rest.entry) }
     {
         match rest {
             Some(rest) if is_own(rest) => Home {

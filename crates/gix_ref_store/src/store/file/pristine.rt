@@ -1,13 +1,13 @@
 //! Whether nothing was done with a store since it was made.
 
-ghost use Rattle.std.specs.Prelude.{◌≡◌, ◌⊎◌, ◌↔◌, [], None, is_some, IsTrue, IsFalse, IfErr, IfOk, MatchOption};
+ghost use Rattle.std.specs.Prelude.{◌≡◌, ◌⊎◌, ◌↔◌, None, is_some, IsTrue, IfErr, IfOk, IfNone, IfSome, MatchOption};
 ghost use Rattle.gix_ref_name.specs.Names.{name_of};
 ghost use Rattle.gix_ref_name.specs.Targets.{ToName, target_view};
 ghost use Rattle.gix_ref_store.specs.Listings.{all_names};
-ghost use Rattle.gix_ref_store.specs.Pristine.{IsPristine, PointsNowhere, SomeStands, head_in};
-ghost use Rattle.gix_ref_store.specs.Readings.{Stands, reading_among, packed_text_in};
+ghost use Rattle.gix_ref_store.specs.Lookups.{reads_with};
+ghost use Rattle.gix_ref_store.specs.Pristine.{IsPristine, MayStopAt, PointsNowhere, SomeStands, head_in};
+ghost use Rattle.gix_ref_store.specs.Readings.{Stands, packed_text_in};
 ghost use Rattle.gix_ref_store.specs.Stores.{base_of};
-ghost use Rattle.gix_ref_store.specs.Walks.{MayTell};
 
 use crate::store::file::iter::Error;
 use crate::store::file::{Store, find};
@@ -24,9 +24,13 @@ impl<F: Files> Store<F> {
         alloc: Global,
         default_ref: FullNameRef<'_>,
     ) -> Result<Option<bool>, Error>
-        ensures told { F.is_honest self.now.files → let b = base_of self.now in let tree = (F.history self.now.files).tree in
-            IfOk result (λ told. MatchOption told (PointsNowhere (head_in b tree) ⊎ F.reading_may_fail) (λ pristine. IsTrue pristine ↔ IsPristine b self.now.options.precompose_unicode tree (name_of default_ref.entry))) }
-        ensures failed { IfErr result (MayTell F.reading_may_fail) }
+        ensures told { F.is_honest self.now.files → let tree = (F.history self.now.files).tree in
+            IfOk result (λ told. IfSome told (λ pristine.
+            IsTrue pristine ↔ IsPristine self.now tree (name_of default_ref.entry))) }
+        ensures headless { F.is_honest self.now.files
+            → let tree = (F.history self.now.files).tree in IfOk result (λ told. IfNone told
+            (PointsNowhere (head_in (base_of self.now) tree) ⊎ F.reading_may_fail)) }
+        ensures failed { IfErr result (MayStopAt F.reading_may_fail) }
     {
         let Some(head) = self.head_target(alloc)? else {
             return Ok(None);
@@ -43,9 +47,11 @@ impl<F: Files> Store<F> {
 
     // What the file of `HEAD` tells; `None` where it tells nothing, or couldn't be read.
     fn head_target(&self, alloc: Global) -> Result<Option<Target>, Error>
-        ensures told { F.is_honest self.now.files → let head = head_in (base_of self.now) (F.history self.now.files).tree in
-            IfOk result (λ found. MatchOption found (PointsNowhere head ⊎ F.reading_may_fail) (λ target. head ≡ Stands (target_view target) None)) }
-        ensures failed { IfErr result (MayTell F.reading_may_fail) }
+        ensures told { F.is_honest self.now.files
+            → let head = head_in (base_of self.now) (F.history self.now.files).tree in
+            IfOk result (λ found. MatchOption found (PointsNowhere head ⊎ F.reading_may_fail)
+            (λ target. head ≡ Stands (target_view target) None)) }
+        ensures failed { IfErr result (MayStopAt F.reading_may_fail) }
     {
         match self.target_in_file(alloc, b"HEAD") {
             Ok(found) => Ok(found),
@@ -58,8 +64,9 @@ impl<F: Files> Store<F> {
 
     // Whether there is a file of packed references.
     fn has_packed(&self, alloc: Global) -> Result<bool, Error>
-        ensures told { F.is_honest self.now.files → IfOk result (λ found. found ≡ is_some (packed_text_in (base_of self.now) (F.history self.now.files).tree)) }
-        ensures failed { IfErr result (MayTell F.reading_may_fail) }
+        ensures told { F.is_honest self.now.files → let tree = (F.history self.now.files).tree in
+            IfOk result (λ found. found ≡ is_some (packed_text_in (base_of self.now) tree)) }
+        ensures failed { IfErr result (MayStopAt F.reading_may_fail) }
     {
         let path = self.packed_refs_path(alloc)?;
         match self.files.kind_of(&path)? {
@@ -70,8 +77,10 @@ impl<F: Files> Store<F> {
 
     // Whether a name below `refs/` has a file that tells a target.
     fn has_loose(&self, alloc: Global) -> Result<bool, Error>
-        ensures told { F.is_honest self.now.files → IfOk result (λ found. IsTrue found ↔ SomeStands (reading_among (base_of self.now) (F.history self.now.files).tree []) (all_names self.now)) }
-        ensures failed { IfErr result (MayTell F.reading_may_fail) }
+        ensures told { F.is_honest self.now.files → let tree = (F.history self.now.files).tree in
+            IfOk result (λ found. IsTrue found
+            ↔ SomeStands (reads_with self.now tree None) (all_names self.now)) }
+        ensures failed { IfErr result (MayStopAt F.reading_may_fail) }
     {
         let mut references = self.loose_iter(alloc)?;
         while let Some(item) = references.next() {

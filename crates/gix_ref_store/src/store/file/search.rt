@@ -1,12 +1,12 @@
 //! A search for the reference that a name stands for.
 
-ghost use Rattle.std.specs.Prelude.{◌≡◌, ◌∷◌, ◌++◌, ℕ, List, Ok, Some, IfOk, MatchResult};
-ghost use Rattle.gix_ref_format.specs.Lookup.{lookup_names, word_names, tag_names, branch_names, remote_names, packed_hit};
+ghost use Rattle.std.specs.Prelude.{◌≡◌, Some, IfOk, IfErr};
+ghost use Rattle.gix_ref_format.specs.Lookup.{lookup_names, tag_names, branch_names, remote_names, placed};
 ghost use Rattle.gix_ref_format.specs.PackedKept.{kept};
-ghost use Rattle.gix_ref_store.specs.Readings.{loose_text_at, packed_reading};
+ghost use Rattle.gix_ref_store.specs.Readings.{loose_text_at};
 ghost use Rattle.gix_ref_store.specs.Stores.{base_of};
-ghost use Rattle.gix_ref_store.specs.Finds.{records_in, MayTell, TellsReading, TellsFile};
-ghost use Rattle.gix_ref_store.specs.Searches.{reads_in, Finds};
+ghost use Rattle.gix_ref_store.specs.Finds.{records_in, MayTell, TellsFile};
+ghost use Rattle.gix_ref_store.specs.Searches.{reads_in, Finds, AnswersFirst, AnswersName, AnswersRecord};
 
 use crate::reference::Reference;
 use crate::store::file::Store;
@@ -30,8 +30,10 @@ pub(crate) struct Search<'s, 'p, F: Files> {
 impl<F: Files> Search<'_, '_, F> {
     // The first reference of the names that a word stands for.
     pub(crate) fn named(&self, word: &[u8]) -> Result<Option<Reference>, Error>
-        ensures found { F.is_honest self.now.store.now.files → Finds (reads_in (F.history self.now.store.now.files).tree self.now) (lookup_names word.now) result }
-        ensures failed { MatchResult result (λ _. Unit {0}) (MayTell F.reading_may_fail) }
+        ensures found { F.is_honest self.now.store.now.files
+            → Finds (reads_in (F.history self.now.store.now.files).tree self.now)
+            (lookup_names word.now) result }
+        ensures failed { IfErr result (MayTell F.reading_may_fail) }
     {
         if is_complete(word) {
             return self.between(b"", word, b"");
@@ -44,9 +46,10 @@ impl<F: Files> Search<'_, '_, F> {
 
     // The reference of the first name alone.
     pub(crate) fn first(&self, word: &[u8]) -> Result<Option<Reference>, Error>
-        ensures found { F.is_honest self.now.store.now.files → (first : List ℕ) × (rest : List (List ℕ)) × (lookup_names word.now ≡ first ∷ rest)
-            × TellsReading first (reads_in (F.history self.now.store.now.files).tree self.now first) result }
-        ensures failed { MatchResult result (λ _. Unit {0}) (MayTell F.reading_may_fail) }
+        ensures found { F.is_honest self.now.store.now.files
+            → AnswersFirst (reads_in (F.history self.now.store.now.files).tree self.now)
+            (lookup_names word.now) result }
+        ensures failed { IfErr result (MayTell F.reading_may_fail) }
     {
         if is_complete(word) {
             self.between(b"", word, b"")
@@ -57,8 +60,10 @@ impl<F: Files> Search<'_, '_, F> {
 
     // The reference of a word below `refs/tags/`, else that of a branch.
     fn tag(&self, word: &[u8]) -> Result<Option<Reference>, Error>
-        ensures found { F.is_honest self.now.store.now.files → Finds (reads_in (F.history self.now.store.now.files).tree self.now) (tag_names word.now) result }
-        ensures failed { MatchResult result (λ _. Unit {0}) (MayTell F.reading_may_fail) }
+        ensures found { F.is_honest self.now.store.now.files
+            → Finds (reads_in (F.history self.now.store.now.files).tree self.now)
+            (tag_names word.now) result }
+        ensures failed { IfErr result (MayTell F.reading_may_fail) }
     {
         match self.between(b"refs/tags/", word, b"")? {
             Some(found) => Ok(Some(found)),
@@ -68,8 +73,10 @@ impl<F: Files> Search<'_, '_, F> {
 
     // The reference of a word below `refs/heads/`, else that of a remote.
     fn branch(&self, word: &[u8]) -> Result<Option<Reference>, Error>
-        ensures found { F.is_honest self.now.store.now.files → Finds (reads_in (F.history self.now.store.now.files).tree self.now) (branch_names word.now) result }
-        ensures failed { MatchResult result (λ _. Unit {0}) (MayTell F.reading_may_fail) }
+        ensures found { F.is_honest self.now.store.now.files
+            → Finds (reads_in (F.history self.now.store.now.files).tree self.now)
+            (branch_names word.now) result }
+        ensures failed { IfErr result (MayTell F.reading_may_fail) }
     {
         match self.between(b"refs/heads/", word, b"")? {
             Some(found) => Ok(Some(found)),
@@ -79,8 +86,10 @@ impl<F: Files> Search<'_, '_, F> {
 
     // The reference of a word below `refs/remotes/`, else that of its `HEAD`.
     fn remote(&self, word: &[u8]) -> Result<Option<Reference>, Error>
-        ensures found { F.is_honest self.now.store.now.files → Finds (reads_in (F.history self.now.store.now.files).tree self.now) (remote_names word.now) result }
-        ensures failed { MatchResult result (λ _. Unit {0}) (MayTell F.reading_may_fail) }
+        ensures found { F.is_honest self.now.store.now.files
+            → Finds (reads_in (F.history self.now.store.now.files).tree self.now)
+            (remote_names word.now) result }
+        ensures failed { IfErr result (MayTell F.reading_may_fail) }
     {
         match self.between(b"refs/remotes/", word, b"")? {
             Some(found) => Ok(Some(found)),
@@ -90,8 +99,10 @@ impl<F: Files> Search<'_, '_, F> {
 
     // The reference of the name between these texts.
     fn between(&self, front: &[u8], word: &[u8], back: &[u8]) -> Result<Option<Reference>, Error>
-        ensures found { F.is_honest self.now.store.now.files → let name = front.now ++ (word.now ++ back.now) in TellsReading name (reads_in (F.history self.now.store.now.files).tree self.now name) result }
-        ensures failed { MatchResult result (λ _. Unit {0}) (MayTell F.reading_may_fail) }
+        ensures found { F.is_honest self.now.store.now.files
+            → AnswersName (reads_in (F.history self.now.store.now.files).tree self.now)
+            (placed front.now word.now back.now) result }
+        ensures failed { IfErr result (MayTell F.reading_may_fail) }
     {
         let name = joined(self.alloc, front, word, back)?;
         match FullName::new(name) {
@@ -102,8 +113,10 @@ impl<F: Files> Search<'_, '_, F> {
 
     // The reference of a full name.
     pub(crate) fn of_full_name(&self, name: FullName) -> Result<Option<Reference>, Error>
-        ensures found { F.is_honest self.now.store.now.files → TellsReading name (reads_in (F.history self.now.store.now.files).tree self.now name) result }
-        ensures failed { MatchResult result (λ _. Unit {0}) (MayTell F.reading_may_fail) }
+        ensures found { F.is_honest self.now.store.now.files
+            → AnswersName (reads_in (F.history self.now.store.now.files).tree self.now)
+            name result }
+        ensures failed { IfErr result (MayTell F.reading_may_fail) }
     {
         match self
             .store
@@ -120,7 +133,7 @@ impl<F: Files> Search<'_, '_, F> {
 
     // The reference that a record holds for this name.
     pub(crate) fn packed_reference(&self, name: FullName) -> Option<Reference>
-        ensures { TellsReading name (packed_reading (packed_hit (records_in self.now.packed) name)) (Ok result) }
+        ensures { AnswersRecord (records_in self.now.packed) name result }
     {
         match self.packed {
             Some(packed) => record_of(packed, name),
@@ -132,8 +145,10 @@ impl<F: Files> Search<'_, '_, F> {
 impl<F: Files> Store<F> {
     // The target that the file of a full name tells.
     pub(crate) fn target_in_file(&self, alloc: Global, name: &[u8]) -> Result<Option<Target>, Error>
-        ensures found { F.is_honest self.now.files → TellsFile (base_of self.now).kind (loose_text_at (base_of self.now) (F.history self.now.files).tree name.now) result }
-        ensures failed { MatchResult result (λ _. Unit {0}) (MayTell F.reading_may_fail) }
+        ensures found { F.is_honest self.now.files
+            → TellsFile (base_of self.now).kind
+            (loose_text_at (base_of self.now) (F.history self.now.files).tree name.now) result }
+        ensures failed { IfErr result (MayTell F.reading_may_fail) }
     {
         let path = self.home(name).place(alloc)?;
         let mut text = Vec::new(alloc);
@@ -148,7 +163,7 @@ impl<F: Files> Store<F> {
     // The target that this text tells.
     fn target_of(&self, alloc: Global, text: &[u8]) -> Result<Option<Target>, Error>
         ensures found { TellsFile (base_of self.now).kind (Some text.now) result }
-        ensures failed { MatchResult result (λ _. Unit {0}) (MayTell F.reading_may_fail) }
+        ensures failed { IfErr result (MayTell F.reading_may_fail) }
     {
         match loose::decode(alloc, text, self.options.object_hash) {
             Ok(target) => Ok(Some(target)),
@@ -163,7 +178,7 @@ impl<F: Files> Store<F> {
 
 // The reference that a record of the buffer holds for this name.
 fn record_of(packed: &Buffer, name: FullName) -> Option<Reference>
-    ensures { TellsReading name (packed_reading (packed_hit (kept packed.now) name)) (Ok result) }
+    ensures { AnswersRecord (kept packed.now) name result }
 {
     match packed.try_find_full_name(name.as_ref()) {
         Some(record) => Some(Reference {
@@ -176,7 +191,7 @@ fn record_of(packed: &Buffer, name: FullName) -> Option<Reference>
 }
 
 fn joined(alloc: Global, front: &[u8], word: &[u8], back: &[u8]) -> Result<ByteString, AllocError>
-    ensures { IfOk result (λ text. text ≡ front.now ++ (word.now ++ back.now)) }
+    ensures { IfOk result (λ text. text ≡ placed front.now word.now back.now) }
 {
     let mut text = front.to_vec(alloc)?;
     text.extend_from_slice(word)?;

@@ -37,7 +37,9 @@ impl<F: Files> Walk<'_, F> {
         requires { 0 < length folder.now }
         ensures kept { Keeps names.old.keys names.new.keys }
         ensures asked { BringsAsked (is_asked self.now.asked) names.old.keys names.new.keys }
-        ensures all { F.is_honest self.now.files.now → OnOk result (GathersBelow (F.history self.now.files.now).tree self.now.base.now (is_asked self.now.asked) folder.now names.new.keys) }
+        ensures all { F.is_honest self.now.files.now
+            → OnOk result (GathersBelow (F.history self.now.files.now).tree self.now.base.now
+            (is_asked self.now.asked) folder.now names.new.keys) }
         ensures failed { IfErr result (MayStop F.reading_may_fail) }
     {
         let place = joined(self.alloc, self.base, folder)?;
@@ -56,7 +58,10 @@ impl<F: Files> Walk<'_, F> {
 
     // What stands at this path of the folder; nothing where none of the names can stand there.
     fn kind_of(&self, path: &[u8]) -> Result<Place, Error>
-        ensures kind { F.is_honest self.now.files.now → IfOk result (λ kind. IsTrue (may_lead_to path.now self.now.asked.front.now) → kind ≡ place_of (node_at (F.history self.now.files.now).tree (under self.now.base.now path.now))) }
+        ensures kind { F.is_honest self.now.files.now
+            → let tree = (F.history self.now.files.now).tree in
+            IfOk result (λ kind. IsTrue (may_lead_to path.now self.now.asked.front.now)
+            → kind ≡ place_of (node_at tree (under self.now.base.now path.now))) }
         ensures failed { IfErr result (MayStop F.reading_may_fail) }
     {
         if !self.asked.may_stand_at(self.alloc, path)? {
@@ -70,7 +75,9 @@ impl<F: Files> Walk<'_, F> {
     pub(crate) fn pseudo(&self, names: &mut BTreeSet<FullName>) -> Result<(), Error>
         ensures kept { Keeps names.old.keys names.new.keys }
         ensures asked { BringsAsked is_pseudo names.old.keys names.new.keys }
-        ensures all { F.is_honest self.now.files.now → OnOk result (Gathers (F.history self.now.files.now).tree self.now.base.now is_pseudo names.new.keys) }
+        ensures all { F.is_honest self.now.files.now
+            → OnOk result (Gathers (F.history self.now.files.now).tree self.now.base.now
+            is_pseudo names.new.keys) }
         ensures failed { IfErr result (MayStop F.reading_may_fail) }
     {
         for name in &self.files.list(self.alloc, self.base)? {
@@ -82,7 +89,8 @@ impl<F: Files> Walk<'_, F> {
 
 // Whether the path is longer than the folder's, and within the limit.
 fn is_deeper(path: &[u8], folder: &[u8]) -> bool
-    ensures { result ≡ (nat_lt (length folder.now) (length path.now) && nat_le (length path.now) 4096) }
+    ensures { result
+        ≡ (nat_lt (length folder.now) (length path.now) && nat_le (length path.now) 4096) }
 {
     folder.len() < path.len() && path.len() <= MAX_PATH
 }
@@ -91,7 +99,8 @@ fn is_deeper(path: &[u8], folder: &[u8]) -> bool
 fn put_pseudo(alloc: Global, path: &[u8], names: &mut BTreeSet<FullName>) -> Result<(), Error>
     ensures kept { Keeps names.old.keys names.new.keys }
     ensures asked { BringsAsked is_pseudo names.old.keys names.new.keys }
-    ensures there { IsTrue (is_full_name path.now) → IsTrue (is_pseudo path.now) → OnOk result (IsTrue (has names.new.keys path.now)) }
+    ensures there { IsTrue (is_full_name path.now) → IsTrue (is_pseudo path.now)
+        → OnOk result (IsTrue (has names.new.keys path.now)) }
     ensures failed { IfErr result (MayStop ⊥) }
 {
     if is_capitals(path) && path.ends_with(b"HEAD") {
@@ -103,7 +112,8 @@ fn put_pseudo(alloc: Global, path: &[u8], names: &mut BTreeSet<FullName>) -> Res
 // Puts a name in, where it is a full one.
 pub(crate) fn put_name(name: ByteString, names: &mut BTreeSet<FullName>) -> Result<(), Error>
     ensures kept { Keeps names.old.keys names.new.keys }
-    ensures only { (other : List ℕ) → IsTrue (has names.new.keys other) → IsTrue (has names.old.keys other) ⊎ (other ≡ name) }
+    ensures only { (other : List ℕ) → IsTrue (has names.new.keys other)
+        → IsTrue (has names.old.keys other) ⊎ (other ≡ name) }
     ensures there { IsTrue (is_full_name name) → OnOk result (IsTrue (has names.new.keys name)) }
     ensures failed { IfErr result (MayStop ⊥) }
 {
