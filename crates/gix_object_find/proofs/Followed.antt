@@ -81,9 +81,10 @@ module _ (honest : Type 0) (table : Table) where
       → (honest → (content : List ℕ) × Stands table id kinds.Tree content × (tree ≡ start id.kind content))
       → IsNamedBy honest table item tree
   named_by item tree id same reads says =
-      let found = reads says in
-      (ap (λ (p : Place). p.kind) found.2 ∙ ap (λ (i : Id). i.kind) same,
-      subst (λ i. Stands table i kinds.Tree tree.input) same (subst (Stands table id kinds.Tree) (ap (λ (p : Place). p.input) (sym found.2)) found.1))
+      let found = reads says in (
+        ap (λ (p : Place). p.kind) found.2 ∙ ap (λ (i : Id). i.kind) same,
+        subst (λ i. Stands table i kinds.Tree tree.input) same (subst (Stands table id kinds.Tree) (ap (λ (p : Place). p.input) (sym found.2)) found.1),
+      )
 
   -- a name that was sought in the tree that an entry names
   pub below_here : (item : Item) (name : List ℕ) (tree : Place) (found : Option Item) → IsTrue (is_tree item)

@@ -18,7 +18,7 @@ returns-in_err-tree-clause-refused g c =
     rw (p.1, p.2) (
       tree_mode,
       subst (λ id. KindFault (g.T.Lookup.is_honest c.args.objects.now) (g.T.Lookup.may_fail c.args.objects.now) (g.T.Lookup.table c.args.objects.now) id kinds.Tree c.in_err-tree.field-0.0) c.as_oid.ensures
-      c.in_err-tree.ensures.refused,
+          c.in_err-tree.ensures.refused,
     )
 
 pub returns-clause-found : goal.returns-clause-found
