@@ -3,10 +3,11 @@ PREFIX ?= /usr/local
 PROGRAM := crates/history_program/out/history_program
 HASHING := crates/gix_hash_bench/out/gix_hash_bench
 WALKS := crates/gix_traverse_bench/out/gix_traverse_bench
+REFERENCES := crates/gix_ref_bench/out/gix_ref_bench
 # Names a source that is newer than the program, if there is one.
 NEWER = find crates.txt crates -name out -prune -o -type f -newer $(PROGRAM) -print -quit
 
-.PHONY: test wrong-bodies demo bench faults install program hashing walks
+.PHONY: test wrong-bodies demo bench faults install program hashing walks references
 
 # The merge gate: the documents' names, every proof from nothing, the must-fail edits, the tests and the program. docs/GATE.md says
 # how long it takes.
@@ -29,11 +30,12 @@ demo:
 	fi
 
 # A report, no test: commits per second as the history grows, one large content, the hashing of a stream, look-ups of prefixes,
-# and walks over 30,000 commits.
-bench: program hashing walks
+# walks over 30,000 commits, and listings and lookups of 10,000 references.
+bench: program hashing walks references
 	bench/report $(PROGRAM)
 	bench/hashing $(HASHING)
 	bench/walks $(WALKS)
+	bench/references $(REFERENCES)
 
 # Refuses each growth of memory of the program's own run in turn; it needs a C compiler.
 faults: program
@@ -58,4 +60,10 @@ hashing:
 walks:
 	@echo 'building what bench/walks times'
 	@cd crates/gix_traverse_bench && log=$$(mktemp) && \
+	if rt run < stdin > /dev/null 2> "$$log"; then rm "$$log"; else cat "$$log"; rm "$$log"; exit 1; fi
+
+# Proves, compiles and links what bench/references times.
+references:
+	@echo 'building what bench/references times'
+	@cd crates/gix_ref_bench && log=$$(mktemp) && \
 	if rt run < stdin > /dev/null 2> "$$log"; then rm "$$log"; else cat "$$log"; rm "$$log"; exit 1; fi

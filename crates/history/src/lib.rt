@@ -23,11 +23,6 @@ mod stopped;
 mod stored;
 mod words;
 
-/// The file trees that a repository stands on.
-pub mod files {
-    pub use gix_ref_file::{FileError, Files, Fuse, MemoryFiles, Place};
-}
-
 /// How a store of objects answers: what stands under an id.
 pub mod lookups {
     pub use gix_object::{Data, Exists, Find, FindHeader, Header, Lookup, find};

@@ -7,7 +7,7 @@ ghost use Rattle.history.specs.Face.{has_failed};
 ghost use Rattle.history.specs.Stands.{Stands, pair_of};
 
 use gix_hash::Kind;
-use history::files::{Files, MemoryFiles};
+use gix_ref_file::{Files, MemoryFiles};
 use history::{CreateError, OpenError, OpenRefusal, Repository, create};
 use std::alloc::Global;
 use thiserror::Error;

@@ -1,6 +1,6 @@
 //! New repositories, and runs over them.
 
-use history::files::{Files, MemoryFiles};
+use gix_ref_file::{Files, MemoryFiles};
 use history::{Bytes, Collected, End, Kind, Repository, RunError, run};
 use history_in_memory::{answer_stream, new_repository};
 use std::alloc::{AllocError, Global};

@@ -2,7 +2,7 @@
 
 use crate::common::{KINDS, answered, fresh};
 use crate::stored::{COMMITTED, INPUT, LISTED, SHOWN};
-use history::files::{Fuse, MemoryFiles};
+use gix_ref_file::{Fuse, MemoryFiles};
 use history::{End, Kind, OpenError, Repository, create};
 use std::alloc::Global;
 use std::process::Abort;

@@ -3,8 +3,8 @@
 
 use crate::common::{ByKind, KINDS, answers, fresh, replies};
 use crate::parts::{all_files, same_files};
+use gix_ref_file::FileError;
 use history::End;
-use history::files::FileError;
 
 /// Files three folders deep: put, shown, taken out one by one and by folders, a folder in the place of a file.
 const DEEP: &[u8] =

@@ -1,6 +1,6 @@
 //! The store of objects by the face alone.
 
-use history::files::MemoryFiles;
+use gix_ref_file::MemoryFiles;
 use history::lookups::{Exists, Find};
 use history::{Kind, ObjectKind, Objects, OpenError, PutError};
 use std::alloc::Global;

@@ -1,7 +1,7 @@
 //! Folders that aren't opened, each for its cause.
 
 use crate::common::{KINDS, NO_FILES_COMMITTED, SIGNED, joined, replies};
-use history::files::{FileError, Files, MemoryFiles};
+use gix_ref_file::{FileError, Files, MemoryFiles};
 use history::{Kind, OpenError, Repository};
 use std::alloc::Global;
 

@@ -1,6 +1,6 @@
 //! The files of a part.
 
-use history::files::{FileError, Files, MemoryFiles, Place};
+use gix_ref_file::{FileError, Files, MemoryFiles, Place};
 use std::alloc::{AllocError, Global};
 
 /// A file: where it stands, and its bytes.

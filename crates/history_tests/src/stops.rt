@@ -3,7 +3,7 @@
 
 use crate::common::{KINDS, answered};
 use crate::parts::{Found, all_files};
-use history::files::{FileError, Files, Fuse, MemoryFiles};
+use gix_ref_file::{FileError, Files, Fuse, MemoryFiles};
 use history::{CreateError, End, Kind, Repository, create};
 use std::alloc::{AllocError, Global};
 use std::process::Abort;

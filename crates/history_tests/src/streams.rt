@@ -4,7 +4,7 @@ ghost use Rattle.std.specs.Prelude.{None};
 
 use crate::common::{KINDS, fresh};
 use crate::stored::{COMMIT_END, COMMITTED, FILES_END, INPUT, LISTED, REPLIES};
-use history::files::MemoryFiles;
+use gix_ref_file::MemoryFiles;
 use history::{Broken, Bytes, Collected, End, Kind, Repository, RunError, Sink, Source, run};
 use std::alloc::Global;
 use std::process::Abort;
