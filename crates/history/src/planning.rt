@@ -20,7 +20,7 @@ use gix_hash::ObjectId;
 use gix_ref_file::Files;
 use history_files::EditedTree;
 use history_model::{Cause, Fault};
-use history_store::{Commit, LogEntry, NewObject, ObjectKind};
+use history_store::{Actor, Commit, LogEntry, NewObject, ObjectKind};
 use history_word::CommitCommand;
 use std::alloc::{AllocError, Global};
 
@@ -74,6 +74,31 @@ fn add_trees(objects: &mut Vec<NewObject>, trees: Vec<EditedTree>) -> Result<(),
     Ok(add_all(objects, trees)?)
 }
 
+/// The move of a name from one id to another, of which its log tells with this actor and message.
+fn moves_to(
+    name: Vec<u8>,
+    before: ObjectId,
+    after: ObjectId,
+    actor: Actor,
+    message: Vec<u8>,
+) -> Moves
+    ensures name { result.name ≡ name }
+    ensures before { result.entry.before ≡ before }
+    ensures after { result.entry.after ≡ after }
+    ensures actor { result.entry.actor ≡ actor }
+    ensures message { result.entry.message ≡ message }
+{
+    Moves {
+        name,
+        entry: LogEntry {
+            before,
+            after,
+            actor,
+            message,
+        },
+    }
+}
+
 impl<F: Files> Repository<F> {
     /// An object of this content, where that is within the limit.
     fn new_object(&self, kind: ObjectKind, content: Vec<u8>) -> Result<NewObject, Cause>
@@ -122,19 +147,9 @@ impl<F: Files> Repository<F> {
             message,
         };
         let commit = self.new_object(ObjectKind::Commit, commit.to_bytes(alloc)?)?;
-        let entry = LogEntry {
-            before: base.held.unwrap_or(ObjectId::null(self.objects.kind())),
-            after: commit.id,
-            actor: log_actor,
-            message: title,
-        };
+        let before = base.held.unwrap_or(ObjectId::null(self.objects.kind()));
+        let moves = moves_to(base.name, before, commit.id, log_actor, title);
         objects.push(commit)?;
-        Ok(Plan {
-            objects,
-            moves: Moves {
-                name: base.name,
-                entry,
-            },
-        })
+        Ok(Plan { objects, moves })
     }
 }

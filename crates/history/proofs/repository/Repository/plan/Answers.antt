@@ -1,6 +1,7 @@
 use Rattle.std.proofs.Common.{◌≡◌, ◌<◌, ◌≤◌, List, refl, sym, ◌∙◌, ap, subst, map, [], ◌∷◌, ◌++◌, length, Err, false}
 use Rattle.std.specs.List.{AllByRecursion, list_any, flat_map}
-use Rattle.std.specs.Prelude.{Option, Some, MatchOption, Ok, Result}
+use Rattle.std.specs.Prelude.{ℕ, Option, Some, MatchOption, Ok, Result, Vec}
+use Rattle.std.specs.declared.alloc.Global.{Global}
 use Rattle.std.specs.Option.{ok_or}
 use Rattle.std.proofs.lemmas.Result.{err_from_is_err_and}
 use Rattle.history_model.specs.Bytes.{Bytes}
@@ -21,7 +22,7 @@ use Rattle.gix_hash.specs.declared.kind.Kind.{Kind}
 use Rattle.history_files.specs.Editing.{AreEdited}
 use Rattle.history_store.specs.Stores.{AreObjectsOf}
 use Rattle.history_store.specs.declared.commit.Commit.{Commit}
-use Rattle.history_store.specs.declared.log_entry.LogEntry.{LogEntry}
+use Rattle.history_store.specs.Formats.{actor_of}
 use Rattle.history_store.proofs.CommitTexts.{text_of_commit}
 use Rattle.history_word.specs.Commands.{AreEdits}
 use Rattle.history_word.specs.declared.command.Edit.{Edit}
@@ -276,16 +277,16 @@ returns g c = λ r order asked.
     let kept_commit = c.in_ok-commit.ensures in
     let commit_made = subst (λ (bytes : Bytes). IsMade kind kinds.Commit bytes c.in_ok-commit.commit) commit_text_is kept_commit.0 in
     let none = none_refused r order h.stage.offered w ours c.in_ok-times.times times base.0 fit (subst (λ (bytes : Bytes). length bytes ≤ max_content) commit_text_is kept_commit.1) in
-    let entry : LogEntry = record { before = c.unwrap_or.result; after = c.in_ok-commit.commit.id; actor = c.in_ok-log_actor.log_actor; message = c.in_ok-title.title } in (
+    let moves = c.moves_to.ensures in (
       none,
       is_plan r order h.stage.offered w ours folders new sound none _
           (objects_are r order h.stage.offered w ours kind folders c.add_trees.new.objects.items c.push.new.self.items c.in_ok-commit.commit h.stands.objects_kind put commit_made c.in_ok-push.ensures.items)
           (record {
-            name = base.1.name;
-            entry = entry_is r order h.stage.offered w ours entry kind c.in_ok-commit.commit h.stands.objects_kind
-                (ap id_of c.unwrap_or.ensures ∙ before_is r order h.stage.offered w ours c.in_ok-base.base.held c.null.result base.1.held (c.null.ensures ∙ ap null_id (c.kind-2.ensures ∙ h.stands.objects_kind)))
-                commit_made refl (c.in_ok-log_actor.ensures ∙ committer)
-                (c.in_ok-title.ensures.items ∙ c.title.ensures ∙ ap title (c.deref-5.ensures.value ∙ message));
+            name = ap (λ (name : Vec ℕ Global). name.items) moves.name ∙ base.1.name;
+            entry = entry_is r order h.stage.offered w ours c.moves_to.result.entry kind c.in_ok-commit.commit h.stands.objects_kind
+                (ap id_of (moves.before ∙ c.unwrap_or.ensures) ∙ before_is r order h.stage.offered w ours c.in_ok-base.base.held c.null.result base.1.held (c.null.ensures ∙ ap null_id (c.kind-2.ensures ∙ h.stands.objects_kind)))
+                commit_made moves.after (ap actor_of moves.actor ∙ c.in_ok-log_actor.ensures ∙ committer)
+                (ap (λ (message : Vec ℕ Global). message.items) moves.message ∙ c.in_ok-title.ensures.items ∙ c.title.ensures ∙ ap title (c.deref-5.ensures.value ∙ message));
           }),
     )
 
