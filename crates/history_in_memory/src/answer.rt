@@ -50,7 +50,7 @@ pub fn answer_stream(alloc: Global, kind: Kind, input: &[u8]) -> Result<Answer, 
     // What the plain repository answers the whole input with is what is written; or the run told a fault.
     ensures meant { (output : Text) → IsMeant kind input.now output
         → IfOk result (λ answer. AreOrTellFault kind input.now
-            (⟦<Collected as Sink>⟧.contents answer.written) answer.end output) }
+        (⟦<Collected as Sink>⟧.contents answer.written) answer.end output) }
 {
     let mut repository = new_repository(alloc, kind)?;
     let mut reader = Bytes::new(input);
