@@ -1,5 +1,5 @@
 -- What a turn does, and turns in a row.
-use Rattle.std.proofs.Common.{◌≡◌, ℕ, ◌⊎◌, Bool, true, false, not, ◌&&◌, ◌||◌, ◌==◌, ◌≢◌, List, [], ◌∷◌, ◌++◌, Option, Some, None, Result, Ok, Err, refl, sym, ap, subst, ◌∙◌, inl, inr, IsTrue, IsFalse, arith}
+use Rattle.std.proofs.Common.{◌≡◌, ℕ, ◌⊎◌, Bool, true, false, not, ◌&&◌, ◌||◌, ◌==◌, ◌≢◌, ◌<◌, length, List, [], ◌∷◌, ◌++◌, Option, Some, None, Result, Ok, Err, refl, sym, ap, subst, ◌∙◌, inl, inr, IsTrue, IsFalse, arith}
 use Rattle.std.proofs.lemmas.List.{append-nil}
 use Rattle.std.proofs.lemmas.Bool.Decides.{nat_tests}
 use Rattle.history_model.specs.Bytes.{Bytes, begins}
@@ -120,9 +120,9 @@ module _ (objects names : History) (MayFail : Type 0) (StandsNow RecoversNow : R
   }
 
   -- the writer failed within the reply
-  pub turn_cut : (Comes Writes : Bytes → Type 0) (AtEnd L : Type 0) (taken rest front back : Bytes) → Spells taken order → Comes (taken ++ rest) → text_of answer ≡ front ++ back → Writes front
+  pub turn_cut : (Comes Writes : Bytes → Type 0) (AtEnd L : Type 0) (taken rest front back : Bytes) → Spells taken order → Comes (taken ++ rest) → text_of answer ≡ front ++ back → length front < length (text_of answer) → Writes front
       → EndsHere Comes Writes StandsNow RecoversNow Traced AtEnd L CallFailed r (Err Write) failed
-  turn_cut Comes Writes AtEnd L taken rest front back k comes e writes = record {
+  turn_cut Comes Writes AtEnd L taken rest front back k comes e short writes = record {
     commands = order ∷ [];
     replies = a.reply ∷ [];
     read = taken ++ rest;
@@ -148,6 +148,7 @@ module _ (objects names : History) (MayFail : Type 0) (StandsNow RecoversNow : R
         a.fails ∙ only_fails (goes_on order a.reply),
         λ is. failed_so ((a.acted).failure is),
         subst (λ xs. IsTrue (begins front xs)) (sym e ∙ told_text answer a.reply a.tells) (begins_front front back),
+        subst (λ xs. length front < length xs) (told_text answer a.reply a.tells) short,
       );
     };
     traced = traced;
@@ -161,9 +162,6 @@ some_cause (b ∷ bytes) cause some h = h
 
 no_command : (AtEnd : Type 0) (bytes : Bytes) (cause : Cause) → bytes ≢ [] → IsCauseOf bytes cause → (cause ≡ Truncated → AtEnd) → IsNoCommand AtEnd bytes cause
 no_command AtEnd bytes cause some h end = record { because = some_cause bytes cause some h; at_end = end }
-
-or_first : (a b : Bool) → a ≡ true → (a || b) ≡ true
-or_first a b e = ap (λ t. t || b) e
 
 -- the reader failed, or the last reading was made
 short_rest : (Failed L : Type 0) (bytes : Bytes) → (Failed × IsCauseOf bytes Truncated) ⊎ L → (bytes ≡ []) ⊎ HasRestCause bytes Truncated ⊎ L
@@ -211,8 +209,8 @@ module _ (Comes Writes : Bytes → Type 0) (StandsNow RecoversNow : Repository �
 
   -- the writer failed within the answer to it
   pub turn_refusal_cut : (bytes : Bytes) (cause : Cause) (front back : Bytes) → bytes ≢ [] → IsCauseOf bytes cause → (cause ≡ Truncated → AtEnd) → Comes bytes
-      → reply_text (RefusedFor cause) ≡ front ++ back → Writes front → Here (Err Write)
-  turn_refusal_cut bytes cause front back some h end comes e writes = record {
+      → reply_text (RefusedFor cause) ≡ front ++ back → length front < length (reply_text (RefusedFor cause)) → Writes front → Here (Err Write)
+  turn_refusal_cut bytes cause front back some h end comes e short writes = record {
     commands = [];
     replies = [];
     read = bytes;
@@ -230,7 +228,7 @@ module _ (Comes Writes : Bytes → Type 0) (StandsNow RecoversNow : Repository �
       part = front;
       mid = r;
       ran = ran_none C r bytes front;
-      cut = (cause, no_command AtEnd bytes cause some h end, refl, unfailed, or_first _ _ (subst (λ xs. IsTrue (begins front xs)) (sym e) (begins_front front back)));
+      cut = (cause, no_command AtEnd bytes cause some h end, refl, unfailed, inl (subst (λ xs. IsTrue (begins front xs)) (sym e) (begins_front front back), short));
     };
     traced = traced;
     stands = λ _. stands;

@@ -75,9 +75,9 @@ answered kind input (Some unread) (Some text) end failed commands replies read w
       (runs_told (unread ≡ []) (unread ≡ []) Fail ⊥ (λ at. at) none (fresh kind) new commands replies read written end failed runs);
 }
 
-pub given : (kind : Kind) (input output : Bytes) (contents : Option Bytes) (end : End) → IsMeant kind input output → Answers kind input contents end → AreOrTellFault contents output
-given kind input output None end meant answers = absurd answers
-given kind input output (Some text) end meant answers =
+pub given : (kind : Kind) (input output : Bytes) (contents : Option Bytes) (end : End) → IsMeant kind input output → Answers kind input contents end → AreOrTellFault kind input contents end output
+given kind input output None end meant told = absurd told
+given kind input output (Some text) end meant told = λ answers.
     runs_give (fresh kind) meant.new answers.new meant.commands answers.commands meant.replies answers.replies input output answers.read answers.unread text end answers.failed
     meant.runs meant.no_fault meant.sure answers.all
     (runs_told (answers.unread ≡ []) (answers.unread ≡ []) ⊥ ⊤ (λ at. at) (λ never. tt) (fresh kind) answers.new answers.commands answers.replies answers.read text end answers.failed answers.runs)

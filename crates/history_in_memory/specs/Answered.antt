@@ -6,7 +6,7 @@ use Rattle.history_model.specs.Repository.{Repository, fresh}
 use Rattle.history_model.specs.Commands.{Command}
 use Rattle.history_model.specs.Replies.{Reply}
 use Rattle.history_model.specs.Runs.{Runs}
-use Rattle.history_model.specs.Laws.{HasFault, have_no_fault, is_sure}
+use Rattle.history_model.specs.Laws.{TellsFault, have_no_fault, is_sure}
 use Rattle.gix_hash.specs.declared.kind.Kind.{Kind}
 use Rattle.history_model.specs.declared.End.{End}
 use Rattle.history_model.specs.declared.End.TheVariants.{Input}
@@ -32,12 +32,14 @@ pub record IsMeant (kind : Kind) (input output : Bytes) : Type 0 where
   pub no_fault : IsTrue (have_no_fault replies)
   pub sure : IsTrue (list_all is_sure commands)
 
--- the known bytes are these, or a fault is told among the replies that they are
-abbrev pub AreOrTellFault : Option Bytes → Bytes → Type 0
-AreOrTellFault None output = ⊥
-AreOrTellFault (Some written) output = (written ≡ output) ⊎ HasFault written
-
 -- the known bytes answer the input
 abbrev pub Answers : Kind → Bytes → Option Bytes → End → Type 0
 Answers kind input None end = ⊥
 Answers kind input (Some written) end = IsAnswered kind input written end
+
+-- Whichever run answered the input with the known bytes: they are this output, or one of its own replies is a fault, or it ended
+-- with one.
+abbrev pub AreOrTellFault : Kind → Bytes → Option Bytes → End → Bytes → Type 0
+AreOrTellFault kind input None end output = ⊥
+AreOrTellFault kind input (Some written) end output =
+    (run : IsAnswered kind input written end) → (written ≡ output) ⊎ TellsFault run.replies end

@@ -47,9 +47,10 @@ impl From<RunError> for AnswerError {
 pub fn answer_stream(alloc: Global, kind: Kind, input: &[u8]) -> Result<Answer, AnswerError>
     ensures answers { IfOk result (λ answer.
         Answers kind input.now (⟦<Collected as Sink>⟧.contents answer.written) answer.end) }
-    // What the plain repository answers the whole input with is what is written; or a fault is told.
+    // What the plain repository answers the whole input with is what is written; or the run told a fault.
     ensures meant { (output : Text) → IsMeant kind input.now output
-        → IfOk result (λ answer. AreOrTellFault (⟦<Collected as Sink>⟧.contents answer.written) output) }
+        → IfOk result (λ answer. AreOrTellFault kind input.now
+        (⟦<Collected as Sink>⟧.contents answer.written) answer.end output) }
 {
     let mut repository = new_repository(alloc, kind)?;
     let mut reader = Bytes::new(input);

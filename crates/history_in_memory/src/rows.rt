@@ -1,8 +1,9 @@
 //! Worked streams, answered.
 
 ghost use Rattle.std.specs.Prelude.{IfOk};
-ghost use Rattle.history_model.specs.Rows.{first_output, hello_output};
-ghost use Rattle.history_in_memory.specs.Answered.{AreOrTellFault};
+ghost use Rattle.history_model.specs.Rows.{first_stream, first_output, hello_stream, hello_output};
+ghost use Rattle.gix_hash.specs.declared.kind.Kind.TheVariants.{Sha1};
+ghost use Rattle.history_in_memory.specs.Answered.{Answers, AreOrTellFault};
 
 use crate::answer::{Answer, AnswerError, answer_stream};
 use gix_hash::Kind;
@@ -43,8 +44,10 @@ a
 
 /// Answers the worked stream of a commit without files, whose files and itself are shown.
 pub fn first_commit(alloc: Global) -> Result<Answer, AnswerError>
-    ensures { IfOk result (λ answer.
-        AreOrTellFault (⟦<Collected as Sink>⟧.contents answer.written) first_output) }
+    ensures answers { IfOk result (λ answer.
+        Answers Sha1 first_stream (⟦<Collected as Sink>⟧.contents answer.written) answer.end) }
+    ensures meant { IfOk result (λ answer. AreOrTellFault Sha1 first_stream
+        (⟦<Collected as Sink>⟧.contents answer.written) answer.end first_output) }
 {
     history_model::rows::first_commit();
     answer_stream(alloc, Kind::Sha1, FIRST)
@@ -52,8 +55,10 @@ pub fn first_commit(alloc: Global) -> Result<Answer, AnswerError>
 
 /// Answers the worked stream of a commit of the file `hello`, whose files and content are shown.
 pub fn hello_file(alloc: Global) -> Result<Answer, AnswerError>
-    ensures { IfOk result (λ answer.
-        AreOrTellFault (⟦<Collected as Sink>⟧.contents answer.written) hello_output) }
+    ensures answers { IfOk result (λ answer.
+        Answers Sha1 hello_stream (⟦<Collected as Sink>⟧.contents answer.written) answer.end) }
+    ensures meant { IfOk result (λ answer. AreOrTellFault Sha1 hello_stream
+        (⟦<Collected as Sink>⟧.contents answer.written) answer.end hello_output) }
 {
     history_model::rows::hello_file();
     answer_stream(alloc, Kind::Sha1, HELLO)

@@ -1,5 +1,5 @@
 -- Rounds of runs, stopped or at their end, and of recoveries.
-use Rattle.std.proofs.Common.{◌≡◌, ◌⊎◌, ◌==◌, ℕ, Bool, true, false, not, ◌&&◌, ◌||◌, List, [], ◌∷◌, ◌++◌, refl, sym, ◌∙◌, ap, subst, inl, inr, Option, None, Some, is_some, MatchBool, unwrap_or, arith}
+use Rattle.std.proofs.Common.{◌≡◌, ◌⊎◌, ◌==◌, ℕ, Bool, true, false, not, ◌&&◌, ◌||◌, List, [], ◌∷◌, ◌++◌, refl, sym, ◌∙◌, ap, subst, inl, inr, Option, None, Some, is_some, MatchBool, unwrap_or, IsTrue, arith}
 use Rattle.std.specs.List.{list_all, flat_map}
 use Rattle.gix_ref_file.specs.History.{History}
 use Rattle.std.proofs.lemmas.Bool.Decides.{nat_tests}
@@ -403,6 +403,12 @@ begins_more input front command rest more h known comes = record {
         go true b d h e = h e
         go false b d h e = cc
 
+-- what is cut from one of two texts begins one
+begins_either : {P Q : Type 0} (a b : Bool) → (IsTrue a × P) ⊎ (IsTrue b × Q) → IsTrue (a || b)
+begins_either true b h = refl
+begins_either false b (inl h) = absurd (cc h.0)
+begins_either false b (inr h) = h.0
+
 writing_written : (old new : Repository) (commands : List Command) (replies : List Reply) (input output : Bytes) (failed : Bool)
     → EndsWriting (Unit {0}) (Unit {0}) old commands replies input output failed new → WritesReplies input commands replies output
 writing_written old new commands replies input output failed h =
@@ -418,7 +424,7 @@ writing_written old new commands replies input output failed h =
         part = h.part;
         all = refl;
         is = h.ran.written;
-        cut_off = begun;
+        cut_off = begun.0;
       },
     )
     go [] [] (cause, none, same, unfailed, begun) = (
@@ -430,7 +436,7 @@ writing_written old new commands replies input output failed h =
         part = h.part;
         all = refl;
         is = h.ran.written;
-        cut_off = inr (cause, none.because, begun);
+        cut_off = inr (cause, none.because, begins_either _ _ begun);
       },
     )
     go [] (b ∷ bs) k = absurd k

@@ -11,7 +11,7 @@ use Rattle.history_model.specs.Answers.{kept, time_at}
 use Rattle.history_model.specs.Stops.{is_changing}
 use Rattle.history_model.specs.Steps.{Steps, is_faulted, some_failed, next}
 use Rattle.history_model.specs.Runs.{Runs}
-use Rattle.history_model.specs.Laws.{DifferAtOneTime, leaves_choice, ListsAlike, AreAlike, AreAllAlike, have_no_fault, is_sure, HasFault, RunsAgree, RunsGive}
+use Rattle.history_model.specs.Laws.{DifferAtOneTime, leaves_choice, ListsAlike, AreAlike, AreAllAlike, have_no_fault, is_sure, TellsFault, RunsAgree, RunsGive}
 use Rattle.history_model.specs.declared.Cause.{Cause}
 use Rattle.history_model.specs.declared.Cause.TheVariants.{Syntax, Truncated, LineTooLong}
 use Rattle.history_model.specs.declared.Fault.TheVariants.{Memory}
@@ -203,30 +203,6 @@ never_refused others commands tail rest input read cause h k is whole all becaus
         absurd (rest_begins_with_none is_command is_spelled (tail ++ rest) (flat_map spelling coming ++ []) cause command stays
         (both_true (is_command command) (list_all is_command coming) known).0 (e ∙ append_assoc (spelling command) (flat_map spelling coming) []))
 
--- a changing command's fault is one of the replies
-failed_some : (commands : List Command) (replies : List Reply) → some_failed commands replies ≡ true → have_no_fault replies ≡ false
-failed_some [] replies e = absurd cc
-failed_some (command ∷ commands) [] e = absurd cc
-failed_some (command ∷ commands) (reply ∷ replies) e = by_case (λ f. failed_some commands replies f) (is_changing command) (is_faulted reply) e
-  where
-    by_case : (some_failed commands replies ≡ true → have_no_fault replies ≡ false) → (changing faulted : Bool)
-        → (not (not (changing && faulted)) || some_failed commands replies) ≡ true → (not faulted && have_no_fault replies) ≡ false
-    by_case later changing true e = refl
-    by_case later true false e = later e
-    by_case later false false e = later e
-
-memory_last : (replies : List Reply) → have_no_fault (replies ++ Faulted Memory ∷ []) ≡ false
-memory_last [] = refl
-memory_last (reply ∷ replies) = by_case (not (is_faulted reply)) (memory_last replies)
-  where
-    by_case : (b : Bool) → have_no_fault (replies ++ Faulted Memory ∷ []) ≡ false → (b && have_no_fault (replies ++ Faulted Memory ∷ [])) ≡ false
-    by_case true h = h
-    by_case false h = refl
-
-texts_then : (replies : List Reply) (last : Reply) → flat_map reply_text replies ++ reply_text last ≡ flat_map reply_text (replies ++ last ∷ [])
-texts_then [] last = sym (append-nil (reply_text last))
-texts_then (reply ∷ replies) last = append_assoc (reply_text reply) (flat_map reply_text replies) (reply_text last) ∙ ap (λ t. reply_text reply ++ t) (texts_then replies last)
-
 pub runs_give : RunsGive
 runs_give old new end commands others replies answers input output read rest written Input failed run f sure whole other =
     let ends = other.ends in
@@ -249,13 +225,10 @@ runs_give old new end commands others replies answers input output read rest wri
       ends = (other.ends.0, tt, other.ends.2, refl);
     }
 
-    by_fault : (b : Bool) → have_no_fault answers ≡ b → (written ≡ output) ⊎ HasFault written
+    by_fault : (b : Bool) → have_no_fault answers ≡ b → (written ≡ output) ⊎ TellsFault answers Input
     by_fault true e = inl ((runs_agree old new end commands others replies answers input output written run f again e).bytes sure)
-    by_fault false e = inr (answers, e, other.ran.written ∙ ap (λ last. flat_map reply_text answers ++ last) other.ends.2 ∙ append-nil (flat_map reply_text answers))
+    by_fault false e = inr (inl e)
 runs_give old new end commands others replies answers input output read rest written ByRefusal failed run f sure whole other =
     never_refused others commands other.rest rest input read other.ends.0 other.ran.splits.known run.ran.splits.known other.ran.splits.split whole
     (run.ran.splits.split ∙ ap (λ t. flat_map spelling commands ++ t) run.ends.0) other.ends.1.because other.ends.1.at_end
-runs_give old new end commands others replies answers input output read rest written ByFault true run f sure whole other =
-    inr (answers, failed_some others answers (sym other.ran.fails), other.ran.written ∙ ap (λ last. flat_map reply_text answers ++ last) other.ends ∙ append-nil (flat_map reply_text answers))
-runs_give old new end commands others replies answers input output read rest written ByFault false run f sure whole other =
-    inr (answers ++ Faulted Memory ∷ [], memory_last answers, other.ran.written ∙ ap (λ last. flat_map reply_text answers ++ last) other.ends.2 ∙ texts_then answers (Faulted Memory))
+runs_give old new end commands others replies answers input output read rest written ByFault failed run f sure whole other = inr (inr refl)

@@ -27,7 +27,7 @@ use Rattle.history_model.specs.Moments.{Moment, IsPairAt, IsRunPair, Traces}
 use Rattle.history_model.specs.Rounds.{HasWritten, Round, IsRunOf, AreRounds, last_left, Outcomes}
 use Rattle.gix_hash.specs.declared.kind.Kind.{Kind}
 use Rattle.history_model.specs.declared.End.{End}
-use Rattle.history_model.specs.declared.End.TheVariants.{Input}
+use Rattle.history_model.specs.declared.End.TheVariants.{Input, Fault as ByFault}
 
 -- ---- trees and files
 
@@ -128,17 +128,17 @@ abbrev pub RepliesTellTheState : Type 0
 RepliesTellTheState = (old new : Repository) (command : Command) (reply : Reply)
     → Step old command reply new → IsTrue (goes_on command reply) → new ≡ next old command reply
 
--- What was written are replies, of which one is a fault.
-abbrev pub HasFault : Bytes → Type 0
-HasFault written = (replies : List Reply) × IsFalse (have_no_fault replies) × (written ≡ flat_map reply_text replies)
+-- A run with these replies, which ends so, told a fault: one of its replies is one, or the answer at its end.
+abbrev pub TellsFault : List Reply → End → Type 0
+TellsFault replies end = IsFalse (have_no_fault replies) ⊎ (end ≡ ByFault)
 
 -- Where a run over the whole input tells no fault and has no choice, each run that ends over it, or over a beginning of it and
--- before the rest, writes the same, or tells a fault.
+-- before the rest, writes the same, or tells a fault itself: among its own replies, or at its end.
 abbrev pub RunsGive : Type 0
 RunsGive = (old new end : Repository) (commands others : List Command) (replies answers : List Reply) (input output read rest written : Bytes) (ends : End) (failed : Bool)
     → Runs (Unit {0}) (Unit {0}) old commands replies input output Input false new → IsTrue (have_no_fault replies) → IsTrue (list_all is_sure commands)
     → input ≡ read ++ rest → Runs (rest ≡ []) (Unit {0}) old others answers read written ends failed end
-    → (written ≡ output) ⊎ HasFault written
+    → (written ≡ output) ⊎ TellsFault answers ends
 
 -- ---- stops
 

@@ -1,6 +1,6 @@
 -- Runs over a stream of commands: what is written, how they end, and where a reader or a writer cuts them off.
 -- AtEnd says that the input is at its end: that nothing follows what was read. CallFailed says that a call of the files failed.
-use Rattle.std.specs.Prelude.{◌≡◌, ◌⊎◌, Bool, true, false, ◌||◌, List, [], ◌∷◌, ◌++◌, IsTrue}
+use Rattle.std.specs.Prelude.{◌≡◌, ◌⊎◌, ◌<◌, Bool, true, false, List, [], ◌∷◌, ◌++◌, length, IsTrue}
 use Rattle.std.specs.List.{flat_map, list_all, AllByRecursion}
 use Rattle.history_model.specs.Bytes.{Bytes, begins}
 use Rattle.history_model.specs.Repository.{Repository}
@@ -63,15 +63,19 @@ pub record EndsReading (LastReading CallFailed : Type 0) (old : Repository) (com
   pub unfailed : failed ≡ false
   pub cut : (rest ≡ []) ⊎ HasRestCause rest Truncated ⊎ LastReading
 
+-- a beginning of the text, and not all of it
+abbrev pub IsCutFrom : Bytes → Bytes → Type 0
+IsCutFrom part text = IsTrue (begins part text) × (length part < length text)
+
 -- The writer failed within the reply to one more command, which was acted on, or within the answer to a rest that is none.
 abbrev pub CutsShort : Type 0 → Type 0 → Repository → List Command → List Reply → Bytes → Bytes → Bool → Repository → Type 0
 CutsShort AtEnd CallFailed old (command ∷ []) (reply ∷ []) rest part failed new =
     (more : Bytes) × IsTrue (is_command command) × (rest ≡ spelling command ++ more)
     × Step old command reply new × (failed ≡ some_failed (command ∷ []) (reply ∷ [])) × (reply ≡ Faulted File → CallFailed)
-    × IsTrue (begins part (reply_text reply))
+    × IsCutFrom part (reply_text reply)
 CutsShort AtEnd CallFailed old [] [] rest part failed new =
     (cause : Cause) × IsNoCommand AtEnd rest cause × (new ≡ old) × (failed ≡ false)
-    × IsTrue (begins part (reply_text (RefusedFor cause)) || begins part (reply_text (Faulted Memory)))
+    × (IsCutFrom part (reply_text (RefusedFor cause)) ⊎ IsCutFrom part (reply_text (Faulted Memory)))
 CutsShort _ _ _ _ _ _ _ _ _ = ⊥
 
 -- The writer failed: the replies to these commands are written whole, and the rest of what was acted on is at most one more.

@@ -3,7 +3,8 @@
 ghost use Rattle.std.specs.Prelude.{◌≡◌, ℕ, List, Option, Bool, true, ◌<◌, length, IfOk, OnOk, OnErr, is_err};
 ghost use Rattle.std.specs.Io.{ReadsAtMost, WritesAtMost};
 ghost use Rattle.std.specs.Io.KnownBytes.{ReadConsumes, WriteAppends, Appends};
-ghost use Rattle.history_word.specs.Streams.{one_more, AppendsFront};
+ghost use Rattle.gix_object_lines.specs.Writes.{AppendsFront};
+ghost use Rattle.history_word.specs.Streams.{one_more};
 
 /// A source or a sink has failed, and fails from then on.
 #[derive(Clone, Copy, Debug, PartialEq, Eq)]
@@ -48,7 +49,7 @@ pub trait Sink {
         ensures lasts { has_failed self.old ≡ true → has_failed self.new ≡ true };
 }
 
-/// Writes all of the bytes. `Broken` is answered where the sink has failed, which may have taken a beginning of them.
+/// Writes all of the bytes. `Broken` is answered where the sink has failed, which then has taken a beginning of them that isn't all.
 pub fn write_all<W: Sink>(writer: &mut W, bytes: &[u8]) -> Result<(), Broken>
     ensures ok { OnOk result (Appends (W.contents writer.old) (W.contents writer.new) bytes.now) }
     ensures err { OnErr result ((W.has_failed writer.new ≡ true)

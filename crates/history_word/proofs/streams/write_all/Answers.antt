@@ -1,4 +1,4 @@
-use Rattle.std.proofs.Common.{◌-◌, length, take, drop, sym, subst, arith}
+use Rattle.std.proofs.Common.{◌-◌, ◌<◌, length, take, drop, sym, subst, arith}
 use Rattle.std.proofs.Math.Seq.{take-add}
 use Rattle.std.proofs.lemmas.List.{take-append-drop, length-drop, length-take, take_rest}
 use Rattle.std.proofs.lemmas.Result.{err_from_is_err_and}
@@ -11,7 +11,9 @@ returns-in_err-done-clause-err g c =
     let p = err_from_is_err_and c.from_residual.result c.from_residual.ensures.1 in
     let bytes = c.args.bytes.now in
     let n = c.loop-done.done in
-    rw p.1 (sym c.in_err-done.ensures.failed, (take n bytes, drop n bytes, sym (take-append-drop n bytes), keeps_after _ _ _ (take n bytes) c.loop-done.invariant.0 c.in_err-done.ensures.bytes))
+    let room = c.loop-done-test.true in
+    let short : length (take n bytes) < length bytes = omega (arith, length-take n bytes) in
+    rw p.1 (sym c.in_err-done.ensures.failed, (take n bytes, drop n bytes, sym (take-append-drop n bytes), short, keeps_after _ _ _ (take n bytes) c.loop-done.invariant.0 c.in_err-done.ensures.bytes))
 
 pub loop-done-preserved : goal.loop-done-preserved
 loop-done-preserved g c =
