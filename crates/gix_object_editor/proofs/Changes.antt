@@ -80,14 +80,20 @@ cut_as_read trees mid new now fin b at name ok here others marks read =
     let forest : IsForest new b = less_forest mid new b b at name ok refl (ap child_of here) others in
     edited_as_read trees mid new fin b b ok marks.marked marks.still now (λ c lt t. marks.kept c t) (λ c le lt. absurd (omega (arith, le, lt))) forest kept.links read
 
+pub cut_changed_on : (old mid : Slots) (was now : Marks) (a b : ℕ) → IsForest mid b → AreMarksKept false old mid was now a b → (new : Slots) (fin : Marks) (at : ℕ) (name : Bytes) → new at name ≡ None
+    → ((i : ℕ) (m : Bytes) → ((i ≡ at) → (m ≡ name) → ⊥) → new i m ≡ mid i m) → IsMarkedFor mid new now fin at b b → (path left more : Path) → LeadsTo mid path at left → left ≡ name ∷ more
+    → (tree : Path) (j : ℕ) → LeadsTo new tree j [] → (fin j).changed ≡ true → ((k : ℕ) × LeadsTo old tree k [] × ((was k).changed ≡ true)) ⊎ ((rest : Path) × (rest ≢ []) × (tree ++ rest ≡ path))
+cut_changed_on old mid was now a b ok opened new fin at name here others marks path left more leads is tree j to t =
+    let forest : IsForest new b = less_forest mid new b b at name ok refl (ap child_of here) others in
+    let same : (i : ℕ) (m : Bytes) → i < at → new i m ≡ mid i m = λ i m less. others i m (λ e _. absurd (omega (arith, e, less))) in
+    edit_changed old mid was now a b ok opened new now fin b forest (cut_kept mid new now b at name ok here others) at path (none_on_path new path b) marks.only leads.0 (name ∷ more)
+    (way_above mid new b at ok same leads.0 at (omega arith) leads.1) (λ e. cc e) (ap (onto leads.0) (sym is) ∙ leads.2) tree j to t
+
 pub cut_changed : (old mid : Slots) (was now : Marks) (a b : ℕ) → IsForest mid b → AreMarksKept false old mid was now a b → (new : Slots) (fin : Marks) (at : ℕ) (name : Bytes) → new at name ≡ None
     → ((i : ℕ) (m : Bytes) → ((i ≡ at) → (m ≡ name) → ⊥) → new i m ≡ mid i m) → IsMarkedFor mid new now fin at b b → (path left : Path) → LeadsTo mid path at left → left ≡ name ∷ []
     → (tree : Path) (j : ℕ) → LeadsTo new tree j [] → (fin j).changed ≡ true → ((k : ℕ) × LeadsTo old tree k [] × ((was k).changed ≡ true)) ⊎ ((more : Path) × (more ≢ []) × (tree ++ more ≡ path))
-cut_changed old mid was now a b ok opened new fin at name here others marks path left leads is tree j to t =
-    let forest : IsForest new b = less_forest mid new b b at name ok refl (ap child_of here) others in
-    let same : (i : ℕ) (m : Bytes) → i < at → new i m ≡ mid i m = λ i m less. others i m (λ e _. absurd (omega (arith, e, less))) in
-    edit_changed old mid was now a b ok opened new now fin b forest (cut_kept mid new now b at name ok here others) at path (none_on_path new path b) marks.only leads.0 (name ∷ [])
-    (way_above mid new b at ok same leads.0 at (omega arith) leads.1) (λ e. cc e) (ap (onto leads.0) (sym is) ∙ leads.2) tree j to t
+cut_changed old mid was now a b ok opened new fin at name here others marks path left leads is =
+    cut_changed_on old mid was now a b ok opened new fin at name here others marks path left [] leads is
 
 -- ---- folders that are made, and the trees that they lie in
 

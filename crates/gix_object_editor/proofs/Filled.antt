@@ -55,7 +55,7 @@ closed_slot : (trees : Trees) (slots : Slots) (s : Slot) → s.child ≡ None �
 closed_slot trees slots s closed [] = ap (λ o. child_or o (λ c. None) (files_of_entry trees [] (leaf_in s))) closed
 closed_slot trees slots s closed (m ∷ rest) = ap (λ o. child_or o (λ c. files_of_node trees slots c (m ∷ rest)) (files_of_entry trees (m ∷ rest) (leaf_in s))) closed
 
-null_none : (trees : Trees) (leaf : Leaf) → is_null leaf.id ≡ true → (rest : Path) → files_of_entry trees rest leaf ≡ None
+pub null_none : (trees : Trees) (leaf : Leaf) → is_null leaf.id ≡ true → (rest : Path) → files_of_entry trees rest leaf ≡ None
 null_none trees leaf null [] = ap (λ b. if b then None else unless_tree (tree_under trees leaf) leaf) null
 null_none trees leaf null (m ∷ rest) =
     ap (λ b. if b then None else through (tree_under trees leaf) (λ items. through (named m items) (λ item. files_of_entry trees rest (leaf_of item)))) null

@@ -19,3 +19,4 @@ pub mod Folders
 pub mod Changes
 pub mod Asking
 pub mod Leafs
+pub mod Cuts

@@ -152,13 +152,13 @@ module _ (trees : Trees) (slots new : Slots) (bound : ℕ) (ok : IsForest slots 
             absurd (cc (sym none ∙ found))
       ]
 
-  elsewhere_put : (leaf : Leaf) (more q : Path) → behind (onto way (name ∷ [])) q ≡ None → files_of_node trees new 0 q ≡ put trees (onto way (name ∷ more)) leaf (files_of_node trees slots 0) q
+  pub elsewhere_put : (leaf : Leaf) (more q : Path) → behind (onto way (name ∷ [])) q ≡ None → files_of_node trees new 0 q ≡ put trees (onto way (name ∷ more)) leaf (files_of_node trees slots 0) q
   elsewhere_put leaf more q none =
       let longer : behind (onto way (name ∷ more)) q ≡ None = ap (λ p. behind p q) (onto-append way (name ∷ []) more) ∙ behind-longer (onto way (name ∷ [])) more q none in
       others q none ∙ sym (kept_above more q none)
       ∙ ap (λ o. put_at trees leaf o (if is_some (behind q (onto way (name ∷ more))) then None else files_of_node trees slots 0 q)) (sym longer)
 
-  below_put : (leaf : Leaf) (more q rest : Path) → behind (onto way (name ∷ [])) q ≡ Some rest
+  pub below_put : (leaf : Leaf) (more q rest : Path) → behind (onto way (name ∷ [])) q ≡ Some rest
       → put trees (onto way (name ∷ more)) leaf (files_of_node trees slots 0) q
       ≡ put_at trees leaf (behind more rest) (if is_some (behind rest more) then None else through (slots j name) (files_of_slot trees slots rest))
   below_put leaf more q rest is =

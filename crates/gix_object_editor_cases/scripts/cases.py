@@ -198,6 +198,15 @@ def count_rows(git):
     row(git, nested, [], [f"at:{path_word((b'a',))}:remove:{path_word((b'f',))}", "written"], ["ok", "2"])
     row(git, nested, [], [f"at:{path_word((b'n', b'm'))}:{upsert((b'f',), '100644', x)}", "written"], ["ok", "3"])
     row(git, nested, [], [nothing.replace(b"z".hex(), b"e".hex()), "written", "write"], ["ok", "2", f"{git.tree({(b'a', b'f'): ('100644', y), (b'g',): ('100755', x), (b'h', b'i'): ('100755', y)})} known+"])
+    a, b, e, f, g, m, n = (name.encode() for name in "abefgmn")
+    null = lambda *path: upsert(path, "100644", git.null)
+    get, at = lambda *path: "get:" + path_word(path), lambda *path: "at:" + path_word(path)
+    row(git, nested, [], [null(a, b, m), null(n, m, e), "written", get(n), "write"], ["ok", "ok", "1", "none", f"{nested} known+"])
+    row(git, nested, [], [null(a, b, e), get(a, b, e), "written"], ["ok", "none", "2"])
+    row(git, nested, [], [null(g, m), get(g), "written", "write"], ["ok", "none", "1", f"{git.tree({(a, b, e): ('100644', x), (a, f): ('100644', y), (b'h', b'i'): ('100755', y)})} known+"])
+    row(git, nested, [], [f"{at(a, n, m)}:{get(f)}", f"{at(n, m)}:{get(f)}", f"{at(a, b)}:{get(m)}", "written", "write"], ["none"] * 3 + ["1", f"{nested} known+"])
+    row(git, nested, [], [f"{at(a, f, m)}:{get(n)}", get(a, f, m), "written"], ["none", f"40000 {git.null}", "2"])
+    row(git, nested, [], [f"{at(a, n)}:{upsert((m,), '100644', x)}", get(a, n, m), "written"], ["ok", f"100644 {x}", "3"])
 
 
 def odd_rows(git, content, refusal):

@@ -183,7 +183,7 @@ impl<S: Find> Editor<S> {
     }
 
     /// Puts an entry of this kind and id at the path, in folders that are made for it: a file, or a tree with its files. All that
-    /// stands at or below the path goes, and each file above it. With the null id an entry has no file.
+    /// stands at or below the path goes, and each file above it. With the null id an entry has no file: it only takes out.
     ///
     /// It is refused as `remove` is.
     pub fn upsert(

@@ -208,6 +208,10 @@ impl<S: Find> Editor<S> {
             from,
             path,
         )?;
+        if id.is_null() {
+            cut(self.nodes.as_mut_slice(), at, path[depth]);
+            return Ok(());
+        }
         let slot = Slot {
             mode: EntryMode::from(kind),
             oid: id,

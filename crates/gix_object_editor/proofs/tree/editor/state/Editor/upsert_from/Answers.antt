@@ -1,26 +1,28 @@
 use Rattle.std.proofs.Common.{refl, Some, List, ◌⊎◌, inl, true, false, ℕ, Bool, ◌≡◌, ◌∙◌, ◌<◌, ◌+◌, ◌-◌, ap, sym, subst, arith, length, drop, take, None, get_or, []}
-use Rattle.std.proofs.lemmas.List.{length-drop}
+use Rattle.std.proofs.lemmas.List.{length-drop, get_or-map}
 use Rattle.gix_hash.specs.Id.{id_of}
 use Rattle.gix_object_entries.specs.Mode.{kind_value}
 use Rattle.gix_object_entries.specs.ModeText.{mode_of}
 use Rattle.gix_object_editor.specs.declared.tree.editor.node.Node.{Node}
 use Rattle.gix_object_editor.specs.Editor.{IsChanged, IsAbove}
-use Rattle.gix_object_editor.specs.Marks.{marks_of, AreMarked, AreMarkedBut, AreMarkedUp, AreAsRead, AreOnPath}
+use Rattle.gix_object_editor.specs.Marks.{marks_of, AreMarked, AreMarkedBut, AreMarkedUp, AreAsRead, AreOnPath, IsMarkedFor}
 use Rattle.gix_object_editor.proofs.Opening.{as_function}
 use Rattle.std.specs.Borrow.{Bor}
 use Rattle.gix_object_editor.specs.Entries.{EachHas, MayStand}
-use Rattle.gix_object_editor.proofs.Kept.{may_drop}
+use Rattle.gix_object_editor.proofs.Kept.{may_drop, cut_each}
 use Rattle.gix_object_editor.proofs.Slots.{back}
 use Rattle.gix_object_editor.proofs.Marked.{opened_marked, grafted_marked, read_same}
-use Rattle.gix_object_editor.proofs.Changes.{opened_changed, failed_changed, graft_as_read, graft_changed, some_left}
-use Rattle.gix_object_editor.specs.Files.{Leaf, put}
+use Rattle.gix_object_editor.proofs.Changes.{opened_changed, failed_changed, graft_as_read, graft_changed, some_left, cut_as_read, cut_changed_on}
+use Rattle.gix_object_editor.proofs.Cuts.{nulls_at, not_null_file, more_names}
+use Rattle.gix_object_editor.proofs.WrittenEntries.{null_test}
+use Rattle.gix_object_editor.specs.Files.{Bytes, Leaf, put, is_null}
 use Rattle.std.proofs.lemmas.Result.{err_from_is_err_and}
 use Rattle.gix_object_editor.specs.Editor.{names_of, leaf_of_kind, LeadsThrough}
 use Rattle.gix_object_editor.specs.Nodes.{slots_of, files_of_node, child_of, onto, LeadsTo, IsFolderAt, IsForest, IsEntry, Way}
-use Rattle.gix_object_editor.proofs.Edits.{rest_is, first_left, upserts_at, same_entry, stopped_tree, edit_fault}
+use Rattle.gix_object_editor.proofs.Edits.{rest_is, first_left, upserts_at, same_entry, stopped_tree, edit_fault, less_forest}
 use Rattle.gix_object_editor.proofs.Ladder.{put_files}
 use Rattle.gix_object_editor.proofs.Asking.{through_asked, through_stops, some_all}
-use Rattle.gix_object_editor.proofs.Walked.{names}
+use Rattle.gix_object_editor.proofs.Walked.{names, names_step}
 use Rattle.gix_object_editor.proofs.Ways.{way_kept, way_above}
 use Rattle.gix_object_editor.proofs.Folders.{still_way}
 use Rattle.gix_object_editor.proofs.tree.editor.state.Editor.upsert_from.Goals as goal
@@ -46,9 +48,9 @@ pub returns-clause-put : goal.returns-clause-put
 returns-clause-put g c = λ way w honest trees has q.
     let gr = c.graft.new.nodes.items in
     let fin = c.mark_changed.new.nodes in
-    let n : c.graft.new.nodes.len ≡ length fin = omega (arith, c.mark_changed.auto.nodes, c.as_mut_slice.ensures.len) in
+    let n : c.graft.new.nodes.len ≡ length fin = omega (arith, c.mark_changed.auto.nodes, c.as_mut_slice-2.ensures.len) in
     let whole = back c.graft.new.nodes.len fin _ n in
-    let same_slots : slots_of fin ≡ slots_of gr = as_function (slots_of fin) (slots_of gr) (λ i m. c.mark_changed.ensures.slots i m ∙ ap (λ (ns : List Node). slots_of ns i m) c.as_mut_slice.ensures.value) in
+    let same_slots : slots_of fin ≡ slots_of gr = as_function (slots_of fin) (slots_of gr) (λ i m. c.mark_changed.ensures.slots i m ∙ ap (λ (ns : List Node). slots_of ns i m) c.as_mut_slice-2.ensures.value) in
     let path = c.args.path.now in
     let i = c.in_ok-at.depth in
     let mid = c.walk.new.nodes.items in
@@ -78,16 +80,16 @@ returns-clause-kept g c = λ way w.
     let mid = c.walk.new.nodes.items in
     let gr = c.graft.new.nodes.items in
     let fin = c.mark_changed.new.nodes in
-    let n : c.graft.new.nodes.len ≡ length fin = omega (arith, c.mark_changed.auto.nodes, c.as_mut_slice.ensures.len) in
+    let n : c.graft.new.nodes.len ≡ length fin = omega (arith, c.mark_changed.auto.nodes, c.as_mut_slice-2.ensures.len) in
     let whole = back c.graft.new.nodes.len fin _ n in
-    let same_slots : slots_of fin ≡ slots_of gr = as_function (slots_of fin) (slots_of gr) (λ i m. c.mark_changed.ensures.slots i m ∙ ap (λ (ns : List Node). slots_of ns i m) c.as_mut_slice.ensures.value) in
+    let same_slots : slots_of fin ≡ slots_of gr = as_function (slots_of fin) (slots_of gr) (λ i m. c.mark_changed.ensures.slots i m ∙ ap (λ (ns : List Node). slots_of ns i m) c.as_mut_slice-2.ensures.value) in
     subst (λ (ns : List Node). Way (slots_of ns) way c.args.from.0) (sym whole)
     (subst (λ f. Way f way c.args.from.0) (sym same_slots)
     (still_way (slots_of old) (slots_of mid) (slots_of gr) (length mid) c.args.from.0 c.in_ok-at.at.0 c.in_ok-at.ensures.opened.forest c.in_ok-at.ensures.opened.links c.in_ok-at.ensures.below
     (λ i m lt. let less : i < length mid = omega (arith, lt, c.in_ok-at.ensures.within.0) in c.in_ok-graft.ensures.others i m less (λ e _. absurd (omega (arith, lt, e)))) way w))
 
 pub mark_changed-requires-clause-forest : goal.mark_changed-requires-clause-forest
-mark_changed-requires-clause-forest g c = subst (λ (ns : List Node). IsForest (slots_of ns) (length ns)) (sym c.as_mut_slice.ensures.value) c.graft.ensures.forest
+mark_changed-requires-clause-forest g c = subst (λ (ns : List Node). IsForest (slots_of ns) (length ns)) (sym c.as_mut_slice-2.ensures.value) c.graft.ensures.forest
 
 pub mark_changed-requires-clause-marked : goal.mark_changed-requires-clause-marked
 mark_changed-requires-clause-marked g c =
@@ -95,7 +97,7 @@ mark_changed-requires-clause-marked g c =
     let mid = c.walk.new.nodes.items in
     let gr = c.graft.new.nodes.items in
     let marked = opened_marked (slots_of old) (slots_of mid) (marks_of old) (marks_of mid) (length old) (length mid) c.args.self.now.forest c.args.self.now.marked false c.in_ok-at.ensures.marks c.in_ok-at.ensures.opened.forest c.in_ok-at.ensures.marks.fresh in
-    subst (λ (ns : List Node). AreMarkedBut c.in_ok-at.at.0 (slots_of ns) (marks_of ns) (length ns)) (sym c.as_mut_slice.ensures.value)
+    subst (λ (ns : List Node). AreMarkedBut c.in_ok-at.at.0 (slots_of ns) (marks_of ns) (length ns)) (sym c.as_mut_slice-2.ensures.value)
     (grafted_marked (slots_of mid) (slots_of gr) (marks_of mid) (marks_of gr) (length mid) (length gr) c.in_ok-at.ensures.opened.forest marked true c.graft.ensures.marks c.in_ok-at.at.0 _ c.graft.ensures.forest
     c.graft.ensures.marks.fresh c.in_ok-graft.ensures.others)
 
@@ -112,11 +114,11 @@ pub invariant_of-self-2 : goal.invariant_of-self-2
 invariant_of-self-2 g c =
     let gr = c.graft.new.nodes.items in
     let fin = c.mark_changed.new.nodes in
-    let n : c.graft.new.nodes.len ≡ length fin = omega (arith, c.mark_changed.auto.nodes, c.as_mut_slice.ensures.len) in
+    let n : c.graft.new.nodes.len ≡ length fin = omega (arith, c.mark_changed.auto.nodes, c.as_mut_slice-2.ensures.len) in
     let whole = back c.graft.new.nodes.len fin _ n in
-    let same_slots : slots_of fin ≡ slots_of gr = as_function (slots_of fin) (slots_of gr) (λ i m. c.mark_changed.ensures.slots i m ∙ ap (λ (ns : List Node). slots_of ns i m) c.as_mut_slice.ensures.value) in
-    let len : length gr ≡ length fin = omega (arith, c.mark_changed.auto.nodes, ap length c.as_mut_slice.ensures.value) in
-    let up = subst (λ (ns : List Node). AreMarkedUp (slots_of ns) (marks_of ns) (marks_of fin) c.in_ok-at.at.0 (length ns)) c.as_mut_slice.ensures.value c.mark_changed.ensures.marked in
+    let same_slots : slots_of fin ≡ slots_of gr = as_function (slots_of fin) (slots_of gr) (λ i m. c.mark_changed.ensures.slots i m ∙ ap (λ (ns : List Node). slots_of ns i m) c.as_mut_slice-2.ensures.value) in
+    let len : length gr ≡ length fin = omega (arith, c.mark_changed.auto.nodes, ap length c.as_mut_slice-2.ensures.value) in
+    let up = subst (λ (ns : List Node). AreMarkedUp (slots_of ns) (marks_of ns) (marks_of fin) c.in_ok-at.at.0 (length ns)) c.as_mut_slice-2.ensures.value c.mark_changed.ensures.marked in
     record {
       forest = subst (λ (ns : List Node). IsForest (slots_of ns) (length ns)) (sym whole) (subst (λ f. IsForest f (length fin)) (sym same_slots) (subst (IsForest (slots_of gr)) len c.graft.ensures.forest));
       marked = subst (λ (ns : List Node). AreMarked (slots_of ns) (marks_of ns) (length ns)) (sym whole) (subst (λ f. AreMarked f (marks_of fin) (length fin)) (sym same_slots) (subst (AreMarked (slots_of gr) (marks_of fin)) len up.marked));
@@ -163,10 +165,10 @@ returns-clause-as_read g c = λ honest trees has read.
     let mid = c.walk.new.nodes.items in
     let gr = c.graft.new.nodes.items in
     let fin = c.mark_changed.new.nodes in
-    let n : c.graft.new.nodes.len ≡ length fin = omega (arith, c.mark_changed.auto.nodes, c.as_mut_slice.ensures.len) in
+    let n : c.graft.new.nodes.len ≡ length fin = omega (arith, c.mark_changed.auto.nodes, c.as_mut_slice-2.ensures.len) in
     let whole = back c.graft.new.nodes.len fin _ n in
-    let same_slots : slots_of fin ≡ slots_of gr = as_function (slots_of fin) (slots_of gr) (λ i m. c.mark_changed.ensures.slots i m ∙ ap (λ (ns : List Node). slots_of ns i m) c.as_mut_slice.ensures.value) in
-    let up = subst (λ (ns : List Node). AreMarkedUp (slots_of ns) (marks_of ns) (marks_of fin) c.in_ok-at.at.0 (length ns)) c.as_mut_slice.ensures.value c.mark_changed.ensures.marked in
+    let same_slots : slots_of fin ≡ slots_of gr = as_function (slots_of fin) (slots_of gr) (λ i m. c.mark_changed.ensures.slots i m ∙ ap (λ (ns : List Node). slots_of ns i m) c.as_mut_slice-2.ensures.value) in
+    let up = subst (λ (ns : List Node). AreMarkedUp (slots_of ns) (marks_of ns) (marks_of fin) c.in_ok-at.at.0 (length ns)) c.as_mut_slice-2.ensures.value c.mark_changed.ensures.marked in
     subst (λ (ns : List Node). AreAsRead trees (slots_of ns) (marks_of ns)) (sym whole)
     (graft_as_read (slots_of old) (slots_of mid) (slots_of gr) (slots_of fin) (marks_of old) (marks_of mid) (marks_of gr) (marks_of fin) (length old) (length mid) (length gr)
     c.in_ok-at.ensures.opened.forest c.graft.ensures.forest c.in_ok-at.ensures.marks c.graft.ensures.marks c.in_ok-at.at.0 _ c.in_ok-graft.ensures.others same_slots up trees (c.in_ok-at.ensures.as_read honest trees has read))
@@ -184,10 +186,10 @@ returns-clause-changed g c = λ way w tree.
     let leads = subst (LeadsTo (slots_of mid) (onto way (names path)) at) (sym (ap names cut)) (c.in_ok-at.ensures.leads way w) in
     let gr = c.graft.new.nodes.items in
     let fin = c.mark_changed.new.nodes in
-    let n : c.graft.new.nodes.len ≡ length fin = omega (arith, c.mark_changed.auto.nodes, c.as_mut_slice.ensures.len) in
+    let n : c.graft.new.nodes.len ≡ length fin = omega (arith, c.mark_changed.auto.nodes, c.as_mut_slice-2.ensures.len) in
     let whole = back c.graft.new.nodes.len fin _ n in
-    let same_slots : slots_of fin ≡ slots_of gr = as_function (slots_of fin) (slots_of gr) (λ i m. c.mark_changed.ensures.slots i m ∙ ap (λ (ns : List Node). slots_of ns i m) c.as_mut_slice.ensures.value) in
-    let up = subst (λ (ns : List Node). AreMarkedUp (slots_of ns) (marks_of ns) (marks_of fin) c.in_ok-at.at.0 (length ns)) c.as_mut_slice.ensures.value c.mark_changed.ensures.marked in
+    let same_slots : slots_of fin ≡ slots_of gr = as_function (slots_of fin) (slots_of gr) (λ i m. c.mark_changed.ensures.slots i m ∙ ap (λ (ns : List Node). slots_of ns i m) c.as_mut_slice-2.ensures.value) in
+    let up = subst (λ (ns : List Node). AreMarkedUp (slots_of ns) (marks_of ns) (marks_of fin) c.in_ok-at.at.0 (length ns)) c.as_mut_slice-2.ensures.value c.mark_changed.ensures.marked in
     let same : (k : ℕ) (m : List ℕ) → k < at → slots_of gr k m ≡ slots_of mid k m = λ k m lt.
     let less : k < length mid = omega (arith, lt, c.in_ok-at.ensures.within.0) in c.in_ok-graft.ensures.others k m less (λ e _. absurd (omega (arith, lt, e))) in
     let down : Way (slots_of gr) leads.0 at = way_above (slots_of mid) (slots_of gr) (length mid) at c.in_ok-at.ensures.opened.forest same leads.0 at (omega arith) leads.1 in
@@ -207,9 +209,9 @@ returns-clause-each g c = λ honest has down fit each.
     let cut : take (length path - i) (drop i path) ≡ drop i path = rest_is path i in
     let gr = c.graft.new.nodes.items in
     let fin = c.mark_changed.new.nodes in
-    let n : c.graft.new.nodes.len ≡ length fin = omega (arith, c.mark_changed.auto.nodes, c.as_mut_slice.ensures.len) in
+    let n : c.graft.new.nodes.len ≡ length fin = omega (arith, c.mark_changed.auto.nodes, c.as_mut_slice-2.ensures.len) in
     let whole = back c.graft.new.nodes.len fin _ n in
-    let same_slots : slots_of fin ≡ slots_of gr = as_function (slots_of fin) (slots_of gr) (λ i m. c.mark_changed.ensures.slots i m ∙ ap (λ (ns : List Node). slots_of ns i m) c.as_mut_slice.ensures.value) in
+    let same_slots : slots_of fin ≡ slots_of gr = as_function (slots_of fin) (slots_of gr) (λ i m. c.mark_changed.ensures.slots i m ∙ ap (λ (ns : List Node). slots_of ns i m) c.as_mut_slice-2.ensures.value) in
     let leaf : Leaf = record { mode = mode_of c.from.result; id = id_of c.args.id } in
     let same : leaf ≡ leaf_of_kind c.args.kind c.args.id =
     ap (λ (v : ℕ). let l : Leaf = record { mode = record { value = v; padded = c.from.result.padded }; id = id_of c.args.id } in l) c.from.ensures.0
@@ -301,3 +303,102 @@ returns-in_err-graft-clause-unchanged g c = λ honest.
     rw p.1 (λ trees has q.
     ap (λ f. files_of_node trees f 0 q) (as_function (slots_of gr) (slots_of mid) c.in_err-graft.ensures.err)
     ∙ c.in_ok-at.ensures.opened.files honest trees has q 0 c.args.self.now.forest.rooted)
+
+-- ---- an entry with the null id
+
+pub cut-requires-clause-forest : goal.cut-requires-clause-forest
+cut-requires-clause-forest g c = subst (λ ns. IsForest (slots_of ns) (length ns)) (sym c.as_mut_slice.ensures.value) c.in_ok-at.ensures.opened.forest
+
+pub cut-requires-clause-marked : goal.cut-requires-clause-marked
+cut-requires-clause-marked g c =
+    let old = c.args.self.now.nodes.items in
+    let mid = c.walk.new.nodes.items in
+    subst (λ ns. AreMarked (slots_of ns) (marks_of ns) (length ns)) (sym c.as_mut_slice.ensures.value)
+    (opened_marked (slots_of old) (slots_of mid) (marks_of old) (marks_of mid) (length old) (length mid) c.args.self.now.forest c.args.self.now.marked false c.in_ok-at.ensures.marks c.in_ok-at.ensures.opened.forest c.in_ok-at.ensures.marks.fresh)
+
+pub invariant_of-self-then-is_null : goal.invariant_of-self-then-is_null
+invariant_of-self-then-is_null g c =
+    let mid = c.walk.new.nodes.items in
+    let new = c.cut.new.nodes in
+    let before = c.as_mut_slice.ensures.value in
+    let n : c.walk.new.nodes.len ≡ length new = omega (arith, c.cut.auto.nodes, c.as_mut_slice.ensures.len) in
+    let len : length mid ≡ length new = omega (arith, c.walk.new.nodes.ok.0) in
+    let whole = back c.walk.new.nodes.len new _ n in
+    let others : (i : ℕ) (m : Bytes) → ((i ≡ c.in_ok-at.at.0) → (m ≡ _) → ⊥) → slots_of new i m ≡ slots_of mid i m = λ i m off. c.cut.ensures.others i m off ∙ ap (λ ns. slots_of ns i m) before in
+    let forest = less_forest (slots_of mid) (slots_of new) (length mid) (length new) c.in_ok-at.at.0 _ (c.in_ok-at.ensures.opened.forest) len (ap child_of c.cut.ensures.here) others in
+    let marked : AreMarked (slots_of new) (marks_of new) (length new) = subst (AreMarked (slots_of new) (marks_of new)) (ap length before ∙ len) c.cut.ensures.marks.marked in
+    record {
+      forest = subst (λ ns. IsForest (slots_of ns) (length ns)) (sym whole) forest;
+      marked = subst (λ ns. AreMarked (slots_of ns) (marks_of ns) (length ns)) (sym whole) marked;
+    }
+
+pub returns-then-is_null-clause-put : goal.returns-then-is_null-clause-put
+returns-then-is_null-clause-put g c = λ way w honest trees has q.
+    let path = c.args.path.now in
+    let i = c.in_ok-at.depth in
+    let at = c.in_ok-at.at.0 in
+    let old = c.args.self.now.nodes.items in
+    let mid = c.walk.new.nodes.items in
+    let new = c.cut.new.nodes in
+    let n : c.walk.new.nodes.len ≡ length new = omega (arith, c.cut.auto.nodes, c.as_mut_slice.ensures.len) in
+    let null : is_null (id_of c.args.id) ≡ true = null_test (id_of c.args.id) c.is_null.result c.is_null.ensures ∙ c.if-is_null.true in
+    let lt : i < length path = c.in_ok-at.ensures.within.1 in
+    let name_is : get_or (names path) i [] ≡ _ = get_or-map (λ (x : Bor (List ℕ)). x.now) path i _ [] lt in
+    ap (λ (ns : List Node). files_of_node trees (slots_of ns) 0 q) (back c.walk.new.nodes.len new _ n)
+    ∙ nulls_at _ _ (slots_of old) (slots_of mid) (length old) (length mid) c.args.self.now.forest c.in_ok-at.ensures.opened (onto way (names path)) at
+    (slots_of new) (leaf_of_kind c.args.kind c.args.id) _ (names (drop (i + 1) path)) (names (drop i path)) (c.in_ok-at.ensures.leads way w) (names_step path i _ lt) null
+    (λ some. subst (λ m. IsFolderAt (slots_of mid) at m None) name_is (c.in_ok-at.ensures.stopped (more_names path (i + 1) some))) c.cut.ensures.here
+    (λ j m off. c.cut.ensures.others j m off ∙ ap (λ ns. slots_of ns j m) c.as_mut_slice.ensures.value) honest trees has q
+
+pub returns-then-is_null-clause-kept : goal.returns-then-is_null-clause-kept
+returns-then-is_null-clause-kept g c = λ way w.
+    let old = c.args.self.now.nodes.items in
+    let mid = c.walk.new.nodes.items in
+    let new = c.cut.new.nodes in
+    let n : c.walk.new.nodes.len ≡ length new = omega (arith, c.cut.auto.nodes, c.as_mut_slice.ensures.len) in
+    subst (λ ns. Way (slots_of ns) way c.args.from.0) (sym (back c.walk.new.nodes.len new _ n))
+    (still_way (slots_of old) (slots_of mid) (slots_of new) (length mid) c.args.from.0 c.in_ok-at.at.0 c.in_ok-at.ensures.opened.forest c.in_ok-at.ensures.opened.links c.in_ok-at.ensures.below
+    (λ i m lt. c.cut.ensures.others i m (λ e _. absurd (omega (arith, lt, e))) ∙ ap (λ ns. slots_of ns i m) c.as_mut_slice.ensures.value) way w)
+
+pub returns-then-is_null-clause-as_read : goal.returns-then-is_null-clause-as_read
+returns-then-is_null-clause-as_read g c = λ honest trees has read.
+    let mid = c.walk.new.nodes.items in
+    let new = c.cut.new.nodes in
+    let before = c.as_mut_slice.ensures.value in
+    let n : c.walk.new.nodes.len ≡ length new = omega (arith, c.cut.auto.nodes, c.as_mut_slice.ensures.len) in
+    let marks = subst (λ ns. IsMarkedFor (slots_of ns) (slots_of new) (marks_of ns) (marks_of new) c.in_ok-at.at.0 (length ns) (length ns)) before c.cut.ensures.marks in
+    subst (λ ns. AreAsRead trees (slots_of ns) (marks_of ns)) (sym (back c.walk.new.nodes.len new _ n))
+    (cut_as_read trees (slots_of mid) (slots_of new) (marks_of mid) (marks_of new) (length mid) c.in_ok-at.at.0 _ c.in_ok-at.ensures.opened.forest c.cut.ensures.here
+    (λ i m off. c.cut.ensures.others i m off ∙ ap (λ ns. slots_of ns i m) before) marks (c.in_ok-at.ensures.as_read honest trees has read))
+
+pub returns-then-is_null-clause-changed : goal.returns-then-is_null-clause-changed
+returns-then-is_null-clause-changed g c = λ way w tree.
+    let path = c.args.path.now in
+    let i = c.in_ok-at.depth in
+    let old = c.args.self.now.nodes.items in
+    let mid = c.walk.new.nodes.items in
+    let new = c.cut.new.nodes in
+    let before = c.as_mut_slice.ensures.value in
+    let n : c.walk.new.nodes.len ≡ length new = omega (arith, c.cut.auto.nodes, c.as_mut_slice.ensures.len) in
+    let marks = subst (λ ns. IsMarkedFor (slots_of ns) (slots_of new) (marks_of ns) (marks_of new) c.in_ok-at.at.0 (length ns) (length ns)) before c.cut.ensures.marks in
+    subst (λ ns. ((j : ℕ) × LeadsTo (slots_of ns) tree j [] × ((marks_of ns j).changed ≡ true)) → IsChanged c.args.self.now tree ⊎ IsAbove tree (onto way (names_of path))) (sym (back c.walk.new.nodes.len new _ n))
+    (λ is. cut_changed_on (slots_of old) (slots_of mid) (marks_of old) (marks_of mid) (length old) (length mid) c.in_ok-at.ensures.opened.forest c.in_ok-at.ensures.marks (slots_of new) (marks_of new) c.in_ok-at.at.0 _
+    c.cut.ensures.here (λ j m off. c.cut.ensures.others j m off ∙ ap (λ ns. slots_of ns j m) before) marks (onto way (names_of path)) (names (drop i path)) (names (drop (i + 1) path))
+    (c.in_ok-at.ensures.leads way w) (names_step path i _ c.in_ok-at.ensures.within.1) tree is.0 is.1 is.2)
+
+pub returns-then-is_null-clause-same : goal.returns-then-is_null-clause-same
+returns-then-is_null-clause-same g c = λ way w honest trees has stands.
+    let null : is_null (id_of c.args.id) ≡ true = null_test (id_of c.args.id) c.is_null.result c.is_null.ensures ∙ c.if-is_null.true in
+    let isnt = not_null_file trees (slots_of c.args.self.now.nodes.items) (onto way (names_of c.args.path.now)) 0 (leaf_of_kind c.args.kind c.args.id) stands in
+    absurd (cc (sym null ∙ isnt))
+
+pub returns-then-is_null-clause-each : goal.returns-then-is_null-clause-each
+returns-then-is_null-clause-each g c = λ honest has down fit each.
+    let mid = c.walk.new.nodes.items in
+    let new = c.cut.new.nodes in
+    let n : c.walk.new.nodes.len ≡ length new = omega (arith, c.cut.auto.nodes, c.as_mut_slice.ensures.len) in
+    subst (λ ns. EachHas has (slots_of ns)) (sym (back c.walk.new.nodes.len new _ n))
+    (cut_each (slots_of mid) (slots_of new) c.in_ok-at.at.0 _ has c.cut.ensures.here (λ i m off. c.cut.ensures.others i m off ∙ ap (λ ns. slots_of ns i m) c.as_mut_slice.ensures.value) (c.in_ok-at.ensures.each honest has down each))
+
+pub returns-then-is_null-clause-asked : goal.returns-then-is_null-clause-asked
+returns-then-is_null-clause-asked g c = λ honest trees has. through_asked (g.S.Lookup.table c.args.self.now.store) trees (slots_of c.args.self.now.nodes.items) (slots_of c.walk.new.nodes.items) c.args.from.0 c.in_ok-at.at.0 c.args.path.now c.in_ok-at.depth c.args.self.now.lookups c.walk.new.lookups c.walk.new.lookups c.in_ok-at.ensures.within.1 (c.in_ok-at.ensures.asked honest trees has) (c.in_ok-at.ensures.asked_all honest trees has)
