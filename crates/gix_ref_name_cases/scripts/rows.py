@@ -66,6 +66,14 @@ for name, answer in table.items():
     if answer != "refused":
         add("last", name, name.decode().split("/")[-1])
 
+# A view and a name of its own, and both again of a full name; bytes that are no text as Unicode's recommendation has them.
+for name in [b"main", b"a/b", b"caf\xc3\xa9", b"\xff", b"a\xe2\x82b", b"\xf0\x9f\x98", b"HEAD", b"refs/heads/main", b"refs/heads/caf\xc3\xa9",
+             b"refs/heads/\xff\xfe", b"refs/heads/\xe2\x82/\xc3"]:
+    full = b"/" in name or name == b"HEAD"
+    add("shown", name, " ".join([name.decode(errors="replace")] * (4 if full else 2)))
+for name in [b"a..b", b"refs/heads/a.lock"]:
+    add("shown", name, "refused")
+
 for name in [b"foo", b"foo/bar", b"a/b/c"]:
     front = "".join(f"refs/namespaces/{part}/" for part in name.decode().split("/"))
     add("namespace", name, f"{front} {front}refs/heads/main")

@@ -56,6 +56,19 @@ fn again(alloc: Global, bytes: &[u8]) -> Result<String, AllocError> {
     }
 }
 
+// The name as it is printed: a view and a name of its own, and both again where it is a full one.
+fn shown(alloc: Global, bytes: &[u8]) -> Result<String, AllocError> {
+    let Ok(partial) = PartialNameRef::new(bytes) else {
+        return format!(in alloc; "{REFUSED}");
+    };
+    let owned = partial.to_owned(alloc)?;
+    let Ok(full) = FullNameRef::new(bytes) else {
+        return format!(in alloc; "{partial} {owned}");
+    };
+    let whole = full.to_owned(alloc)?;
+    format!(in alloc; "{partial} {owned} {full} {whole}")
+}
+
 // The namespace of the name, and `refs/heads/main` in it.
 fn namespace(alloc: Global, bytes: &[u8]) -> Result<String, AllocError> {
     let Ok(name) = PartialNameRef::new(bytes) else {
@@ -93,6 +106,7 @@ pub fn answer(alloc: Global, line: &str) -> Result<String, AllocError> {
             Ok(name) => format!(in alloc; "{}", name.file_name()),
             Err(error) => format!(in alloc; "{error}"),
         },
+        "shown" => shown(alloc, bytes),
         "namespace" => namespace(alloc, bytes),
         "composed" => composed(alloc, bytes),
         _ => format!(in alloc; "no operation: {line}"),

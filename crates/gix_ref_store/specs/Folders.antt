@@ -37,6 +37,10 @@ abbrev pub are_unnested : List ℕ → Option (List ℕ) → Bool
 are_unnested git None = true
 are_unnested git (Some common) = are_apart git common
 
+-- from how many bytes on Git maps packed references into memory
+abbrev pub usual_threshold : ℕ
+usual_threshold = 32768
+
 -- a store of these files and folders
 pub record IsStoreOf {F : Type 0} (files : F) (git : List ℕ) (common : Option (List ℕ)) (options : Options) (store : Store F) : Type 0 where
   pub holds : store.files ≡ files
@@ -45,6 +49,7 @@ pub record IsStoreOf {F : Type 0} (files : F) (git : List ℕ) (common : Option 
   pub common_is : option_map (λ folder. folder.items) store.common_dir ≡ common
   pub clean : IsTrue (are_clean git common)
   pub apart : IsTrue (are_unnested git common)
+  pub threshold : store.mmap_threshold ≡ usual_threshold
 
 -- why folders are refused
 abbrev pub IsFolderFault : List ℕ → Option (List ℕ) → FolderError → Type 0

@@ -3,6 +3,7 @@
 #![tactic(auto)]
 
 mod cases;
+mod counts;
 mod ends;
 mod files;
 mod lists;

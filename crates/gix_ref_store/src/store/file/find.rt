@@ -63,7 +63,8 @@ impl<F: Files> Store<F> {
     /// knows names with their characters composed, this one is composed first.
     ///
     /// `ReferenceCreation` where the file of the first of these names that doesn't read as absent tells no target. Packed
-    /// references are opened unless a file stands at the first name: `PackedOpen` where that isn't possible. Nothing changes.
+    /// references are opened unless a file stands at the first name: `PackedOpen` where that isn't possible. `ReadFileContents` where
+    /// a reading of a name's file failed. Nothing changes.
     pub fn try_find(
         &self,
         alloc: Global,
@@ -147,7 +148,7 @@ impl<F: Files> Store<F> {
         self.find_among(alloc, word.as_bytes(), packed)
     }
 
-    /// The reference with a file of its own that a name stands for, as `try_find` has it.
+    /// The reference with a file of its own that a name stands for, as `try_find_packed` has it without packed references.
     pub fn try_find_loose(
         &self,
         alloc: Global,

@@ -35,7 +35,7 @@ pub struct Refused<F: Files> {
 const USUAL_THRESHOLD: u64 = 32 * 1024;
 
 impl<F: Files> Store<F> {
-    /// The store of the repository in this folder, with the usual options.
+    /// The store of the repository in this folder, with the usual options. Refused as `at_opts` is.
     pub fn at(files: F, git_dir: Vec<u8>) -> Result<Store<F>, Refused<F>>
         ensures made { IfOk result (λ store. IsUsual store.options
             × IsStoreOf files git_dir.items None store.options store) }
@@ -64,7 +64,8 @@ impl<F: Files> Store<F> {
         })
     }
 
-    /// The store of a linked worktree, whose own folder is the first, with the usual options.
+    /// The store of a linked worktree, whose own folder is the first, with the usual options. Refused as
+    /// `for_linked_worktree_opts` is.
     pub fn for_linked_worktree(
         files: F,
         git_dir: Vec<u8>,

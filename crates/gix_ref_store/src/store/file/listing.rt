@@ -165,7 +165,7 @@ impl<F: Files> Store<F> {
         self.listed(alloc, asked, packed)
     }
 
-    /// The references below `refs/` with files of their own, ascending by name.
+    /// The references below `refs/` with files of their own, ascending by name, as `iter_packed` has them.
     pub fn loose_iter(&self, alloc: Global) -> Result<LooseThenPacked<'_, '_, F>, Error>
         ensures store { IfOk result (λ items. items.search.store.now ≡ self.now) }
         ensures listed { F.is_honest self.now.files → let tree = (F.history self.now.files).tree in
@@ -192,6 +192,7 @@ impl<F: Files> Store<F> {
     }
 
     /// The pseudo references of the worktree, ascending by name: `HEAD`, and names of capital letters and `_` that end so.
+    /// `Traversal` where the worktree's folder couldn't be listed.
     pub fn iter_pseudo(&self, alloc: Global) -> Result<LooseThenPacked<'_, '_, F>, Error>
         ensures store { IfOk result (λ items. items.search.store.now ≡ self.now) }
         ensures listed { F.is_honest self.now.files → let tree = (F.history self.now.files).tree in

@@ -29,7 +29,7 @@ pub struct Platform<'s, 'n, F: Files> {
 }
 
 impl<'s, F: Files> Platform<'s, '_, F> {
-    /// The lines from the beginning, as `Store::reflog_iter` has them.
+    /// The lines from the beginning, as `Store::reflog_iter` has them, or why it has none.
     pub fn all(&mut self, alloc: Global) -> Result<Option<Forward<'_>>, Error>
         ensures lines { F.is_honest self.old.store.now.files
             → let tree = (F.history self.old.store.now.files).tree in
@@ -40,12 +40,15 @@ impl<'s, F: Files> Platform<'s, '_, F> {
         self.store.reflog_iter(alloc, self.name, &mut self.buffer)
     }
 
-    /// The lines from the end, as `Store::reflog_iter_rev` has them with a buffer of 4,096 bytes.
+    /// The lines from the end, as `Store::reflog_iter_rev` has them with a buffer of 4,096 bytes, or why it has none.
     pub fn rev(&mut self, alloc: Global) -> Result<Option<Reverse<'_, LogFile<'s, F>>>, Error>
         ensures lines { F.is_honest self.old.store.now.files
             → let tree = (F.history self.old.store.now.files).tree in
             let text = log_text self.old.store.now tree (name_of self.old.name) in
             IfOk result (λ found. ReadsBackward text (option_map stand_of found)) }
+        ensures file { F.is_honest self.old.store.now.files
+            → IfOk result (λ found. IfSome found
+            (IsOfLog self.old.store.now (name_of self.old.name))) }
         ensures begun { IfOk result (λ found. IfSome found (IsBegun 4096)) }
         ensures failed { IfErr result
             (BackFault F.reading_may_fail (¬ F.is_honest self.old.store.now.files) ⊥) }
@@ -58,7 +61,7 @@ impl<'s, F: Files> Platform<'s, '_, F> {
 }
 
 impl Reference {
-    /// Whether the reference has a log.
+    /// Whether the reference has a log. `Io` where a reading failed.
     pub fn log_exists<F: Files>(&self, alloc: Global, store: &Store<F>) -> Result<bool, Error>
         ensures exists { F.is_honest store.now.files
             → let text = log_text store.now (F.history store.now.files).tree self.now.name in

@@ -1,6 +1,6 @@
 //! Whether nothing was done with a store since it was made.
 
-ghost use Rattle.std.specs.Prelude.{◌≡◌, ◌⊎◌, ◌↔◌, None, is_some, IsTrue, IfErr, IfOk, IfNone, IfSome, MatchOption};
+ghost use Rattle.std.specs.Prelude.{◌≡◌, ◌⊎◌, ◌↔◌, None, is_some, IsTrue, IfErr, IfOk, IfNone, IfSome, IsSome, MatchOption};
 ghost use Rattle.gix_ref_name.specs.Names.{name_of};
 ghost use Rattle.gix_ref_name.specs.Targets.{ToName, target_view};
 ghost use Rattle.gix_ref_store.specs.Listings.{all_names};
@@ -17,7 +17,7 @@ use std::alloc::Global;
 
 impl<F: Files> Store<F> {
     /// Whether the store is as a new one: `HEAD` points to this name, there are no packed references, and no name below `refs/`
-    /// has a file that tells a target. `None` where `HEAD` has no such file, or it couldn't be read; else errors are those of
+    /// has a file that tells a target. `None` just where `HEAD` has no such file, or it couldn't be read; else errors are those of
     /// `loose_iter` and of its items. Nothing changes.
     pub fn is_pristine(
         &self,
@@ -30,6 +30,9 @@ impl<F: Files> Store<F> {
         ensures headless { F.is_honest self.now.files
             → let tree = (F.history self.now.files).tree in IfOk result (λ told. IfNone told
             (PointsNowhere (head_in (base_of self.now) tree) ⊎ F.reading_may_fail)) }
+        ensures headed { F.is_honest self.now.files
+            → let tree = (F.history self.now.files).tree in IfOk result (λ told. IsSome told
+            → ¬ PointsNowhere (head_in (base_of self.now) tree)) }
         ensures failed { IfErr result (MayStopAt F.reading_may_fail) }
     {
         let Some(head) = self.head_target(alloc)? else {
