@@ -5,7 +5,7 @@ use Rattle.std.specs.List.{list_any}
 use Rattle.gix_hash.specs.declared.object_id.ObjectId.{ObjectId}
 use Rattle.gix_traverse_commit.specs.Order.{At}
 use Rattle.gix_traverse_commit.specs.Numbered.{same_id}
-use Rattle.gix_traverse_commit.specs.Nodes.{AreNumbered, Node, is_hidden, marks_in, marks_of, no_marks, nodes_in}
+use Rattle.gix_traverse_commit.specs.Nodes.{AreNumbered, Node, ids_of, is_hidden, marks_in, marks_of, no_marks, nodes_in}
 use Rattle.gix_traverse_commit.specs.declared.nodes.Marks.{Marks}
 use Rattle.gix_traverse_commit.proofs.Ids.{same_from_test, same_id_apart, test_from_same}
 use Rattle.gix_traverse_commit.proofs.Lists.{at_from_contains, at_one, contains_from_at, none_at_nil, once_push}
@@ -174,10 +174,23 @@ taken_more ids xs xs' x e a new =
     let more : length xs' ≡ length xs + 1 = ap length new ∙ length_push xs x ∙ sym (add-one (length xs)) in
     new ∙ ap (λ (zs : List ObjectId). zs ++ x ∷ []) e ∙ sym (take_push ids (length xs) x a) ∙ ap (λ (n : ℕ). take n ids) (sym more)
 
--- what is hidden has an id among these
-pub hidden_among : (ids : List ObjectId) (ms : List Marks) (q : ObjectId) → is_hidden (nodes_in ids ms) q ≡ true → Contains ids q
-hidden_among ids ms q h = go (list_any (same_id q) ids) refl
+-- the ids of nodes are those that they were made of
+pub ids_again : (ids : List ObjectId) (ms : List Marks) → length ms ≡ length ids → ids ≡ ids_of (nodes_in ids ms)
+ids_again [] ms e = refl
+ids_again (i ∷ ids) [] e = let z : ⊥ = cc in absurd z
+ids_again (i ∷ ids) (n ∷ ms) e = ap (λ (xs : List ObjectId). i ∷ xs) (ids_again ids ms (let f : suc (length ms) ≡ suc (length ids) = e in omega arith))
+
+-- what is hidden has a node
+pub hidden_among : (nodes : List Node) (q : ObjectId) → is_hidden nodes q ≡ true → Contains (ids_of nodes) q
+hidden_among [] q h = let z : ⊥ = cc in absurd z
+hidden_among (n ∷ nodes) q h = go (same_id q n.id) refl h (hidden_among nodes q)
   where
-    go : (b : Bool) → list_any (same_id q) ids ≡ b → Contains ids q
-    go true f = contains_from_any same_id same_id_apart ids q f
-    go false f = let e = marks_none ids ms q (λ n a. not_among ids n q f a) in let g : false ≡ true = sym (ap (λ (m : Marks). m.hidden) e) ∙ h in let z : ⊥ = cc in absurd z
+    go : (b : Bool) → same_id q n.id ≡ b → (marks_in (cond b (Some n) (find (λ (r : Node). same_id q r.id) nodes))).hidden ≡ true → (is_hidden nodes q ≡ true → Contains (ids_of nodes) q) → Contains (n.id ∷ ids_of nodes) q
+    go true f g next = contains_from_at (n.id ∷ ids_of nodes) 0 q (ap Some (sym (same_from_test q n.id f)))
+    go false f g next =
+        let (k, a) = at_from_contains (ids_of nodes) q (next g) in
+        contains_from_at (n.id ∷ ids_of nodes) (suc k) q a
+
+-- where a commit has a node, no id is added
+pub stays : (ids : List ObjectId) (n : ℕ) (x : ObjectId) → At ids n x → ids ≡ cond (list_any (same_id x) ids) ids (ids ++ x ∷ [])
+stays ids n x a = sym (ap (λ b. cond b ids (ids ++ x ∷ [])) (any_from_contains same_id same_id_apart ids x (contains_from_at ids n x a)))

@@ -1,5 +1,5 @@
 -- Commits that a walk knows, and what is marked of them.
-use Rattle.std.specs.Prelude.{◌≡◌, ℕ, List, [], ◌∷◌, length, Option, None, Some, Bool, false, find}
+use Rattle.std.specs.Prelude.{◌≡◌, ℕ, List, [], ◌∷◌, length, Option, None, Some, Bool, false, find, map}
 use Rattle.gix_hash.specs.declared.object_id.ObjectId.{ObjectId}
 use Rattle.gix_traverse_commit.specs.Numbered.{same_id}
 use Rattle.gix_traverse_commit.specs.Order.{At}
@@ -20,6 +20,10 @@ nodes_in (id ∷ ids) (m ∷ marks) = record { id = id; marks = m } ∷ nodes_in
 pub record AreNumbered (ids : List ObjectId) (marks : List Marks) : Type 0 where
   pub once : (j k : ℕ) (x : ObjectId) → At ids j x → At ids k x → j ≡ k
   pub as_many : length marks ≡ length ids
+
+-- the ids of nodes, in their order
+abbrev pub ids_of : List Node → List ObjectId
+ids_of nodes = map (λ (node : Node). node.id) nodes
 
 abbrev pub no_marks : Marks
 no_marks = record { asked = false; met = false; hidden = false }

@@ -1,9 +1,10 @@
 //! The commits that a walk knows, by their numbers, and what was marked of each.
 
-ghost use Rattle.std.specs.Prelude.{◌≡◌, ℕ, [], if◌then◌else◌, true, Contains, IfOk, IfSome, IfNone, OnOk};
+ghost use Rattle.std.specs.Prelude.{◌≡◌, ◌++◌, ◌∷◌, ℕ, [], if◌then◌else◌, IfOk, IfSome, IfNone, OnOk};
+ghost use Rattle.std.specs.List.{list_any};
 ghost use Rattle.gix_hash.specs.declared.object_id.ObjectId.{ObjectId};
 ghost use Rattle.gix_traverse_commit.specs.Numbered.{same_id};
-ghost use Rattle.gix_traverse_commit.specs.Nodes.{is_hidden, marks_of};
+ghost use Rattle.gix_traverse_commit.specs.Nodes.{ids_of, marks_of};
 ghost use Rattle.gix_traverse_commit.specs.Order.{At};
 
 use gix_hash::ObjectId;
@@ -93,8 +94,10 @@ impl Nodes {
 
     /// Marks a commit, which gets a node where it has none.
     pub fn mark(&mut self, id: ObjectId, marks: Marks) -> Result<(), AllocError>
-        ensures { OnOk result ((q : ObjectId) → marks_of self.new q
+        ensures marked { OnOk result ((q : ObjectId) → marks_of self.new q
             ≡ (if same_id id q then marks else marks_of self.old q)) }
+        ensures named { OnOk result (ids_of self.new ≡ (if list_any (same_id id) (ids_of self.old)
+            then ids_of self.old else ids_of self.old ++ id ∷ [])) }
     {
         if let Some(number) = number_of(&self.ids, &id) {
             self.marks[number.0] = marks;
@@ -108,8 +111,7 @@ impl Nodes {
 
     /// The ids of the commits that have nodes, in the order in which they were met first.
     pub fn ids(&self, alloc: Global) -> Result<Vec<ObjectId>, AllocError>
-        ensures { IfOk result (λ ids. (q : ObjectId) → is_hidden self.now q ≡ true
-            → Contains ids.items q) }
+        ensures { IfOk result (λ ids. ids.items ≡ ids_of self.now) }
     {
         all_ids(&self.ids, alloc)
     }

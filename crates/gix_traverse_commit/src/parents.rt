@@ -1,5 +1,8 @@
 //! Along which parents a walk goes.
 
+ghost use Rattle.std.specs.Prelude.{◌≡◌};
+ghost use Rattle.gix_traverse_commit.specs.declared.parents.Parents.TheVariants.{All as AllParents};
+
 /// Along which parents a walk goes.
 #[derive(Debug, Clone, Copy, PartialEq, Eq)]
 pub enum Parents {
@@ -7,4 +10,12 @@ pub enum Parents {
     All,
     /// Along the first parent of a commit alone.
     First,
+}
+
+impl Default for Parents {
+    ghost is_default = { λ parents. parents ≡ AllParents };
+
+    fn default() -> Parents {
+        Parents::All
+    }
 }

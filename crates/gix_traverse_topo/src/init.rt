@@ -30,6 +30,14 @@ pub enum Sorting {
     TopoOrder,
 }
 
+impl Default for Sorting {
+    ghost is_default = { λ sorting. sorting ≡ DateOrder };
+
+    fn default() -> Sorting {
+        Sorting::DateOrder
+    }
+}
+
 /// What a walk is asked for.
 #[derive(Drop)]
 pub struct Builder<F, P> {

@@ -176,6 +176,7 @@ impl Known {
     pub fn new(alloc: Global) -> Known
         ensures ids { result.ids.keys ≡ [] }
         ensures nodes { result.nodes.items ≡ [] }
+        ensures hidden { result.hidden ≡ 0 }
     {
         Known {
             ids: IndexSet::new(alloc),

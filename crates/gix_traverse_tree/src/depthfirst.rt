@@ -1,6 +1,6 @@
 //! Walks in depth order.
 
-ghost use Rattle.std.specs.Prelude.{◌≡◌, [], IfOk, IfErr, OnOk, reverse, length};
+ghost use Rattle.std.specs.Prelude.{◌≡◌, ◌<◌, ◌++◌, ◌∷◌, [], IfOk, IfErr, OnOk, reverse, length};
 ghost use Rattle.std.specs.List.{list_any};
 ghost use Rattle.gix_hash.specs.Id.{id_of};
 ghost use Rattle.gix_hash.specs.Order.{id_eq};
@@ -8,7 +8,7 @@ ghost use Rattle.gix_object_entries.specs.Entry.{item_of};
 ghost use Rattle.gix_traverse_tree.specs.Calls.{Runs};
 ghost use Rattle.gix_traverse_tree.specs.Trees.{failed, TreeFault};
 ghost use Rattle.gix_traverse_tree.specs.Nodes.{MemoryOr};
-ghost use Rattle.gix_traverse_tree.specs.Opened.{left_of, ids_of, Rest, AreOpen, ShowsEntry, ShowsNext, HasNoNext, Opens, GoesOn, IsAtEnd, IsGood, WalksIn, WhereTrue, IsResumed};
+ghost use Rattle.gix_traverse_tree.specs.Opened.{left_of, ids_of, Rest, AreOpen, ShowsEntry, ShowsNext, HasNoNext, Opens, GoesOn, IsAtEnd, IsGood, WalksIn, WhereTrue, IsResumed, IsGivenBack, IsTakenFrom};
 
 use crate::entry::show;
 pub use crate::error::Error;
@@ -47,20 +47,25 @@ pub struct State {
 
 impl State {
     /// A state for a first walk. It takes no memory.
-    pub fn new(alloc: Global) -> State {
+    pub fn new(alloc: Global) -> State
+        ensures { result.buffers.items ≡ [] }
+    {
         State {
             buffers: Vec::new(alloc),
         }
     }
 
     /// A state that serves as well.
-    pub fn try_clone(&self) -> Result<State, AllocError> {
+    pub fn try_clone(&self) -> Result<State, AllocError>
+        ensures { IfOk result (λ state. state.buffers.items ≡ []) }
+    {
         Ok(State::new(*self.buffers.allocator()))
     }
 
     /// An empty buffer, one of those given back where there is one.
     pub fn pop_buf(&mut self) -> Vec<u8>
-        ensures { result.items ≡ [] }
+        ensures empty { result.items ≡ [] }
+        ensures taken { IsTakenFrom self.old.buffers.items self.new.buffers.items }
     {
         match self.buffers.pop() {
             Some(mut buffer) => {
@@ -72,7 +77,11 @@ impl State {
     }
 
     /// Takes a buffer back for later use. Where no memory is left it is dropped.
-    pub fn push_buf(&mut self, buffer: Vec<u8>) {
+    pub fn push_buf(&mut self, buffer: Vec<u8>)
+        ensures given { IsGivenBack buffer self.old.buffers.items self.new.buffers.items }
+        ensures kept { self.old.buffers.len < self.old.buffers.cap
+            → self.new.buffers.items ≡ self.old.buffers.items ++ buffer ∷ [] }
+    {
         let _ = self.buffers.push(buffer);
     }
 }

@@ -3,6 +3,7 @@
 ghost use Rattle.std.specs.Prelude.{◌≡◌};
 ghost use Rattle.gix_traverse_commit.specs.Simply.{hidden_error, error_of};
 ghost use Rattle.gix_traverse_commit.specs.declared.simple.faults.Error.TheVariants.{Find as FindFault, ObjectDecode as DecodeFault, HiddenGraph as HiddenFault, Memory};
+ghost use Rattle.gix_traverse_commit.specs.declared.simple.faults.HiddenGraphError.TheVariants.{Find as HiddenFind, ObjectDecode as HiddenDecode};
 
 use crate::fetch::FetchError;
 use gix_object_find::find::existing_iter;
@@ -35,6 +36,22 @@ pub enum Error {
     /// There is no memory for the walk.
     #[error("there is no memory for the walk")]
     Memory,
+}
+
+impl From<existing_iter::Error> for HiddenGraphError {
+    ghost from_gives = { λ error given. given ≡ HiddenFind error };
+
+    fn from(error: existing_iter::Error) -> HiddenGraphError {
+        HiddenGraphError::Find(error)
+    }
+}
+
+impl From<decode::Error> for HiddenGraphError {
+    ghost from_gives = { λ error given. given ≡ HiddenDecode error };
+
+    fn from(error: decode::Error) -> HiddenGraphError {
+        HiddenGraphError::ObjectDecode(error)
+    }
 }
 
 impl From<existing_iter::Error> for Error {

@@ -5,6 +5,8 @@ ghost use Rattle.gix_hash.specs.declared.object_id.ObjectId.{ObjectId};
 ghost use Rattle.gix_traverse_commit.specs.Commits.{Commit};
 ghost use Rattle.gix_traverse_commit.specs.Simply.{IsTime};
 ghost use Rattle.gix_traverse_commit.specs.Sorting.{timing_of, in_time};
+ghost use Rattle.gix_traverse_commit.specs.declared.simple.sorting.CommitTimeOrder.TheVariants.{NewestFirst};
+ghost use Rattle.gix_traverse_commit.specs.declared.simple.sorting.Sorting.TheVariants.{BreadthFirst};
 
 use crate::Parents;
 
@@ -15,6 +17,14 @@ pub enum CommitTimeOrder {
     NewestFirst,
     /// The oldest.
     OldestFirst,
+}
+
+impl Default for CommitTimeOrder {
+    ghost is_default = { λ order. order ≡ NewestFirst };
+
+    fn default() -> CommitTimeOrder {
+        CommitTimeOrder::NewestFirst
+    }
 }
 
 /// The order of a walk.
@@ -31,6 +41,14 @@ pub enum Sorting {
         /// The seconds since 1970 of the oldest commit that the walk may give.
         seconds: i64,
     },
+}
+
+impl Default for Sorting {
+    ghost is_default = { λ sorting. sorting ≡ BreadthFirst };
+
+    fn default() -> Sorting {
+        Sorting::BreadthFirst
+    }
 }
 
 /// An order by time, and the seconds of the oldest commit that comes.

@@ -15,7 +15,7 @@ queued-preserved c =
     let rest : List ObjectId = c.pop.new.queue.items in
     let first : old ≡ id ∷ rest = c.in-Some.ensures.first in
     let marks : Marks = record { asked = true; met = false; hidden = c.marks-marks.result.hidden } in
-    let new = c.in_ok-mark.ensures in
+    let new = c.in_ok-mark.ensures.marked in
     record {
       list = ap (λ (zs : List ObjectId). zs ++ rest) c.in_ok-push.ensures.items ∙ append_assoc c.queued.tips.items (id ∷ []) rest ∙ ap (λ (zs : List ObjectId). c.queued.tips.items ++ zs) (sym first) ∙ inv.list;
       inside = λ q k. inv.inside q (subst (λ (zs : List ObjectId). Contains zs q) (sym first) (in_tail id rest q k));

@@ -6,6 +6,7 @@ use Rattle.gix_hash.specs.declared.object_id.ObjectId.TheVariants.{Sha1}
 use Rattle.gix_traverse_commit.specs.Nodes.{is_hidden}
 use Rattle.gix_traverse_commit.specs.declared.nodes.Marks.{Marks}
 use Rattle.gix_traverse_commit.proofs.Chosen.{take_all}
+use Rattle.gix_traverse_commit.proofs.NodeLemmas.{hidden_among}
 use Rattle.gix_traverse_commit.proofs.Pending.{is_false}
 use Rattle.gix_traverse_commit.proofs.Simply.{in_push, met_same, taken_off, take_push}
 use Rattle.gix_traverse_commit.proofs.simple.anew.unpaint.Goals as goal
@@ -17,7 +18,7 @@ ids-preserved c =
     let id : ObjectId = get_or items c.ids.id-index (Sha1 []) in
     let here = slice_get-get_or items c.ids.id-index (Sha1 []) c.ids-test.true in
     let marks : Marks = record { asked = c.marks-marks.result.asked; met = c.marks-marks.result.met; hidden = false } in
-    let new = c.in_ok-mark.ensures in
+    let new = c.in_ok-mark.ensures.marked in
     record {
       met = λ q. met_same c.ids.nodes c.mark.new.self id marks new (ap (λ (k : Marks). k.met) c.marks-marks.ensures) q ∙ inv.met q;
       left = (λ q h.
@@ -30,4 +31,4 @@ pub returns-clause-unpainted : goal.returns-clause-unpainted
 returns-clause-unpainted c = λ x. is_false (is_hidden c.ids.nodes x) (λ h.
     let (was, out) = c.ids.invariant.left x h in
     let all = take_all c.deref-id-items.result.now c.ids.id-index c.ids-test.false ∙ c.deref-id-items.ensures.value in
-    out (subst (λ (zs : List ObjectId). Contains zs x) (sym all) (c.in_ok-ids.ensures x was)))
+    out (subst (λ (zs : List ObjectId). Contains zs x) (sym (all ∙ c.in_ok-ids.ensures)) (hidden_among c.args.nodes.now x was)))
