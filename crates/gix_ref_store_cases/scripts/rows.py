@@ -349,35 +349,6 @@ fresh.ask("pristine", "refs/heads/other", "no head")
 os.remove(fresh.path("HEAD"))
 fresh.ask("pristine", "refs/heads/other", "no head")
 
-# How many calls of the files are made, by the documented rule: a full name's own file is read, and where it has none the records, and
-# then its file again; a word's names are read one by one behind the first and the records. A listing lists each folder on the way to
-# its prefix and below, asks what stands at each path where such a name may stand, and reads the file of each name.
-counts = Repository("counts")
-for name in ["refs/heads/main", "refs/heads/a/x", "refs/heads/a/y", "refs/heads/a/z", "refs/tags/t"]:
-    counts.git("update-ref", name, counts.commits[0])
-
-
-def look_counts(packed):
-    for name, calls in [("HEAD", 1), ("refs/heads/main", 3 if "main" in packed else 1), ("refs/tags/t", 3 if "t" in packed else 1)]:
-        counts.ask("count", name, f"{counts.shown(name)}, {calls} calls")
-    for name, calls in [("refs/heads/none", 3), ("refs/bisect/none", 1), ("none", 7)]:
-        counts.ask("count", name, f"none, {calls} calls")
-    counts.ask("count", "t", f"{counts.shown('refs/tags/t')}, 4 calls")
-    counts.ask("count", "main", f"{counts.shown('refs/heads/main')}, 5 calls")
-
-
-look_counts([])
-for more in range(2):
-    # refs, refs/heads, refs/heads/a; what stands at refs/heads, at a, and at each of three names; and their files.
-    counts.ask("counted", "refs/heads/a/", f"3, {3 + 2 + 3 + 3} calls")
-    counts.ask("counted", "refs/heads/a/x", f"1, {3 + 2 + 1 + 1} calls")
-    # With `refs/heads/` what stands at `main` is asked too.
-    counts.ask("counted", "refs/heads/", f"4, {3 + 3 + 3 + 4} calls")
-    for k in range(20):
-        counts.git("update-ref", f"refs/tags/more{k}", counts.commits[0])
-counts.git("pack-refs", "--all")
-look_counts(["main", "t"])
-
 look_linked()
 tree.git("pack-refs", "--all")
 look_linked()

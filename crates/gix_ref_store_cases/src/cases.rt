@@ -1,6 +1,5 @@
 //! One case to one line.
 
-use crate::counts::counted;
 use crate::ends::{end, pristine};
 use crate::files;
 use crate::lists::list;
@@ -205,9 +204,6 @@ pub fn answer(alloc: Global, line: &str) -> Result<String, AllocError> {
     let Some(files) = files::read(alloc, text)? else {
         return format!(in alloc; "no files");
     };
-    if operation == "count" || operation == "counted" {
-        return counted(alloc, files, operation, asked);
-    }
     let Some(store) = store(alloc, files, folder)? else {
         return format!(in alloc; "no store");
     };

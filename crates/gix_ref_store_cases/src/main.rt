@@ -3,7 +3,6 @@
 #![tactic(auto)]
 
 mod cases;
-mod counts;
 mod ends;
 mod files;
 mod lists;
