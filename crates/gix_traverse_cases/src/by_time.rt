@@ -98,7 +98,6 @@ fn built<'s, P: Accept + Drop>(
     match call {
         "all" => Some(Called::Walk(simple.parents(Parents::All))),
         "first" => Some(Called::Walk(simple.parents(Parents::First))),
-        "usual-parents" => Some(Called::Walk(simple.parents(Parents::default()))),
         "rows" => {
             let graph = walk.graph?.try_clone().ok()?;
             Some(Called::Walk(simple.commit_graph(Some(graph))))
@@ -185,8 +184,7 @@ fn put_data<P: Accept + Drop>(walk: &mut Simple<&Store, P>, page: &mut Page) {
     }
 }
 
-/// Why a walk ends.
-pub fn put_error(page: &mut Page, error: Error) {
+fn put_error(page: &mut Page, error: Error) {
     match error {
         Error::Find(error) => put_find_error(page, error),
         Error::ObjectDecode(_) => page.word("decode"),
