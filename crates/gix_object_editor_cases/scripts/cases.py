@@ -1,56 +1,31 @@
 """Writes stdin and stdout of gix_object_editor_cases. Trees and their ids come from git (update-index, write-tree, mktree, cat-file,
 ls-tree). An edit is made on a map from paths to modes and ids, as git's glossary speaks of files in folders, and git writes the tree."""
-import os, random, subprocess, tempfile
+import os, random, sys
+
+sys.path.append(os.path.join(os.path.dirname(os.path.abspath(__file__)), "../../../scripts"))
+import git_repository
 
 KINDS = {"100644": "blob", "100755": "exe", "120000": "link", "160000": "commit", "40000": "tree"}
-LENGTH = {"sha1": 40, "sha256": 64}
 rows = []
 
 
-class Git:
-    """A repository of one hash function."""
+class Git(git_repository.Git):
+    """A repository whose paths are tuples of names."""
 
     def __init__(self, kind):
-        self.kind, self.null = kind, "0" * LENGTH[kind]
-        folder = tempfile.mkdtemp()
-        self.env = dict(os.environ, GIT_DIR=folder + "/.git")
-        subprocess.run(["git", "init", "-q", "--object-format=" + kind, folder], check=True)
-        self.blobs = [self.run("hash-object", "-w", "--stdin", data=b"%d" % n).decode().strip() for n in range(9)]
-        self.empty = self.run("mktree").decode().strip()
-
-    def run(self, *words, data=b""):
-        return subprocess.run(["git", *words], input=data, capture_output=True, env=self.env, check=True).stdout
+        super().__init__(kind)
+        self.empty = self.id("mktree")
 
     def tree(self, files):
-        """The id of the tree of these files, which git writes from an index."""
-        index = self.env["GIT_DIR"] + "/index"
-        if os.path.exists(index):
-            os.remove(index)
-        lines = b"".join(f"{mode} {oid}\t".encode() + b"/".join(path) + b"\0" for path, (mode, oid) in sorted(files.items()))
-        self.run("update-index", "-z", "--index-info", data=lines)
-        return self.run("write-tree").decode().strip()
-
-    def content(self, oid):
-        return self.run("cat-file", "tree", oid)
+        return super().tree({b"/".join(path): file for path, file in files.items()})
 
     def trees(self, oid):
         """The contents of the trees below one."""
-        out = self.run("ls-tree", "-z", "-r", "-t", oid)
-        return {self.content(part.split(b"\t")[0].split()[2].decode()) for part in out.split(b"\0") if part.split(b" ")[1:2] == [b"tree"]}
-
-    def files(self, oid):
-        """The files of a tree."""
-        found = {}
-        for part in self.run("ls-tree", "-z", "-r", oid).split(b"\0")[:-1]:
-            words, _, name = part.partition(b"\t")
-            mode, _, blob = words.decode().split()
-            found[tuple(name.split(b"/"))] = (mode, blob)
-        return found
+        return {self.content(found) for mode, found, _ in self.listed(oid) if mode == "040000"}
 
     def entry(self, oid, path):
-        """The mode and id of what stands at a path, as git-ls-tree tells."""
-        words = self.run("ls-tree", "-z", oid, "--", b"/".join(path)).split(b"\t")[0].decode().split()
-        return f"{words[0].lstrip('0')} {words[2]}" if words else "none"
+        mode, found = super().entry(oid, b"/".join(path)) or ("none", "")
+        return f"{mode.lstrip('0')} {found}".strip()
 
 
 def begins(p, q):
@@ -203,9 +178,9 @@ def count_rows(git):
 def odd_rows(git, content, refusal):
     """Edits through a folder `d` whose content is no well-formed tree, each in an editor of its own."""
     x = git.blobs[0]
-    odd = git.run("hash-object", "-t", "tree", "--literally", "-w", "--stdin", data=content).decode().strip()
+    odd = git.odd(content)
     root = b"40000 d\0" + bytes.fromhex(odd)
-    whole = git.run("hash-object", "-t", "tree", "--literally", "-w", "--stdin", data=root).decode().strip()
+    whole = git.odd(root)
     at_end, below_it = path_word((b"d",)), path_word((b"d", b"e"))
     for edit in [upsert((b"d", b"e"), "100644", x), "remove:" + below_it, "remove_leaf:" + below_it, "remove_leaf:" + at_end, f"at:{at_end}:get:{below_it}", f"at:{below_it}:remove:{at_end}"]:
         rows.append((f"{git.kind} {root.hex()} {content.hex()} {edit} lookups write", f"{refusal.format(odd)} 1 asked 1 {whole} known+"))
@@ -237,7 +212,7 @@ def chosen_rows(git):
     row(git, nested, [], ["remove:" + path_word((n,)) for n in (b"a", b"g")] + ["write"], ["ok", "ok", f"{git.empty} known+"])
 
 
-for kind in LENGTH:
+for kind in git_repository.LENGTH:
     git, chance = Git(kind), random.Random("editor " + kind)
     chosen_rows(git)
     for _ in range(250):

@@ -1,56 +1,13 @@
 """Writes stdin and stdout of history_files_cases, beside src/. Ids of trees and what is read of them come from git (update-index,
 write-tree, ls-tree, cat-file, hash-object). An edit is made on a map from paths to modes and ids, as git's glossary speaks of files
 in folders, and git writes the tree of what is left. What is counted follows the rules that README.md tells."""
-import os, random, subprocess, tempfile
+import os, random, sys
+
+sys.path.append(os.path.join(os.path.dirname(os.path.abspath(__file__)), "../../../scripts"))
+from git_repository import LENGTH, Git
 
 KINDS = {"100644": "file", "100755": "exec", "120000": "link"}
-LENGTH = {"sha1": 40, "sha256": 64}
 rows = []
-
-
-class Git:
-    """A repository of one hash function."""
-
-    def __init__(self, kind):
-        self.kind, self.null = kind, "0" * LENGTH[kind]
-        folder = tempfile.mkdtemp()
-        self.env = dict(os.environ, GIT_DIR=folder + "/.git")
-        subprocess.run(["git", "init", "-q", "--object-format=" + kind, folder], check=True)
-        self.blobs = [self.run("hash-object", "-w", "--stdin", data=b"%d" % n).decode().strip() for n in range(9)]
-        self.known = {}
-
-    def run(self, *words, data=b""):
-        return subprocess.run(["git", *words], input=data, capture_output=True, env=self.env, check=True).stdout
-
-    def tree(self, files):
-        """The id of the tree of these files, which git writes from an index."""
-        lines = b"".join(f"{mode} {oid}\t".encode() + path + b"\0" for path, (mode, oid) in sorted(files.items()))
-        if lines not in self.known:
-            index = self.env["GIT_DIR"] + "/index"
-            if os.path.exists(index):
-                os.remove(index)
-            self.run("update-index", "-z", "--index-info", data=lines)
-            self.known[lines] = self.run("write-tree").decode().strip()
-        return self.known[lines]
-
-    def content(self, oid):
-        return self.run("cat-file", "tree", oid)
-
-    def odd(self, content):
-        """The id of a tree that git itself wouldn't write."""
-        return self.run("hash-object", "-t", "tree", "--literally", "-w", "--stdin", data=content).decode().strip()
-
-    def listed(self, oid):
-        """All below a tree: mode, id and path."""
-        for part in self.run("ls-tree", "-z", "-r", "-t", oid).split(b"\0")[:-1]:
-            words, _, path = part.partition(b"\t")
-            mode, _, found = words.decode().split()
-            yield mode, found, path
-
-    def entry(self, oid, path):
-        """What stands at a path, as git-ls-tree tells."""
-        words = self.run("ls-tree", "-z", oid, "--", path).split(b"\t")[0].decode().split()
-        return (words[0], words[2]) if words else None
 
 
 def fronts(path):
@@ -379,7 +336,7 @@ def stored_rows(git):
     # A submodule is neither a file nor a folder; other modes of files are files.
     module = "1" * LENGTH[git.kind]
     lines = f"100644 blob {x}\ta\n160000 commit {module}\tm\n100755 blob {y}\tz\n".encode()
-    mixed = git.run("mktree", "--missing", data=lines).decode().strip()
+    mixed = git.id("mktree", "--missing", data=lines)
     row = Row(git)
     given(row, [mixed], mixed)
     row.root = mixed
