@@ -201,80 +201,62 @@ fn refuses_tree<R: Abort>(
     Ok(())
 }
 
-fn check_trees<R: Abort>(rt: &R, alloc: Global, history: History) -> Result<(), PutError> {
+fn check_malformed_trees<R: Abort>(
+    rt: &R,
+    alloc: Global,
+    history: History,
+) -> Result<(), PutError> {
+    let mut objects = trees(rt, alloc, history)?;
+    let hello = id(rt, history.hello.digits);
+    let alone = [
+        ("0100644", "a", hello),
+        ("100664", "a", hello),
+        ("160000", "a", id(rt, history.first)),
+        ("040000", "a", id(rt, history.inner)),
+        ("40000", "a", ObjectId::empty_tree(history.kind)),
+        ("100644", "a/b", hello),
+    ];
+    for entry in alone {
+        refuses_tree(rt, alloc, &mut objects, &[entry], PutError::Malformed)?;
+    }
+    let unordered = [("100644", "b", hello), ("100644", "a", hello)];
+    refuses_tree(rt, alloc, &mut objects, &unordered, PutError::Malformed)
+}
+
+#[test]
+fn malformed_trees(rt: HostRuntime) -> Result<(), PutError> {
+    check_malformed_trees(&rt, rt.alloc(), SHA1)?;
+    check_malformed_trees(&rt, rt.alloc(), SHA256)
+}
+
+fn check_missing_entries<R: Abort>(
+    rt: &R,
+    alloc: Global,
+    history: History,
+) -> Result<(), PutError> {
     let mut objects = trees(rt, alloc, history)?;
     let hello = id(rt, history.hello.digits);
     let inner = id(rt, history.inner);
     let none = id(rt, history.first);
-    let empty = ObjectId::empty_tree(history.kind);
-    let objects = &mut objects;
+    let absent = [("100644", "a", none)];
+    refuses_tree(rt, alloc, &mut objects, &absent, PutError::Missing(none))?;
+    let no_folder = [("40000", "a", hello)];
     refuses_tree(
         rt,
         alloc,
-        objects,
-        &[("0100644", "a", hello)],
-        PutError::Malformed,
-    )?;
-    refuses_tree(
-        rt,
-        alloc,
-        objects,
-        &[("100664", "a", hello)],
-        PutError::Malformed,
-    )?;
-    refuses_tree(
-        rt,
-        alloc,
-        objects,
-        &[("160000", "a", none)],
-        PutError::Malformed,
-    )?;
-    refuses_tree(
-        rt,
-        alloc,
-        objects,
-        &[("040000", "a", inner)],
-        PutError::Malformed,
-    )?;
-    refuses_tree(
-        rt,
-        alloc,
-        objects,
-        &[("40000", "a", empty)],
-        PutError::Malformed,
-    )?;
-    refuses_tree(
-        rt,
-        alloc,
-        objects,
-        &[("100644", "a/b", hello)],
-        PutError::Malformed,
-    )?;
-    let unordered = [("100644", "b", hello), ("100644", "a", hello)];
-    refuses_tree(rt, alloc, objects, &unordered, PutError::Malformed)?;
-    refuses_tree(
-        rt,
-        alloc,
-        objects,
-        &[("100644", "a", none)],
-        PutError::Missing(none),
-    )?;
-    refuses_tree(
-        rt,
-        alloc,
-        objects,
-        &[("40000", "a", hello)],
+        &mut objects,
+        &no_folder,
         PutError::Missing(hello),
     )?;
     // Of two that are missing the first is told.
     let two = [("120000", "a", inner), ("100644", "b", none)];
-    refuses_tree(rt, alloc, objects, &two, PutError::Missing(inner))
+    refuses_tree(rt, alloc, &mut objects, &two, PutError::Missing(inner))
 }
 
 #[test]
-fn trees_that_are_refused(rt: HostRuntime) -> Result<(), PutError> {
-    check_trees(&rt, rt.alloc(), SHA1)?;
-    check_trees(&rt, rt.alloc(), SHA256)
+fn entries_are_missing(rt: HostRuntime) -> Result<(), PutError> {
+    check_missing_entries(&rt, rt.alloc(), SHA1)?;
+    check_missing_entries(&rt, rt.alloc(), SHA256)
 }
 
 const SECOND: &str = "tree %\nparent %\nauthor A <a@b> 2 +0000\ncommitter A <a@b> 2 +0000\n\ntwo";
