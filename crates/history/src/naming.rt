@@ -41,7 +41,8 @@ pub(crate) fn is_private(name: &[u8]) -> bool
 
 /// Tests that a repository may hold the name.
 fn test_name(name: &[u8]) -> Result<(), Cause>
-    ensures { MatchResult result (λ _. form_cause name.now ≡ None) (λ cause. form_cause name.now ≡ Some cause) }
+    ensures { MatchResult result (λ _. form_cause name.now ≡ None)
+        (λ cause. form_cause name.now ≡ Some cause) }
 {
     if !is_name(name) {
         return Err(Cause::BadName);

@@ -96,7 +96,8 @@ pub(crate) fn kind_word(kind: FileKind) -> &'static [u8]
 
 /// Appends words, each behind a space.
 fn more_words(text: &mut Vec<u8>, words: &[&[u8]]) -> Result<(), AllocError>
-    ensures { OnOk result (text.new.items ≡ text.old.items ++ flat_map (λ word. 32 ∷ word.now) words.now) }
+    ensures { OnOk result (text.new.items
+        ≡ text.old.items ++ flat_map (λ word. 32 ∷ word.now) words.now) }
 {
     for word in words {
         text.push(b' ')?;
@@ -107,7 +108,8 @@ fn more_words(text: &mut Vec<u8>, words: &[&[u8]]) -> Result<(), AllocError>
 
 /// Appends a line of words, with one space between and an LF.
 pub(crate) fn line(text: &mut Vec<u8>, words: &[&[u8]]) -> Result<(), AllocError>
-    ensures { OnOk result (text.new.items ≡ text.old.items ++ part_text (Line (map (λ word. word.now) words.now))) }
+    ensures { OnOk result (text.new.items
+        ≡ text.old.items ++ part_text (Line (map (λ word. word.now) words.now))) }
 {
     if let Some((first, rest)) = words.split_first() {
         text.extend_from_slice(first)?;

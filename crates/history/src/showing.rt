@@ -24,7 +24,8 @@ use std::alloc::{AllocError, Global};
 
 /// Appends a line for each parent.
 fn parent_lines(text: &mut Vec<u8>, parents: &[ObjectId]) -> Result<(), AllocError>
-    ensures { OnOk result (text.new.items ≡ text.old.items ++ parts_text (map (λ id. parent_part (hex (id_of id))) parents.now)) }
+    ensures { OnOk result (text.new.items ≡ text.old.items
+        ++ parts_text (map (λ id. parent_part (hex (id_of id))) parents.now)) }
 {
     for parent in parents {
         let mut digits = Kind::hex_buf();
@@ -38,7 +39,8 @@ fn parent_lines(text: &mut Vec<u8>, parents: &[ObjectId]) -> Result<(), AllocErr
 
 /// Appends an actor as a command spells it.
 fn actor(alloc: Global, text: &mut Vec<u8>, role: &[u8], actor: &Actor) -> Result<(), AllocError>
-    ensures { OnOk result (text.new.items ≡ text.old.items ++ parts_text (actor_parts role.now (spelled_actor (actor_of actor.now)))) }
+    ensures { OnOk result (text.new.items ≡ text.old.items
+        ++ parts_text (actor_parts role.now (spelled_actor (actor_of actor.now)))) }
 {
     let mut name_len = itoa::Buffer::new();
     let mut email_len = itoa::Buffer::new();
@@ -60,7 +62,8 @@ fn actor(alloc: Global, text: &mut Vec<u8>, role: &[u8], actor: &Actor) -> Resul
 
 /// The text that shows a commit of this id.
 fn commit_text(alloc: Global, id: &ObjectId, commit: &Commit) -> Result<Vec<u8>, AllocError>
-    ensures { IfOk result (λ text. text.items ≡ reply_text (ShowsCommit (shown_commit id.now commit.now))) }
+    ensures { IfOk result (λ text. text.items
+        ≡ reply_text (ShowsCommit (shown_commit id.now commit.now))) }
 {
     let mut text = Vec::new(alloc);
     let mut count = itoa::Buffer::new();
@@ -107,7 +110,8 @@ fn content_text(
     id: &ObjectId,
     content: &[u8],
 ) -> Result<Vec<u8>, AllocError>
-    ensures { IfOk result (λ text. text.items ≡ reply_text (ShowsContent (shown_content kind id.now content.now))) }
+    ensures { IfOk result (λ text. text.items
+        ≡ reply_text (ShowsContent (shown_content kind id.now content.now))) }
 {
     let mut text = Vec::new(alloc);
     let mut size = itoa::Buffer::new();

@@ -110,7 +110,8 @@ impl WordReading {
 
     /// The commit, where there is one; else why there is none.
     pub(crate) fn commit(self) -> Result<ObjectId, Cause>
-        ensures { MatchResult result (λ id. reading_of self ≡ ReadsAs (id_of id)) (λ cause. word_cause (reading_of self) ≡ Some cause) }
+        ensures { MatchResult result (λ id. reading_of self ≡ ReadsAs (id_of id))
+            (λ cause. word_cause (reading_of self) ≡ Some cause) }
     {
         match self {
             WordReading::Commit(id) => Ok(id),
@@ -128,7 +129,8 @@ impl<F: Files> Repository<F> {
     /// What a word stands for: HEAD for its branch, else the first candidate that stands.
     pub(crate) fn read_word(&self, alloc: Global, word: &[u8]) -> Result<WordReading, Stopped>
         ensures { (r : plain.Repository) → Serves F.is_honest F.history self.now r
-            → Gives F.reading_may_fail (λ reading. reading_of reading ≡ word_reading r word.now) result }
+            → Gives F.reading_may_fail (λ reading.
+            reading_of reading ≡ word_reading r word.now) result }
     {
         if word == HEAD {
             return Ok(match self.names.read(alloc, &self.branch)? {
