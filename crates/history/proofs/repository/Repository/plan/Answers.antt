@@ -277,14 +277,14 @@ returns g c = λ r order asked.
     let kept_commit = c.in_ok-commit.ensures in
     let commit_made = subst (λ (bytes : Bytes). IsMade kind kinds.Commit bytes c.in_ok-commit.commit) commit_text_is kept_commit.0 in
     let none = none_refused r order h.stage.offered w ours c.in_ok-times.times times base.0 fit (subst (λ (bytes : Bytes). length bytes ≤ max_content) commit_text_is kept_commit.1) in
-    let moves = c.moves_to.ensures in (
+    let moves = c.moves_to-moves.ensures in (
       none,
       is_plan r order h.stage.offered w ours folders new sound none _
           (objects_are r order h.stage.offered w ours kind folders c.add_trees.new.objects.items c.push.new.self.items c.in_ok-commit.commit h.stands.objects_kind put commit_made c.in_ok-push.ensures.items)
           (record {
             name = ap (λ (name : Vec ℕ Global). name.items) moves.name ∙ base.1.name;
-            entry = entry_is r order h.stage.offered w ours c.moves_to.result.entry kind c.in_ok-commit.commit h.stands.objects_kind
-                (ap id_of (moves.before ∙ c.unwrap_or.ensures) ∙ before_is r order h.stage.offered w ours c.in_ok-base.base.held c.null.result base.1.held (c.null.ensures ∙ ap null_id (c.kind-2.ensures ∙ h.stands.objects_kind)))
+            entry = entry_is r order h.stage.offered w ours c.moves_to-moves.result.entry kind c.in_ok-commit.commit h.stands.objects_kind
+                (ap id_of (moves.before ∙ c.unwrap_or-before.ensures) ∙ before_is r order h.stage.offered w ours c.in_ok-base.base.held c.null.result base.1.held (c.null.ensures ∙ ap null_id (c.kind-2.ensures ∙ h.stands.objects_kind)))
                 commit_made moves.after (ap actor_of moves.actor ∙ c.in_ok-log_actor.ensures ∙ committer)
                 (ap (λ (message : Vec ℕ Global). message.items) moves.message ∙ c.in_ok-title.ensures.items ∙ c.title.ensures ∙ ap title (c.deref-5.ensures.value ∙ message));
           }),
