@@ -1,6 +1,5 @@
 -- What is got at a path, and the files.
 use Rattle.std.proofs.Common.{ℕ, ◌≡◌, ◌⊎◌, Bool, true, false, [], ◌∷◌, Option, Some, None, refl, sym, ap, subst, ◌++◌, ◌∙◌, inl, inr, if◌then◌else◌}
-use Rattle.gix_hash.specs.Id.{id_of}
 use Rattle.gix_object_entries.specs.Entry.{Item}
 use Rattle.gix_object_entries.specs.Mode.{is_tree_value}
 use Rattle.gix_object_editor.specs.declared.tree.editor.node.NodeId.{NodeId}

@@ -1,6 +1,4 @@
-use Rattle.std.proofs.Common.{◌≡◌, Some, refl, ◌∙◌, ap, sym, subst}
-use Rattle.std.specs.Option.{option_map}
-use Rattle.gix_object_entries.specs.Entry.{item_of}
+use Rattle.std.proofs.Common.{◌∙◌, ap, sym}
 use Rattle.gix_object_editor.specs.Editor.{names_of}
 use Rattle.gix_object_editor.specs.Nodes.{slots_of, entry_at}
 use Rattle.gix_object_editor.proofs.Walked.{names}
