@@ -1,5 +1,5 @@
 -- Which trees an edit changes.
-use Rattle.std.proofs.Common.{ℕ, ◌≡◌, ◌≢◌, ◌<◌, ◌⊎◌, true, false, List, [], ◌∷◌, ◌++◌, None, refl, sym, ap, subst, ◌∙◌, inl, inr, arith, length}
+use Rattle.std.proofs.Common.{ℕ, ◌≡◌, ◌≢◌, ◌<◌, ◌⊎◌, Bool, true, false, List, [], ◌∷◌, ◌++◌, None, refl, sym, ap, subst, ◌∙◌, inl, inr, arith, length}
 use Rattle.std.specs.Borrow.{Bor}
 use Rattle.std.proofs.lemmas.Bool.{cases_lt, cases_eq}
 use Rattle.gix_object_editor.proofs.Walked.{names}
@@ -116,7 +116,7 @@ module _ (old mid new end : Slots) (was now put fin : Marks) (a b c : ℕ) (mid_
       edit_changed old mid was now a b mid_ok opened new put fin c new_ok made at path on_path up.only way rest down some ends tree j (subst (λ f. LeadsTo f tree j []) same to) t
 
 -- an edit that failed behind opened trees
-pub failed_changed : (old mid new : Slots) (was now put : Marks) (a b c : ℕ) → IsForest mid b → AreMarksKept false old mid was now a b → AreMarksKept true mid new now put b c → new ≡ mid
+pub failed_changed : {state : Bool} → (old mid new : Slots) (was now put : Marks) (a b c : ℕ) → IsForest mid b → AreMarksKept false old mid was now a b → AreMarksKept state mid new now put b c → new ≡ mid
     → (tree : Path) (j : ℕ) → LeadsTo new tree j [] → (put j).changed ≡ true → (k : ℕ) × LeadsTo old tree k [] × ((was k).changed ≡ true)
 failed_changed old mid new was now put a b c ok opened made same tree j to t =
     let back : LeadsTo mid tree j [] = subst (λ f. LeadsTo f tree j []) same to in

@@ -202,7 +202,7 @@ last_split (p ∷ path) (suc i) d e =
 
 -- ---- an entry that stands already
 
-entry_of : (trees : Trees) (leaf : Leaf) (s : Slot) (child : Option NodeId) → s.child ≡ child → child_or child (λ c. None) (files_of_entry trees [] (leaf_in s)) ≡ Some leaf → (leaf_in s ≡ leaf) × (s.child ≡ None)
+pub entry_of : (trees : Trees) (leaf : Leaf) (s : Slot) (child : Option NodeId) → s.child ≡ child → child_or child (λ c. None) (files_of_entry trees [] (leaf_in s)) ≡ Some leaf → (leaf_in s ≡ leaf) × (s.child ≡ None)
 entry_of trees leaf s (Some c) is e = absurd (cc e)
 entry_of trees leaf s None is e = (by_null (is_null (leaf_in s).id) e, is)
   where

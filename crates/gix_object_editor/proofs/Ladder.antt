@@ -273,20 +273,20 @@ module _ (slots mid : Slots) (bound more : ℕ) (ok : IsForest slots bound) (nam
     is_linked : child_of (new at name) ≡ Some bound
     is_linked = ap child_of stands ∙ linked
 
-    rung_mark : (now : Marks) → ((k : ℕ) → k < length names → now (bound + k) ≡ mark_below (rung_parent at bound k) true) → (i : ℕ) → bound ≤ i → i < more → now i ≡ mark_below (rung_parent at bound (i - bound)) true
-    rung_mark now made i le lt =
+    rung_mark : (state : Bool) (now : Marks) → ((k : ℕ) → k < length names → now (bound + k) ≡ mark_below (rung_parent at bound k) state) → (i : ℕ) → bound ≤ i → i < more → now i ≡ mark_below (rung_parent at bound (i - bound)) state
+    rung_mark state now made i le lt =
         let is : i ≡ bound + (i - bound) = omega (arith, le) in
         let less : i - bound < length names = omega (arith, le, lt, len) in
         ap now is ∙ made (i - bound) less
 
-    pub linked_marks : (was now : Marks) → ((i : ℕ) → i < bound → now i ≡ was i) → ((k : ℕ) → k < length names → now (bound + k) ≡ mark_below (rung_parent at bound k) true) → AreMarksKept true slots new was now bound more
-    linked_marks was now same made = record {
+    pub linked_marks : (state : Bool) (was now : Marks) → ((i : ℕ) → i < bound → now i ≡ was i) → ((k : ℕ) → k < length names → now (bound + k) ≡ mark_below (rung_parent at bound k) state) → AreMarksKept state slots new was now bound more
+    linked_marks state was now same made = record {
       same = same;
-      fresh = λ i le lt. ap (λ (x : Mark). x.changed) (rung_mark now made i le lt);
+      fresh = λ i le lt. ap (λ (x : Mark). x.changed) (rung_mark state now made i le lt);
       before = λ i le lt.
           let up : rung_parent at bound (i - bound) < bound + (i - bound) = rung_less at bound (i - bound) below in
           let less : rung_parent at bound (i - bound) < i = omega (arith, up, le) in
-          subst (λ (x : Mark). x.parent < i) (sym (rung_mark now made i le lt)) less;
+          subst (λ (x : Mark). x.parent < i) (sym (rung_mark state now made i le lt)) less;
       up = λ i n c e le. elim (cases_lt i bound) [
         | inl early ↦ elim (at_or_off i at n name) [
           | inl x ↦
@@ -385,12 +385,12 @@ module _ (old mid new : List Node) (ok : IsForest (slots_of old) (length old)) (
       (subst (λ p. IsPutIn (slots_of new) (onto way p) (length old + (length (names tail) - 1))) is
       (linked_end (slots_of old) (slots_of mid) (length old) (length mid) ok (names tail) s closed front rungs_named long past (slots_of new) at name top below some stands linked others way reached))
 
-  pub hung_marks : (was now : Marks) → ((i : ℕ) → i < length old → now i ≡ was i) → ((k : ℕ) → k < length tail → now (length old + k) ≡ mark_below (rung_parent at (length old) k) true)
-      → AreMarksKept true (slots_of old) (slots_of new) was now (length old) (length new)
-  hung_marks was now same made =
-      subst (AreMarksKept true (slots_of old) (slots_of new) was now (length old)) (sym same_len)
+  pub hung_marks : (state : Bool) (was now : Marks) → ((i : ℕ) → i < length old → now i ≡ was i) → ((k : ℕ) → k < length tail → now (length old + k) ≡ mark_below (rung_parent at (length old) k) state)
+      → AreMarksKept state (slots_of old) (slots_of new) was now (length old) (length new)
+  hung_marks state was now same made =
+      subst (AreMarksKept state (slots_of old) (slots_of new) was now (length old)) (sym same_len)
       (linked_marks (slots_of old) (slots_of mid) (length old) (length mid) ok (names tail) s closed front rungs_named long past (slots_of new) at name top below some stands linked others
-      was now same (λ k lt. let less : k < length tail = omega (arith, tail_long, lt) in made k less))
+      state was now same (λ k lt. let less : k < length tail = omega (arith, tail_long, lt) in made k less))
 
   pub hung_ways : (way : Path) → Way (slots_of old) way at → AreOnPath (slots_of new) (onto way (names path)) (length old) (length new)
   hung_ways way reached =

@@ -20,3 +20,4 @@ pub mod Changes
 pub mod Asking
 pub mod Leafs
 pub mod Cuts
+pub mod Gotten

@@ -10,7 +10,7 @@ use Rattle.gix_object_editor.specs.declared.tree.editor.state.Editor.{Editor}
 use Rattle.gix_object_editor.specs.declared.tree.editor.error.Error.{Error}
 use Rattle.gix_object_editor.specs.declared.tree.editor.error.Error.TheVariants.{EmptyPathComponent, FindExistingObject, CannotRemoveNonLeaf, MalformedTree, Memory}
 use Rattle.gix_object_editor.specs.Files.{Bytes, Path, Leaf, FileMap, Trees, HasStored, NamesAreFull}
-use Rattle.gix_object_editor.specs.Nodes.{slots_of, files_of_node, AreFilled}
+use Rattle.gix_object_editor.specs.Nodes.{slots_of, files_of_node, LeadsTo, AreFilled}
 use Rattle.gix_object_editor.specs.Marks.{marks_of, IsChangedIn, AreAsRead}
 use Rattle.gix_object_editor.specs.Entries.{Property, EachHas}
 use Rattle.gix_object_editor.specs.Refusals.{OpeningFault}
@@ -23,6 +23,10 @@ files_of trees editor = files_of_node trees (slots_of editor.nodes.items) 0
 -- the tree at the path was opened, and an edit changed it, or one that lies in it
 abbrev pub IsChanged : {S : Type 0} → Editor S → Path → Type 0
 IsChanged editor path = IsChangedIn editor.nodes.items path
+
+-- a tree was opened at the path
+abbrev pub IsOpenedAt : {S : Type 0} → Editor S → Path → Type 0
+IsOpenedAt editor path = (j : ℕ) × LeadsTo (slots_of editor.nodes.items) path j []
 
 -- each opened tree that no edit changed has the files that the table has of its entry
 abbrev pub IsAsRead : {S : Type 0} → Trees → Editor S → Type 0

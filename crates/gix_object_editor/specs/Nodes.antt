@@ -166,6 +166,11 @@ pub record IsRung (slots : Slots) (first : ℕ) (names : Path) (last : Slot) (k 
   pub leads : suc k < length names → child_of (Some slot) ≡ Some (suc (first + k))
   pub ends : suc k ≡ length names → slot ≡ last
 
+-- what leads to a tree from this number on has the null id
+abbrev pub AreNull : Slots → ℕ → Type 0
+AreNull slots bound = (i : ℕ) (m : Bytes) (s : Slot) (c : ℕ) → slots i m ≡ Some s
+    → child_of (Some s) ≡ Some c → bound ≤ c → is_null (id_of s.oid) ≡ true
+
 -- ---- entries of opened trees
 
 -- the entry that a slot of this name is

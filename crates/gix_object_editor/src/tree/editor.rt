@@ -1,11 +1,11 @@
 //! Edits of a tree and the trees below it.
 
-ghost use Rattle.std.specs.Prelude.{◌≡◌, ◌≤◌, ◌+◌, ◌⊎◌, length, map, option_map, IfOk, IfErr, OnOk, OnErr, IsFalse, IsTrue, Some};
+ghost use Rattle.std.specs.Prelude.{◌≡◌, ◌≤◌, ◌+◌, ◌⊎◌, length, map, option_map, IfOk, IfErr, OnOk, OnErr, IsFalse, IsTrue, Some, None, false};
 ghost use Rattle.std.specs.Borrow.{sem};
-ghost use Rattle.gix_object_entries.specs.Entry.{item_of, own_item};
-ghost use Rattle.gix_object_editor.specs.Files.{Path, Trees, HasStored, SameFiles, NamesAreFull, HasNoneBelow, HasSomeBelow, no_trees, removed, put, files_of_tree};
+ghost use Rattle.gix_object_entries.specs.Entry.{Item, item_of, own_item};
+ghost use Rattle.gix_object_editor.specs.Files.{Path, Leaf, Trees, is_null, leaf_of, HasStored, SameFiles, NamesAreFull, HasNoneBelow, HasSomeBelow, no_trees, removed, put, files_of_tree};
 ghost use Rattle.gix_object_editor.specs.Nodes.{slots_of, entry_at};
-ghost use Rattle.gix_object_editor.specs.Editor.{files_of, names_of, leaf_of_kind, LeadsThrough, LeadsInto, EditFault, LeafFault, IsFilled, IsFolder, IsChanged, IsAsRead, IsAbove, EachEntryHas, IsNonLeaf, asked_by, ErrOverStored, OkOverStored, OverStored};
+ghost use Rattle.gix_object_editor.specs.Editor.{files_of, names_of, leaf_of_kind, LeadsThrough, LeadsInto, EditFault, LeafFault, IsFilled, IsFolder, IsChanged, IsAsRead, IsAbove, IsOpenedAt, EachEntryHas, IsNonLeaf, asked_by, ErrOverStored, OkOverStored, OverStored};
 ghost use Rattle.gix_object_editor.specs.Asked.{front_of, Asks};
 ghost use Rattle.gix_object_editor.specs.declared.tree.editor.error.Error.TheVariants.{EmptyPathComponent};
 ghost use Rattle.gix_object_editor.specs.Entries.{Property, PassesDown, MayStand, ItemsHave};
@@ -97,10 +97,18 @@ impl<S: Find> Editor<S> {
     }
 
     /// The entry at the path, as far as edits opened trees: `None` where none stands there, or where a tree above it isn't opened.
-    /// The id of a tree is the one that it had before edits below it, the null id where it was made for them.
+    /// Where a file stands it is that file, and an entry whose id isn't null is there, as a file or with a tree that was opened for
+    /// it. The id of a tree is the one that it had before edits below it, the null id where it was made for them.
     pub fn get<'a>(&'a self, path: &[&'a [u8]]) -> Option<EntryRef<'a>>
-        ensures { option_map item_of result ≡ entry_at (slots_of self.now.nodes.items) 0
+        ensures answer { option_map item_of result ≡ entry_at (slots_of self.now.nodes.items) 0
             (names_of path.now) }
+        ensures file { (trees : Trees) (leaf : Leaf) (item : Item)
+            → files_of trees self.now (names_of path.now) ≡ Some leaf
+            → option_map item_of result ≡ Some item → leaf_of item ≡ leaf }
+        ensures there { (trees : Trees) (item : Item) → option_map item_of result ≡ Some item
+            → is_null item.id ≡ false → trees item.id ≡ None
+            → (files_of trees self.now (names_of path.now) ≡ Some (leaf_of item))
+            ⊎ IsOpenedAt self.now (names_of path.now) }
     {
         entry_from(self.nodes.as_slice(), NodeId(0), path)
     }

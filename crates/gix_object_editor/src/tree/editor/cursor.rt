@@ -1,12 +1,12 @@
 //! Edits below a folder.
 
-ghost use Rattle.std.specs.Prelude.{◌≡◌, ◌≢◌, ◌≤◌, ◌+◌, ◌++◌, ◌⊎◌, [], length, option_map, IfOk, IfErr, OnOk, OnErr, Some, None};
+ghost use Rattle.std.specs.Prelude.{◌≡◌, ◌≢◌, ◌≤◌, ◌+◌, ◌++◌, ◌⊎◌, [], length, option_map, IfOk, IfErr, OnOk, OnErr, Some, None, false};
 ghost use Rattle.std.specs.Borrow.{sem};
 ghost use Rattle.gix_hash.specs.Id.{id_of};
-ghost use Rattle.gix_object_entries.specs.Entry.{item_of};
-ghost use Rattle.gix_object_editor.specs.Files.{Path, Trees, HasStored, SameFiles, Begins, NamesAreFull, HasNoneBelow, HasSomeBelow, no_trees, removed, put, cleared};
+ghost use Rattle.gix_object_entries.specs.Entry.{Item, item_of};
+ghost use Rattle.gix_object_editor.specs.Files.{Path, Leaf, Trees, is_null, leaf_of, HasStored, SameFiles, Begins, NamesAreFull, HasNoneBelow, HasSomeBelow, no_trees, removed, put, cleared};
 ghost use Rattle.gix_object_editor.specs.Nodes.{slots_of, entry_at};
-ghost use Rattle.gix_object_editor.specs.Editor.{files_of, names_of, leaf_of_kind, LeadsThrough, LeadsInto, EditFault, LeafFault, IsFilled, IsFolder, IsChanged, IsAsRead, IsAbove, EachEntryHas, IsNonLeaf, asked_by, ErrOverStored, OkOverStored, OverStored};
+ghost use Rattle.gix_object_editor.specs.Editor.{files_of, names_of, leaf_of_kind, LeadsThrough, LeadsInto, EditFault, LeafFault, IsFilled, IsFolder, IsChanged, IsAsRead, IsAbove, IsOpenedAt, EachEntryHas, IsNonLeaf, asked_by, ErrOverStored, OkOverStored, OverStored};
 ghost use Rattle.gix_object_editor.specs.Asked.{front_of, Asks, AsksAll};
 ghost use Rattle.gix_object_editor.specs.declared.tree.editor.error.Error.TheVariants.{EmptyPathComponent};
 ghost use Rattle.gix_object_editor.specs.Entries.{Property, PassesDown, MayStand, MayStandMade};
@@ -84,6 +84,15 @@ impl<'c, S: Find> Cursor<'c, S> {
             → option_map item_of result ≡ entry_at (slots_of self.now.editor.now.nodes.items) 0
             (base ++ names_of path.now) }
         ensures none { path.now ≡ [] → result ≡ None }
+        ensures file { (base : Path) → StandsAt self.now base
+            → (trees : Trees) (leaf : Leaf) (item : Item)
+            → files_of trees self.now.editor.now (base ++ names_of path.now) ≡ Some leaf
+            → option_map item_of result ≡ Some item → leaf_of item ≡ leaf }
+        ensures there { (base : Path) → StandsAt self.now base → (trees : Trees) (item : Item)
+            → option_map item_of result ≡ Some item → is_null item.id ≡ false
+            → trees item.id ≡ None
+            → (files_of trees self.now.editor.now (base ++ names_of path.now) ≡ Some (leaf_of item))
+            ⊎ IsOpenedAt self.now.editor.now (base ++ names_of path.now) }
     {
         entry_from(self.editor.nodes.as_slice(), self.at, path)
     }

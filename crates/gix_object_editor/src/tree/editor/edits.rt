@@ -12,8 +12,8 @@ use crate::tree::editor::entry::stands_already;
 use crate::tree::editor::filled::refuse_folder;
 use crate::tree::editor::forest::{folder_below, walk};
 use crate::tree::editor::graft::{graft, make_folders};
-use crate::tree::editor::marks::{cut, mark_changed};
-use crate::tree::editor::node::{NodeId, Slot};
+use crate::tree::editor::marks::{cut, mark_changed, mark_where};
+use crate::tree::editor::node::{NodeId, Slot, slot_at};
 use crate::tree::editor::{Editor, Error};
 use gix_hash::{Kind, ObjectId};
 use gix_object_entries::tree::{EntryKind, EntryMode};
@@ -220,7 +220,7 @@ impl<S: Find> Editor<S> {
         if stands_already(self.nodes.as_slice(), at, &path[depth..], slot) {
             return Ok(());
         }
-        graft(&mut self.nodes, alloc, at, &path[depth..], slot)?;
+        graft(&mut self.nodes, alloc, at, &path[depth..], slot, true)?;
         mark_changed(self.nodes.as_mut_slice(), at);
         Ok(())
     }
@@ -284,8 +284,10 @@ impl<S: Find> Editor<S> {
         match found {
             Some(folder) => Ok(folder),
             None => {
-                let made = make_folders(&mut self.nodes, alloc, at, &path[depth..], hash)?;
-                mark_changed(self.nodes.as_mut_slice(), at);
+                let stands = slot_at(self.nodes.as_slice(), at, path[depth]).is_some();
+                let left = &path[depth..];
+                let made = make_folders(&mut self.nodes, alloc, at, left, hash, stands)?;
+                mark_where(self.nodes.as_mut_slice(), at, stands);
                 Ok(made)
             }
         }

@@ -4,11 +4,11 @@ ghost use Rattle.std.specs.Prelude.{◌≡◌, ◌≢◌, ◌<◌, ◌≤◌, �
 ghost use Rattle.std.specs.List.{All, Contains};
 ghost use Rattle.gix_hash.specs.Id.{id_of};
 ghost use Rattle.gix_object_editor.specs.declared.tree.editor.node.Slot.{Slot};
-ghost use Rattle.gix_object_editor.specs.Files.{Bytes, Path, Trees, SameFiles, put, cleared};
+ghost use Rattle.gix_object_editor.specs.Files.{Bytes, Path, Trees, SameFiles, is_null, put, cleared};
 ghost use Rattle.gix_object_editor.specs.Asked.{front_of};
 ghost use Rattle.gix_object_editor.specs.Entries.{Property, EachHas, MayStand, MayStandMade, made_leaf};
 ghost use Rattle.gix_object_editor.specs.Marks.{mark_of, marks_of, mark_below, rung_parent, AreMarksKept, AreOnPath};
-ghost use Rattle.gix_object_editor.specs.Nodes.{slot_in, slots_of, child_of, leaf_in, files_of_node, Way, onto, IsForest, IsFolderAt, IsRung, IsPutIn, LeadsTo};
+ghost use Rattle.gix_object_editor.specs.Nodes.{slot_in, slots_of, child_of, leaf_in, files_of_node, Way, onto, AreNull, IsForest, IsFolderAt, IsRung, IsPutIn, LeadsTo};
 
 use crate::tree::editor::node::{Node, NodeId, Slot, put_at, take_at};
 use gix_hash::{Kind, ObjectId};
@@ -16,13 +16,14 @@ use gix_object_entries::tree::{EntryKind, EntryMode};
 use std::alloc::{AllocError, Global};
 
 /// Puts an entry at the end of the names below an opened tree, in folders that are made for it, and answers the tree in which it
-/// stands. What stood at the first name is cut off. Without memory nothing changes.
+/// stands. What stood at the first name is cut off. The folders are marked so. Without memory nothing changes.
 pub(crate) fn graft(
     nodes: &mut Vec<Node>,
     alloc: Global,
     at: NodeId,
     names: &[&[u8]],
     slot: Slot,
+    changed: bool,
 ) -> Result<NodeId, AllocError>
     requires forest { IsForest (slots_of nodes.old.items) (length nodes.old.items) }
     requires within { at.0 < length nodes.old.items }
@@ -48,9 +49,11 @@ pub(crate) fn graft(
         → slots_of nodes.new.items i m ≡ slots_of nodes.old.items i m) }
     ensures each { (has : Property) → MayStand has (map (λ n. n.now) names.now) (leaf_in slot)
         → EachHas has (slots_of nodes.old.items) → EachHas has (slots_of nodes.new.items) }
-    ensures marks { AreMarksKept true (slots_of nodes.old.items) (slots_of nodes.new.items)
+    ensures marks { AreMarksKept changed (slots_of nodes.old.items) (slots_of nodes.new.items)
         (marks_of nodes.old.items) (marks_of nodes.new.items) (length nodes.old.items)
         (length nodes.new.items) }
+    ensures null { IfOk result (λ end. 1 < length names.now → is_null (id_of slot.oid) ≡ true
+        → AreNull (slots_of nodes.new.items) (length nodes.old.items)) }
     ensures last { IfOk result (λ end. 1 < length names.now → (end.0 + 1 ≡ length nodes.new.items)
         × (length nodes.old.items ≤ end.0)) }
     ensures rungs { IfOk result (λ end. (i : ℕ) (m : Bytes) (s : Slot) → length nodes.old.items ≤ i
@@ -65,7 +68,7 @@ pub(crate) fn graft(
         return Ok(at);
     }
     let before = nodes.len();
-    match hang(nodes, alloc, at, names, slot) {
+    match hang(nodes, alloc, at, names, slot, changed) {
         Ok(end) => Ok(end),
         Err(error) => {
             nodes.truncate(before);
@@ -75,13 +78,14 @@ pub(crate) fn graft(
 }
 
 /// Makes folders at the names below an opened tree, the last without entries, and answers the last. What stood at the first name
-/// is cut off. Without memory nothing changes.
+/// is cut off. The folders are marked so. Without memory nothing changes.
 pub(crate) fn make_folders(
     nodes: &mut Vec<Node>,
     alloc: Global,
     at: NodeId,
     names: &[&[u8]],
     hash: Kind,
+    changed: bool,
 ) -> Result<NodeId, AllocError>
     requires forest { IsForest (slots_of nodes.old.items) (length nodes.old.items) }
     requires within { at.0 < length nodes.old.items }
@@ -107,9 +111,10 @@ pub(crate) fn make_folders(
     ensures others { (i : ℕ) (m : Bytes) → i < length nodes.old.items
         → (i ≡ at.0 → m ≡ slice_index_or (map (λ n. n.now) names.now) 0 [] → ⊥)
         → slots_of nodes.new.items i m ≡ slots_of nodes.old.items i m }
-    ensures marks { AreMarksKept true (slots_of nodes.old.items) (slots_of nodes.new.items)
+    ensures marks { AreMarksKept changed (slots_of nodes.old.items) (slots_of nodes.new.items)
         (marks_of nodes.old.items) (marks_of nodes.new.items) (length nodes.old.items)
         (length nodes.new.items) }
+    ensures null { OnOk result (AreNull (slots_of nodes.new.items) (length nodes.old.items)) }
     ensures made { OnOk result ((way : Path) → Way (slots_of nodes.old.items) way at.0
         → AreOnPath (slots_of nodes.new.items) (onto way (map (λ n. n.now) names.now) ++ [] ∷ [])
         (length nodes.old.items) (length nodes.new.items)) }
@@ -123,7 +128,7 @@ pub(crate) fn make_folders(
         oid: ObjectId::null(hash),
         child: None,
     };
-    let end = graft(nodes, alloc, at, path.as_slice(), slot)?;
+    let end = graft(nodes, alloc, at, path.as_slice(), slot, changed)?;
     take_at(nodes.as_mut_slice(), end, no_name);
     Ok(end)
 }
@@ -135,6 +140,7 @@ fn hang(
     at: NodeId,
     names: &[&[u8]],
     slot: Slot,
+    changed: bool,
 ) -> Result<NodeId, AllocError>
     requires forest { IsForest (slots_of nodes.old.items) (length nodes.old.items) }
     requires within { at.0 < length nodes.old.items }
@@ -160,11 +166,13 @@ fn hang(
     ensures each { OnOk result ((has : Property)
         → MayStand has (map (λ n. n.now) names.now) (leaf_in slot)
         → EachHas has (slots_of nodes.old.items) → EachHas has (slots_of nodes.new.items)) }
-    ensures marks { OnOk result (AreMarksKept true (slots_of nodes.old.items)
+    ensures marks { OnOk result (AreMarksKept changed (slots_of nodes.old.items)
         (slots_of nodes.new.items) (marks_of nodes.old.items) (marks_of nodes.new.items)
         (length nodes.old.items) (length nodes.new.items)) }
     ensures front { (i : ℕ) → i < length nodes.old.items
         → marks_of nodes.new.items i ≡ marks_of nodes.old.items i }
+    ensures null { OnOk result (is_null (id_of slot.oid) ≡ true
+        → AreNull (slots_of nodes.new.items) (length nodes.old.items)) }
     ensures last { IfOk result (λ end. (end.0 + 1 ≡ length nodes.new.items)
         × (length nodes.old.items ≤ end.0)) }
     ensures rungs { IfOk result (λ end. (i : ℕ) (m : Bytes) (s : Slot) → length nodes.old.items ≤ i
@@ -175,7 +183,7 @@ fn hang(
         (length nodes.old.items) (length nodes.new.items)) }
 {
     let first = NodeId(nodes.len());
-    push_ladder(nodes, alloc, at, &names[1..], slot)?;
+    push_ladder(nodes, alloc, at, &names[1..], slot, changed)?;
     let end = NodeId(nodes.len() - 1);
     put_at(
         nodes.as_mut_slice(),
@@ -195,6 +203,7 @@ fn push_ladder(
     at: NodeId,
     names: &[&[u8]],
     slot: Slot,
+    changed: bool,
 ) -> Result<(), AllocError>
     requires { 0 < length names.now }
     ensures front { (i : ℕ) (m : Bytes) → i < length nodes.old.items
@@ -212,7 +221,7 @@ fn push_ladder(
         → marks_of nodes.new.items i ≡ marks_of nodes.old.items i }
     ensures changed { OnOk result ((k : ℕ) → k < length names.now
         → marks_of nodes.new.items (length nodes.old.items + k) ≡ mark_below
-        (rung_parent at.0 (length nodes.old.items) k) true) }
+        (rung_parent at.0 (length nodes.old.items) k) changed) }
 {
     let mut above = at;
     for (i, name) in names.iter().enumerate() {
@@ -222,20 +231,26 @@ fn push_ladder(
             slot
         };
         let this = NodeId(nodes.len());
-        nodes.push(lone(alloc, above, name, rung)?)?;
+        nodes.push(lone(alloc, above, name, rung, changed)?)?;
         above = this;
     }
     Ok(())
 }
 
 // The tree with this entry alone, which is to lie in another.
-fn lone(alloc: Global, above: NodeId, name: &[u8], slot: Slot) -> Result<Node, AllocError>
+fn lone(
+    alloc: Global,
+    above: NodeId,
+    name: &[u8],
+    slot: Slot,
+    changed: bool,
+) -> Result<Node, AllocError>
     ensures here { IfOk result (λ node. slot_in node name.now ≡ Some slot) }
     ensures others { IfOk result (λ node. (m : Bytes) → m ≢ name.now → slot_in node m ≡ None) }
-    ensures mark { IfOk result (λ node. mark_of node ≡ mark_below above.0 true) }
+    ensures mark { IfOk result (λ node. mark_of node ≡ mark_below above.0 changed) }
 {
     let mut node = Node::empty(alloc);
-    node.place(above, true);
+    node.place(above, changed);
     node.put(alloc, name, slot)?;
     Ok(node)
 }

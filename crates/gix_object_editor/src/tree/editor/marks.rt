@@ -1,6 +1,6 @@
 //! Which opened trees edits changed.
 
-ghost use Rattle.std.specs.Prelude.{◌≡◌, ◌≢◌, ◌<◌, ℕ, length, true, false, Some, None};
+ghost use Rattle.std.specs.Prelude.{◌≡◌, ◌≢◌, ◌<◌, ℕ, length, true, false, Some, None, IsTrue, IsFalse};
 ghost use Rattle.gix_object_editor.specs.Files.{Bytes};
 ghost use Rattle.gix_object_editor.specs.Nodes.{slots_of, child_of, IsForest};
 ghost use Rattle.gix_object_editor.specs.Marks.{marks_of, mark_below, AreMarked, AreMarkedBut, AreMarkedUp, IsMarkedFor, child_if, changed_in};
@@ -41,6 +41,22 @@ pub(crate) fn mark_changed(nodes: &mut [Node], at: NodeId)
         above = parent_at(nodes, above);
     }
     mark_at(nodes, above);
+}
+
+/// The same where it is said so; else no mark changes.
+pub(crate) fn mark_where(nodes: &mut [Node], at: NodeId, changed: bool)
+    requires within { at.0 < length nodes.old }
+    requires forest { IsForest (slots_of nodes.old) (length nodes.old) }
+    requires marked { IsTrue changed
+        → AreMarkedBut at.0 (slots_of nodes.old) (marks_of nodes.old) (length nodes.old) }
+    ensures slots { (i : ℕ) (m : Bytes) → slots_of nodes.new i m ≡ slots_of nodes.old i m }
+    ensures marked { IsTrue changed → AreMarkedUp (slots_of nodes.old) (marks_of nodes.old)
+        (marks_of nodes.new) at.0 (length nodes.old) }
+    ensures same { IsFalse changed → (i : ℕ) → marks_of nodes.new i ≡ marks_of nodes.old i }
+{
+    if changed {
+        mark_changed(nodes, at);
+    }
 }
 
 // Marks one opened tree as changed.

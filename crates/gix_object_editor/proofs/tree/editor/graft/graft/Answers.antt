@@ -1,4 +1,4 @@
-use Rattle.std.proofs.Common.{Some, None, true, ℕ, List, ◌≡◌, ◌∙◌, ◌<◌, ◌≤◌, ap, sym, subst, arith, length, map, []}
+use Rattle.std.proofs.Common.{Some, None, ℕ, List, ◌≡◌, ◌∙◌, ◌<◌, ◌≤◌, ap, sym, subst, arith, length, map, []}
 use Rattle.std.specs.Borrow.{Bor}
 use Rattle.std.proofs.lemmas.Result.{err_from_is_err_and}
 use Rattle.std.proofs.lemmas.List.{get_or-map, length-take}
@@ -105,8 +105,8 @@ returns-in_err-put_at-clause-marks c =
     let same : (i : ℕ) (m : Bytes) → slots_of new i m ≡ slots_of old i m = λ i m.
     all_slots c.as_mut_slice.result.now new c.args.at.0 _ c.in_err-put_at.ensures.err c.in_err-put_at.ensures.others i m
     ∙ ap (λ ns. slots_of ns i m) c.as_mut_slice.ensures.value in
-    subst (λ (ns : List Node). AreMarksKept true (slots_of old) (slots_of ns) (marks_of old) (marks_of ns) (length old) (length ns)) (sym (back c.args.nodes.now.len new _ n))
-    (marks_same true (slots_of old) (slots_of new) (marks_of old) (marks_of new) (length old) (length new) c.requires.forest len same
+    subst (λ (ns : List Node). AreMarksKept c.args.changed (slots_of old) (slots_of ns) (marks_of old) (marks_of ns) (length old) (length ns)) (sym (back c.args.nodes.now.len new _ n))
+    (marks_same c.args.changed (slots_of old) (slots_of new) (marks_of old) (marks_of new) (length old) (length new) c.requires.forest len same
     (λ i lt. c.in_err-put_at.ensures.marks i ∙ ap (λ ns. marks_of ns i) c.as_mut_slice.ensures.value))
 
 pub returns-then-names-eq1-clause-marks : goal.returns-then-names-eq1-clause-marks
@@ -118,9 +118,9 @@ returns-then-names-eq1-clause-marks c =
     let same_len : length new ≡ length old = omega (arith, c.args.nodes.now.ok.0) in
     let one : length path ≡ 1 = omega arith in
     let some : 0 < length path = omega arith in
-    subst (λ (ns : List Node). AreMarksKept true (slots_of old) (slots_of ns) (marks_of old) (marks_of ns) (length old) (length ns)) (sym (back c.args.nodes.now.len new _ n))
+    subst (λ (ns : List Node). AreMarksKept c.args.changed (slots_of old) (slots_of ns) (marks_of old) (marks_of ns) (length old) (length ns)) (sym (back c.args.nodes.now.len new _ n))
     (put_marks old new c.requires.forest path one c.args.slot c.requires.unopened same_len c.args.at.0 _ (get_or-map (λ (x : Bor (List ℕ)). x.now) path 0 _ [] some) c.in_ok-put_at.ensures.here
-    (λ i m off. c.in_ok-put_at.ensures.others i m off ∙ ap (λ ns. slots_of ns i m) c.as_mut_slice.ensures.value) true (marks_of old) (marks_of new)
+    (λ i m off. c.in_ok-put_at.ensures.others i m off ∙ ap (λ ns. slots_of ns i m) c.as_mut_slice.ensures.value) c.args.changed (marks_of old) (marks_of new)
     (λ i. c.in_ok-put_at.ensures.marks i ∙ ap (λ ns. marks_of ns i) c.as_mut_slice.ensures.value))
 
 pub returns-then-names-eq1-clause-made : goal.returns-then-names-eq1-clause-made
@@ -140,7 +140,7 @@ returns-in-Err-clause-marks c =
     let front : c.len-before.result ≡ length old = omega arith in
     let longer : length old ≤ length c.hang.new.nodes.items = c.hang.ensures.longer in
     let len : length old ≡ length new = omega (arith, ap length c.truncate.ensures.items, length-take c.len-before.result c.hang.new.nodes.items) in
-    marks_same true (slots_of old) (slots_of new) (marks_of old) (marks_of new) (length old) (length new) c.requires.forest len (returns-in-Err-clause-err c)
+    marks_same c.args.changed (slots_of old) (slots_of new) (marks_of old) (marks_of new) (length old) (length new) c.requires.forest len (returns-in-Err-clause-err c)
     (λ i lt.
     let less : i < c.len-before.result = omega (arith, front, lt) in
     ap (λ (ns : List Node). marks_of ns i) c.truncate.ensures.items ∙ marks_taken c.hang.new.nodes.items c.len-before.result i less ∙ c.hang.ensures.front i lt)
@@ -179,3 +179,6 @@ returns-then-names-eq1-clause-rungs c = λ i m s le is.
     let whole = back c.args.nodes.now.len new _ n in
     let none : slots_of new i m ≡ None = none_past new i m (omega (arith, le, len)) in
     absurd (let so : None ≡ Some s = sym none ∙ sym (ap (λ (ns : List Node). slots_of ns i m) whole) ∙ is in cc)
+
+pub returns-then-names-eq1-clause-null : goal.returns-then-names-eq1-clause-null
+returns-then-names-eq1-clause-null c = λ more. absurd (omega (arith, more))

@@ -1,9 +1,9 @@
-use Rattle.std.proofs.Common.{ℕ, inl, inr, get_or, true, List, Some, None, rules, ◌≡◌, ◌∙◌, ◌<◌, ◌≤◌, ◌+◌, ◌-◌, suc, map, ap, sym, subst, arith, length, drop, take, []}
+use Rattle.std.proofs.Common.{ℕ, inl, inr, get_or, List, Some, None, rules, ◌≡◌, ◌∙◌, ◌<◌, ◌≤◌, ◌+◌, ◌-◌, suc, map, ap, sym, subst, arith, length, drop, take, []}
 use Rattle.std.specs.Borrow.{Bor}
 use Rattle.std.proofs.lemmas.Result.{err_from_is_err_and}
 use Rattle.std.proofs.lemmas.List.{get_or-map, length-drop, take_all}
 use Rattle.gix_object_editor.specs.declared.tree.editor.node.Node.{Node}
-use Rattle.gix_object_editor.specs.Nodes.{slots_of, leaf_in, files_of_node, child_or, onto, IsForest, IsPutIn}
+use Rattle.gix_object_editor.specs.Nodes.{slots_of, leaf_in, files_of_node, child_or, onto, AreNull, IsForest, IsPutIn}
 use Rattle.gix_object_editor.proofs.Slots.{back, all_slots, none_past}
 use Rattle.gix_object_editor.proofs.Ladder.{hung_forest, hung_files, hung_end, hung_marks, hung_ways}
 use Rattle.gix_object_editor.specs.Marks.{marks_of, AreMarksKept, AreOnPath}
@@ -12,6 +12,7 @@ use Rattle.gix_object_editor.specs.Entries.{EachHas}
 use Rattle.gix_object_editor.proofs.Walked.{names_length}
 use Rattle.gix_object_editor.specs.Asked.{front_of}
 use Rattle.gix_object_editor.proofs.Asking.{front_has}
+use Rattle.gix_object_editor.proofs.Cuts.{hung_null}
 use Rattle.gix_object_editor.proofs.Kept.{hung_each, hung_names, in_tail, in_front}
 use Rattle.gix_object_editor.proofs.tree.editor.graft.hang.Goals as goal
 
@@ -103,12 +104,12 @@ returns-clause-marks c =
     let same_len : length new ≡ length mid = omega (arith, c.push_ladder.new.nodes.ok.0) in
     let some : 0 < length path = omega arith in
     let same : (i : ℕ) → marks_of new i ≡ marks_of mid i = λ i. c.in_ok-put_at.ensures.marks i ∙ ap (λ ns. marks_of ns i) c.as_mut_slice.ensures.value in
-    subst (λ (ns : List Node). AreMarksKept true (slots_of old) (slots_of ns) (marks_of old) (marks_of ns) (length old) (length ns)) (sym (back c.push_ladder.new.nodes.len new _ n))
+    subst (λ (ns : List Node). AreMarksKept c.args.changed (slots_of old) (slots_of ns) (marks_of old) (marks_of ns) (length old) (length ns)) (sym (back c.push_ladder.new.nodes.len new _ n))
     (hung_marks old mid new c.requires.forest path tail c.requires.named (take_all (length path - 1) (drop 1 path) less) c.args.slot _ c.requires.unopened c.in_ok-push_ladder.ensures.front
     c.in_ok-push_ladder.ensures.rungs len same_len c.args.at.0 _ (get_or-map (λ (x : Bor (List ℕ)). x.now) path 0 _ [] some) c.requires.within c.in_ok-put_at.ensures.here
     (ap (λ o. child_or o (λ d. Some d) None) c.folder.ensures.linked ∙ ap (λ k. Some k) (search rules))
     (λ i m off. c.in_ok-put_at.ensures.others i m off ∙ ap (λ ns. slots_of ns i m) c.as_mut_slice.ensures.value)
-    (marks_of old) (marks_of new) (λ i lt. same i ∙ c.in_ok-push_ladder.ensures.marks i lt) (λ k lt. same (length old + k) ∙ c.in_ok-push_ladder.ensures.changed k lt))
+    c.args.changed (marks_of old) (marks_of new) (λ i lt. same i ∙ c.in_ok-push_ladder.ensures.marks i lt) (λ k lt. same (length old + k) ∙ c.in_ok-push_ladder.ensures.changed k lt))
 
 pub returns-clause-made : goal.returns-clause-made
 returns-clause-made c = λ way reached.
@@ -203,3 +204,14 @@ returns-clause-rungs c = λ i m s le is.
       | inr h ↦ inr (subst (Contains (front_of (map (λ x. x.now) path))) (in_front path h.0 (subst (λ (xs : List (Bor (List ℕ))). suc h.0 < length (map (λ x. x.now) xs)) tail_is h.1) ∙ ap (λ (xs : List (Bor (List ℕ))). get_or (map (λ x. x.now) xs) h.0 []) (sym tail_is) ∙ sym h.2)
           (front_has (map (λ x. x.now) path) (suc h.0) (omega (arith, h.1, long, ap length tail_is, length-drop 1 path, names_length path))))
     ]
+
+pub returns-clause-null : goal.returns-clause-null
+returns-clause-null c = λ null.
+    let old = c.args.nodes.now.items in
+    let mid = c.push_ladder.new.nodes.items in
+    let new = c.put_at.new.nodes in
+    let path = c.args.names.now in
+    let n : c.push_ladder.new.nodes.len ≡ length new = omega (arith, c.put_at.auto.nodes, c.as_mut_slice.ensures.len) in
+    subst (λ (ns : List Node). AreNull (slots_of ns) (length old)) (sym (back c.push_ladder.new.nodes.len new _ n))
+    (hung_null (slots_of old) (slots_of mid) (slots_of new) (length old) c.args.at.0 _ _ (map (λ x. x.now) (take (length path - 1) (drop 1 path))) (leaf_in c.args.slot) c.requires.forest c.in_ok-push_ladder.ensures.front
+    c.in_ok-push_ladder.ensures.leaves null c.in_ok-put_at.ensures.here c.folder.ensures.leaf (λ i m off. c.in_ok-put_at.ensures.others i m off ∙ ap (λ ns. slots_of ns i m) c.as_mut_slice.ensures.value))

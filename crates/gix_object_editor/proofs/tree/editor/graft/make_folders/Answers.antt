@@ -8,13 +8,14 @@ use Rattle.gix_object_editor.specs.Asked.{front_of}
 use Rattle.gix_object_editor.specs.Entries.{EachHas, MayStand, made_leaf}
 use Rattle.gix_object_editor.proofs.Asking.{front_pushed}
 use Rattle.gix_object_editor.proofs.Kept.{unless_empty, may_stand_more, each_more_has, made_each}
-use Rattle.gix_object_editor.specs.Files.{Bytes, Path, Leaf, put}
-use Rattle.gix_object_editor.specs.Nodes.{slots_of, files_of_node, child_of, onto, IsForest, LeadsTo, IsPutIn}
+use Rattle.gix_object_editor.specs.Files.{Bytes, Path, Leaf, is_null, put}
+use Rattle.gix_object_editor.specs.Nodes.{slots_of, files_of_node, child_of, onto, AreNull, IsForest, LeadsTo, IsPutIn}
 use Rattle.gix_object_editor.proofs.Paths.{onto-append}
+use Rattle.gix_object_editor.proofs.Cuts.{null_itself}
 use Rattle.gix_object_editor.proofs.Slots.{back}
 use Rattle.gix_object_editor.proofs.Edits.{less_forest}
 use Rattle.gix_object_editor.proofs.Walked.{names, names_length}
-use Rattle.gix_object_editor.proofs.Folders.{names_pushed, none_below, made_leads, made_files, taken_marks, taken_ways, two_long, same_first_name}
+use Rattle.gix_object_editor.proofs.Folders.{names_pushed, none_below, made_leads, made_files, taken_link, taken_marks, taken_ways, two_long, same_first_name}
 use Rattle.gix_object_editor.specs.Marks.{marks_of, AreMarksKept, AreOnPath}
 use Rattle.gix_object_editor.proofs.tree.editor.graft.make_folders.Goals as goal
 
@@ -81,9 +82,9 @@ returns-clause-marks c =
     let len : length mid ≡ length new = omega (arith, c.graft.new.nodes.ok.0) in
     let others : (i : ℕ) (m : Bytes) → ((i ≡ c.in_ok-end.end.0) → (m ≡ []) → ⊥) → slots_of new i m ≡ slots_of mid i m = λ i m off.
     c.take_at.ensures.others i m off ∙ ap (λ ns. slots_of ns i m) c.as_mut_slice.ensures.value in
-    subst (λ (ns : List Node). AreMarksKept true (slots_of old) (slots_of ns) (marks_of old) (marks_of ns) (length old) (length ns)) (sym (back c.graft.new.nodes.len new _ n))
-    (subst (AreMarksKept true (slots_of old) (slots_of new) (marks_of old) (marks_of new) (length old)) len
-    (taken_marks (slots_of mid) (slots_of new) [] c.in_ok-end.end.0 c.take_at.ensures.here others true (slots_of old) (marks_of old) (marks_of mid) (marks_of new) (length old) (length mid)
+    subst (λ (ns : List Node). AreMarksKept c.args.changed (slots_of old) (slots_of ns) (marks_of old) (marks_of ns) (length old) (length ns)) (sym (back c.graft.new.nodes.len new _ n))
+    (subst (AreMarksKept c.args.changed (slots_of old) (slots_of new) (marks_of old) (marks_of new) (length old)) len
+    (taken_marks (slots_of mid) (slots_of new) [] c.in_ok-end.end.0 c.take_at.ensures.here others c.args.changed (slots_of old) (marks_of old) (marks_of mid) (marks_of new) (length old) (length mid)
     (λ i. c.take_at.ensures.marks i ∙ ap (λ ns. marks_of ns i) c.as_mut_slice.ensures.value) c.graft.ensures.marks))
 
 pub returns-clause-made : goal.returns-clause-made
@@ -158,3 +159,21 @@ returns-clause-each c = λ has fit each.
       | inl e ↦ inl e
       | inr h ↦ inr (subst (λ (p : Path). Contains p m) (ap front_of longer ∙ front_pushed (names path) []) h)
     ]) each)
+
+pub returns-clause-null : goal.returns-clause-null
+returns-clause-null c =
+    let old = c.args.nodes.now.items in
+    let mid = c.graft.new.nodes.items in
+    let new = c.take_at.new.nodes in
+    let path = c.args.names.now in
+    let n : c.graft.new.nodes.len ≡ length new = omega (arith, c.take_at.auto.nodes, c.as_mut_slice.ensures.len) in
+    let others : (i : ℕ) (m : Bytes) → ((i ≡ c.in_ok-end.end.0) → (m ≡ []) → ⊥) → slots_of new i m ≡ slots_of mid i m = λ i m off.
+    c.take_at.ensures.others i m off ∙ ap (λ ns. slots_of ns i m) c.as_mut_slice.ensures.value in
+    let ok : is_ok c.push.result ≡ true = search rules in
+    let same : c.in_ok-path.path.items ≡ path = search rules in
+    let longer : names c.as_slice.result.now ≡ names path ++ [] ∷ [] =
+    ap names c.as_slice.ensures.value ∙ names_pushed _ c.in_ok-path.path.items c.push.new.self.items _ ok c.push.ensures.items ∙ ap (λ xs. names xs ++ [] ∷ []) same in
+    let two : 1 < length c.as_slice.result.now = two_long (names path) c.as_slice.result.now longer (omega (arith, names_length path)) in
+    let null : is_null (id_of c.null.result) ≡ true = ap is_null c.null.ensures ∙ null_itself c.args.hash in
+    subst (λ (ns : List Node). AreNull (slots_of ns) (length old)) (sym (back c.graft.new.nodes.len new _ n))
+    (λ i m s k is link le. c.in_ok-end.ensures.null two null i m s k (sym (taken_link (slots_of mid) (slots_of new) [] c.in_ok-end.end.0 c.take_at.ensures.here others i m k (ap child_of is ∙ link)) ∙ is) link le)

@@ -62,7 +62,7 @@ loop-i-preserved c =
             let is : k ≡ c.loop-i.i = omega (arith, late, less) in
             let at_end_of : length old + k ≡ length before = omega (arith, is, n) in
             ap (marks_of c.push.new.self.items) at_end_of ∙ ap (λ ns. marks_of ns (length before)) pushed ∙ mark_end before node ∙ c.in_ok-lone.ensures.mark
-            ∙ ap (λ p. mark_below p true) (c.loop-i.invariant.above ∙ ap (rung_parent c.args.at.0 (length old)) (sym is))
+            ∙ ap (λ p. mark_below p c.args.changed) (c.loop-i.invariant.above ∙ ap (rung_parent c.args.at.0 (length old)) (sym is))
       ];
       rungs = one_rung_more (names c.args.names.now) (slots_of before) (slots_of c.push.new.self.items) (length old) (length before) c.loop-i.i c.args.slot c.if-i-names.rung n front
           (new _ ∙ ap (slot_in node) (get_or-map (λ (x : Bor (List ℕ)). x.now) c.args.names.now c.loop-i.i _ [] lt) ∙ c.in_ok-lone.ensures.here)

@@ -17,6 +17,6 @@ invariant-loop-i l = record {
       → Contains (map (λ n. n.now) l.names) m × ((leaf_in s ≡ leaf_in l.slot) ⊎ (leaf_in s ≡ made_leaf (id_of l.slot.oid).kind));
   above : l.above.0 ≡ rung_parent l.fn.at.0 (length l.initial.nodes.items) l.i;
   marks : (i : ℕ) → i < length l.initial.nodes.items → marks_of l.nodes.items i ≡ marks_of l.initial.nodes.items i;
-  changed : (k : ℕ) → k < l.i → marks_of l.nodes.items (length l.initial.nodes.items + k) ≡ mark_below (rung_parent l.fn.at.0 (length l.initial.nodes.items) k) true;
+  changed : (k : ℕ) → k < l.i → marks_of l.nodes.items (length l.initial.nodes.items + k) ≡ mark_below (rung_parent l.fn.at.0 (length l.initial.nodes.items) k) l.changed;
   rungs : (k : ℕ) → k < l.i → IsRung (slots_of l.nodes.items) (length l.initial.nodes.items) (map (λ n. n.now) l.names) l.slot k;
 }

@@ -1,6 +1,8 @@
-use Rattle.std.proofs.Common.{◌∙◌, ap}
+use Rattle.std.proofs.Common.{◌∙◌, ap, sym}
+use Rattle.gix_object_editor.specs.Editor.{names_of}
 use Rattle.gix_object_editor.specs.Nodes.{slots_of, entry_at}
 use Rattle.gix_object_editor.proofs.Walked.{names}
+use Rattle.gix_object_editor.proofs.Gotten.{got_below, got_file_below}
 use Rattle.gix_object_editor.proofs.Folders.{entry_below}
 use Rattle.gix_object_editor.proofs.tree.editor.state.Cursor.get.Goals as goal
 
@@ -8,3 +10,15 @@ pub returns-clause-entry : goal.returns-clause-entry
 returns-clause-entry g c = λ base stands some.
     c.entry_from.ensures ∙ ap (λ ns. entry_at (slots_of ns) c.args.self.now.at.0 (names c.args.path.now)) c.as_slice.ensures.value
     ∙ entry_below (slots_of c.args.self.now.editor.now.nodes.items) base c.args.self.now.at.0 c.args.path.now stands some
+
+pub returns-clause-file : goal.returns-clause-file
+returns-clause-file g c = λ base stands trees leaf item file is.
+    let slots = slots_of c.args.self.now.editor.now.nodes.items in
+    let got = sym (c.entry_from.ensures ∙ ap (λ ns. entry_at (slots_of ns) c.args.self.now.at.0 (names c.args.path.now)) c.as_slice.ensures.value) ∙ is in
+    got_file_below trees slots base c.args.self.now.at.0 (names_of c.args.path.now) leaf item stands file got
+
+pub returns-clause-there : goal.returns-clause-there
+returns-clause-there g c = λ base stands trees item is some gone.
+    let slots = slots_of c.args.self.now.editor.now.nodes.items in
+    let got = sym (c.entry_from.ensures ∙ ap (λ ns. entry_at (slots_of ns) c.args.self.now.at.0 (names c.args.path.now)) c.as_slice.ensures.value) ∙ is in
+    got_below trees slots base c.args.self.now.at.0 (names_of c.args.path.now) item stands got some gone

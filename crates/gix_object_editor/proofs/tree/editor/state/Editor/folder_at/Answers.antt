@@ -1,15 +1,16 @@
 use Rattle.std.proofs.Common.{◌≢◌, ℕ, List, ◌⊎◌, ◌++◌, inl, inr, true, false, ◌≡◌, ◌∙◌, ◌<◌, ◌+◌, ◌-◌, ◌∷◌, [], None, arith, ap, sym, subst, refl, rules, length, drop, take, get_or, if◌then◌else◌}
 use Rattle.std.specs.Prelude.{is_some}
 use Rattle.std.proofs.lemmas.Result.{err_from_is_err_and}
-use Rattle.std.proofs.lemmas.List.{length-drop}
+use Rattle.std.proofs.lemmas.List.{length-drop, get_or-map}
 use Rattle.gix_hash.specs.Id.{id_of}
 use Rattle.gix_object_editor.specs.Editor.{names_of, LeadsInto, IsChanged}
 use Rattle.gix_object_editor.specs.Files.{Begins, behind, cleared}
-use Rattle.gix_object_editor.specs.Nodes.{slots_of, files_of_node, LeadsTo, IsFolderAt, IsForest, Way}
+use Rattle.gix_object_editor.specs.Nodes.{slots_of, files_of_node, onto, LeadsTo, IsFolderAt, IsForest, Way}
 use Rattle.gix_object_editor.specs.declared.tree.editor.node.Node.{Node}
-use Rattle.gix_object_editor.specs.Marks.{marks_of, AreMarked, AreMarkedBut, AreMarkedUp, AreAsRead, AreOnPath}
+use Rattle.gix_object_editor.specs.Marks.{Mark, marks_of, AreMarked, AreMarkedBut, AreMarkedUp, AreMarksKept, AreAsRead, AreOnPath}
 use Rattle.gix_object_editor.proofs.Slots.{back}
-use Rattle.gix_object_editor.proofs.Paths.{onto-append}
+use Rattle.gix_object_editor.proofs.Paths.{onto-append, by_test}
+use Rattle.gix_object_editor.proofs.Cuts.{made_as_read, made_hollow, same_marks, both_longer, none_of}
 use Rattle.gix_object_editor.proofs.Ways.{way_above}
 use Rattle.gix_object_editor.proofs.Marked.{opened_marked, grafted_marked, read_same, marks_then}
 use Rattle.gix_object_editor.proofs.Changes.{opened_changed, failed_changed, graft_as_read, graft_changed, one_more_left, begins}
@@ -104,10 +105,10 @@ returns-in_ok-made-in-None-clause-leads g c =
     subst (LeadsTo (slots_of new) (names path) at) (sym (ap names (rest_is path i)))
     (leads_kept (slots_of mid) (slots_of new) (names path) at (names (drop i path)) c.in_ok-found.ensures.opened.links (c.in_ok-at.ensures.leads [] refl)) in
     let mk = c.make_folders.new.nodes.items in
-    let fin = c.mark_changed.new.nodes in
-    let n : c.make_folders.new.nodes.len ≡ length fin = omega (arith, c.mark_changed.auto.nodes, c.as_mut_slice.ensures.len) in
+    let fin = c.mark_where.new.nodes in
+    let n : c.make_folders.new.nodes.len ≡ length fin = omega (arith, c.mark_where.auto.nodes, c.as_mut_slice.ensures.len) in
     let whole = back c.make_folders.new.nodes.len fin _ n in
-    let same_slots : slots_of fin ≡ slots_of mk = as_function (slots_of fin) (slots_of mk) (λ i m. c.mark_changed.ensures.slots i m ∙ ap (λ (ns : List Node). slots_of ns i m) c.as_mut_slice.ensures.value) in
+    let same_slots : slots_of fin ≡ slots_of mk = as_function (slots_of fin) (slots_of mk) (λ i m. c.mark_where.ensures.slots i m ∙ ap (λ (ns : List Node). slots_of ns i m) c.as_mut_slice.ensures.value) in
     let made = c.in_ok-made-in-None.made.0 in
     subst (λ (ns : List Node). LeadsTo (slots_of ns) (names path) made []) (sym whole)
     (subst (λ f. LeadsTo f (names path) made []) (sym same_slots)
@@ -126,10 +127,10 @@ returns-in_ok-made-in-None-clause-cleared g c = λ honest trees has q.
     subst (LeadsTo (slots_of new) (names path) at) (sym (ap names (rest_is path i)))
     (leads_kept (slots_of mid) (slots_of new) (names path) at (names (drop i path)) c.in_ok-found.ensures.opened.links (c.in_ok-at.ensures.leads [] refl)) in
     let mk = c.make_folders.new.nodes.items in
-    let fin = c.mark_changed.new.nodes in
-    let n : c.make_folders.new.nodes.len ≡ length fin = omega (arith, c.mark_changed.auto.nodes, c.as_mut_slice.ensures.len) in
+    let fin = c.mark_where.new.nodes in
+    let n : c.make_folders.new.nodes.len ≡ length fin = omega (arith, c.mark_where.auto.nodes, c.as_mut_slice.ensures.len) in
     let whole = back c.make_folders.new.nodes.len fin _ n in
-    let same_slots : slots_of fin ≡ slots_of mk = as_function (slots_of fin) (slots_of mk) (λ i m. c.mark_changed.ensures.slots i m ∙ ap (λ (ns : List Node). slots_of ns i m) c.as_mut_slice.ensures.value) in
+    let same_slots : slots_of fin ≡ slots_of mk = as_function (slots_of fin) (slots_of mk) (λ i m. c.mark_where.ensures.slots i m ∙ ap (λ (ns : List Node). slots_of ns i m) c.as_mut_slice.ensures.value) in
     let opened = opened_then _ _ (slots_of old) (slots_of mid) (slots_of new) (length old) (length mid) (length new) c.in_ok-at.ensures.opened c.in_ok-found.ensures.opened in
     ap (λ (ns : List Node). files_of_node trees (slots_of ns) 0 q) whole
     ∙ ap (λ f. files_of_node trees f 0 q) same_slots
@@ -137,85 +138,8 @@ returns-in_ok-made-in-None-clause-cleared g c = λ honest trees has q.
     ∙ ap (λ p. cleared p (files_of_node trees (slots_of new) 0) q) leads.2
     ∙ ap (λ x. if is_some (behind q (names path)) then None else x) (opened.files honest trees has q 0 c.args.self.now.forest.rooted)
 
-pub mark_changed-requires-clause-forest : goal.mark_changed-requires-clause-forest
-mark_changed-requires-clause-forest g c = subst (λ (ns : List Node). IsForest (slots_of ns) (length ns)) (sym c.as_mut_slice.ensures.value) c.make_folders.ensures.forest
-
-pub mark_changed-requires-clause-marked : goal.mark_changed-requires-clause-marked
-mark_changed-requires-clause-marked g c =
-    let old = c.args.self.now.nodes.items in
-    let mid = c.walk.new.nodes.items in
-    let new = c.folder_below.new.nodes.items in
-    let mk = c.make_folders.new.nodes.items in
-    let both = marks_then false (slots_of old) (slots_of mid) (slots_of new) (marks_of old) (marks_of mid) (marks_of new) (length old) (length mid) (length new)
-    c.in_ok-at.ensures.opened.longer c.in_ok-found.ensures.opened.longer c.in_ok-at.ensures.marks c.in_ok-found.ensures.marks in
-    let marked = opened_marked (slots_of old) (slots_of new) (marks_of old) (marks_of new) (length old) (length new) c.args.self.now.forest c.args.self.now.marked false both c.in_ok-found.ensures.opened.forest both.fresh in
-    subst (λ (ns : List Node). AreMarkedBut c.in_ok-at.at.0 (slots_of ns) (marks_of ns) (length ns)) (sym c.as_mut_slice.ensures.value)
-    (grafted_marked (slots_of new) (slots_of mk) (marks_of new) (marks_of mk) (length new) (length mk) c.in_ok-found.ensures.opened.forest marked true c.make_folders.ensures.marks c.in_ok-at.at.0 _ c.make_folders.ensures.forest
-    c.make_folders.ensures.marks.fresh c.make_folders.ensures.others)
-
-pub invariant_of-self-in-None : goal.invariant_of-self-in-None
-invariant_of-self-in-None g c =
-    let mk = c.make_folders.new.nodes.items in
-    let fin = c.mark_changed.new.nodes in
-    let n : c.make_folders.new.nodes.len ≡ length fin = omega (arith, c.mark_changed.auto.nodes, c.as_mut_slice.ensures.len) in
-    let whole = back c.make_folders.new.nodes.len fin _ n in
-    let same_slots : slots_of fin ≡ slots_of mk = as_function (slots_of fin) (slots_of mk) (λ i m. c.mark_changed.ensures.slots i m ∙ ap (λ (ns : List Node). slots_of ns i m) c.as_mut_slice.ensures.value) in
-    let up = subst (λ (ns : List Node). AreMarkedUp (slots_of ns) (marks_of ns) (marks_of fin) c.in_ok-at.at.0 (length ns)) c.as_mut_slice.ensures.value c.mark_changed.ensures.marked in
-    let len : length mk ≡ length fin = omega (arith, c.mark_changed.auto.nodes, ap length c.as_mut_slice.ensures.value) in
-    record {
-      forest = subst (λ (ns : List Node). IsForest (slots_of ns) (length ns)) (sym whole) (subst (λ f. IsForest f (length fin)) (sym same_slots) (subst (IsForest (slots_of mk)) len c.make_folders.ensures.forest));
-      marked = subst (λ (ns : List Node). AreMarked (slots_of ns) (marks_of ns) (length ns)) (sym whole) (subst (λ f. AreMarked f (marks_of fin) (length fin)) (sym same_slots) (subst (AreMarked (slots_of mk) (marks_of fin)) len up.marked));
-    }
-
-pub returns-in_ok-made-in-None-clause-as_read : goal.returns-in_ok-made-in-None-clause-as_read
-returns-in_ok-made-in-None-clause-as_read g c = λ honest trees has read.
-    let old = c.args.self.now.nodes.items in
-    let mid = c.walk.new.nodes.items in
-    let new = c.folder_below.new.nodes.items in
-    let both = marks_then false (slots_of old) (slots_of mid) (slots_of new) (marks_of old) (marks_of mid) (marks_of new) (length old) (length mid) (length new)
-    c.in_ok-at.ensures.opened.longer c.in_ok-found.ensures.opened.longer c.in_ok-at.ensures.marks c.in_ok-found.ensures.marks in
-    let mk = c.make_folders.new.nodes.items in
-    let fin = c.mark_changed.new.nodes in
-    let n : c.make_folders.new.nodes.len ≡ length fin = omega (arith, c.mark_changed.auto.nodes, c.as_mut_slice.ensures.len) in
-    let whole = back c.make_folders.new.nodes.len fin _ n in
-    let same_slots : slots_of fin ≡ slots_of mk = as_function (slots_of fin) (slots_of mk) (λ i m. c.mark_changed.ensures.slots i m ∙ ap (λ (ns : List Node). slots_of ns i m) c.as_mut_slice.ensures.value) in
-    let up = subst (λ (ns : List Node). AreMarkedUp (slots_of ns) (marks_of ns) (marks_of fin) c.in_ok-at.at.0 (length ns)) c.as_mut_slice.ensures.value c.mark_changed.ensures.marked in
-    subst (λ (ns : List Node). AreAsRead trees (slots_of ns) (marks_of ns)) (sym whole)
-    (graft_as_read (slots_of old) (slots_of new) (slots_of mk) (slots_of fin) (marks_of old) (marks_of new) (marks_of mk) (marks_of fin) (length old) (length new) (length mk)
-    c.in_ok-found.ensures.opened.forest c.make_folders.ensures.forest both c.make_folders.ensures.marks c.in_ok-at.at.0 _ c.make_folders.ensures.others same_slots up trees
-    (c.in_ok-found.ensures.as_read honest trees has (c.in_ok-at.ensures.as_read honest trees has read)))
-
-pub returns-in_ok-made-in-None-clause-changed : goal.returns-in_ok-made-in-None-clause-changed
-returns-in_ok-made-in-None-clause-changed g c = λ tree.
-    let path = c.args.path.now in
-    let i = c.in_ok-at.depth in
-    let at = c.in_ok-at.at.0 in
-    let old = c.args.self.now.nodes.items in
-    let mid = c.walk.new.nodes.items in
-    let new = c.folder_below.new.nodes.items in
-    let left = names (take (length path - i) (drop i path)) in
-    let leads : LeadsTo (slots_of new) (names path) at left =
-    subst (LeadsTo (slots_of new) (names path) at) (sym (ap names (rest_is path i)))
-    (leads_kept (slots_of mid) (slots_of new) (names path) at (names (drop i path)) c.in_ok-found.ensures.opened.links (c.in_ok-at.ensures.leads [] refl)) in
-    let both = marks_then false (slots_of old) (slots_of mid) (slots_of new) (marks_of old) (marks_of mid) (marks_of new) (length old) (length mid) (length new)
-    c.in_ok-at.ensures.opened.longer c.in_ok-found.ensures.opened.longer c.in_ok-at.ensures.marks c.in_ok-found.ensures.marks in
-    let mk = c.make_folders.new.nodes.items in
-    let fin = c.mark_changed.new.nodes in
-    let n : c.make_folders.new.nodes.len ≡ length fin = omega (arith, c.mark_changed.auto.nodes, c.as_mut_slice.ensures.len) in
-    let whole = back c.make_folders.new.nodes.len fin _ n in
-    let same_slots : slots_of fin ≡ slots_of mk = as_function (slots_of fin) (slots_of mk) (λ i m. c.mark_changed.ensures.slots i m ∙ ap (λ (ns : List Node). slots_of ns i m) c.as_mut_slice.ensures.value) in
-    let up = subst (λ (ns : List Node). AreMarkedUp (slots_of ns) (marks_of ns) (marks_of fin) c.in_ok-at.at.0 (length ns)) c.as_mut_slice.ensures.value c.mark_changed.ensures.marked in
-    let same : (k : ℕ) (m : List ℕ) → k < at → slots_of mk k m ≡ slots_of new k m = λ k m lt.
-    let less : k < length new = omega (arith, lt, c.in_ok-at.ensures.within.0, c.in_ok-found.ensures.opened.longer) in c.make_folders.ensures.others k m less (λ e _. absurd (omega (arith, lt, e))) in
-    let down : Way (slots_of mk) leads.0 at = way_above (slots_of new) (slots_of mk) (length new) at c.in_ok-found.ensures.opened.forest same leads.0 at (omega arith) leads.1 in
-    let made = subst (λ p. AreOnPath (slots_of mk) (p ++ [] ∷ []) (length new) (length mk)) leads.2 (c.in_ok-made-in-None.ensures.made leads.0 leads.1) in
-    subst (λ (ns : List Node). ((j : ℕ) × LeadsTo (slots_of ns) tree j [] × ((marks_of ns j).changed ≡ true)) → IsChanged c.args.self.now tree ⊎ Begins tree (names_of path)) (sym whole)
-    (λ is. elim (graft_changed (slots_of old) (slots_of new) (slots_of mk) (slots_of fin) (marks_of old) (marks_of new) (marks_of mk) (marks_of fin) (length old) (length new) (length mk)
-    c.in_ok-found.ensures.opened.forest c.make_folders.ensures.forest both c.make_folders.ensures.marks at _ c.make_folders.ensures.others same_slots up
-    (names path ++ [] ∷ []) made leads.0 (left ++ [] ∷ []) down (one_more_left left []) (onto-append leads.0 left ([] ∷ []) ∙ ap (λ p. p ++ [] ∷ []) leads.2) tree is.0 is.1 is.2) [
-      | inl was ↦ inl was
-      | inr above ↦ inr (begins (names path) [] tree above.0 above.1 above.2)
-    ])
+pub mark_where-requires-clause-forest : goal.mark_where-requires-clause-forest
+mark_where-requires-clause-forest g c = subst (λ (ns : List Node). IsForest (slots_of ns) (length ns)) (sym c.as_mut_slice.ensures.value) c.make_folders.ensures.forest
 
 pub returns-in_err-at-clause-changed : goal.returns-in_err-at-clause-changed
 returns-in_err-at-clause-changed g c = λ tree is. inl (opened_changed (slots_of c.args.self.now.nodes.items) (slots_of c.walk.new.nodes.items) (marks_of c.args.self.now.nodes.items) (marks_of c.walk.new.nodes.items)
@@ -376,10 +300,10 @@ returns-in_ok-made-in-None-clause-each g c = λ honest has down fit each.
     let path = c.args.path.now in
     let i = c.in_ok-at.depth in
     let mk = c.make_folders.new.nodes.items in
-    let fin = c.mark_changed.new.nodes in
-    let n : c.make_folders.new.nodes.len ≡ length fin = omega (arith, c.mark_changed.auto.nodes, c.as_mut_slice.ensures.len) in
+    let fin = c.mark_where.new.nodes in
+    let n : c.make_folders.new.nodes.len ≡ length fin = omega (arith, c.mark_where.auto.nodes, c.as_mut_slice.ensures.len) in
     let whole = back c.make_folders.new.nodes.len fin _ n in
-    let same_slots : slots_of fin ≡ slots_of mk = as_function (slots_of fin) (slots_of mk) (λ i m. c.mark_changed.ensures.slots i m ∙ ap (λ (ns : List Node). slots_of ns i m) c.as_mut_slice.ensures.value) in
+    let same_slots : slots_of fin ≡ slots_of mk = as_function (slots_of fin) (slots_of mk) (λ i m. c.mark_where.ensures.slots i m ∙ ap (λ (ns : List Node). slots_of ns i m) c.as_mut_slice.ensures.value) in
     let left : MayStandMade has c.args.hash (names (take (length path - i) (drop i path))) = subst (λ (xs : List (Bor (List ℕ))). MayStandMade has c.args.hash (names xs)) (sym (rest_is path i)) (made_drop has path i c.args.hash fit) in
     subst (λ (ns : List Node). EachHas has (slots_of ns)) (sym whole) (subst (EachHas has) (sym same_slots)
     (c.in_ok-made-in-None.ensures.each has left (c.in_ok-found.ensures.each honest has down (c.in_ok-at.ensures.each honest has down each))))
@@ -393,3 +317,136 @@ returns-in_err-at-clause-each g c = λ honest has down fit each. c.in_err-at.ens
 
 pub returns-in_err-found-clause-each : goal.returns-in_err-found-clause-each
 returns-in_err-found-clause-each g c = λ honest has down fit each. c.in_err-found.ensures.each honest has down (c.in_ok-at.ensures.each honest has down each)
+
+-- ---- the marks of folders that are made
+
+pub mark_where-requires-clause-marked : goal.mark_where-requires-clause-marked
+mark_where-requires-clause-marked g c = λ stood.
+    let old = c.args.self.now.nodes.items in
+    let mid = c.walk.new.nodes.items in
+    let new = c.folder_below.new.nodes.items in
+    let mk = c.make_folders.new.nodes.items in
+    let both = marks_then false (slots_of old) (slots_of mid) (slots_of new) (marks_of old) (marks_of mid) (marks_of new) (length old) (length mid) (length new)
+    c.in_ok-at.ensures.opened.longer c.in_ok-found.ensures.opened.longer c.in_ok-at.ensures.marks c.in_ok-found.ensures.marks in
+    let marked = opened_marked (slots_of old) (slots_of new) (marks_of old) (marks_of new) (length old) (length new) c.args.self.now.forest c.args.self.now.marked false both c.in_ok-found.ensures.opened.forest both.fresh in
+    let made = subst (λ b. AreMarksKept b (slots_of new) (slots_of mk) (marks_of new) (marks_of mk) (length new) (length mk)) stood c.make_folders.ensures.marks in
+    subst (λ (ns : List Node). AreMarkedBut c.in_ok-at.at.0 (slots_of ns) (marks_of ns) (length ns)) (sym c.as_mut_slice.ensures.value)
+    (grafted_marked (slots_of new) (slots_of mk) (marks_of new) (marks_of mk) (length new) (length mk) c.in_ok-found.ensures.opened.forest marked true made c.in_ok-at.at.0 _ c.make_folders.ensures.forest
+    made.fresh c.make_folders.ensures.others)
+
+pub invariant_of-self-in-None : goal.invariant_of-self-in-None
+invariant_of-self-in-None g c =
+    let old = c.args.self.now.nodes.items in
+    let mid = c.walk.new.nodes.items in
+    let new = c.folder_below.new.nodes.items in
+    let both = marks_then false (slots_of old) (slots_of mid) (slots_of new) (marks_of old) (marks_of mid) (marks_of new) (length old) (length mid) (length new)
+    c.in_ok-at.ensures.opened.longer c.in_ok-found.ensures.opened.longer c.in_ok-at.ensures.marks c.in_ok-found.ensures.marks in
+    let mk = c.make_folders.new.nodes.items in
+    let fin = c.mark_where.new.nodes in
+    let before = c.as_mut_slice.ensures.value in
+    let n : c.make_folders.new.nodes.len ≡ length fin = omega (arith, c.mark_where.auto.nodes, c.as_mut_slice.ensures.len) in
+    let whole = back c.make_folders.new.nodes.len fin _ n in
+    let same_slots : slots_of fin ≡ slots_of mk = as_function (slots_of fin) (slots_of mk) (λ i m. c.mark_where.ensures.slots i m ∙ ap (λ (ns : List Node). slots_of ns i m) before) in
+    let len : length mk ≡ length fin = omega (arith, c.mark_where.auto.nodes, ap length before) in
+    let marked : AreMarked (slots_of mk) (marks_of fin) (length mk) = elim (by_test c.is_some-stands.result) [
+      | inl stood ↦ (subst (λ (ns : List Node). AreMarkedUp (slots_of ns) (marks_of ns) (marks_of fin) c.in_ok-at.at.0 (length ns)) before (c.mark_where.ensures.marked stood)).marked
+      | inr free ↦
+          let made = subst (λ b. AreMarksKept b (slots_of new) (slots_of mk) (marks_of new) (marks_of mk) (length new) (length mk)) free c.make_folders.ensures.marks in
+          let all = marks_then false (slots_of old) (slots_of new) (slots_of mk) (marks_of old) (marks_of new) (marks_of mk) (length old) (length new) (length mk)
+          (both_longer (length old) (length mid) (length new) c.in_ok-at.ensures.opened.longer c.in_ok-found.ensures.opened.longer) c.make_folders.ensures.longer both made in
+          let same : marks_of fin ≡ marks_of mk = same_marks (marks_of fin) (marks_of mk) (λ i. c.mark_where.ensures.same free i ∙ ap (λ (ns : List Node). marks_of ns i) before) in
+          subst (λ f. AreMarked (slots_of mk) f (length mk)) (sym same)
+          (opened_marked (slots_of old) (slots_of mk) (marks_of old) (marks_of mk) (length old) (length mk) c.args.self.now.forest c.args.self.now.marked false all c.make_folders.ensures.forest all.fresh)
+    ] in
+    record {
+      forest = subst (λ (ns : List Node). IsForest (slots_of ns) (length ns)) (sym whole) (subst (λ f. IsForest f (length fin)) (sym same_slots) (subst (IsForest (slots_of mk)) len c.make_folders.ensures.forest));
+      marked = subst (λ (ns : List Node). AreMarked (slots_of ns) (marks_of ns) (length ns)) (sym whole) (subst (λ f. AreMarked f (marks_of fin) (length fin)) (sym same_slots) (subst (AreMarked (slots_of mk) (marks_of fin)) len marked));
+    }
+
+pub returns-in_ok-made-in-None-clause-as_read : goal.returns-in_ok-made-in-None-clause-as_read
+returns-in_ok-made-in-None-clause-as_read g c = λ honest trees has read.
+    let path = c.args.path.now in
+    let i = c.in_ok-at.depth in
+    let at = c.in_ok-at.at.0 in
+    let old = c.args.self.now.nodes.items in
+    let mid = c.walk.new.nodes.items in
+    let new = c.folder_below.new.nodes.items in
+    let left = names (take (length path - i) (drop i path)) in
+    let leads : LeadsTo (slots_of new) (names path) at left =
+    subst (LeadsTo (slots_of new) (names path) at) (sym (ap names (rest_is path i)))
+    (leads_kept (slots_of mid) (slots_of new) (names path) at (names (drop i path)) c.in_ok-found.ensures.opened.links (c.in_ok-at.ensures.leads [] refl)) in
+    let both = marks_then false (slots_of old) (slots_of mid) (slots_of new) (marks_of old) (marks_of mid) (marks_of new) (length old) (length mid) (length new)
+    c.in_ok-at.ensures.opened.longer c.in_ok-found.ensures.opened.longer c.in_ok-at.ensures.marks c.in_ok-found.ensures.marks in
+    let mk = c.make_folders.new.nodes.items in
+    let fin = c.mark_where.new.nodes in
+    let before = c.as_mut_slice.ensures.value in
+    let n : c.make_folders.new.nodes.len ≡ length fin = omega (arith, c.mark_where.auto.nodes, c.as_mut_slice.ensures.len) in
+    let whole = back c.make_folders.new.nodes.len fin _ n in
+    let same_slots : slots_of fin ≡ slots_of mk = as_function (slots_of fin) (slots_of mk) (λ i m. c.mark_where.ensures.slots i m ∙ ap (λ (ns : List Node). slots_of ns i m) before) in
+    let start = c.in_ok-found.ensures.as_read honest trees has (c.in_ok-at.ensures.as_read honest trees has read) in
+    subst (λ (ns : List Node). AreAsRead trees (slots_of ns) (marks_of ns)) (sym whole) (elim (by_test c.is_some-stands.result) [
+      | inl stood ↦
+          let made = subst (λ b. AreMarksKept b (slots_of new) (slots_of mk) (marks_of new) (marks_of mk) (length new) (length mk)) stood c.make_folders.ensures.marks in
+          let up = subst (λ (ns : List Node). AreMarkedUp (slots_of ns) (marks_of ns) (marks_of fin) at (length ns)) before (c.mark_where.ensures.marked stood) in
+          graft_as_read (slots_of old) (slots_of new) (slots_of mk) (slots_of fin) (marks_of old) (marks_of new) (marks_of mk) (marks_of fin) (length old) (length new) (length mk)
+          c.in_ok-found.ensures.opened.forest c.make_folders.ensures.forest both made at _ c.make_folders.ensures.others same_slots up trees start
+      | inr free ↦
+          let first = get_or left 0 [] in
+          let same : (k : ℕ) (m : List ℕ) → k < at → slots_of mk k m ≡ slots_of new k m = λ k m lt.
+          let less : k < length new = omega (arith, lt, c.in_ok-at.ensures.within.0, c.in_ok-found.ensures.opened.longer) in c.make_folders.ensures.others k m less (λ e _. absurd (omega (arith, lt, e))) in
+          let down : Way (slots_of mk) leads.0 at = way_above (slots_of new) (slots_of mk) (length new) at c.in_ok-found.ensures.opened.forest same leads.0 at (omega arith) leads.1 in
+          let nothing : slots_of new at first ≡ None =
+          ap (λ (ns : List Node). slots_of ns at first) (sym c.as_slice.ensures.value)
+          ∙ ap (slots_of c.as_slice.result.now at) (ap (λ p. get_or (names p) 0 []) (rest_is path i) ∙ first_left path i c.in_ok-at.ensures.within.1)
+          ∙ ap (slots_of c.as_slice.result.now at) (get_or-map (λ (x : Bor (List ℕ)). x.now) path i _ [] c.in_ok-at.ensures.within.1)
+          ∙ sym c.slot_at.ensures ∙ none_of c.slot_at.result (sym c.is_some-stands.ensures ∙ free) in
+          let hollow = made_hollow trees (slots_of new) (slots_of mk) at first leads.0 (onto leads.0 left) leads.1 down nothing (c.in_ok-made-in-None.ensures.cleared trees leads.0 leads.1) in
+          let ways = c.in_ok-made-in-None.ensures.made leads.0 leads.1 in
+          subst (λ f. AreAsRead trees f (marks_of fin)) (sym same_slots)
+          (made_as_read trees (slots_of new) (slots_of mk) (length new) (length mk) c.in_ok-found.ensures.opened.forest c.make_folders.ensures.forest at first c.make_folders.ensures.others hollow nothing
+          (marks_of new) (marks_of fin) (λ k lt. c.mark_where.ensures.same free k ∙ ap (λ (ns : List Node). marks_of ns k) before ∙ c.make_folders.ensures.marks.same k lt)
+          (λ k ge lt. let so = ways k ge lt in (so.4.0, so.4.1)) c.in_ok-made-in-None.ensures.null c.make_folders.ensures.marks.links start)
+    ])
+
+pub returns-in_ok-made-in-None-clause-changed : goal.returns-in_ok-made-in-None-clause-changed
+returns-in_ok-made-in-None-clause-changed g c = λ tree.
+    let path = c.args.path.now in
+    let i = c.in_ok-at.depth in
+    let at = c.in_ok-at.at.0 in
+    let old = c.args.self.now.nodes.items in
+    let mid = c.walk.new.nodes.items in
+    let new = c.folder_below.new.nodes.items in
+    let left = names (take (length path - i) (drop i path)) in
+    let leads : LeadsTo (slots_of new) (names path) at left =
+    subst (LeadsTo (slots_of new) (names path) at) (sym (ap names (rest_is path i)))
+    (leads_kept (slots_of mid) (slots_of new) (names path) at (names (drop i path)) c.in_ok-found.ensures.opened.links (c.in_ok-at.ensures.leads [] refl)) in
+    let both = marks_then false (slots_of old) (slots_of mid) (slots_of new) (marks_of old) (marks_of mid) (marks_of new) (length old) (length mid) (length new)
+    c.in_ok-at.ensures.opened.longer c.in_ok-found.ensures.opened.longer c.in_ok-at.ensures.marks c.in_ok-found.ensures.marks in
+    let mk = c.make_folders.new.nodes.items in
+    let fin = c.mark_where.new.nodes in
+    let before = c.as_mut_slice.ensures.value in
+    let n : c.make_folders.new.nodes.len ≡ length fin = omega (arith, c.mark_where.auto.nodes, c.as_mut_slice.ensures.len) in
+    let whole = back c.make_folders.new.nodes.len fin _ n in
+    let same_slots : slots_of fin ≡ slots_of mk = as_function (slots_of fin) (slots_of mk) (λ i m. c.mark_where.ensures.slots i m ∙ ap (λ (ns : List Node). slots_of ns i m) before) in
+    let same : (k : ℕ) (m : List ℕ) → k < at → slots_of mk k m ≡ slots_of new k m = λ k m lt.
+    let less : k < length new = omega (arith, lt, c.in_ok-at.ensures.within.0, c.in_ok-found.ensures.opened.longer) in c.make_folders.ensures.others k m less (λ e _. absurd (omega (arith, lt, e))) in
+    let down : Way (slots_of mk) leads.0 at = way_above (slots_of new) (slots_of mk) (length new) at c.in_ok-found.ensures.opened.forest same leads.0 at (omega arith) leads.1 in
+    let on_path = subst (λ p. AreOnPath (slots_of mk) (p ++ [] ∷ []) (length new) (length mk)) leads.2 (c.in_ok-made-in-None.ensures.made leads.0 leads.1) in
+    subst (λ (ns : List Node). ((j : ℕ) × LeadsTo (slots_of ns) tree j [] × ((marks_of ns j).changed ≡ true)) → IsChanged c.args.self.now tree ⊎ Begins tree (names_of path)) (sym whole)
+    (λ is. elim (by_test c.is_some-stands.result) [
+      | inr free ↦
+          let made = subst (λ b. AreMarksKept b (slots_of new) (slots_of mk) (marks_of new) (marks_of mk) (length new) (length mk)) free c.make_folders.ensures.marks in
+          let all = marks_then false (slots_of old) (slots_of new) (slots_of mk) (marks_of old) (marks_of new) (marks_of mk) (length old) (length new) (length mk)
+          (both_longer (length old) (length mid) (length new) c.in_ok-at.ensures.opened.longer c.in_ok-found.ensures.opened.longer) c.make_folders.ensures.longer both made in
+          inl (opened_changed (slots_of old) (slots_of mk) (marks_of old) (marks_of mk) (length old) (length mk) c.make_folders.ensures.forest all tree is.0 (subst (λ f. LeadsTo f tree is.0 []) same_slots is.1)
+          (ap (λ (x : Mark). x.changed) (sym (c.mark_where.ensures.same free is.0 ∙ ap (λ (ns : List Node). marks_of ns is.0) before)) ∙ is.2))
+      | inl stood ↦
+          let made = subst (λ b. AreMarksKept b (slots_of new) (slots_of mk) (marks_of new) (marks_of mk) (length new) (length mk)) stood c.make_folders.ensures.marks in
+          let up = subst (λ (ns : List Node). AreMarkedUp (slots_of ns) (marks_of ns) (marks_of fin) at (length ns)) before (c.mark_where.ensures.marked stood) in
+          elim (graft_changed (slots_of old) (slots_of new) (slots_of mk) (slots_of fin) (marks_of old) (marks_of new) (marks_of mk) (marks_of fin) (length old) (length new) (length mk)
+          c.in_ok-found.ensures.opened.forest c.make_folders.ensures.forest both made at _ c.make_folders.ensures.others same_slots up
+          (names path ++ [] ∷ []) on_path leads.0 (left ++ [] ∷ []) down (one_more_left left []) (onto-append leads.0 left ([] ∷ []) ∙ ap (λ p. p ++ [] ∷ []) leads.2) tree is.0 is.1 is.2) [
+            | inl was ↦ inl was
+            | inr above ↦ inr (begins (names path) [] tree above.0 above.1 above.2)
+          ]
+    ])
