@@ -1,8 +1,9 @@
 //! A stream of commands and what it is answered with.
 
-ghost use Rattle.std.specs.Prelude.{IfOk};
+ghost use Rattle.std.specs.Prelude.{◌≡◌, IfOk};
 ghost use Rattle.history_model.specs.Bytes.{Bytes as Text};
 ghost use Rattle.history_in_memory.specs.Answered.{Answers, AreOrTellFault, IsMeant};
+ghost use Rattle.history_in_memory.specs.declared.answer.AnswerError.TheVariants as why;
 
 use crate::opened::{NewError, new_repository};
 use gix_hash::Kind;
@@ -29,12 +30,16 @@ pub enum AnswerError {
 }
 
 impl From<NewError> for AnswerError {
+    ghost from_gives = { λ error given. given ≡ why.New error };
+
     fn from(error: NewError) -> AnswerError {
         AnswerError::New(error)
     }
 }
 
 impl From<RunError> for AnswerError {
+    ghost from_gives = { λ error given. given ≡ why.Run error };
+
     fn from(error: RunError) -> AnswerError {
         AnswerError::Run(error)
     }

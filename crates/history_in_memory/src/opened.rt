@@ -5,6 +5,8 @@ ghost use Rattle.history_model.specs.Offered.{IsOfStage};
 ghost use Rattle.history_model.specs.Repository.{fresh};
 ghost use Rattle.history.specs.Face.{has_failed};
 ghost use Rattle.history.specs.Stands.{Stands, pair_of};
+ghost use Rattle.history.specs.declared.open.OpenRefusal.{OpenRefusal};
+ghost use Rattle.history_in_memory.specs.declared.opened.NewError.TheVariants as why;
 
 use gix_hash::Kind;
 use gix_ref_file::{Files, MemoryFiles};
@@ -24,12 +26,16 @@ pub enum NewError {
 }
 
 impl From<CreateError> for NewError {
+    ghost from_gives = { λ error given. given ≡ why.Create error };
+
     fn from(error: CreateError) -> NewError {
         NewError::Create(error)
     }
 }
 
 impl From<OpenRefusal<MemoryFiles>> for NewError {
+    ghost from_gives = { λ refusal given. given ≡ why.Open refusal.error };
+
     fn from(refusal: OpenRefusal<MemoryFiles>) -> NewError {
         NewError::Open(refusal.error)
     }
