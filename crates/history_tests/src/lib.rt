@@ -18,6 +18,8 @@ mod opening;
 #[cfg(test)]
 mod parts;
 #[cfg(test)]
+mod readings;
+#[cfg(test)]
 mod refusals;
 #[cfg(test)]
 mod rows;
