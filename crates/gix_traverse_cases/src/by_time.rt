@@ -98,6 +98,7 @@ fn built<'s, P: Accept + Drop>(
     match call {
         "all" => Some(Called::Walk(simple.parents(Parents::All))),
         "first" => Some(Called::Walk(simple.parents(Parents::First))),
+        "usual-parents" => Some(Called::Walk(simple.parents(Parents::default()))),
         "rows" => {
             let graph = walk.graph?.try_clone().ok()?;
             Some(Called::Walk(simple.commit_graph(Some(graph))))
@@ -184,7 +185,8 @@ fn put_data<P: Accept + Drop>(walk: &mut Simple<&Store, P>, page: &mut Page) {
     }
 }
 
-fn put_error(page: &mut Page, error: Error) {
+/// Why a walk ends.
+pub fn put_error(page: &mut Page, error: Error) {
     match error {
         Error::Find(error) => put_find_error(page, error),
         Error::ObjectDecode(_) => page.word("decode"),

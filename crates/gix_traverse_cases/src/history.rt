@@ -1,6 +1,6 @@
 //! The objects and rows that the lines give, and what is asked of them.
 
-use crate::by_time::{Walk, walked};
+use crate::by_time::{Walk, put_error, walked};
 use crate::page::Page;
 use crate::sets::put_one_set;
 use crate::store::{Store, Stored};
@@ -8,6 +8,7 @@ use crate::topo_walk::topo_walked;
 use crate::words::{id, ids, number, put_find_error, words};
 use gix_hash::ObjectId;
 use gix_object_lines::Kind;
+use gix_traverse::commit::simple::{Error, HiddenGraphError};
 use gix_traverse::commit::{Either, Graph, ParentIds, Row, find};
 use std::alloc::{AllocError, Global};
 use std::mem;
@@ -71,6 +72,7 @@ impl History {
             "row" => self.add_row(word, page),
             "graph" => self.make_graph(page),
             "find" => self.put_found(word, page),
+            "hidden" => self.put_hidden(word, page),
             _ => self.put_walk(word, page),
         }
     }
@@ -169,6 +171,25 @@ impl History {
             Err(error) => put_find_error(page, error),
         }
         Some(())
+    }
+
+    // The error of a walk that hides a commit which isn't read, or whose time isn't.
+    fn put_hidden(&self, word: &[&str], page: &mut Page) -> Option<()> {
+        let id = id(word.get(1)?.parse::<u8>().ok()?);
+        let mut buffer = Vec::new(self.alloc);
+        match find(self.graph.as_ref(), &self.store, &id, &mut buffer) {
+            Ok(found) => put_fault_of_time(page, found),
+            Err(error) => put_error(page, Error::from(HiddenGraphError::from(error))),
+        }
+        Some(())
+    }
+}
+
+// The same of a commit that is read.
+fn put_fault_of_time(page: &mut Page, found: Either<'_, '_>) {
+    match found.commit_time() {
+        Ok(_) => page.word("read"),
+        Err(error) => put_error(page, Error::from(HiddenGraphError::from(error))),
     }
 }
 

@@ -45,6 +45,8 @@ pub fn sorting(word: &str) -> Option<Sorting> {
         "breadth" => return Some(Sorting::BreadthFirst),
         "newest" => return Some(Sorting::ByCommitTime(CommitTimeOrder::NewestFirst)),
         "oldest" => return Some(Sorting::ByCommitTime(CommitTimeOrder::OldestFirst)),
+        "usual" => return Some(Sorting::default()),
+        "by-time" => return Some(Sorting::ByCommitTime(CommitTimeOrder::default())),
         _ => {}
     }
     let (name, seconds) = word.split_once('=')?;
@@ -62,6 +64,7 @@ pub fn topo_sorting(word: &str) -> Option<topo::Sorting> {
     match word {
         "date" => Some(topo::Sorting::DateOrder),
         "topo" => Some(topo::Sorting::TopoOrder),
+        "usual" => Some(topo::Sorting::default()),
         _ => None,
     }
 }
