@@ -147,8 +147,10 @@ module _ (objects names : History) (MayFail : Type 0) (StandsNow RecoversNow : R
         (a.acted).step,
         a.fails ∙ only_fails (goes_on order a.reply),
         λ is. failed_so ((a.acted).failure is),
-        subst (λ xs. IsTrue (begins front xs)) (sym e ∙ told_text answer a.reply a.tells) (begins_front front back),
-        subst (λ xs. length front < length xs) (told_text answer a.reply a.tells) short,
+        (
+          subst (λ xs. IsTrue (begins front xs)) (sym e ∙ told_text answer a.reply a.tells) (begins_front front back),
+          subst (λ xs. length front < length xs) (told_text answer a.reply a.tells) short,
+        ),
       );
     };
     traced = traced;
