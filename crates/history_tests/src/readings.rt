@@ -46,7 +46,7 @@ fn check<R: Abort>(rt: &R, alloc: Global, kind: Kind, commit: &[u8]) -> Result<(
     for (command, wanted) in READINGS {
         let input = joined(alloc, &[commit, SIGNED, command])?;
         let found = calls(rt, alloc, kind, &input).checked_sub(committed);
-        assert!(rt; found == Some(wanted), "at {command:?}");
+        assert!(rt; found == Some(wanted));
     }
     Ok(())
 }
