@@ -1,5 +1,5 @@
 -- What a buffer of `packed-refs` holds, and what an iterator over it has yet to give.
-use Rattle.std.specs.Prelude.{List}
+use Rattle.std.specs.Prelude.{ℕ, List}
 use Rattle.gix_ref_format.specs.Packed.{Record}
 use Rattle.gix_ref_format.specs.PackedBuffer.{entry_records}
 use Rattle.gix_ref_format.specs.declared.packed.buffer.Buffer.{Buffer}
@@ -8,6 +8,10 @@ use Rattle.gix_ref_format.specs.declared.packed.records.Records.{Records}
 -- the records, ascending by name
 abbrev pub kept : Buffer → List Record
 kept buffer = entry_records buffer.entries.items
+
+-- the bytes of the file
+abbrev pub text_of : Buffer → List ℕ
+text_of buffer = buffer.bytes.items
 
 abbrev pub records_left : Records → List Record
 records_left records = entry_records records.rest.now

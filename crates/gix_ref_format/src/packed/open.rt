@@ -5,7 +5,7 @@ ghost use Rattle.gix_ref_file.specs.Tree.{node_at, bytes_of};
 ghost use Rattle.gix_ref_format.specs.Packed.{Good, item_view, packed_records, all_good};
 ghost use Rattle.gix_ref_format.specs.PackedBuffer.{entry_record, entry_records, IsInOrder, Holds, Keeps, KeepsFile, OpenFault, FileFault, GatherFault, ItemFault};
 ghost use Rattle.gix_ref_format.specs.PackedIter.{items_left};
-ghost use Rattle.gix_ref_format.specs.PackedKept.{kept};
+ghost use Rattle.gix_ref_format.specs.PackedKept.{kept, text_of};
 ghost use Rattle.gix_ref_format.specs.declared.packed.buffer.Error.TheVariants.{Io};
 
 use crate::packed::Reference;
@@ -37,6 +37,8 @@ impl Buffer {
         ensures kept { F.is_honest files.now → MatchResult result
             (λ found. KeepsFile kind (bytes_of (node_at (F.history files.now).tree path.now)) (option_map kept found))
             (FileFault kind (bytes_of (node_at (F.history files.now).tree path.now))) }
+        ensures bytes { F.is_honest files.now → IfOk result
+            (λ found. option_map text_of found ≡ bytes_of (node_at (F.history files.now).tree path.now)) }
         ensures failed { IsErrOf result Io → F.reading_may_fail }
     {
         let mut bytes = Vec::new(alloc);

@@ -1,6 +1,6 @@
 //! Full names that own their bytes.
 
-ghost use Rattle.std.specs.Prelude.{◌≡◌, ◌++◌, ◌&&◌, not, ℕ, List, IsTrue, IsFalse, IfOk, OnErr, MatchResult, MatchOption, length, drop, if◌then◌else◌};
+ghost use Rattle.std.specs.Prelude.{◌≡◌, ◌++◌, ◌&&◌, not, ℕ, List, IsTrue, IsFalse, IfOk, OnErr, MatchResult, MatchOption, length, drop, Some, if◌then◌else◌};
 ghost use Rattle.bstr.specs.BStr.{bstr_bytes};
 ghost use Rattle.gix_object_lines.specs.NameTest.{is_full_name};
 
@@ -163,6 +163,10 @@ impl FullName {
 }
 
 impl fmt::Display for FullName {
+    ghost use Rattle.gix_ref_name.specs.Names.{printed};
+
+    ghost output = { λ name. Some (printed name) };
+
     fn fmt<W: fmt::Write>(&self, f: &mut fmt::Formatter<W>) -> fmt::Result {
         fmt::Display::fmt(&self.bytes.as_bstr(), f)
     }

@@ -1,9 +1,9 @@
 //! The calls of views of full names.
 
-ghost use Rattle.std.specs.Prelude.{◌≡◌, ℕ, List, IsTrue, IsFalse, IfOk, MatchResult, MatchOption, unwrap_or, codes};
+ghost use Rattle.std.specs.Prelude.{◌≡◌, ℕ, List, IsTrue, IsFalse, IfOk, MatchResult, MatchOption, unwrap_or, codes, Some};
 ghost use Rattle.bstr.specs.BStr.{bstr_bytes};
 ghost use Rattle.gix_object_lines.specs.NameTest.{is_full_name};
-ghost use Rattle.gix_ref_name.specs.Names.{name_of, part_of};
+ghost use Rattle.gix_ref_name.specs.Names.{name_of, part_of, printed};
 ghost use Rattle.gix_ref_name.specs.Fronts.{IsLastPart};
 ghost use Rattle.gix_ref_name.specs.Categories.{Tells, HasNoCategory, IsShortName};
 
@@ -122,6 +122,8 @@ impl<'a> TryFrom<&'a str> for FullNameRef<'a> {
 }
 
 impl fmt::Display for FullNameRef<'_> {
+    ghost output = { λ name. Some (printed (name_of name)) };
+
     fn fmt<W: fmt::Write>(&self, f: &mut fmt::Formatter<W>) -> fmt::Result {
         fmt::Display::fmt(&self.bytes, f)
     }

@@ -1,6 +1,6 @@
 //! Partial names that own their bytes, and the calls of their views.
 
-ghost use Rattle.std.specs.Prelude.{◌≡◌, ◌++◌, ◌∷◌, ℕ, List, IsTrue, IsFalse, IfOk, OnErr, MatchResult, refl};
+ghost use Rattle.std.specs.Prelude.{◌≡◌, ◌++◌, ◌∷◌, ℕ, List, IsTrue, IsFalse, IfOk, OnErr, MatchResult, Some, refl};
 ghost use Rattle.bstr.specs.BStr.{bstr_bytes};
 ghost use Rattle.gix_object_lines.specs.NameTest.{is_partial_name};
 
@@ -192,12 +192,20 @@ impl<'a> From<FullNameRef<'a>> for PartialNameRef<'a> {
 }
 
 impl fmt::Display for PartialNameRef<'_> {
+    ghost use Rattle.gix_ref_name.specs.Names.{part_of, printed};
+
+    ghost output = { λ name. Some (printed (part_of name)) };
+
     fn fmt<W: fmt::Write>(&self, f: &mut fmt::Formatter<W>) -> fmt::Result {
         fmt::Display::fmt(&self.bytes, f)
     }
 }
 
 impl fmt::Display for PartialName {
+    ghost use Rattle.gix_ref_name.specs.Names.{printed};
+
+    ghost output = { λ name. Some (printed name) };
+
     fn fmt<W: fmt::Write>(&self, f: &mut fmt::Formatter<W>) -> fmt::Result {
         fmt::Display::fmt(&self.bytes.as_bstr(), f)
     }

@@ -1,8 +1,8 @@
 //! The packed references of a store.
 
-ghost use Rattle.std.specs.Prelude.{IsErrOf, MatchResult};
+ghost use Rattle.std.specs.Prelude.{IfOk, IsErrOf, MatchResult};
 ghost use Rattle.gix_ref_format.specs.declared.packed.buffer.Error.TheVariants.{Io};
-ghost use Rattle.gix_ref_store.specs.Opened.{KeepsPacked, PackedUnread, CanOpenPacked};
+ghost use Rattle.gix_ref_store.specs.Opened.{KeepsPacked, HasPackedText, PackedUnread, CanOpenPacked};
 
 use crate::store::file::Store;
 use gix_ref_file::Files;
@@ -15,6 +15,8 @@ impl<F: Files> Store<F> {
     pub fn open_packed_buffer(&self, alloc: Global) -> Result<Option<Buffer>, buffer::Error>
         ensures kept { F.is_honest self.now.files → let tree = (F.history self.now.files).tree in
             MatchResult result (KeepsPacked self.now tree) (PackedUnread self.now tree) }
+        ensures text { F.is_honest self.now.files →
+            IfOk result (HasPackedText self.now (F.history self.now.files).tree) }
         ensures failed { IsErrOf result Io → F.reading_may_fail }
     {
         let path = self.packed_refs_path(alloc)?;
@@ -25,6 +27,8 @@ impl<F: Files> Store<F> {
     pub fn cached_packed_buffer(&self, alloc: Global) -> Result<Option<Buffer>, buffer::Error>
         ensures kept { F.is_honest self.now.files → let tree = (F.history self.now.files).tree in
             MatchResult result (KeepsPacked self.now tree) (PackedUnread self.now tree) }
+        ensures text { F.is_honest self.now.files →
+            IfOk result (HasPackedText self.now (F.history self.now.files).tree) }
         ensures failed { IsErrOf result Io → F.reading_may_fail }
     {
         self.open_packed_buffer(alloc)
