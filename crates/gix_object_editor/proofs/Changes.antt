@@ -1,15 +1,17 @@
 -- Which trees an edit changes.
-use Rattle.std.proofs.Common.{ℕ, ◌≡◌, ◌≢◌, ◌<◌, ◌⊎◌, Bool, true, false, List, [], ◌∷◌, ◌++◌, None, refl, sym, ap, subst, ◌∙◌, inl, inr, arith, length}
+use Rattle.std.proofs.Common.{ℕ, ◌≡◌, ◌≢◌, ◌<◌, ◌⊎◌, Bool, true, false, List, [], ◌∷◌, ◌++◌, Option, Some, None, refl, sym, ap, subst, ◌∙◌, inl, inr, arith, length}
 use Rattle.std.specs.Borrow.{Bor}
 use Rattle.std.proofs.lemmas.Bool.{cases_lt, cases_eq}
 use Rattle.gix_object_editor.proofs.Walked.{names}
+use Rattle.gix_object_editor.specs.declared.tree.editor.node.Slot.{Slot}
 use Rattle.gix_object_editor.specs.Files.{Bytes, Path, Trees}
 use Rattle.gix_object_editor.specs.Nodes.{Slots, child_of, IsForest, Way, onto, LeadsTo}
-use Rattle.gix_object_editor.specs.Marks.{Mark, Marks, AreMarksKept, AreMarkedUp, IsMarkedFor, IsOnWay, AreOnPath, AreAsRead}
+use Rattle.gix_object_editor.specs.Marks.{Mark, Marks, AreMarked, AreMarksKept, AreMarkedUp, IsMarkedFor, IsIdle, IsOnWay, AreOnPath, AreAsRead}
 use Rattle.gix_object_editor.proofs.Marked.{not_yet, way_before, on_way_above, marks_none, edited_as_read}
 use Rattle.gix_object_editor.proofs.Edits.{less_forest}
-use Rattle.gix_object_editor.proofs.Folders.{taken_marks}
-use Rattle.gix_object_editor.proofs.Ways.{unique, way_above}
+use Rattle.gix_object_editor.proofs.Opening.{at_or_off}
+use Rattle.gix_object_editor.proofs.Folders.{taken_marks, taken_link}
+use Rattle.gix_object_editor.proofs.Ways.{unique, way_above, way_kept}
 
 way_within : (slots : Slots) (bound : ℕ) → IsForest slots bound → (way : Path) (j : ℕ) → Way slots way j → j < bound
 way_within slots bound ok [] j w = subst (λ k. k < bound) w ok.rooted
@@ -78,7 +80,7 @@ pub cut_as_read : (trees : Trees) (mid new : Slots) (now fin : Marks) (b at : �
 cut_as_read trees mid new now fin b at name ok here others marks read =
     let kept = cut_kept mid new now b at name ok here others in
     let forest : IsForest new b = less_forest mid new b b at name ok refl (ap child_of here) others in
-    edited_as_read trees mid new fin b b ok marks.marked marks.still now (λ c lt t. marks.kept c t) (λ c le lt. absurd (omega (arith, le, lt))) forest kept.links read
+    edited_as_read trees mid new now fin b b ok marks.marked marks.still read (λ c lt t. marks.kept c t) (λ c le lt. absurd (omega (arith, le, lt))) forest kept.links
 
 pub cut_changed_on : (old mid : Slots) (was now : Marks) (a b : ℕ) → IsForest mid b → AreMarksKept false old mid was now a b → (new : Slots) (fin : Marks) (at : ℕ) (name : Bytes) → new at name ≡ None
     → ((i : ℕ) (m : Bytes) → ((i ≡ at) → (m ≡ name) → ⊥) → new i m ≡ mid i m) → IsMarkedFor mid new now fin at b b → (path left more : Path) → LeadsTo mid path at left → left ≡ name ∷ more
@@ -95,18 +97,70 @@ pub cut_changed : (old mid : Slots) (was now : Marks) (a b : ℕ) → IsForest m
 cut_changed old mid was now a b ok opened new fin at name here others marks path left leads is =
     cut_changed_on old mid was now a b ok opened new fin at name here others marks path left [] leads is
 
+-- ---- where no tree is changed
+
+abbrev pub Changed : Slots → Marks → Path → Type 0
+Changed slots marks tree = (j : ℕ) × LeadsTo slots tree j [] × ((marks j).changed ≡ true)
+
+abbrev pub SameChanged : Slots → Marks → Slots → Marks → Type 0
+SameChanged old was new now = (tree : Path) → (Changed new now tree → Changed old was tree) × (Changed old was tree → Changed new now tree)
+
+-- trees that were opened
+pub opened_same_changed : (old mid : Slots) (was now : Marks) (a b : ℕ) → IsForest old a → IsForest mid b → AreMarksKept false old mid was now a b → ((i : ℕ) (m : Bytes) (c : ℕ) → child_of (old i m) ≡ Some c → child_of (mid i m) ≡ Some c)
+    → SameChanged old was mid now
+opened_same_changed old mid was now a b ok mid_ok opened links tree = (
+  λ is. opened_changed old mid was now a b mid_ok opened tree is.0 is.1 is.2,
+  λ is. (
+    is.0,
+    (is.1.0, way_kept old mid links is.1.0 is.0 is.1.1, is.1.2),
+    ap (λ (m : Mark). m.changed) (opened.same is.0 (way_within old a ok is.1.0 is.0 is.1.1)) ∙ is.2,
+  ),
+)
+
+-- a slot that is taken out while no mark changes, since no more than a made folder stood there
+module _ (mid new : Slots) (now fin : Marks) (b : ℕ) (marked : AreMarked mid now b) (at : ℕ) (name : Bytes) (here : new at name ≡ None) (others : (i : ℕ) (m : Bytes) → ((i ≡ at) → (m ≡ name) → ⊥) → new i m ≡ mid i m)
+    (same : (i : ℕ) → fin i ≡ now i) (idle : IsIdle now (mid at name)) where
+  -- none that is changed lies in it
+  idle_child : (o : Option Slot) (k : ℕ) → IsIdle now o → child_of o ≡ Some k → (now k).changed ≡ true → ⊥
+  idle_child None k h link t = cc link
+  idle_child (Some s) k h link t =
+      let one : h.0 ≡ k = same_number h.0 k (sym h.1 ∙ link) in
+      not_yet (now k) (ap (λ i. (now i).changed) (sym one) ∙ h.3) t
+    where
+      same_number : (i j : ℕ) → Some i ≡ Some j → i ≡ j
+      same_number i j e = cc e
+
+  changed_way : (way : Path) (k : ℕ) → Way mid way k → (now k).changed ≡ true → Way new way k
+  changed_way [] k w t = w
+  changed_way (n ∷ way) k w t = elim (at_or_off w.0 at n name) [
+    | inl x ↦ absurd (idle_child (mid at name) k idle (ap child_of (ap (mid at) (sym x.1) ∙ ap (λ i. mid i n) (sym x.0)) ∙ w.2) t)
+    | inr off ↦ (w.0, changed_way way w.0 w.1 (marked.closed w.0 n k w.2 t), ap child_of (others w.0 n off) ∙ w.2)
+  ]
+
+  fewer_links : (i : ℕ) (n : Bytes) (c : ℕ) → child_of (new i n) ≡ Some c → child_of (mid i n) ≡ Some c
+  fewer_links i n c e = ap child_of (sym (taken_link mid new name at here others i n c e)) ∙ e
+
+  cut_same_changed : SameChanged mid now new fin
+  cut_same_changed tree = (
+    λ is. (is.0, (is.1.0, way_kept new mid fewer_links is.1.0 is.0 is.1.1, is.1.2), ap (λ (m : Mark). m.changed) (sym (same is.0)) ∙ is.2),
+    λ is. (is.0, (is.1.0, changed_way is.1.0 is.0 is.1.1 is.2, is.1.2), ap (λ (m : Mark). m.changed) (same is.0) ∙ is.2),
+  )
+
+  pub cut_unmarked : (old : Slots) (was : Marks) → SameChanged old was mid now → SameChanged old was new fin
+  cut_unmarked old was opened tree = (λ is. (opened tree).0 ((cut_same_changed tree).0 is), λ is. (cut_same_changed tree).1 ((opened tree).1 is))
+
 -- ---- folders that are made, and the trees that they lie in
 
 module _ (old mid new end : Slots) (was now put fin : Marks) (a b c : ℕ) (mid_ok : IsForest mid b) (new_ok : IsForest new c) (opened : AreMarksKept false old mid was now a b) (made : AreMarksKept true mid new now put b c)
     (at : ℕ) (name : Bytes) (others : (i : ℕ) (m : Bytes) → i < b → ((i ≡ at) → (m ≡ name) → ⊥) → new i m ≡ mid i m) (same : end ≡ new) (up : AreMarkedUp new put fin at c) where
   pub graft_as_read : (trees : Trees) → AreAsRead trees mid now → AreAsRead trees end fin
-  graft_as_read trees read = subst (λ f. AreAsRead trees f fin) (sym same) (edited_as_read trees mid new fin b c mid_ok up.marked still now
-      (λ k lt t. up.kept k (ap (λ (m : Mark). m.changed) (made.same k lt) ∙ t)) (λ k le lt. up.kept k (made.fresh k le lt)) new_ok made.links read)
+  graft_as_read trees read = subst (λ f. AreAsRead trees f fin) (sym same) (edited_as_read trees mid new now fin b c mid_ok up.marked still read
+      (λ k lt t. up.kept k (ap (λ (m : Mark). m.changed) (made.same k lt) ∙ t)) (λ k le lt. up.kept k (made.fresh k le lt)) new_ok made.links)
     where
-      still : (i : ℕ) (m : Bytes) → i < b → (fin i).changed ≡ false → new i m ≡ mid i m
+      still : (i : ℕ) (m : Bytes) → i < b → (fin i).changed ≡ false → (new i m ≡ mid i m) ⊎ ((new i m ≡ None) × IsIdle now (mid i m))
       still i m lt f = elim (cases_eq i at) [
         | inl e ↦ absurd (not_yet (fin i) f (ap (λ k. (fin k).changed) e ∙ up.here))
-        | inr ne ↦ others i m lt (λ e _. ne e)
+        | inr ne ↦ inl (others i m lt (λ e _. ne e))
       ]
 
   -- those that are changed now

@@ -21,3 +21,4 @@ pub mod Asking
 pub mod Leafs
 pub mod Cuts
 pub mod Gotten
+pub mod Standing

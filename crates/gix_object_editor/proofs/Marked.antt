@@ -1,14 +1,15 @@
 -- Marks of opened trees, and what an edit leaves of those that it doesn't change.
-use Rattle.std.proofs.Common.{ℕ, zero, suc, ◌≡◌, ◌≢◌, ◌<◌, ◌≤◌, ◌⊎◌, Bool, true, false, List, [], ◌∷◌, ◌++◌, Some, None, refl, sym, ap, subst, ◌∙◌, inl, inr, arith, length, get_or, slice_set, take}
+use Rattle.std.proofs.Common.{ℕ, zero, suc, ◌≡◌, ◌≢◌, ◌<◌, ◌≤◌, ◌⊎◌, Bool, true, false, List, [], ◌∷◌, ◌++◌, Option, Some, None, refl, sym, ap, subst, ◌∙◌, inl, inr, arith, length, get_or, slice_set, take}
 use Rattle.std.proofs.lemmas.Bool.{cases_eq, cases_lt}
 use Rattle.gix_object_editor.specs.declared.tree.editor.node.Node.{Node}
 use Rattle.gix_object_editor.specs.declared.tree.editor.node.Slot.{Slot}
 use Rattle.gix_object_editor.specs.Files.{Bytes, Path, Trees, through, files_of_entry}
 use Rattle.gix_object_editor.specs.Nodes.{Slots, slot_in, slots_of, child_or, child_of, leaf_in, files_of_slot, files_of_node, IsForest, Way, onto, LeadsTo}
-use Rattle.gix_object_editor.specs.Marks.{Mark, Marks, mark_below, mark_of, marks_of, AreMarkedBut, AreMarked, AreMarksKept, AreMarkedUp, IsMarkedFor, IsOnWay, AreAsRead}
+use Rattle.gix_object_editor.specs.Marks.{Mark, Marks, mark_below, mark_of, marks_of, AreMarkedBut, AreMarked, AreMarksKept, AreMarkedUp, IsMarkedFor, IsIdle, IsOnWay, AreAsRead}
 use Rattle.gix_object_editor.proofs.Paths.{by_test, onto-append}
 use Rattle.gix_object_editor.proofs.Slots.{set_here, set_other, node_at}
 use Rattle.gix_object_editor.proofs.Opening.{at_or_off, same_through}
+use Rattle.gix_object_editor.proofs.Filled.{null_none}
 use Rattle.gix_object_editor.proofs.Ways.{unique}
 
 -- ---- marks of nodes after a change
@@ -279,14 +280,6 @@ module _ (slots : Slots) (bound : ℕ) (ok : IsForest slots bound) (was mid now 
 
 -- ---- a slot that is taken out
 
-pub nothing_marked : (slots : Slots) (marks : Marks) (at bound : ℕ) → AreMarked slots marks bound → IsMarkedFor slots slots marks marks at bound bound
-nothing_marked slots marks at bound marked = record {
-  marked = marked;
-  kept = λ j t. t;
-  still = λ i n lt f. refl;
-  only = λ way w j t. inl t;
-}
-
 pub marked_for : (old mid new : Slots) (was now fin : Marks) (at : ℕ) (name : Bytes) (bound more : ℕ) → more ≡ bound → new ≡ mid → ((i : ℕ) → now i ≡ was i)
     → ((i : ℕ) (m : Bytes) → ((i ≡ at) → (m ≡ name) → ⊥) → mid i m ≡ old i m) → AreMarkedUp mid now fin at more → IsMarkedFor old new was fin at bound bound
 marked_for old mid new was now fin at name bound more len same marks others up = subst (λ f. IsMarkedFor old f was fin at bound bound) (sym same) (record {
@@ -294,7 +287,7 @@ marked_for old mid new was now fin at name bound more len same marks others up =
   kept = λ j t. up.kept j (ap (λ (x : Mark). x.changed) (marks j) ∙ t);
   still = λ i n lt f. elim (cases_eq i at) [
     | inl e ↦ absurd (not_yet (fin i) f (ap (λ k. (fin k).changed) e ∙ up.here))
-    | inr ne ↦ others i n (λ e _. ne e)
+    | inr ne ↦ inl (others i n (λ e _. ne e))
   ];
   only = λ way w j t. elim (up.only way w j t) [
     | inl yet ↦ inl (ap (λ (x : Mark). x.changed) (sym (marks j)) ∙ yet)
@@ -302,10 +295,38 @@ marked_for old mid new was now fin at name bound more len same marks others up =
   ];
 })
 
+-- no more than a made folder is taken out, and no mark changes
+pub idle_marked : (old new : Slots) (was fin : Marks) (at : ℕ) (name : Bytes) (bound : ℕ) → AreMarked old was bound → IsIdle was (old at name) → new at name ≡ None
+    → ((i : ℕ) (m : Bytes) → ((i ≡ at) → (m ≡ name) → ⊥) → new i m ≡ old i m) → ((i : ℕ) → fin i ≡ was i) → IsMarkedFor old new was fin at bound bound
+idle_marked old new was fin at name bound marked idle here others marks = record {
+  marked = record {
+    before = λ i some lt. lower (fin i) (was i) i (marks i) (marked.before i some lt);
+    up = λ i n c e. ap (λ (x : Mark). x.parent) (marks c) ∙ marked.up i n c (fewer i n c e);
+    closed = λ i n c e t. ap (λ (x : Mark). x.changed) (marks i) ∙ marked.closed i n c (fewer i n c e) (ap (λ (x : Mark). x.changed) (sym (marks c)) ∙ t);
+  };
+  kept = λ j t. ap (λ (x : Mark). x.changed) (marks j) ∙ t;
+  still = λ i n lt f. elim (at_or_off i at n name) [
+    | inl x ↦ inr (ap (λ k. new k n) x.0 ∙ ap (new at) x.1 ∙ here, subst (IsIdle was) (sym (ap (λ k. old k n) x.0 ∙ ap (old at) x.1)) idle)
+    | inr off ↦ inl (others i n off)
+  ];
+  only = λ way w j t. inl (ap (λ (x : Mark). x.changed) (sym (marks j)) ∙ t);
+}
+  where
+    fewer : (i : ℕ) (n : Bytes) (c : ℕ) → child_of (new i n) ≡ Some c → child_of (old i n) ≡ Some c
+    fewer i n c e = elim (at_or_off i at n name) [
+      | inl x ↦ let none : child_of (new i n) ≡ None = ap child_of (ap (λ k. new k n) x.0 ∙ ap (new at) x.1 ∙ here) in absurd (cc (sym none ∙ e))
+      | inr off ↦ ap child_of (sym (others i n off)) ∙ e
+    ]
+
 -- ---- what an edit leaves of the trees that it doesn't mark
 
-module _ (trees : Trees) (mid new : Slots) (fin : Marks) (bound more : ℕ) (ok : IsForest mid bound) (marked : AreMarked new fin more)
-    (still : (i : ℕ) (name : Bytes) → i < bound → (fin i).changed ≡ false → new i name ≡ mid i name) where
+module _ (trees : Trees) (mid new : Slots) (was fin : Marks) (bound more : ℕ) (ok : IsForest mid bound) (marked : AreMarked new fin more)
+    (still : (i : ℕ) (name : Bytes) → i < bound → (fin i).changed ≡ false → (new i name ≡ mid i name) ⊎ ((new i name ≡ None) × IsIdle was (mid i name))) (read : AreAsRead trees mid was) where
+  -- what is no more than a made folder has no files
+  idle_none : (i : ℕ) (n : Bytes) (rest : Path) (o : Option Slot) → mid i n ≡ o → IsIdle was o → through o (files_of_slot trees mid rest) ≡ None
+  idle_none i n rest None is idle = refl
+  idle_none i n rest (Some s) is idle = read i n s idle.0 is idle.1 idle.3 rest ∙ null_none trees (leaf_in s) idle.2 rest
+
   below_unchanged : (i : ℕ) (n : Bytes) (c : ℕ) → child_of (new i n) ≡ Some c → (fin i).changed ≡ false → (fin c).changed ≡ false
   below_unchanged i n c e f = elim (by_test (fin c).changed) [
     | inl t ↦ absurd (not_yet (fin i) f (marked.closed i n c e t))
@@ -314,13 +335,16 @@ module _ (trees : Trees) (mid new : Slots) (fin : Marks) (bound more : ℕ) (ok 
 
   unchanged_files : (q : Path) (i : ℕ) → i < bound → (fin i).changed ≡ false → files_of_node trees new i q ≡ files_of_node trees mid i q
   unchanged_files [] i lt f = refl
-  unchanged_files (n ∷ rest) i lt f =
-      ap (λ o. through o (files_of_slot trees new rest)) (still i n lt f)
-      ∙ same_through trees mid new rest (mid i n) (λ c is. unchanged_files rest c (ok.within i n c is) (below_unchanged i n c (ap child_of (still i n lt f) ∙ is) f))
+  unchanged_files (n ∷ rest) i lt f = elim (still i n lt f) [
+    | inl same ↦
+        ap (λ o. through o (files_of_slot trees new rest)) same
+        ∙ same_through trees mid new rest (mid i n) (λ c is. unchanged_files rest c (ok.within i n c is) (below_unchanged i n c (ap child_of same ∙ is) f))
+    | inr gone ↦ ap (λ o. through o (files_of_slot trees new rest)) gone.0 ∙ sym (idle_none i n rest (mid i n) refl gone.1)
+  ]
 
-  pub edited_as_read : (was : Marks) → ((c : ℕ) → c < bound → (was c).changed ≡ true → (fin c).changed ≡ true) → ((c : ℕ) → bound ≤ c → c < more → (fin c).changed ≡ true)
-      → IsForest new more → ((i : ℕ) (n : Bytes) (c : ℕ) → child_of (new i n) ≡ Some c → c < bound → new i n ≡ mid i n) → AreAsRead trees mid was → AreAsRead trees new fin
-  edited_as_read was kept fresh new_ok links read i n s c stands is f rest = elim (cases_lt c bound) [
+  pub edited_as_read : ((c : ℕ) → c < bound → (was c).changed ≡ true → (fin c).changed ≡ true) → ((c : ℕ) → bound ≤ c → c < more → (fin c).changed ≡ true)
+      → IsForest new more → ((i : ℕ) (n : Bytes) (c : ℕ) → child_of (new i n) ≡ Some c → c < bound → new i n ≡ mid i n) → AreAsRead trees new fin
+  edited_as_read kept fresh new_ok links i n s c stands is f rest = elim (cases_lt c bound) [
     | inr ge ↦
         let within : c < more = new_ok.within i n c (ap child_of stands ∙ is) in
         absurd (not_yet (fin c) f (fresh c ge within))

@@ -1,14 +1,14 @@
 -- Opening a stored tree changes no file, and links make a forest.
-use Rattle.std.proofs.Common.{ℕ, suc, ◌≡◌, ◌<◌, ◌≤◌, ◌⊎◌, Bool, true, false, List, [], ◌∷◌, Option, Some, None, refl, sym, ap, subst, ◌∙◌, inl, inr, arith, if◌then◌else◌}
-use Rattle.std.specs.Prelude.{bytes_eq}
+use Rattle.std.proofs.Common.{ℕ, suc, ◌≡◌, ◌<◌, ◌≤◌, ◌⊎◌, ◌&&◌, Bool, true, false, List, [], ◌∷◌, Option, Some, None, refl, sym, ap, subst, ◌∙◌, inl, inr, arith, if◌then◌else◌}
+use Rattle.std.specs.Prelude.{bytes_eq, not}
 use Rattle.std.proofs.lemmas.Bool.{cases_eq, cases_lt, cases_order}
 use Rattle.gix_object_find.specs.Table.{Table}
 use Rattle.gix_object_entries.specs.Entry.{Item}
 use Rattle.gix_object_entries.specs.Mode.{is_tree_value}
 use Rattle.gix_object_editor.specs.declared.tree.editor.node.NodeId.{NodeId}
 use Rattle.gix_object_editor.specs.declared.tree.editor.node.Slot.{Slot}
-use Rattle.gix_object_editor.specs.Files.{Bytes, Path, Leaf, Trees, through, named, leaf_of, is_null, tree_under, unless_tree, files_of_entry, HasStored}
-use Rattle.gix_object_editor.specs.Nodes.{Slots, child_or, child_of, leaf_in, files_of_slot, files_of_node, IsForest, StandsFor, IsOpened, IsUnopened}
+use Rattle.gix_object_editor.specs.Files.{Bytes, Path, Leaf, Trees, through, named, leaf_of, is_null, leads_on, tree_under, unless_tree, files_of_entry, entry_into, HasStored}
+use Rattle.gix_object_editor.specs.Nodes.{Slots, child_or, child_of, leaf_in, files_of_slot, files_of_node, slot_entry, entry_from, IsForest, StandsFor, IsOpened, IsUnopened}
 use Rattle.gix_object_editor.proofs.Paths.{same_name, name_itself, by_test}
 
 -- both the number and the name, or not
@@ -95,6 +95,65 @@ module _ (trees : Trees) (slots new : Slots) (bound : ℕ) (ok : IsForest slots 
         ∙ same_through trees slots new rest (slots i n) (λ c is. opens rest c (ok.within i n c is))
   ]
 
+-- ---- the entries
+
+same_child_entry : (blocked : Leaf → Option Leaf) (trees : Trees) (slots new : Slots) (child : Option NodeId) (m : Bytes) (more : Path) (x : Option Leaf)
+    → ((c : ℕ) → child_or child (λ c. Some c) None ≡ Some c → entry_from blocked trees new c (m ∷ more) ≡ entry_from blocked trees slots c (m ∷ more))
+    → child_or child (λ c. entry_from blocked trees new c (m ∷ more)) x ≡ child_or child (λ c. entry_from blocked trees slots c (m ∷ more)) x
+same_child_entry blocked trees slots new None m more x h = refl
+same_child_entry blocked trees slots new (Some c) m more x h = h c.0 refl
+
+same_entries : (blocked : Leaf → Option Leaf) (trees : Trees) (slots new : Slots) (rest : Path) (o : Option Slot) → ((c : ℕ) → child_of o ≡ Some c → entry_from blocked trees new c rest ≡ entry_from blocked trees slots c rest)
+    → through o (slot_entry blocked trees new rest) ≡ through o (slot_entry blocked trees slots rest)
+same_entries blocked trees slots new rest None h = refl
+same_entries blocked trees slots new [] (Some u) h = refl
+same_entries blocked trees slots new (m ∷ more) (Some u) h = same_child_entry blocked trees slots new u.child m more (entry_into blocked trees (m ∷ more) (leaf_in u)) h
+
+module _ (blocked : Leaf → Option Leaf) (trees : Trees) (slots new : Slots) (bound : ℕ) (ok : IsForest slots bound) (j : ℕ) (name : Bytes) (s t : Slot) (items : List Item)
+    (stood : slots j name ≡ Some s) (folder : IsUnopened s) (stored : trees (leaf_in s).id ≡ Some items)
+    (stands : new j name ≡ Some t) (linked : child_of (Some t) ≡ Some bound) (leaf : leaf_in t ≡ leaf_in s)
+    (opened : (m : Bytes) → StandsFor (new bound m) (named m items))
+    (agree : (i : ℕ) (m : Bytes) → i < bound → ((i ≡ j) → (m ≡ name) → ⊥) → new i m ≡ slots i m) where
+  item_entry : (more : Path) (u : Slot) (item : Item) → leaf_in u ≡ leaf_of item → u.child ≡ None → slot_entry blocked trees new more u ≡ entry_into blocked trees more (leaf_of item)
+  item_entry [] u item same none = ap Some same
+  item_entry (k ∷ more) u item same none =
+      ap (λ o. child_or o (λ c. entry_from blocked trees new c (k ∷ more)) (entry_into blocked trees (k ∷ more) (leaf_in u))) none ∙ ap (entry_into blocked trees (k ∷ more)) same
+
+  item_entries : (more : Path) (o : Option Slot) (p : Option Item) → StandsFor o p → through o (slot_entry blocked trees new more) ≡ through p (λ item. entry_into blocked trees more (leaf_of item))
+  item_entries more None None h = refl
+  item_entries more None (Some item) h = absurd h
+  item_entries more (Some u) None h = absurd h
+  item_entries more (Some u) (Some item) h = item_entry more u item h.0 h.1
+
+  child_entry : (child : Option NodeId) (x y : Option Leaf) (F : ℕ → Option Leaf) → child_or child (λ c. Some c) None ≡ Some bound → F bound ≡ y → child_or child F x ≡ y
+  child_entry None x y F e h = absurd (cc e)
+  child_entry (Some c) x y F e h = let same : c.0 ≡ bound = cc in ap F same ∙ h
+
+  names_tree : leads_on (leaf_in s) ≡ true
+  names_tree = ap (λ b. b && not (is_null (leaf_in s).id)) folder.is_tree ∙ ap not folder.isnt_null
+
+  entry_there : (rest : Path) → slot_entry blocked trees new rest t ≡ slot_entry blocked trees slots rest s
+  entry_there [] = ap Some leaf
+  entry_there (m ∷ more) =
+      child_entry t.child (entry_into blocked trees (m ∷ more) (leaf_in t)) (entry_from blocked trees new bound (m ∷ more)) (λ c. entry_from blocked trees new c (m ∷ more)) linked refl
+      ∙ item_entries more (new bound m) (named m items) (opened m)
+      ∙ sym (ap (λ o. child_or o (λ c. entry_from blocked trees slots c (m ∷ more)) (entry_into blocked trees (m ∷ more) (leaf_in s))) folder.closed
+      ∙ ap (λ b. if b then through (trees (leaf_in s).id) (λ tree. through (named m tree) (λ item. entry_into blocked trees more (leaf_of item))) else blocked (leaf_in s)) names_tree
+      ∙ ap (λ o. through o (λ tree. through (named m tree) (λ item. entry_into blocked trees more (leaf_of item)))) stored)
+
+  -- no entry changes
+  pub opens_entries : (q : Path) (i : ℕ) → i < bound → entry_from blocked trees new i q ≡ entry_from blocked trees slots i q
+  opens_entries [] i lt = refl
+  opens_entries (n ∷ rest) i lt = elim (at_or_off i j n name) [
+    | inl e ↦
+        ap (λ k. through (new k n) (slot_entry blocked trees new rest)) e.0 ∙ ap (λ k. through (new j k) (slot_entry blocked trees new rest)) e.1
+        ∙ ap (λ o. through o (slot_entry blocked trees new rest)) stands ∙ entry_there rest ∙ sym (ap (λ o. through o (slot_entry blocked trees slots rest)) stood)
+        ∙ sym (ap (λ k. through (slots k n) (slot_entry blocked trees slots rest)) e.0 ∙ ap (λ k. through (slots j k) (slot_entry blocked trees slots rest)) e.1)
+    | inr off ↦
+        ap (λ o. through o (slot_entry blocked trees new rest)) (agree i n lt off)
+        ∙ same_entries blocked trees slots new rest (slots i n) (λ c is. opens_entries rest c (ok.within i n c is))
+  ]
+
 -- ---- forests
 
 -- each link of the second is one of the first
@@ -138,6 +197,7 @@ opened_none honest table slots bound ok = record {
   forest = ok;
   links = λ i m c e. e;
   files = λ h trees has q i lt. refl;
+  entries = λ h trees has blocked q i lt. refl;
 }
 
 pub opened_same : (honest : Type 0) (table : Table) (old new : Slots) (bound more : ℕ) → IsForest old bound → bound ≡ more → ((i : ℕ) (m : Bytes) → new i m ≡ old i m) → IsOpened honest table old new bound more
@@ -150,24 +210,28 @@ opened_then honest table a b c k l m first second = record {
   forest = second.forest;
   links = λ i n d e. second.links i n d (first.links i n d e);
   files = λ h trees has q i lt. let f = first.longer in let less : i < l = omega arith in second.files h trees has q i less ∙ first.files h trees has q i lt;
+  entries = λ h trees has blocked q i lt. let f = first.longer in let less : i < l = omega arith in second.entries h trees has blocked q i less ∙ first.entries h trees has blocked q i lt;
 }
 
 -- one tree more, from the slot of a folder
 pub opened_one : (honest : Type 0) (table : Table) (slots new : Slots) (bound more : ℕ) → IsForest slots bound → more ≡ suc bound
     → (j : ℕ) (name : Bytes) (s t : Slot) → j < bound → slots j name ≡ Some s → IsUnopened s
     → (honest → (items : List Item) × ((m : Bytes) → StandsFor (new bound m) (named m items)) × ((trees : Trees) → HasStored table trees → trees (leaf_in s).id ≡ Some items))
-    → new j name ≡ Some t → child_of (Some t) ≡ Some bound → ((m : Bytes) → child_of (new bound m) ≡ None)
+    → new j name ≡ Some t → child_of (Some t) ≡ Some bound → leaf_in t ≡ leaf_in s → ((m : Bytes) → child_of (new bound m) ≡ None)
     → ((i : ℕ) (m : Bytes) → i < bound → ((i ≡ j) → (m ≡ name) → ⊥) → new i m ≡ slots i m)
     → ((i : ℕ) (m : Bytes) → bound < i → new i m ≡ None)
     → ((i : ℕ) (m : Bytes) → bound ≤ i → slots i m ≡ None)
     → IsOpened honest table slots new bound more
-opened_one honest table slots new bound more ok next j name s t lt stood folder loaded stands linked fresh agree past empty = record {
+opened_one honest table slots new bound more ok next j name s t lt stood folder loaded stands linked leaf fresh agree past empty = record {
   longer = omega arith;
   forest = subst (IsForest new) (sym next) (linked_more slots new (suc bound) wider j name bound lt (omega arith) free split);
   links = kept;
   files = λ h trees has q i less.
       let tree = loaded h in
       opens trees slots new bound ok j name s t tree.0 stood folder (tree.2 trees has) stands linked tree.1 agree q i less;
+  entries = λ h trees has blocked q i less.
+      let tree = loaded h in
+      opens_entries blocked trees slots new bound ok j name s t tree.0 stood folder (tree.2 trees has) stands linked leaf tree.1 agree q i less;
 }
   where
     wider : IsForest slots (suc bound)

@@ -1,10 +1,9 @@
 -- Which stored trees an edit asks for: those that its path leads into and that aren't opened, one below the other.
-use Rattle.std.specs.Prelude.{ℕ, suc, ◌≡◌, ◌<◌, ◌+◌, ◌^◌, ◌&&◌, not, Bool, List, [], ◌∷◌, ◌++◌, length, Option, Some, None, Result, Ok, Err, if◌then◌else◌}
+use Rattle.std.specs.Prelude.{ℕ, suc, ◌≡◌, ◌<◌, ◌+◌, ◌^◌, List, [], ◌∷◌, ◌++◌, length, Option, Some, None, Result, Ok, Err, if◌then◌else◌}
 use Rattle.std.specs.List.{All}
 use Rattle.gix_hash.specs.Id.{Id}
 use Rattle.gix_object_lines.specs.declared.kind.Kind.TheVariants as kinds
 use Rattle.gix_object_entries.specs.Entry.{Item, SpellsTree}
-use Rattle.gix_object_entries.specs.Mode.{is_tree_value}
 use Rattle.gix_object_entries.specs.WellFormed.{IsWellFormed}
 use Rattle.gix_object_find.specs.Table.{Table}
 use Rattle.gix_object_find.specs.Existing.{Stands}
@@ -12,7 +11,7 @@ use Rattle.gix_object_editor.specs.declared.tree.editor.error.Error.{Error}
 use Rattle.gix_object_editor.specs.declared.tree.editor.error.Error.TheVariants.{EmptyPathComponent, FindExistingObject, CannotRemoveNonLeaf, MalformedTree, Memory}
 use Rattle.gix_object_editor.specs.declared.tree.editor.node.NodeId.{NodeId}
 use Rattle.gix_object_editor.specs.declared.tree.editor.node.Slot.{Slot}
-use Rattle.gix_object_editor.specs.Files.{Path, Leaf, Trees, HasStored, is_null, leaf_of, named, through}
+use Rattle.gix_object_editor.specs.Files.{Path, Leaf, Trees, HasStored, leads_on, leaf_of, named, through}
 use Rattle.gix_object_editor.specs.Nodes.{Slots, leaf_in, child_or}
 use Rattle.gix_object_editor.specs.Refusals.{OpeningFault}
 
@@ -21,10 +20,6 @@ abbrev pub front_of : Path → Path
 front_of [] = []
 front_of (name ∷ []) = []
 front_of (name ∷ next ∷ rest) = name ∷ front_of (next ∷ rest)
-
--- a tree's entry that names one
-abbrev pub leads_on : Leaf → Bool
-leads_on leaf = is_tree_value leaf.mode.value && not (is_null leaf.id)
 
 abbrev pub ids_from : {A : Type 0} → Option A → (A → List Id) → List Id
 ids_from None ids = []

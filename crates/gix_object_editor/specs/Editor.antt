@@ -6,12 +6,13 @@ use Rattle.gix_hash.specs.declared.object_id.ObjectId.{ObjectId}
 use Rattle.gix_object_entries.specs.Mode.{kind_value, is_tree_value}
 use Rattle.gix_object_entries.specs.declared.tree.mode.EntryKind.{EntryKind}
 use Rattle.gix_object_find.specs.Table.{Table}
+use Rattle.gix_object_editor.specs.declared.tree.editor.node.Slot.{Slot}
 use Rattle.gix_object_editor.specs.declared.tree.editor.state.Editor.{Editor}
 use Rattle.gix_object_editor.specs.declared.tree.editor.error.Error.{Error}
 use Rattle.gix_object_editor.specs.declared.tree.editor.error.Error.TheVariants.{EmptyPathComponent, FindExistingObject, CannotRemoveNonLeaf, MalformedTree, Memory}
 use Rattle.gix_object_editor.specs.Files.{Bytes, Path, Leaf, FileMap, Trees, HasStored, NamesAreFull}
-use Rattle.gix_object_editor.specs.Nodes.{slots_of, files_of_node, LeadsTo, AreFilled}
-use Rattle.gix_object_editor.specs.Marks.{marks_of, IsChangedIn, AreAsRead}
+use Rattle.gix_object_editor.specs.Nodes.{slots_of, slot_over, entry_from, files_of_node, LeadsTo, AreFilled}
+use Rattle.gix_object_editor.specs.Marks.{marks_of, IsMade, IsChangedIn, AreAsRead}
 use Rattle.gix_object_editor.specs.Entries.{Property, EachHas}
 use Rattle.gix_object_editor.specs.Refusals.{OpeningFault}
 use Rattle.gix_object_editor.specs.Asked.{unopened_into}
@@ -31,6 +32,24 @@ IsOpenedAt editor path = (j : ℕ) × LeadsTo (slots_of editor.nodes.items) path
 -- each opened tree that no edit changed has the files that the table has of its entry
 abbrev pub IsAsRead : {S : Type 0} → Trees → Editor S → Type 0
 IsAsRead trees editor = AreAsRead trees (slots_of editor.nodes.items) (marks_of editor.nodes.items)
+
+-- each tree is changed exactly where it was before
+abbrev pub ChangesNone : {S : Type 0} → Editor S → Editor S → Type 0
+ChangesNone old new = (tree : Path) → (IsChanged new tree → IsChanged old tree)
+    × (IsChanged old tree → IsChanged new tree)
+
+-- the entry at a path over a table of trees, also where its tree isn't opened
+abbrev pub entry_over : {S : Type 0} → Trees → Editor S → Path → Option Leaf
+entry_over trees editor = entry_from (λ leaf. None) trees (slots_of editor.nodes.items) 0
+
+-- that one, or the entry in its way: one on the path that names no tree
+abbrev pub entry_met : {S : Type 0} → Trees → Editor S → Path → Option Leaf
+entry_met trees editor = entry_from (λ leaf. Some leaf) trees (slots_of editor.nodes.items) 0
+
+-- a folder stands at the path that a cursor made, and nothing was put into it
+abbrev pub IsMadeAt : {S : Type 0} → Editor S → Path → Type 0
+IsMadeAt editor path = (s : Slot) × (slot_over (slots_of editor.nodes.items) 0 path ≡ Some s)
+    × IsMade (marks_of editor.nodes.items) s
 
 -- each entry of the editor's opened trees has the property, also where a tree was opened for it
 abbrev pub EachEntryHas : {S : Type 0} → Property → Editor S → Type 0

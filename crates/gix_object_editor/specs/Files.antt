@@ -1,7 +1,7 @@
 -- The files that a tree unfolds to, as a map from paths to mode and id, and edits of it (Git's glossary, "tree object"; Pro Git,
 -- "Tree Objects"). Trees are followed in a table of trees by their ids. Each path is followed to its own end, so that a cycle of
 -- trees does no harm.
-use Rattle.std.specs.Prelude.{ℕ, ◌≡◌, ◌≢◌, Bool, List, [], ◌∷◌, ◌++◌, Option, Some, None, is_some, bytes_eq, if◌then◌else◌}
+use Rattle.std.specs.Prelude.{ℕ, ◌≡◌, ◌≢◌, ◌&&◌, not, Bool, List, [], ◌∷◌, ◌++◌, Option, Some, None, is_some, bytes_eq, if◌then◌else◌}
 use Rattle.std.specs.List.{All}
 use Rattle.gix_hash.specs.Id.{Id, null_id}
 use Rattle.gix_hash.specs.Order.{id_eq}
@@ -66,6 +66,18 @@ tree_under trees leaf = if is_tree_value leaf.mode.value then trees leaf.id else
 abbrev pub unless_tree : {A B : Type 0} → Option A → B → Option B
 unless_tree None leaf = Some leaf
 unless_tree (Some tree) leaf = None
+
+-- a tree's entry that names one
+abbrev pub leads_on : Leaf → Bool
+leads_on leaf = is_tree_value leaf.mode.value && not (is_null leaf.id)
+
+-- the entry to which names lead from an entry, over a table of trees. One on the way that names no tree is blocked: what is said
+-- of it is the answer
+abbrev pub entry_into : (Leaf → Option Leaf) → Trees → Path → Leaf → Option Leaf
+entry_into blocked trees [] leaf = Some leaf
+entry_into blocked trees (name ∷ rest) leaf =
+    if leads_on leaf then through (trees leaf.id) (λ items. through (named name items)
+    (λ item. entry_into blocked trees rest (leaf_of item))) else blocked leaf
 
 -- the files of an entry, below it or itself; an entry with the null id has none
 abbrev pub files_of_entry : Trees → Path → Leaf → Option Leaf

@@ -1,9 +1,10 @@
 -- Which opened trees edits changed, and what the others still are: the trees that their entries name.
-use Rattle.std.specs.Prelude.{ℕ, zero, suc, ◌≡◌, ◌≢◌, ◌<◌, ◌≤◌, ◌+◌, ◌⊎◌, ◌++◌, ◌||◌, nat_le, Bool, true, false, List, [], ◌∷◌, Option, Some, None, if◌then◌else◌}
+use Rattle.std.specs.Prelude.{ℕ, zero, suc, ◌≡◌, ◌≢◌, ◌<◌, ◌≤◌, ◌+◌, ◌⊎◌, ◌++◌, ◌||◌, nat_le, Bool, true, false, List, [], ◌∷◌, Option, Some, None, ⊤, if◌then◌else◌}
+use Rattle.gix_hash.specs.Id.{id_of}
 use Rattle.gix_object_editor.specs.declared.tree.editor.node.Node.{Node}
 use Rattle.gix_object_editor.specs.declared.tree.editor.node.NodeId.{NodeId}
 use Rattle.gix_object_editor.specs.declared.tree.editor.node.Slot.{Slot}
-use Rattle.gix_object_editor.specs.Files.{Bytes, Path, Trees, through, files_of_entry}
+use Rattle.gix_object_editor.specs.Files.{Bytes, Path, Trees, is_null, through, files_of_entry}
 use Rattle.gix_object_editor.specs.Nodes.{Slots, slots_of, leaf_in, child_of, files_of_slot, Way, LeadsTo}
 
 -- in which tree an opened one lies, and whether an edit changed it, or one that lies in it
@@ -70,11 +71,22 @@ pub record AreMarkedUp (slots : Slots) (was now : Marks) (at bound : ℕ) : Type
   pub only : (way : Path) → Way slots way at → (j : ℕ) → (now j).changed ≡ true
       → ((was j).changed ≡ true) ⊎ IsOnWay slots way j
 
--- an opened tree's slots were changed, and it is marked so
+-- the slot is that of a folder that was made and into which nothing was put: it has the null id, and no edit changed it
+abbrev pub IsMade : Marks → Slot → Type 0
+IsMade marks s = (c : ℕ) × (child_of (Some s) ≡ Some c) × (is_null (id_of s.oid) ≡ true)
+    × ((marks c).changed ≡ false)
+
+-- no more than such a folder stands there
+abbrev pub IsIdle : Marks → Option Slot → Type 0
+IsIdle marks None = ⊤
+IsIdle marks (Some s) = IsMade marks s
+
+-- an opened tree's slots were changed, and it is marked so; but for a made folder that was taken out
 pub record IsMarkedFor (old new : Slots) (was now : Marks) (at bound more : ℕ) : Type 0 where
   pub marked : AreMarked new now more
   pub kept : (j : ℕ) → (was j).changed ≡ true → (now j).changed ≡ true
-  pub still : (i : ℕ) (name : Bytes) → i < bound → (now i).changed ≡ false → new i name ≡ old i name
+  pub still : (i : ℕ) (name : Bytes) → i < bound → (now i).changed ≡ false
+      → (new i name ≡ old i name) ⊎ ((new i name ≡ None) × IsIdle was (old i name))
   pub only : (way : Path) → Way new way at → (j : ℕ) → (now j).changed ≡ true
       → ((was j).changed ≡ true) ⊎ IsOnWay new way j
 

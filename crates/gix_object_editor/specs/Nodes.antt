@@ -15,7 +15,7 @@ use Rattle.gix_object_entries.specs.ModeText.{mode_of}
 use Rattle.gix_object_editor.specs.declared.tree.editor.node.Node.{Node}
 use Rattle.gix_object_editor.specs.declared.tree.editor.node.NodeId.{NodeId}
 use Rattle.gix_object_editor.specs.declared.tree.editor.node.Slot.{Slot}
-use Rattle.gix_object_editor.specs.Files.{Bytes, Path, Leaf, FileMap, Trees, is_null, through, files_of_entry, leaf_of, HasFile, HasStored, named}
+use Rattle.gix_object_editor.specs.Files.{Bytes, Path, Leaf, FileMap, Trees, is_null, through, files_of_entry, leads_on, entry_into, leaf_of, HasFile, HasStored, named}
 
 abbrev pub Key : Type 0
 Key = Vec ℕ Global
@@ -51,6 +51,18 @@ files_of_slot trees slots (name ∷ rest) s =
 abbrev pub files_of_node : Trees → Slots → ℕ → FileMap
 files_of_node trees slots i [] = None
 files_of_node trees slots i (name ∷ rest) = through (slots i name) (files_of_slot trees slots rest)
+
+-- the entry to which names lead from a slot, and from a node
+abbrev pub slot_entry : (Leaf → Option Leaf) → Trees → Slots → Path → Slot → Option Leaf
+slot_entry blocked trees slots [] s = Some (leaf_in s)
+slot_entry blocked trees slots (name ∷ rest) s =
+    child_or s.child (λ c. through (slots c name) (slot_entry blocked trees slots rest))
+    (entry_into blocked trees (name ∷ rest) (leaf_in s))
+
+abbrev pub entry_from : (Leaf → Option Leaf) → Trees → Slots → ℕ → Path → Option Leaf
+entry_from blocked trees slots i [] = None
+entry_from blocked trees slots i (name ∷ rest) = through (slots i name)
+    (slot_entry blocked trees slots rest)
 
 -- each entry that isn't null has a file, where no tree was opened for it
 abbrev pub AreFilled : Trees → Slots → Type 0
@@ -127,6 +139,10 @@ pub record IsUnopened (s : Slot) : Type 0 where
   pub is_tree : is_tree_value s.mode.value ≡ true
   pub isnt_null : is_null (id_of s.oid) ≡ false
 
+-- no folder stands there
+abbrev pub IsNoFolder : Option Slot → Type 0
+IsNoFolder o = (s : Slot) → o ≡ Some s → (s.child ≡ None) × (leads_on (leaf_in s) ≡ false)
+
 -- this entry stands there, and no tree was opened for it
 abbrev pub IsEntry : Option Slot → Leaf → Type 0
 IsEntry o leaf = (s : Slot) × (o ≡ Some s) × (leaf_in s ≡ leaf) × (s.child ≡ None)
@@ -143,7 +159,7 @@ pub record IsStoppedAt (slots : Slots) (path : Path) (id : Id) : Type 0 where
   pub unopened : IsUnopened slot
   pub id_is : id_of slot.oid ≡ id
 
--- some trees were opened, and no file changed
+-- some trees were opened, and no file and no entry changed
 pub record IsOpened (honest : Type 0) (table : Table) (old new : Slots)
     (bound more : ℕ) : Type 0 where
   pub longer : bound ≤ more
@@ -152,6 +168,9 @@ pub record IsOpened (honest : Type 0) (table : Table) (old new : Slots)
       → child_of (new i m) ≡ Some c
   pub files : honest → (trees : Trees) → HasStored table trees → (q : Path) (i : ℕ) → i < bound
       → files_of_node trees new i q ≡ files_of_node trees old i q
+  pub entries : honest → (trees : Trees) → HasStored table trees → (blocked : Leaf → Option Leaf)
+      → (q : Path) (i : ℕ) → i < bound
+      → entry_from blocked trees new i q ≡ entry_from blocked trees old i q
 
 -- ---- trees with one slot each
 
@@ -172,6 +191,13 @@ AreNull slots bound = (i : ℕ) (m : Bytes) (s : Slot) (c : ℕ) → slots i m �
     → child_of (Some s) ≡ Some c → bound ≤ c → is_null (id_of s.oid) ≡ true
 
 -- ---- entries of opened trees
+
+-- the slot at a path's end, where opened trees lead there
+abbrev pub slot_over : Slots → ℕ → Path → Option Slot
+slot_over slots i [] = None
+slot_over slots i (name ∷ []) = slots i name
+slot_over slots i (name ∷ next ∷ rest) = through (child_of (slots i name))
+    (λ c. slot_over slots c (next ∷ rest))
 
 -- the entry that a slot of this name is
 abbrev pub entry_in : Bytes → Option Slot → Option Item

@@ -182,6 +182,31 @@ def count_rows(git):
     row(git, nested, [], [f"{at(a, n, m)}:{get(f)}", f"{at(n, m)}:{get(f)}", f"{at(a, b)}:{get(m)}", "written", "write"], ["none"] * 3 + ["1", f"{nested} known+"])
     row(git, nested, [], [f"{at(a, f, m)}:{get(n)}", get(a, f, m), "written"], ["none", f"40000 {git.null}", "2"])
     row(git, nested, [], [f"{at(a, n)}:{upsert((m,), '100644', x)}", get(a, n, m), "written"], ["ok", f"100644 {x}", "3"])
+    unchanged_rows(git, nested)
+
+
+def unchanged_rows(git, nested):
+    """Edits that find nothing to change hand out the root alone."""
+    x, y = git.blobs[0], git.blobs[1]
+    a, b, e, f, g, h, i, m, n = (name.encode() for name in "abefghimn")
+    null = lambda *path: upsert(path, "100644", git.null)
+    at = lambda *path: "at:" + path_word(path)
+    remove, leaf = lambda *path: "remove:" + path_word(path), lambda *path: "remove_leaf:" + path_word(path)
+    tree = upsert((h,), "40000", git.entry(nested, (h,)).split()[1])
+    still = lambda edits, answers: row(git, nested, [], edits + ["written", "write"], answers + ["1", f"{nested} known+"])
+    for path in [(n,), (n, m), (a, m), (a, b, m), (a, b, m, n), (a, f, m), (g, m), (h, i, m)]:
+        still([remove(*path), leaf(*path)], ["ok", "ok"])
+    for path in [(n,), (n, m), (a, m), (a, b, m), (a, b, m, n), (h, m, n)]:
+        still([null(*path)], ["ok"])
+    still([f"{at(a)}:{remove(m)}", f"{at(a)}:{leaf(b, m)}", f"{at(a, b)}:{null(m, n)}"], ["ok"] * 3)
+    still([tree, upsert((a, b, e), "100644", x), f"{at(a)}:{upsert((f,), '100644', y)}"], ["ok"] * 3)
+    made = f"{at(a, n, m)}:get:{path_word((f,))}"
+    for edit in [remove(a, n), leaf(a, n), null(a, n), remove(a, n, m), leaf(a, n, m), null(a, n, m), f"{at(a)}:{remove(n)}", f"{at(a, n)}:{null(m)}"]:
+        still([made, edit], ["none", "ok"])
+    still([made, remove(a, n, m), remove(a, n), "get:" + path_word((a, n))], ["none", "ok", "ok", "none"])
+    still([made, remove(a, n, m, f), null(a, n, f)], ["none", "ok", "ok"])
+    row(git, nested, [], [f"{at(a, n)}:{upsert((m,), '100644', x)}", remove(a, n), "written", "write"], ["ok", "ok", "2", f"{nested} known+"])
+    row(git, nested, [], [null(a, f, m), "written"], ["ok", "2"])
 
 
 def odd_rows(git, content, refusal):

@@ -3,8 +3,8 @@ use Rattle.std.proofs.Common.{◌≡◌, ◌∙◌, ap, sym, subst, refl, ℕ, z
 use Rattle.std.proofs.Math.Seq.{take-suc}
 use Rattle.gix_hash.specs.Id.{Id}
 use Rattle.gix_object_entries.specs.Entry.{Item}
-use Rattle.gix_object_editor.specs.Asked.{CountsUp, front_of, ids_from, leads_on, slot_into, trees_into, unopened_into}
-use Rattle.gix_object_editor.specs.Files.{Path, Leaf, Trees, leaf_of, named, through}
+use Rattle.gix_object_editor.specs.Asked.{CountsUp, front_of, ids_from, slot_into, trees_into, unopened_into}
+use Rattle.gix_object_editor.specs.Files.{Path, Leaf, Trees, leads_on, leaf_of, named, through}
 use Rattle.gix_object_editor.specs.Nodes.{Slots, child_or, leaf_in}
 use Rattle.gix_object_editor.specs.declared.tree.editor.node.NodeId.{NodeId}
 use Rattle.gix_object_editor.specs.declared.tree.editor.node.Slot.{Slot}

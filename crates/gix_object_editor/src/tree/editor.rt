@@ -1,11 +1,12 @@
 //! Edits of a tree and the trees below it.
 
-ghost use Rattle.std.specs.Prelude.{◌≡◌, ◌≤◌, ◌+◌, ◌⊎◌, length, map, option_map, IfOk, IfErr, OnOk, OnErr, IsFalse, IsTrue, Some, None, false};
+ghost use Rattle.std.specs.Prelude.{◌≡◌, ◌≤◌, ◌+◌, ◌⊎◌, length, map, option_map, IfOk, IfErr, OnOk, OnErr, IsFalse, IsTrue, Some, None, true, false};
 ghost use Rattle.std.specs.Borrow.{sem};
+ghost use Rattle.gix_hash.specs.Id.{id_of};
 ghost use Rattle.gix_object_entries.specs.Entry.{Item, item_of, own_item};
 ghost use Rattle.gix_object_editor.specs.Files.{Path, Leaf, Trees, is_null, leaf_of, HasStored, SameFiles, NamesAreFull, HasNoneBelow, HasSomeBelow, no_trees, removed, put, files_of_tree};
 ghost use Rattle.gix_object_editor.specs.Nodes.{slots_of, entry_at};
-ghost use Rattle.gix_object_editor.specs.Editor.{files_of, names_of, leaf_of_kind, LeadsThrough, LeadsInto, EditFault, LeafFault, IsFilled, IsFolder, IsChanged, IsAsRead, IsAbove, IsOpenedAt, EachEntryHas, IsNonLeaf, asked_by, ErrOverStored, OkOverStored, OverStored};
+ghost use Rattle.gix_object_editor.specs.Editor.{files_of, names_of, leaf_of_kind, LeadsThrough, LeadsInto, EditFault, LeafFault, IsFilled, IsFolder, IsChanged, ChangesNone, entry_over, entry_met, IsMadeAt, IsAsRead, IsAbove, IsOpenedAt, EachEntryHas, IsNonLeaf, asked_by, ErrOverStored, OkOverStored, OverStored};
 ghost use Rattle.gix_object_editor.specs.Asked.{front_of, Asks};
 ghost use Rattle.gix_object_editor.specs.declared.tree.editor.error.Error.TheVariants.{EmptyPathComponent};
 ghost use Rattle.gix_object_editor.specs.Entries.{Property, PassesDown, MayStand, ItemsHave};
@@ -135,6 +136,11 @@ impl<S: Find> Editor<S> {
             (λ trees. IsAsRead trees self.old → IsAsRead trees self.new) }
         ensures changed { (tree : Path) → IsChanged self.new tree → IsChanged self.old tree
             ⊎ IsAbove tree (names_of path.now) }
+        ensures nothing { OverStored (S.is_honest self.old.store) (S.table self.old.store)
+            (λ trees. entry_over trees self.old (names_of path.now) ≡ None
+            → OnOk result (ChangesNone self.old self.new)) }
+        ensures made { IsMadeAt self.old (names_of path.now)
+            → OnOk result (ChangesNone self.old self.new) }
         ensures still { OnErr result ((tree : Path) → IsChanged self.new tree
             → IsChanged self.old tree) }
         ensures full { IfErr result (λ error. (error ≡ EmptyPathComponent)
@@ -175,6 +181,11 @@ impl<S: Find> Editor<S> {
             (λ trees. IsAsRead trees self.old → IsAsRead trees self.new) }
         ensures changed { (tree : Path) → IsChanged self.new tree → IsChanged self.old tree
             ⊎ IsAbove tree (names_of path.now) }
+        ensures nothing { OverStored (S.is_honest self.old.store) (S.table self.old.store)
+            (λ trees. entry_over trees self.old (names_of path.now) ≡ None
+            → OnOk result (ChangesNone self.old self.new)) }
+        ensures made { IsMadeAt self.old (names_of path.now)
+            → OnOk result (ChangesNone self.old self.new) }
         ensures still { OnErr result ((tree : Path) → IsChanged self.new tree
             → IsChanged self.old tree) }
         ensures full { IfErr result (λ error. (error ≡ EmptyPathComponent)
@@ -223,6 +234,17 @@ impl<S: Find> Editor<S> {
             → HasStored (S.table self.old.store) trees
             → files_of trees self.old (names_of path.now) ≡ Some (leaf_of_kind kind id)
             → OnOk result ((tree : Path) → IsChanged self.new tree → IsChanged self.old tree) }
+        ensures nothing { OverStored (S.is_honest self.old.store) (S.table self.old.store)
+            (λ trees. is_null (id_of id) ≡ true
+            → entry_met trees self.old (names_of path.now) ≡ None
+            → OnOk result (ChangesNone self.old self.new)) }
+        ensures made { is_null (id_of id) ≡ true → IsMadeAt self.old (names_of path.now)
+            → OnOk result (ChangesNone self.old self.new) }
+        ensures already { OverStored (S.is_honest self.old.store) (S.table self.old.store)
+            (λ trees. is_null (id_of id) ≡ false
+            → entry_over trees self.old (names_of path.now) ≡ Some (leaf_of_kind kind id)
+            → (IsOpenedAt self.old (names_of path.now) → ⊥)
+            → OnOk result (ChangesNone self.old self.new)) }
         ensures still { OnErr result ((tree : Path) → IsChanged self.new tree
             → IsChanged self.old tree) }
         ensures full { IfErr result (λ error. (error ≡ EmptyPathComponent)

@@ -1,12 +1,12 @@
 //! Edits below a folder.
 
-ghost use Rattle.std.specs.Prelude.{◌≡◌, ◌≢◌, ◌≤◌, ◌+◌, ◌++◌, ◌⊎◌, [], length, option_map, IfOk, IfErr, OnOk, OnErr, Some, None, false};
+ghost use Rattle.std.specs.Prelude.{◌≡◌, ◌≢◌, ◌≤◌, ◌+◌, ◌++◌, ◌⊎◌, [], length, option_map, IfOk, IfErr, OnOk, OnErr, Some, None, true, false};
 ghost use Rattle.std.specs.Borrow.{sem};
 ghost use Rattle.gix_hash.specs.Id.{id_of};
 ghost use Rattle.gix_object_entries.specs.Entry.{Item, item_of};
 ghost use Rattle.gix_object_editor.specs.Files.{Path, Leaf, Trees, is_null, leaf_of, HasStored, SameFiles, Begins, NamesAreFull, HasNoneBelow, HasSomeBelow, no_trees, removed, put, cleared};
 ghost use Rattle.gix_object_editor.specs.Nodes.{slots_of, entry_at};
-ghost use Rattle.gix_object_editor.specs.Editor.{files_of, names_of, leaf_of_kind, LeadsThrough, LeadsInto, EditFault, LeafFault, IsFilled, IsFolder, IsChanged, IsAsRead, IsAbove, IsOpenedAt, EachEntryHas, IsNonLeaf, asked_by, ErrOverStored, OkOverStored, OverStored};
+ghost use Rattle.gix_object_editor.specs.Editor.{files_of, names_of, leaf_of_kind, LeadsThrough, LeadsInto, EditFault, LeafFault, IsFilled, IsFolder, IsChanged, ChangesNone, entry_over, entry_met, IsMadeAt, IsAsRead, IsAbove, IsOpenedAt, EachEntryHas, IsNonLeaf, asked_by, ErrOverStored, OkOverStored, OverStored};
 ghost use Rattle.gix_object_editor.specs.Asked.{front_of, Asks, AsksAll};
 ghost use Rattle.gix_object_editor.specs.declared.tree.editor.error.Error.TheVariants.{EmptyPathComponent};
 ghost use Rattle.gix_object_editor.specs.Entries.{Property, PassesDown, MayStand, MayStandMade};
@@ -63,6 +63,10 @@ impl<S: Find> Editor<S> {
             → IsAsRead trees self.old → IsAsRead trees cursor.editor.now) }
         ensures changed { IfOk result (λ cursor. (tree : Path) → IsChanged cursor.editor.now tree
             → IsChanged self.old tree ⊎ Begins tree (names_of path.now)) }
+        ensures nothing { S.is_honest self.old.store
+            → IfOk result (λ cursor. (trees : Trees) → HasStored (S.table self.old.store) trees
+            → entry_met trees self.old (names_of path.now) ≡ None
+            → ChangesNone self.old cursor.editor.now) }
         ensures counted { IfOk result
             (λ cursor. cursor.editor.now.lookups ≤ self.old.lookups + length path.now) }
         ensures asked { S.is_honest self.old.store
@@ -125,6 +129,13 @@ impl<'c, S: Find> Cursor<'c, S> {
         ensures changed { (base : Path) → StandsAt self.old base → (tree : Path)
             → IsChanged self.new.editor.now tree
             → IsChanged self.old.editor.now tree ⊎ IsAbove tree (base ++ names_of path.now) }
+        ensures nothing { (base : Path) → StandsAt self.old base
+            → OverStored (S.is_honest self.old.editor.now.store) (S.table self.old.editor.now.store)
+            (λ trees. entry_over trees self.old.editor.now (base ++ names_of path.now) ≡ None
+            → OnOk result (ChangesNone self.old.editor.now self.new.editor.now)) }
+        ensures made { (base : Path) → StandsAt self.old base
+            → IsMadeAt self.old.editor.now (base ++ names_of path.now)
+            → OnOk result (ChangesNone self.old.editor.now self.new.editor.now) }
         ensures still { OnErr result ((tree : Path) → IsChanged self.new.editor.now tree
             → IsChanged self.old.editor.now tree) }
         ensures full { IfErr result (λ error. (error ≡ EmptyPathComponent)
@@ -175,6 +186,13 @@ impl<'c, S: Find> Cursor<'c, S> {
         ensures changed { (base : Path) → StandsAt self.old base → (tree : Path)
             → IsChanged self.new.editor.now tree
             → IsChanged self.old.editor.now tree ⊎ IsAbove tree (base ++ names_of path.now) }
+        ensures nothing { (base : Path) → StandsAt self.old base
+            → OverStored (S.is_honest self.old.editor.now.store) (S.table self.old.editor.now.store)
+            (λ trees. entry_over trees self.old.editor.now (base ++ names_of path.now) ≡ None
+            → OnOk result (ChangesNone self.old.editor.now self.new.editor.now)) }
+        ensures made { (base : Path) → StandsAt self.old base
+            → IsMadeAt self.old.editor.now (base ++ names_of path.now)
+            → OnOk result (ChangesNone self.old.editor.now self.new.editor.now) }
         ensures still { OnErr result ((tree : Path) → IsChanged self.new.editor.now tree
             → IsChanged self.old.editor.now tree) }
         ensures full { IfErr result (λ error. (error ≡ EmptyPathComponent)
@@ -237,6 +255,20 @@ impl<'c, S: Find> Cursor<'c, S> {
             (leaf_of_kind kind id)
             → OnOk result ((tree : Path) → IsChanged self.new.editor.now tree
             → IsChanged self.old.editor.now tree) }
+        ensures nothing { (base : Path) → StandsAt self.old base
+            → OverStored (S.is_honest self.old.editor.now.store) (S.table self.old.editor.now.store)
+            (λ trees. is_null (id_of id) ≡ true
+            → entry_met trees self.old.editor.now (base ++ names_of path.now) ≡ None
+            → OnOk result (ChangesNone self.old.editor.now self.new.editor.now)) }
+        ensures made { (base : Path) → StandsAt self.old base
+            → is_null (id_of id) ≡ true → IsMadeAt self.old.editor.now (base ++ names_of path.now)
+            → OnOk result (ChangesNone self.old.editor.now self.new.editor.now) }
+        ensures already { (base : Path) → StandsAt self.old base
+            → OverStored (S.is_honest self.old.editor.now.store) (S.table self.old.editor.now.store)
+            (λ trees. is_null (id_of id) ≡ false
+            → entry_over trees self.old.editor.now (base ++ names_of path.now) ≡ Some (leaf_of_kind kind id)
+            → (IsOpenedAt self.old.editor.now (base ++ names_of path.now) → ⊥)
+            → OnOk result (ChangesNone self.old.editor.now self.new.editor.now)) }
         ensures still { OnErr result ((tree : Path) → IsChanged self.new.editor.now tree
             → IsChanged self.old.editor.now tree) }
         ensures full { IfErr result (λ error. (error ≡ EmptyPathComponent)

@@ -1,9 +1,10 @@
 //! Edits below an opened tree.
 
-ghost use Rattle.std.specs.Prelude.{◌≡◌, ◌<◌, ◌≤◌, ◌+◌, ◌⊎◌, length, IfErr, OnOk, OnErr, IfOk, Some, []};
-ghost use Rattle.gix_object_editor.specs.Files.{Path, Trees, HasStored, SameFiles, Begins, NamesAreFull, HasNoneBelow, removed, put, cleared};
+ghost use Rattle.std.specs.Prelude.{◌≡◌, ◌<◌, ◌≤◌, ◌+◌, ◌⊎◌, length, IfErr, OnOk, OnErr, IfOk, Some, None, true, false, []};
+ghost use Rattle.gix_hash.specs.Id.{id_of};
+ghost use Rattle.gix_object_editor.specs.Files.{Path, Trees, is_null, HasStored, SameFiles, Begins, NamesAreFull, HasNoneBelow, removed, put, cleared};
 ghost use Rattle.gix_object_editor.specs.Nodes.{slots_of, Way, onto, LeadsTo};
-ghost use Rattle.gix_object_editor.specs.Editor.{files_of, names_of, leaf_of_kind, LeadsThrough, LeadsInto, EditFault, LeafFault, IsFilled, IsFolder, IsChanged, IsAsRead, IsAbove, EachEntryHas, ErrOverStored, OkOverStored, OverStored};
+ghost use Rattle.gix_object_editor.specs.Editor.{files_of, names_of, leaf_of_kind, LeadsThrough, LeadsInto, EditFault, LeafFault, IsFilled, IsFolder, IsChanged, ChangesNone, entry_over, entry_met, IsMadeAt, IsOpenedAt, IsAsRead, IsAbove, EachEntryHas, ErrOverStored, OkOverStored, OverStored};
 ghost use Rattle.gix_object_editor.specs.Asked.{front_of, unopened_into, Asks};
 ghost use Rattle.gix_object_editor.specs.Entries.{Property, PassesDown, MayStand, MayStandMade};
 ghost use Rattle.gix_object_editor.specs.declared.tree.editor.error.Error.TheVariants.{EmptyPathComponent};
@@ -59,6 +60,13 @@ impl<S: Find> Editor<S> {
         ensures changed { (way : Path) → Way (slots_of self.old.nodes.items) way from.0
             → (tree : Path) → IsChanged self.new tree
             → IsChanged self.old tree ⊎ IsAbove tree (onto way (names_of path.now)) }
+        ensures nothing { (way : Path) → Way (slots_of self.old.nodes.items) way from.0
+            → OverStored (S.is_honest self.old.store) (S.table self.old.store)
+            (λ trees. entry_over trees self.old (onto way (names_of path.now)) ≡ None
+            → OnOk result (ChangesNone self.old self.new)) }
+        ensures made { (way : Path) → Way (slots_of self.old.nodes.items) way from.0
+            → IsMadeAt self.old (onto way (names_of path.now))
+            → OnOk result (ChangesNone self.old self.new) }
         ensures still { OnErr result ((tree : Path) → IsChanged self.new tree
             → IsChanged self.old tree) }
         ensures store { self.new.store ≡ self.old.store }
@@ -121,6 +129,13 @@ impl<S: Find> Editor<S> {
         ensures changed { (way : Path) → Way (slots_of self.old.nodes.items) way from.0
             → (tree : Path) → IsChanged self.new tree
             → IsChanged self.old tree ⊎ IsAbove tree (onto way (names_of path.now)) }
+        ensures nothing { (way : Path) → Way (slots_of self.old.nodes.items) way from.0
+            → OverStored (S.is_honest self.old.store) (S.table self.old.store)
+            (λ trees. entry_over trees self.old (onto way (names_of path.now)) ≡ None
+            → OnOk result (ChangesNone self.old self.new)) }
+        ensures made { (way : Path) → Way (slots_of self.old.nodes.items) way from.0
+            → IsMadeAt self.old (onto way (names_of path.now))
+            → OnOk result (ChangesNone self.old self.new) }
         ensures still { OnErr result ((tree : Path) → IsChanged self.new tree
             → IsChanged self.old tree) }
         ensures store { self.new.store ≡ self.old.store }
@@ -195,6 +210,20 @@ impl<S: Find> Editor<S> {
             → HasStored (S.table self.old.store) trees
             → files_of trees self.old (onto way (names_of path.now)) ≡ Some (leaf_of_kind kind id)
             → OnOk result ((tree : Path) → IsChanged self.new tree → IsChanged self.old tree) }
+        ensures nothing { (way : Path) → Way (slots_of self.old.nodes.items) way from.0
+            → OverStored (S.is_honest self.old.store) (S.table self.old.store)
+            (λ trees. is_null (id_of id) ≡ true
+            → entry_met trees self.old (onto way (names_of path.now)) ≡ None
+            → OnOk result (ChangesNone self.old self.new)) }
+        ensures made { (way : Path) → Way (slots_of self.old.nodes.items) way from.0
+            → is_null (id_of id) ≡ true → IsMadeAt self.old (onto way (names_of path.now))
+            → OnOk result (ChangesNone self.old self.new) }
+        ensures already { (way : Path) → Way (slots_of self.old.nodes.items) way from.0
+            → OverStored (S.is_honest self.old.store) (S.table self.old.store)
+            (λ trees. is_null (id_of id) ≡ false
+            → entry_over trees self.old (onto way (names_of path.now)) ≡ Some (leaf_of_kind kind id)
+            → (IsOpenedAt self.old (onto way (names_of path.now)) → ⊥)
+            → OnOk result (ChangesNone self.old self.new)) }
         ensures still { OnErr result ((tree : Path) → IsChanged self.new tree
             → IsChanged self.old tree) }
         ensures store { self.new.store ≡ self.old.store }
@@ -260,6 +289,9 @@ impl<S: Find> Editor<S> {
             (λ trees. IsAsRead trees self.old → IsAsRead trees self.new) }
         ensures changed { (tree : Path) → IsChanged self.new tree → IsChanged self.old tree
             ⊎ Begins tree (names_of path.now) }
+        ensures nothing { OverStored (S.is_honest self.old.store) (S.table self.old.store)
+            (λ trees. entry_met trees self.old (names_of path.now) ≡ None
+            → OnOk result (ChangesNone self.old self.new)) }
         ensures still { OnErr result ((tree : Path) → IsChanged self.new tree
             → IsChanged self.old tree) }
         ensures store { self.new.store ≡ self.old.store }

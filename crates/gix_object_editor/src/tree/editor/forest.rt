@@ -1,13 +1,14 @@
 //! Walking down opened trees, and opening more of them.
 
-ghost use Rattle.std.specs.Prelude.{◌≡◌, ◌<◌, ◌≤◌, ◌+◌, ◌∷◌, ◌++◌, ℕ, length, map, drop, slice_index_or, if◌then◌else◌, is_ok, IfOk, IfErr, OnOk, OnErr, IsSome, Some, None, [], false};
+ghost use Rattle.std.specs.Prelude.{◌≡◌, ◌<◌, ◌≤◌, ◌+◌, ◌∷◌, ◌++◌, ◌⊎◌, ℕ, length, map, drop, slice_index_or, if◌then◌else◌, is_ok, IfOk, IfErr, OnOk, OnErr, IsSome, Some, None, [], false};
 ghost use Rattle.gix_hash.specs.Id.{Id, id_of};
 ghost use Rattle.gix_object_editor.specs.Files.{Bytes, Path, Trees, HasStored};
-ghost use Rattle.gix_object_editor.specs.Nodes.{slot_in, slots_of, child_of, IsForest, IsOpened, IsFolderAt, IsUnopened, IsStoppedAt, Way, onto, LeadsTo};
+ghost use Rattle.gix_object_editor.specs.Nodes.{slot_in, slots_of, child_of, IsForest, IsOpened, IsFolderAt, IsNoFolder, IsUnopened, IsStoppedAt, Way, onto, LeadsTo};
 ghost use Rattle.gix_object_editor.specs.Entries.{Property, EachHas, PassesDown};
 ghost use Rattle.gix_object_editor.specs.Marks.{marks_of, mark_below, AreMarksKept, AreAsRead};
 ghost use Rattle.gix_object_editor.specs.Refusals.{OpeningFault};
 ghost use Rattle.gix_object_editor.specs.Asked.{front_of, found_into, unopened_into, AsksUpTo, AsksAll, StopsAt};
+ghost use Rattle.gix_object_editor.specs.declared.tree.editor.node.NodeId.{NodeId};
 ghost use Rattle.gix_object_editor.specs.declared.tree.editor.node.Slot.{Slot};
 
 use crate::tree::editor::Error;
@@ -84,6 +85,13 @@ pub(crate) fn open<S: Find>(
     ensures each { S.is_honest store.now → (has : Property) → PassesDown (S.table store.now) has
         → EachHas has (slots_of nodes.old.items) → EachHas has (slots_of nodes.new.items) }
     ensures found { IfOk result (IsFolderAt (slots_of nodes.new.items) at.0 name.now) }
+    ensures blocked { IfOk result (λ found. found ≡ None
+        → IsNoFolder (slots_of nodes.new.items at.0 name.now)) }
+    ensures grown { IfOk result (λ found. (child : NodeId) → found ≡ Some child
+        → (length nodes.new.items ≡ length nodes.old.items)
+        ⊎ (child.0 + 1 ≡ length nodes.new.items)) }
+    ensures unopened { IfOk result (λ found. found ≡ None
+        → length nodes.new.items ≡ length nodes.old.items) }
     ensures counted { lookups.new ≤ lookups.old + 1 }
     ensures asked { S.is_honest store.now
         → IfOk result (λ found. (trees : Trees) → HasStored (S.table store.now) trees
@@ -149,6 +157,11 @@ pub(crate) fn walk<S: Find>(
     ensures stopped { IfOk result (λ end. end.1 + 1 < length path.now
         → IsFolderAt (slots_of nodes.new.items) end.0.0
         (slice_index_or (map (λ n. n.now) path.now) end.1 []) None) }
+    ensures blocked { IfOk result (λ end. end.1 + 1 < length path.now
+        → IsNoFolder (slots_of nodes.new.items end.0.0
+        (slice_index_or (map (λ n. n.now) path.now) end.1 []))) }
+    ensures before { IfOk result (λ end. (m : Bytes) (c : ℕ)
+        → child_of (slots_of nodes.new.items end.0.0 m) ≡ Some c → c < length nodes.old.items) }
     ensures counted { lookups.new + 1 ≤ lookups.old + length path.now }
     ensures asked { S.is_honest store.now
         → IfOk result (λ end. (trees : Trees) → HasStored (S.table store.now) trees → (more : Path)
@@ -214,6 +227,8 @@ pub(crate) fn folder_below<S: Find>(
     ensures found { IfOk result (IsFolderAt (slots_of nodes.new.items) at.0
         (slice_index_or (map (λ n. n.now) names.now) 0 [])) }
     ensures last { IfOk result (λ found. IsSome found → length names.now ≡ 1) }
+    ensures same { 1 < length names.now → (i : ℕ) (m : Bytes)
+        → slots_of nodes.new.items i m ≡ slots_of nodes.old.items i m }
     ensures counted { lookups.new ≤ lookups.old + 1 }
     ensures unasked { 1 < length names.now → lookups.new ≡ lookups.old }
     ensures asked { S.is_honest store.now

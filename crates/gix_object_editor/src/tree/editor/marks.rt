@@ -3,11 +3,11 @@
 ghost use Rattle.std.specs.Prelude.{◌≡◌, ◌≢◌, ◌<◌, ℕ, length, true, false, Some, None, IsTrue, IsFalse};
 ghost use Rattle.gix_object_editor.specs.Files.{Bytes};
 ghost use Rattle.gix_object_editor.specs.Nodes.{slots_of, child_of, IsForest};
-ghost use Rattle.gix_object_editor.specs.Marks.{marks_of, mark_below, AreMarked, AreMarkedBut, AreMarkedUp, IsMarkedFor, child_if, changed_in};
+ghost use Rattle.gix_object_editor.specs.Marks.{marks_of, mark_below, AreMarked, AreMarkedBut, AreMarkedUp, IsMarkedFor, IsIdle, child_if, changed_in};
 
 use crate::tree::editor::node::{Node, NodeId, Slot, slot_at, take_at};
 
-/// Takes the entry of a name out of an opened tree, which is marked as changed, if one stands there.
+/// Takes the entry of a name out of an opened tree, which is marked as changed, if more than a made folder stands there.
 pub(crate) fn cut(nodes: &mut [Node], at: NodeId, name: &[u8])
     requires within { at.0 < length nodes.old }
     requires forest { IsForest (slots_of nodes.old) (length nodes.old) }
@@ -17,12 +17,27 @@ pub(crate) fn cut(nodes: &mut [Node], at: NodeId, name: &[u8])
         → slots_of nodes.new i m ≡ slots_of nodes.old i m }
     ensures marks { IsMarkedFor (slots_of nodes.old) (slots_of nodes.new) (marks_of nodes.old)
         (marks_of nodes.new) at.0 (length nodes.old) (length nodes.old) }
+    ensures idle { IsIdle (marks_of nodes.old) (slots_of nodes.old at.0 name.now)
+        → (i : ℕ) → marks_of nodes.new i ≡ marks_of nodes.old i }
 {
-    if slot_at(nodes, at, name).is_none() {
-        return;
-    }
+    let more = is_more(nodes, slot_at(nodes, at, name));
     take_at(nodes, at, name);
-    mark_changed(nodes, at);
+    mark_where(nodes, at, more);
+}
+
+// Whether more stands there than a folder that was made and into which nothing was put.
+fn is_more(nodes: &[Node], slot: Option<Slot>) -> bool
+    requires { (c : ℕ) → child_of slot ≡ Some c → c < length nodes.now }
+    ensures so { IsTrue result → IsIdle (marks_of nodes.now) slot → ⊥ }
+    ensures otherwise { IsFalse result → IsIdle (marks_of nodes.now) slot }
+{
+    let Some(slot) = slot else {
+        return false;
+    };
+    match slot.child {
+        Some(child) => !slot.oid.is_null() || is_changed(nodes, child),
+        None => true,
+    }
 }
 
 /// Marks an opened tree as changed, and those that it lies in.

@@ -4,15 +4,15 @@ use Rattle.std.proofs.lemmas.Result.{err_from_is_err_and}
 use Rattle.gix_hash.specs.Id.{id_of}
 use Rattle.gix_object_entries.specs.Mode.{is_tree_value}
 use Rattle.gix_object_editor.specs.declared.tree.editor.node.Slot.{Slot}
-use Rattle.gix_object_editor.specs.Files.{Bytes, named}
+use Rattle.gix_object_editor.specs.Files.{Bytes, leads_on, named}
 use Rattle.gix_object_editor.specs.Nodes.{slots_of, slot_in, leaf_in, child_of, StandsFor, IsUnopened}
 use Rattle.gix_object_editor.proofs.Loaded.{not_null, null_by_test, no_child}
-use Rattle.gix_object_editor.proofs.Opening.{opened_one, as_function}
+use Rattle.gix_object_editor.proofs.Opening.{opened_one, opened_same, as_function}
 use Rattle.gix_object_editor.specs.Marks.{marks_of}
 use Rattle.gix_object_editor.proofs.Kept.{opened_each}
 use Rattle.gix_object_editor.proofs.Marked.{marks_one, read_one, read_same}
 use Rattle.gix_object_editor.proofs.Slots.{none_past}
-use Rattle.gix_object_editor.specs.Asked.{leads_on, unopened_into}
+use Rattle.gix_object_editor.specs.Asked.{unopened_into}
 use Rattle.gix_object_editor.proofs.Asking.{is_tree, isnt_tree, plain_split, folder_split, loaded_split, stops_opening, asks_one, asks_same}
 use Rattle.gix_object_editor.proofs.tree.editor.forest.open.Goals.{then-not-is_tree-via-then-not-is_tree, then-not-is_tree-via-else-not-is_tree+then-is_null}
 use Rattle.gix_object_editor.proofs.tree.editor.forest.open.Goals as goal
@@ -58,7 +58,7 @@ returns-clause-opened g c =
     let at : (m : Bytes) → slots_of new (length old) m ≡ slot_in c.in_ok-tree.tree m = c.in_ok-attach.ensures.behind in
     opened_one _ _ (slots_of old) (slots_of new) (length old) (length new) c.requires.forest next c.args.at.0 c.args.name.now s t c.requires.within stood folder
     (λ honest. let tree = c.in_ok-tree.ensures.opened honest in (tree.0, λ m. subst (λ o. StandsFor o (named m tree.0)) (sym (at m)) (tree.1 m), tree.2))
-    c.in_ok-attach.ensures.here (ap Some c.in_ok-attach.ensures.number) (λ m. ap child_of (at m) ∙ c.in_ok-tree.ensures.fresh m) c.in_ok-attach.ensures.others
+    c.in_ok-attach.ensures.here (ap Some c.in_ok-attach.ensures.number) refl (λ m. ap child_of (at m) ∙ c.in_ok-tree.ensures.fresh m) c.in_ok-attach.ensures.others
     (λ i m lt. let le : length new ≤ i = omega arith in none_past new i m le) (λ i m le. none_past old i m le)
 
 pub returns-clause-marks : goal.returns-clause-marks
@@ -169,3 +169,11 @@ returns-then-not-is_tree-clause-asked g c = λ honest trees has rest.
       | then-not-is_tree-via-else-not-is_tree+then-is_null w ↦ isnt_tree (leaf_in s) (inr (null_by_test (id_of s.oid) w.is_null.result w.is_null.ensures w.if-is_null.true))
     ] in
     asks_same (g.S.Lookup.table c.args.store.now) _ [] c.args.lookups.now c.args.lookups.now (plain_split trees (slots_of old) c.args.at.0 c.args.name.now rest s stood closed plain) refl
+
+pub returns-in_err-attach-clause-opened : goal.returns-in_err-attach-clause-opened
+returns-in_err-attach-clause-opened g c =
+    let old = c.args.nodes.now.items in
+    let new = c.attach.new.nodes.items in
+    let no : is_ok c.attach.result ≡ false = search rules in
+    let len : length old ≡ length new = search rules in
+    opened_same _ _ (slots_of old) (slots_of new) (length old) (length new) c.requires.forest len c.in_err-attach.ensures.err

@@ -1,9 +1,9 @@
-use Rattle.std.proofs.Common.{ℕ, List, ◌++◌, [], ◌∷◌, ◌<◌, ◌∙◌, ap, subst, arith, length, drop, refl, false}
+use Rattle.std.proofs.Common.{ℕ, inl, sym, ◌≡◌, List, ◌++◌, [], ◌∷◌, ◌<◌, ◌∙◌, ap, subst, arith, length, drop, refl, false}
 use Rattle.std.specs.Borrow.{Bor}
 use Rattle.std.proofs.lemmas.List.{get_or-map}
 use Rattle.std.proofs.lemmas.Result.{err_from_is_err_and}
 use Rattle.gix_hash.specs.Id.{id_of}
-use Rattle.gix_object_editor.specs.Nodes.{slots_of, onto, LeadsTo}
+use Rattle.gix_object_editor.specs.Nodes.{slots_of, IsNoFolder, onto, LeadsTo}
 use Rattle.gix_object_editor.specs.Marks.{marks_of}
 use Rattle.gix_object_editor.specs.Files.{Path}
 use Rattle.gix_object_editor.specs.Asked.{front_of, unopened_into, AsksUpTo}
@@ -11,6 +11,7 @@ use Rattle.gix_object_editor.proofs.Asking.{front_ends, asks_none, walk_step, wa
 use Rattle.gix_object_editor.proofs.Opening.{opened_none, opened_then}
 use Rattle.gix_object_editor.proofs.Marked.{marks_none, marks_then}
 use Rattle.gix_object_editor.proofs.Edits.{two_names}
+use Rattle.gix_object_editor.proofs.Standing.{walk_grown, walk_before}
 use Rattle.gix_object_editor.proofs.Walked.{names, leads_kept, leads_on, folder_found}
 use Rattle.gix_object_editor.proofs.tree.editor.forest.walk.Goals as goal
 
@@ -34,6 +35,8 @@ names-preserved g c =
       as_read = λ h trees has read. c.in_ok-child.ensures.as_read h trees has (c.names.invariant.as_read h trees has read);
       each = λ h has down was. c.in_ok-child.ensures.each h has down (c.names.invariant.each h has down was);
       leads = λ way w. leads_on (slots_of old) (slots_of new) (onto way (names c.args.path.now)) c.args.path.now c.names.at.0 c.names.depth _ c.in-Some.child.0 lt c.in_ok-child.ensures.opened.links found (c.names.invariant.leads way w);
+      last = walk_grown (length c.args.nodes.now.items) (length old) (length new) c.names.at.0 c.in-Some.child.0 c.names.invariant.opened.longer
+          (c.in_ok-child.ensures.opened.forest.forward c.names.at.0 _ c.in-Some.child.0 found) (c.in_ok-child.ensures.opened.forest.within c.names.at.0 _ c.in-Some.child.0 found) c.names.invariant.last (c.in_ok-child.ensures.grown c.in-Some.child c.in-Some.is);
       counted = let n = c.in_ok-child.ensures.counted in let m = c.names.invariant.counted in omega arith;
       asked = λ h trees has more. walk_step (g.S.Lookup.table c.args.store.now) trees (slots_of old) (slots_of new) c.names.at.0 c.args.path.now c.names.depth _ more _ c.args.lookups.now c.names.lookups c.open.new.lookups
           c.names-test.true (c.names.invariant.asked h trees has more) c.in_ok-child.field-0 c.in-Some.child c.in-Some.is (c.in_ok-child.ensures.asked h trees has);
@@ -49,6 +52,7 @@ names-init g c = record {
   as_read = λ h trees has read. read;
   each = λ h has down was. was;
   leads = λ way w. (way, w, refl);
+  last = inl refl;
   counted = omega arith;
   asked = λ h trees has more. asks_none (g.S.Lookup.table c.args.store.now) (unopened_into trees (slots_of c.args.nodes.now.items) c.args.from.0 (front_of (names c.args.path.now) ++ more)) c.args.lookups.now;
 }
@@ -99,3 +103,19 @@ pub returns-in_default-clause-asked_all : goal.returns-in_default-clause-asked_a
 returns-in_default-clause-asked_all g c = λ honest trees has more lt.
     walk_ends (g.S.Lookup.table c.args.store.now) trees (slots_of c.names.nodes.items) (slots_of c.open.new.nodes.items) c.names.at.0 c.args.path.now c.names.depth _ more _ c.args.lookups.now c.names.lookups c.open.new.lookups
     c.names-test.true (c.names.invariant.asked honest trees has more) c.in_ok-child.field-0 c.in_default.is (c.in_ok-child.ensures.asked honest trees has)
+
+-- ---- what stands at the end
+
+pub returns-in_default-clause-blocked : goal.returns-in_default-clause-blocked
+returns-in_default-clause-blocked g c = λ lt.
+    subst (λ n. IsNoFolder (slots_of c.open.new.nodes.items c.names.at.0 n)) (sym (get_or-map (λ (x : Bor (List ℕ)). x.now) c.args.path.now c.names.depth _ [] (omega arith))) (c.in_ok-child.ensures.blocked c.in_default.is)
+
+pub returns-clause-before : goal.returns-clause-before
+returns-clause-before g c = λ m k link.
+    walk_before (length c.args.nodes.now.items) (length c.names.nodes.items) c.names.at.0 k (c.names.invariant.opened.forest.forward c.names.at.0 m k link) (c.names.invariant.opened.forest.within c.names.at.0 m k link) c.names.invariant.last
+
+pub returns-in_default-clause-before : goal.returns-in_default-clause-before
+returns-in_default-clause-before g c = λ m k link.
+    let more = c.in_ok-child.ensures.opened.forest in
+    let same : length c.open.new.nodes.items ≡ length c.names.nodes.items = c.in_ok-child.ensures.unopened c.in_default.is in
+    walk_before (length c.args.nodes.now.items) (length c.names.nodes.items) c.names.at.0 k (more.forward c.names.at.0 m k link) (subst (λ b. k < b) same (more.within c.names.at.0 m k link)) c.names.invariant.last

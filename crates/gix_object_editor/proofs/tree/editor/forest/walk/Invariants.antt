@@ -1,4 +1,4 @@
-use Rattle.std.proofs.Common.{length, ◌-◌, ◌<◌, ◌≤◌, ◌+◌, ◌++◌, map, drop, false}
+use Rattle.std.proofs.Common.{length, ◌-◌, ◌<◌, ◌≤◌, ◌+◌, ◌++◌, ◌⊎◌, ◌≡◌, map, drop, false}
 use Rattle.gix_object_editor.specs.Files.{Path, Trees, HasStored}
 use Rattle.gix_object_editor.specs.Asked.{front_of, unopened_into, AsksUpTo}
 use Rattle.gix_object_editor.specs.Entries.{Property, EachHas, PassesDown}
@@ -18,6 +18,7 @@ invariant-names g l = record {
       → AreAsRead trees (slots_of l.initial.nodes.items) (marks_of l.initial.nodes.items) → AreAsRead trees (slots_of l.nodes.items) (marks_of l.nodes.items);
   each : g.S.Lookup.is_honest l.store → (has : Property) → PassesDown (g.S.Lookup.table l.store) has → EachHas has (slots_of l.initial.nodes.items) → EachHas has (slots_of l.nodes.items);
   leads : (way : Path) → Way (slots_of l.initial.nodes.items) way l.fn.from.0 → LeadsTo (slots_of l.nodes.items) (onto way (map (λ n. n.now) l.path)) l.at.0 (map (λ n. n.now) (drop l.depth l.path));
+  last : (length l.nodes.items ≡ length l.initial.nodes.items) ⊎ (l.at.0 + 1 ≡ length l.nodes.items);
   counted : l.lookups ≤ l.initial.lookups + l.depth;
   asked : g.S.Lookup.is_honest l.store → (trees : Trees) → HasStored (g.S.Lookup.table l.store) trees → (more : Path)
       → AsksUpTo (g.S.Lookup.table l.store) (unopened_into trees (slots_of l.initial.nodes.items) l.fn.from.0 (front_of (map (λ n. n.now) l.path) ++ more))

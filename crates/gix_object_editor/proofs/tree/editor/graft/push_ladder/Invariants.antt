@@ -1,4 +1,4 @@
-use Rattle.std.proofs.Common.{Some, ◌≤◌, ◌⊎◌, ℕ, ◌≡◌, ◌<◌, ◌+◌, length, map, true}
+use Rattle.std.proofs.Common.{Some, ◌≤◌, ◌⊎◌, ℕ, ◌≡◌, ◌<◌, ◌+◌, length, map}
 use Rattle.gix_object_editor.specs.Files.{Bytes}
 use Rattle.gix_object_editor.specs.Nodes.{slots_of, leaf_in, IsRung}
 use Rattle.std.specs.List.{Contains}

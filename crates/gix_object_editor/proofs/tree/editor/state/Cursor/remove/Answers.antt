@@ -1,5 +1,5 @@
-use Rattle.std.proofs.Common.{List, inl, inr, ◌∙◌, subst, OnOk, IfErr}
-use Rattle.gix_object_editor.specs.Editor.{files_of, names_of, LeadsThrough, EditFault}
+use Rattle.std.proofs.Common.{List, inl, inr, ap, sym, ◌∙◌, subst, OnOk, IfErr}
+use Rattle.gix_object_editor.specs.Editor.{files_of, entry_over, IsMadeAt, names_of, LeadsThrough, EditFault}
 use Rattle.gix_object_editor.specs.Files.{Trees, HasStored, SameFiles, removed}
 use Rattle.gix_object_editor.proofs.Folders.{below_base}
 use Rattle.gix_hash.specs.Id.{Id}
@@ -28,3 +28,11 @@ pub returns-clause-asked : goal.returns-clause-asked
 returns-clause-asked g c = λ base stands.
     subst (λ (ids : Trees → List Id). Asks (g.S.Lookup.is_honest c.args.self.now.editor.now.store) (g.S.Lookup.may_fail c.args.self.now.editor.now.store) (g.S.Lookup.table c.args.self.now.editor.now.store) ids c.args.self.now.editor.now.lookups c.remove_from.new.self.lookups c.remove_from.result)
     (asked_below (slots_of c.args.self.now.editor.now.nodes.items) base c.args.self.now.at.0 (front_of (names_of c.args.path.now)) stands) c.remove_from.ensures.asked
+
+pub returns-clause-nothing : goal.returns-clause-nothing
+returns-clause-nothing g c = λ base stands honest trees has none.
+    c.remove_from.ensures.nothing stands.0 stands.1 honest trees has (ap (entry_over trees c.args.self.now.editor.now) (below_base stands.0 base (names_of c.args.path.now) stands.2) ∙ none)
+
+pub returns-clause-made : goal.returns-clause-made
+returns-clause-made g c = λ base stands made.
+    c.remove_from.ensures.made stands.0 stands.1 (subst (IsMadeAt c.args.self.now.editor.now) (sym (below_base stands.0 base (names_of c.args.path.now) stands.2)) made)

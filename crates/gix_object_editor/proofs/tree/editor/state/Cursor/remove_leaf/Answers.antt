@@ -1,5 +1,5 @@
-use Rattle.std.proofs.Common.{List, inl, inr, ◌++◌, ◌∙◌, subst, OnOk, IfErr}
-use Rattle.gix_object_editor.specs.Editor.{files_of, names_of, LeadsInto, LeafFault, IsFilled, IsFolder}
+use Rattle.std.proofs.Common.{List, inl, inr, ap, sym, ◌++◌, ◌∙◌, subst, OnOk, IfErr}
+use Rattle.gix_object_editor.specs.Editor.{files_of, entry_over, IsMadeAt, names_of, LeadsInto, LeafFault, IsFilled, IsFolder}
 use Rattle.gix_object_editor.specs.Files.{Trees, HasStored, SameFiles, HasNoneBelow, removed}
 use Rattle.gix_object_editor.proofs.Folders.{below_base}
 use Rattle.gix_object_editor.proofs.Leafs.{leaf_fault_folder}
@@ -39,3 +39,11 @@ pub returns-clause-folder : goal.returns-clause-folder
 returns-clause-folder g c = λ base stands.
     leaf_fault_folder (g.S.Lookup.is_honest c.args.self.now.editor.now.store) (g.S.Lookup.may_fail c.args.self.now.editor.now.store) (g.S.Lookup.table c.args.self.now.editor.now.store) (names_of c.args.path.now)
     (LeadsInto (λ trees. files_of trees c.remove_leaf_from.new.self) (base ++ names_of c.args.path.now)) (base ++ names_of c.args.path.now) c.remove_leaf_from.new.self c.remove_leaf_from.result (returns-clause-refused g c base stands)
+
+pub returns-clause-nothing : goal.returns-clause-nothing
+returns-clause-nothing g c = λ base stands honest trees has none.
+    c.remove_leaf_from.ensures.nothing stands.0 stands.1 honest trees has (ap (entry_over trees c.args.self.now.editor.now) (below_base stands.0 base (names_of c.args.path.now) stands.2) ∙ none)
+
+pub returns-clause-made : goal.returns-clause-made
+returns-clause-made g c = λ base stands made.
+    c.remove_leaf_from.ensures.made stands.0 stands.1 (subst (IsMadeAt c.args.self.now.editor.now) (sym (below_base stands.0 base (names_of c.args.path.now) stands.2)) made)

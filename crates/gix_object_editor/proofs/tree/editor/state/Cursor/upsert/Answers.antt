@@ -1,5 +1,5 @@
-use Rattle.std.proofs.Common.{List, inl, inr, ap, ◌∙◌, subst, OnOk, IfErr}
-use Rattle.gix_object_editor.specs.Editor.{files_of, names_of, leaf_of_kind, LeadsThrough, EditFault}
+use Rattle.std.proofs.Common.{List, inl, inr, ap, sym, ◌∙◌, subst, OnOk, IfErr}
+use Rattle.gix_object_editor.specs.Editor.{files_of, entry_over, entry_met, IsMadeAt, IsOpenedAt, names_of, leaf_of_kind, LeadsThrough, EditFault}
 use Rattle.gix_object_editor.specs.Files.{Trees, HasStored, SameFiles, put}
 use Rattle.gix_object_editor.proofs.Folders.{below_base}
 use Rattle.gix_hash.specs.Id.{Id}
@@ -32,3 +32,16 @@ returns-clause-asked g c = λ base stands.
 pub returns-clause-same : goal.returns-clause-same
 returns-clause-same g c = λ base stands honest trees has is.
     c.upsert_from.ensures.same stands.0 stands.1 honest trees has (ap (files_of trees c.args.self.now.editor.now) (below_base stands.0 base (names_of c.args.path.now) stands.2) ∙ is)
+
+pub returns-clause-nothing : goal.returns-clause-nothing
+returns-clause-nothing g c = λ base stands honest trees has null none.
+    c.upsert_from.ensures.nothing stands.0 stands.1 honest trees has null (ap (entry_met trees c.args.self.now.editor.now) (below_base stands.0 base (names_of c.args.path.now) stands.2) ∙ none)
+
+pub returns-clause-made : goal.returns-clause-made
+returns-clause-made g c = λ base stands null made.
+    c.upsert_from.ensures.made stands.0 stands.1 null (subst (IsMadeAt c.args.self.now.editor.now) (sym (below_base stands.0 base (names_of c.args.path.now) stands.2)) made)
+
+pub returns-clause-already : goal.returns-clause-already
+returns-clause-already g c = λ base stands honest trees has some is closed.
+    c.upsert_from.ensures.already stands.0 stands.1 honest trees has some (ap (entry_over trees c.args.self.now.editor.now) (below_base stands.0 base (names_of c.args.path.now) stands.2) ∙ is)
+    (λ opened. closed (subst (IsOpenedAt c.args.self.now.editor.now) (below_base stands.0 base (names_of c.args.path.now) stands.2) opened))

@@ -29,6 +29,7 @@ returns-in_err-at g c =
         each = λ honest. tt;
         as_read = λ honest. tt;
         changed = tt;
+        nothing = λ honest. tt;
         counted = tt;
         asked = λ honest. tt;
         store = tt;

@@ -1,19 +1,20 @@
-use Rattle.std.proofs.Common.{◌≢◌, ℕ, List, ◌⊎◌, ◌++◌, inl, inr, true, false, ◌≡◌, ◌∙◌, ◌<◌, ◌+◌, ◌-◌, ◌∷◌, [], None, arith, ap, sym, subst, refl, rules, length, drop, take, get_or, if◌then◌else◌}
+use Rattle.std.proofs.Common.{◌≢◌, ℕ, List, ◌⊎◌, ◌++◌, inl, inr, true, false, ◌≡◌, ◌∙◌, ◌<◌, ◌+◌, ◌-◌, ◌∷◌, [], Some, None, arith, ap, sym, subst, refl, rules, length, drop, take, get_or, if◌then◌else◌}
 use Rattle.std.specs.Prelude.{is_some}
 use Rattle.std.proofs.lemmas.Result.{err_from_is_err_and}
 use Rattle.std.proofs.lemmas.List.{length-drop, get_or-map}
 use Rattle.gix_hash.specs.Id.{id_of}
 use Rattle.gix_object_editor.specs.Editor.{names_of, LeadsInto, IsChanged}
 use Rattle.gix_object_editor.specs.Files.{Begins, behind, cleared}
-use Rattle.gix_object_editor.specs.Nodes.{slots_of, files_of_node, onto, LeadsTo, IsFolderAt, IsForest, Way}
+use Rattle.gix_object_editor.specs.Nodes.{slots_of, child_of, files_of_node, onto, LeadsTo, IsFolderAt, IsNoFolder, IsForest, Way}
 use Rattle.gix_object_editor.specs.declared.tree.editor.node.Node.{Node}
-use Rattle.gix_object_editor.specs.Marks.{Mark, marks_of, AreMarked, AreMarkedBut, AreMarkedUp, AreMarksKept, AreAsRead, AreOnPath}
-use Rattle.gix_object_editor.proofs.Slots.{back}
+use Rattle.gix_object_editor.specs.Marks.{Mark, marks_of, AreMarked, AreMarkedBut, AreMarkedUp, AreMarksKept, AreAsRead, AreOnPath, IsChangedIn}
+use Rattle.gix_object_editor.proofs.Slots.{back, none_past}
 use Rattle.gix_object_editor.proofs.Paths.{onto-append, by_test}
-use Rattle.gix_object_editor.proofs.Cuts.{made_as_read, made_hollow, same_marks, both_longer, none_of}
+use Rattle.gix_object_editor.proofs.Cuts.{made_as_read, made_hollow, same_marks, both_longer, none_of, more_names}
+use Rattle.gix_object_editor.proofs.Standing.{graft_links, nothing_there, name_left}
 use Rattle.gix_object_editor.proofs.Ways.{way_above}
 use Rattle.gix_object_editor.proofs.Marked.{opened_marked, grafted_marked, read_same, marks_then}
-use Rattle.gix_object_editor.proofs.Changes.{opened_changed, failed_changed, graft_as_read, graft_changed, one_more_left, begins}
+use Rattle.gix_object_editor.proofs.Changes.{opened_changed, failed_changed, graft_as_read, graft_changed, opened_same_changed, SameChanged, one_more_left, begins}
 use Rattle.gix_object_editor.proofs.Opening.{opened_then, as_function}
 use Rattle.gix_object_editor.proofs.Edits.{rest_is, first_left, stopped_tree, end_tree, leads_into, edit_fault}
 use Rattle.gix_object_editor.proofs.Walked.{names, names_length, leads_kept, folder_found}
@@ -450,3 +451,52 @@ returns-in_ok-made-in-None-clause-changed g c = λ tree.
             | inr above ↦ inr (begins (names path) [] tree above.0 above.1 above.2)
           ]
     ])
+
+-- ---- where nothing stands
+
+pub returns-in-Some-clause-nothing : goal.returns-in-Some-clause-nothing
+returns-in-Some-clause-nothing g c = λ honest trees has none.
+    let old = c.args.self.now.nodes.items in
+    let mid = c.walk.new.nodes.items in
+    let new = c.folder_below.new.nodes.items in
+    let both = marks_then false (slots_of old) (slots_of mid) (slots_of new) (marks_of old) (marks_of mid) (marks_of new) (length old) (length mid) (length new)
+    c.in_ok-at.ensures.opened.longer c.in_ok-found.ensures.opened.longer c.in_ok-at.ensures.marks c.in_ok-found.ensures.marks in
+    opened_same_changed (slots_of old) (slots_of new) (marks_of old) (marks_of new) (length old) (length new) c.args.self.now.forest c.in_ok-found.ensures.opened.forest both
+    (λ i m k e. c.in_ok-found.ensures.opened.links i m k (c.in_ok-at.ensures.opened.links i m k e))
+
+pub returns-in_ok-made-in-None-clause-nothing : goal.returns-in_ok-made-in-None-clause-nothing
+returns-in_ok-made-in-None-clause-nothing g c = λ honest trees has none tree.
+    let path = c.args.path.now in
+    let i = c.in_ok-at.depth in
+    let at = c.in_ok-at.at.0 in
+    let lt : i < length path = c.in_ok-at.ensures.within.1 in
+    let name = get_or (names path) i [] in
+    let old = c.args.self.now.nodes.items in
+    let mid = c.walk.new.nodes.items in
+    let new = c.folder_below.new.nodes.items in
+    let both = marks_then false (slots_of old) (slots_of mid) (slots_of new) (marks_of old) (marks_of mid) (marks_of new) (length old) (length mid) (length new)
+    c.in_ok-at.ensures.opened.longer c.in_ok-found.ensures.opened.longer c.in_ok-at.ensures.marks c.in_ok-found.ensures.marks in
+    let opened = opened_then _ _ (slots_of old) (slots_of mid) (slots_of new) (length old) (length mid) (length new) c.in_ok-at.ensures.opened c.in_ok-found.ensures.opened in
+    let leads = leads_kept (slots_of mid) (slots_of new) (names path) at (names (drop i path)) c.in_ok-found.ensures.opened.links (c.in_ok-at.ensures.leads [] refl) in
+    let more : names (drop (i + 1) path) ≢ [] → 1 < length (take (length path - i) (drop i path)) = λ some. omega (arith, more_names path (i + 1) some, ap length (rest_is path i), length-drop i path) in
+    let plain : names (drop (i + 1) path) ≢ [] → IsNoFolder (slots_of new at name) = λ some. subst IsNoFolder (sym (c.in_ok-found.ensures.same (more some) at name)) (c.in_ok-at.ensures.blocked (more_names path (i + 1) some)) in
+    let nothing : slots_of new at name ≡ None = nothing_there _ _ (slots_of old) (slots_of new) (length old) (length new) c.args.self.now.forest opened (names path) at name (names (drop (i + 1) path)) (names (drop i path))
+    leads (name_left path i lt) (λ l. Some l) (λ some. (plain some, λ l e. cc e)) honest trees has none in
+    let slot : c.slot_at.result ≡ None =
+    c.slot_at.ensures ∙ ap (slots_of c.as_slice.result.now at) (sym (get_or-map (λ (x : Bor (List ℕ)). x.now) path i _ [] lt)) ∙ ap (λ (ns : List Node). slots_of ns at name) c.as_slice.ensures.value ∙ nothing in
+    let free : c.is_some-stands.result ≡ false = c.is_some-stands.ensures ∙ ap is_some slot in
+    let mk = c.make_folders.new.nodes.items in
+    let fin = c.mark_where.new.nodes in
+    let before = c.as_mut_slice.ensures.value in
+    let n : c.make_folders.new.nodes.len ≡ length fin = omega (arith, c.mark_where.auto.nodes, c.as_mut_slice.ensures.len) in
+    let same_slots : slots_of fin ≡ slots_of mk = as_function (slots_of fin) (slots_of mk) (λ k m. c.mark_where.ensures.slots k m ∙ ap (λ (ns : List Node). slots_of ns k m) before) in
+    let made = subst (λ b. AreMarksKept b (slots_of new) (slots_of mk) (marks_of new) (marks_of mk) (length new) (length mk)) free c.make_folders.ensures.marks in
+    let all = marks_then false (slots_of old) (slots_of new) (slots_of mk) (marks_of old) (marks_of new) (marks_of mk) (length old) (length new) (length mk)
+    (both_longer (length old) (length mid) (length new) c.in_ok-at.ensures.opened.longer c.in_ok-found.ensures.opened.longer) c.make_folders.ensures.longer both made in
+    let links : (k : ℕ) (m : List ℕ) (d : ℕ) → child_of (slots_of new k m) ≡ Some d → child_of (slots_of mk k m) ≡ Some d =
+    λ k m d e. graft_links (slots_of new) (slots_of mk) (length new) at _ (λ j x le. none_past new j x le) (ap (slots_of new at) (ap (λ p. get_or (names p) 0 []) (rest_is path i) ∙ first_left path i lt) ∙ nothing) c.make_folders.ensures.others k m d e in
+    let same : marks_of fin ≡ marks_of mk = same_marks (marks_of fin) (marks_of mk) (λ k. c.mark_where.ensures.same free k ∙ ap (λ (ns : List Node). marks_of ns k) before) in
+    subst (λ (ns : List Node). (IsChangedIn ns tree → IsChanged c.args.self.now tree) × (IsChanged c.args.self.now tree → IsChangedIn ns tree)) (sym (back c.make_folders.new.nodes.len fin _ n))
+    (subst (λ f. SameChanged (slots_of old) (marks_of old) f (marks_of fin)) (sym same_slots) (subst (SameChanged (slots_of old) (marks_of old) (slots_of mk)) (sym same)
+    (opened_same_changed (slots_of old) (slots_of mk) (marks_of old) (marks_of mk) (length old) (length mk) c.args.self.now.forest c.make_folders.ensures.forest all
+    (λ k m d e. links k m d (opened.links k m d e)))) tree)

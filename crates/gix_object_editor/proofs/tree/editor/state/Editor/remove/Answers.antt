@@ -12,3 +12,9 @@ returns-clause-refused g c = c.remove_from.ensures.refused [] refl
 
 pub returns-clause-changed : goal.returns-clause-changed
 returns-clause-changed g c = c.remove_from.ensures.changed [] refl
+
+pub returns-clause-nothing : goal.returns-clause-nothing
+returns-clause-nothing g c = c.remove_from.ensures.nothing [] refl
+
+pub returns-clause-made : goal.returns-clause-made
+returns-clause-made g c = c.remove_from.ensures.made [] refl

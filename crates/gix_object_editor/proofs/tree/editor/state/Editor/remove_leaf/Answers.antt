@@ -21,3 +21,9 @@ returns-clause-changed g c = c.remove_leaf_from.ensures.changed [] refl
 pub returns-clause-folder : goal.returns-clause-folder
 returns-clause-folder g c = leaf_fault_folder (g.S.Lookup.is_honest c.args.self.now.store) (g.S.Lookup.may_fail c.args.self.now.store) (g.S.Lookup.table c.args.self.now.store) (names_of c.args.path.now)
     (LeadsInto (λ trees. files_of trees c.remove_leaf_from.new.self) (names_of c.args.path.now)) (names_of c.args.path.now) c.remove_leaf_from.new.self c.remove_leaf_from.result (c.remove_leaf_from.ensures.refused [] refl)
+
+pub returns-clause-nothing : goal.returns-clause-nothing
+returns-clause-nothing g c = c.remove_leaf_from.ensures.nothing [] refl
+
+pub returns-clause-made : goal.returns-clause-made
+returns-clause-made g c = c.remove_leaf_from.ensures.made [] refl

@@ -1,4 +1,4 @@
-use Rattle.std.proofs.Common.{refl, ◌⊎◌, inl, true, false, ℕ, List, ◌≡◌, ◌∙◌, ◌<◌, ◌+◌, [], ◌∷◌, ap, sym, subst, arith, length, drop, get_or}
+use Rattle.std.proofs.Common.{refl, None, ◌⊎◌, inl, true, false, ℕ, List, ◌≡◌, ◌∙◌, ◌<◌, ◌+◌, [], ◌∷◌, ap, sym, subst, arith, length, drop, get_or}
 use Rattle.std.specs.Borrow.{Bor}
 use Rattle.std.proofs.lemmas.Result.{err_from_is_err_and}
 use Rattle.gix_object_editor.specs.declared.tree.editor.state.Editor.{Editor}
@@ -6,9 +6,10 @@ use Rattle.gix_object_editor.specs.Editor.{files_of, names_of, LeadsInto, IsFold
 use Rattle.gix_object_editor.specs.Nodes.{slots_of, files_of_node, child_of, onto, Way, LeadsTo, AreFilled, IsForest}
 use Rattle.gix_object_editor.specs.Editor.{IsChanged, IsAsRead, IsAbove, EachEntryHas}
 use Rattle.gix_object_editor.specs.Files.{Bytes}
-use Rattle.gix_object_editor.specs.Marks.{marks_of, AreMarked, AreAsRead, IsMarkedFor}
+use Rattle.gix_object_editor.specs.Marks.{marks_of, AreMarked, AreAsRead, IsMarkedFor, IsIdle, IsChangedIn}
 use Rattle.gix_object_editor.proofs.Marked.{opened_marked, marks_then}
-use Rattle.gix_object_editor.proofs.Changes.{opened_changed, cut_as_read, cut_changed}
+use Rattle.gix_object_editor.proofs.Changes.{opened_changed, cut_as_read, cut_changed, cut_unmarked, opened_same_changed}
+use Rattle.gix_object_editor.proofs.Standing.{nothing_idle, made_there}
 use Rattle.gix_object_editor.specs.Entries.{EachHas}
 use Rattle.gix_object_editor.proofs.Kept.{cut_each}
 use Rattle.gix_object_editor.proofs.Slots.{back}
@@ -269,4 +270,66 @@ returns-clause-asked g c = λ honest trees has.
       | else-depth-path t ↦ subst (λ (e : Editor _). AsksAll (g.S.Lookup.table c.args.self.now.store) ids c.args.self.now.lookups e.lookups) (sym t.self-is)
           (into_asked (g.S.Lookup.table c.args.self.now.store) trees (slots_of c.args.self.now.nodes.items) (slots_of c.walk.new.nodes.items) c.args.from.0 c.in_ok-at.at.0 c.args.path.now c.in_ok-at.depth c.args.self.now.lookups c.walk.new.lookups c.walk.new.lookups c.in_ok-at.ensures.within.1 (c.in_ok-at.ensures.asked honest trees has) (c.in_ok-at.ensures.asked_all honest trees has)
           name (λ e. absurd (t.if-depth-path.false e)) (λ lt. refl))
+    ]
+
+-- ---- where nothing changes
+
+pub returns-clause-nothing : goal.returns-clause-nothing
+returns-clause-nothing g c = λ way w honest trees has none tree.
+    let old = c.args.self.now.nodes.items in
+    let walked = c.walk.new.nodes.items in
+    let path = c.args.path.now in
+    let i = c.in_ok-at.depth in
+    let at = c.in_ok-at.at.0 in
+    elim c.if-depth-path.branch [
+      | then-depth-path+in_ok-refuse_folder t ↦
+          let mid = t.refuse_folder.new.nodes.items in
+          let new = t.cut.new.nodes in
+          let before = t.as_mut_slice.ensures.value in
+          let n : t.refuse_folder.new.nodes.len ≡ length new = omega (arith, t.cut.auto.nodes, t.as_mut_slice.ensures.len) in
+          let opened = (opened_then _ _ (slots_of old) (slots_of walked) (slots_of mid) (length old) (length walked) (length mid) c.in_ok-at.ensures.opened t.in_ok-refuse_folder.ensures.opened) in
+          let kept = (marks_then false (slots_of old) (slots_of walked) (slots_of mid) (marks_of old) (marks_of walked) (marks_of mid) (length old) (length walked) (length mid)
+          c.in_ok-at.ensures.opened.longer t.in_ok-refuse_folder.ensures.opened.longer c.in_ok-at.ensures.marks t.in_ok-refuse_folder.ensures.marks) in
+          let leads = (leads_kept (slots_of walked) (slots_of mid) (onto way (names path)) at (names (drop i path)) t.in_ok-refuse_folder.ensures.opened.links (c.in_ok-at.ensures.leads way w)) in
+          let unmarked = subst (λ ns. IsIdle (marks_of ns) (slots_of ns at _) → (k : ℕ) → marks_of new k ≡ marks_of ns k) before t.cut.ensures.idle in
+          let marked = opened_marked (slots_of old) (slots_of mid) (marks_of old) (marks_of mid) (length old) (length mid) c.args.self.now.forest c.args.self.now.marked false kept t.in_ok-refuse_folder.ensures.opened.forest kept.fresh in
+          let idle = nothing_idle _ _ (slots_of old) (slots_of mid) (length old) (length mid) c.args.self.now.forest opened (onto way (names path)) at _ [] (names (drop i path)) leads
+          (last_name path i _ t.if-depth-path.true) (marks_of mid) (λ l. None) (λ some. absurd (some refl)) honest trees has none in
+          subst (λ (e : Editor _). (IsChanged e tree → IsChanged c.args.self.now tree) × (IsChanged c.args.self.now tree → IsChanged e tree)) (sym t.self-is)
+          (subst (λ ns. (IsChangedIn ns tree → IsChanged c.args.self.now tree) × (IsChanged c.args.self.now tree → IsChangedIn ns tree)) (sym (back t.refuse_folder.new.nodes.len new _ n))
+          (cut_unmarked (slots_of mid) (slots_of new) (marks_of mid) (marks_of new) (length mid) marked at _ t.cut.ensures.here (λ k m off. t.cut.ensures.others k m off ∙ ap (λ ns. slots_of ns k m) before) (unmarked idle) idle
+          (slots_of old) (marks_of old) (opened_same_changed (slots_of old) (slots_of mid) (marks_of old) (marks_of mid) (length old) (length mid) c.args.self.now.forest t.in_ok-refuse_folder.ensures.opened.forest kept opened.links) tree))
+      | else-depth-path t ↦
+          subst (λ (e : Editor _). (IsChanged e tree → IsChanged c.args.self.now tree) × (IsChanged c.args.self.now tree → IsChanged e tree)) (sym t.self-is)
+          (opened_same_changed (slots_of old) (slots_of walked) (marks_of old) (marks_of walked) (length old) (length walked) c.args.self.now.forest c.in_ok-at.ensures.opened.forest c.in_ok-at.ensures.marks c.in_ok-at.ensures.opened.links tree)
+    ]
+
+pub returns-clause-made : goal.returns-clause-made
+returns-clause-made g c = λ way w made tree.
+    let old = c.args.self.now.nodes.items in
+    let walked = c.walk.new.nodes.items in
+    let path = c.args.path.now in
+    let i = c.in_ok-at.depth in
+    let at = c.in_ok-at.at.0 in
+    elim c.if-depth-path.branch [
+      | then-depth-path+in_ok-refuse_folder t ↦
+          let mid = t.refuse_folder.new.nodes.items in
+          let new = t.cut.new.nodes in
+          let before = t.as_mut_slice.ensures.value in
+          let n : t.refuse_folder.new.nodes.len ≡ length new = omega (arith, t.cut.auto.nodes, t.as_mut_slice.ensures.len) in
+          let opened = (opened_then _ _ (slots_of old) (slots_of walked) (slots_of mid) (length old) (length walked) (length mid) c.in_ok-at.ensures.opened t.in_ok-refuse_folder.ensures.opened) in
+          let kept = (marks_then false (slots_of old) (slots_of walked) (slots_of mid) (marks_of old) (marks_of walked) (marks_of mid) (length old) (length walked) (length mid)
+          c.in_ok-at.ensures.opened.longer t.in_ok-refuse_folder.ensures.opened.longer c.in_ok-at.ensures.marks t.in_ok-refuse_folder.ensures.marks) in
+          let leads = (leads_kept (slots_of walked) (slots_of mid) (onto way (names path)) at (names (drop i path)) t.in_ok-refuse_folder.ensures.opened.links (c.in_ok-at.ensures.leads way w)) in
+          let unmarked = subst (λ ns. IsIdle (marks_of ns) (slots_of ns at _) → (k : ℕ) → marks_of new k ≡ marks_of ns k) before t.cut.ensures.idle in
+          let marked = opened_marked (slots_of old) (slots_of mid) (marks_of old) (marks_of mid) (length old) (length mid) c.args.self.now.forest c.args.self.now.marked false kept t.in_ok-refuse_folder.ensures.opened.forest kept.fresh in
+          let idle = made_there _ _ (slots_of old) (slots_of mid) (length old) (length mid) c.args.self.now.forest opened (onto way (names path)) at _ [] (names (drop i path)) leads
+          (last_name path i _ t.if-depth-path.true) (marks_of old) (marks_of mid) kept (λ some. absurd (some refl)) made.0 made.1 made.2 in
+          subst (λ (e : Editor _). (IsChanged e tree → IsChanged c.args.self.now tree) × (IsChanged c.args.self.now tree → IsChanged e tree)) (sym t.self-is)
+          (subst (λ ns. (IsChangedIn ns tree → IsChanged c.args.self.now tree) × (IsChanged c.args.self.now tree → IsChangedIn ns tree)) (sym (back t.refuse_folder.new.nodes.len new _ n))
+          (cut_unmarked (slots_of mid) (slots_of new) (marks_of mid) (marks_of new) (length mid) marked at _ t.cut.ensures.here (λ k m off. t.cut.ensures.others k m off ∙ ap (λ ns. slots_of ns k m) before) (unmarked idle) idle
+          (slots_of old) (marks_of old) (opened_same_changed (slots_of old) (slots_of mid) (marks_of old) (marks_of mid) (length old) (length mid) c.args.self.now.forest t.in_ok-refuse_folder.ensures.opened.forest kept opened.links) tree))
+      | else-depth-path t ↦
+          subst (λ (e : Editor _). (IsChanged e tree → IsChanged c.args.self.now tree) × (IsChanged c.args.self.now tree → IsChanged e tree)) (sym t.self-is)
+          (opened_same_changed (slots_of old) (slots_of walked) (marks_of old) (marks_of walked) (length old) (length walked) c.args.self.now.forest c.in_ok-at.ensures.opened.forest c.in_ok-at.ensures.marks c.in_ok-at.ensures.opened.links tree)
     ]

@@ -15,3 +15,12 @@ returns-clause-changed g c = c.upsert_from.ensures.changed [] refl
 
 pub returns-clause-same : goal.returns-clause-same
 returns-clause-same g c = c.upsert_from.ensures.same [] refl
+
+pub returns-clause-nothing : goal.returns-clause-nothing
+returns-clause-nothing g c = c.upsert_from.ensures.nothing [] refl
+
+pub returns-clause-made : goal.returns-clause-made
+returns-clause-made g c = c.upsert_from.ensures.made [] refl
+
+pub returns-clause-already : goal.returns-clause-already
+returns-clause-already g c = c.upsert_from.ensures.already [] refl

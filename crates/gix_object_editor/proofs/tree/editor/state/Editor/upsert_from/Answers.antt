@@ -1,24 +1,25 @@
-use Rattle.std.proofs.Common.{refl, Some, List, ◌⊎◌, inl, true, false, ℕ, Bool, ◌≡◌, ◌∙◌, ◌<◌, ◌+◌, ◌-◌, ap, sym, subst, arith, length, drop, take, None, get_or, []}
+use Rattle.std.proofs.Common.{refl, Some, List, ◌⊎◌, inl, true, false, ℕ, Bool, ◌≡◌, ◌≢◌, ◌∙◌, ◌<◌, ◌+◌, ◌-◌, ap, sym, subst, arith, length, drop, take, None, get_or, []}
 use Rattle.std.proofs.lemmas.List.{length-drop, get_or-map}
 use Rattle.gix_hash.specs.Id.{id_of}
 use Rattle.gix_object_entries.specs.Mode.{kind_value}
 use Rattle.gix_object_entries.specs.ModeText.{mode_of}
 use Rattle.gix_object_editor.specs.declared.tree.editor.node.Node.{Node}
 use Rattle.gix_object_editor.specs.Editor.{IsChanged, IsAbove}
-use Rattle.gix_object_editor.specs.Marks.{marks_of, AreMarked, AreMarkedBut, AreMarkedUp, AreAsRead, AreOnPath, IsMarkedFor}
+use Rattle.gix_object_editor.specs.Marks.{marks_of, AreMarked, AreMarkedBut, AreMarkedUp, AreAsRead, AreOnPath, IsMarkedFor, IsIdle, IsChangedIn}
 use Rattle.gix_object_editor.proofs.Opening.{as_function}
 use Rattle.std.specs.Borrow.{Bor}
 use Rattle.gix_object_editor.specs.Entries.{EachHas, MayStand}
 use Rattle.gix_object_editor.proofs.Kept.{may_drop, cut_each}
 use Rattle.gix_object_editor.proofs.Slots.{back}
 use Rattle.gix_object_editor.proofs.Marked.{opened_marked, grafted_marked, read_same}
-use Rattle.gix_object_editor.proofs.Changes.{opened_changed, failed_changed, graft_as_read, graft_changed, some_left, cut_as_read, cut_changed_on}
+use Rattle.gix_object_editor.proofs.Changes.{opened_changed, failed_changed, graft_as_read, graft_changed, some_left, cut_as_read, cut_changed_on, cut_unmarked, opened_same_changed}
+use Rattle.gix_object_editor.proofs.Standing.{nothing_idle, made_there, already_there, name_left, last_left}
 use Rattle.gix_object_editor.proofs.Cuts.{nulls_at, not_null_file, more_names}
 use Rattle.gix_object_editor.proofs.WrittenEntries.{null_test}
 use Rattle.gix_object_editor.specs.Files.{Bytes, Leaf, put, is_null}
 use Rattle.std.proofs.lemmas.Result.{err_from_is_err_and}
 use Rattle.gix_object_editor.specs.Editor.{names_of, leaf_of_kind, LeadsThrough}
-use Rattle.gix_object_editor.specs.Nodes.{slots_of, files_of_node, child_of, onto, LeadsTo, IsFolderAt, IsForest, IsEntry, Way}
+use Rattle.gix_object_editor.specs.Nodes.{slots_of, files_of_node, child_of, onto, LeadsTo, IsFolderAt, IsForest, IsNoFolder, IsEntry, Way}
 use Rattle.gix_object_editor.proofs.Edits.{rest_is, first_left, upserts_at, same_entry, stopped_tree, edit_fault, less_forest}
 use Rattle.gix_object_editor.proofs.Ladder.{put_files}
 use Rattle.gix_object_editor.proofs.Asking.{through_asked, through_stops, some_all}
@@ -402,3 +403,99 @@ returns-then-is_null-clause-each g c = λ honest has down fit each.
 
 pub returns-then-is_null-clause-asked : goal.returns-then-is_null-clause-asked
 returns-then-is_null-clause-asked g c = λ honest trees has. through_asked (g.S.Lookup.table c.args.self.now.store) trees (slots_of c.args.self.now.nodes.items) (slots_of c.walk.new.nodes.items) c.args.from.0 c.in_ok-at.at.0 c.args.path.now c.in_ok-at.depth c.args.self.now.lookups c.walk.new.lookups c.walk.new.lookups c.in_ok-at.ensures.within.1 (c.in_ok-at.ensures.asked honest trees has) (c.in_ok-at.ensures.asked_all honest trees has)
+
+-- ---- where nothing changes
+
+pub returns-then-is_null-clause-nothing : goal.returns-then-is_null-clause-nothing
+returns-then-is_null-clause-nothing g c = λ way w honest trees has null none tree.
+    let path = c.args.path.now in
+    let i = c.in_ok-at.depth in
+    let at = c.in_ok-at.at.0 in
+    let old = c.args.self.now.nodes.items in
+    let mid = c.walk.new.nodes.items in
+    let new = c.cut.new.nodes in
+    let before = c.as_mut_slice.ensures.value in
+    let n : c.walk.new.nodes.len ≡ length new = omega (arith, c.cut.auto.nodes, c.as_mut_slice.ensures.len) in
+    let lt : i < length path = c.in_ok-at.ensures.within.1 in
+    let d : Bor (List ℕ) = record { ref_ptr = (0, 0); now = [] } in
+    let name : List ℕ = (get_or path i d).now in
+    let name_is : get_or (names path) i [] ≡ name = get_or-map (λ (x : Bor (List ℕ)). x.now) path i d [] lt in
+    let plain = λ (some : names (drop (i + 1) path) ≢ []). subst (λ m. IsNoFolder (slots_of mid at m)) name_is (c.in_ok-at.ensures.blocked (more_names path (i + 1) some)) in
+    let unmarked = subst (λ ns. IsIdle (marks_of ns) (slots_of ns at name) → (k : ℕ) → marks_of new k ≡ marks_of ns k) before c.cut.ensures.idle in
+    let marked = opened_marked (slots_of old) (slots_of mid) (marks_of old) (marks_of mid) (length old) (length mid) c.args.self.now.forest c.args.self.now.marked false c.in_ok-at.ensures.marks c.in_ok-at.ensures.opened.forest c.in_ok-at.ensures.marks.fresh in
+    let idle = nothing_idle _ _ (slots_of old) (slots_of mid) (length old) (length mid) c.args.self.now.forest c.in_ok-at.ensures.opened (onto way (names path)) at name (names (drop (i + 1) path)) (names (drop i path))
+    (c.in_ok-at.ensures.leads way w) (names_step path i d lt) (marks_of mid) (λ l. Some l) (λ some. (plain some, λ l e. cc e)) honest trees has none in
+    subst (λ ns. (IsChangedIn ns tree → IsChanged c.args.self.now tree) × (IsChanged c.args.self.now tree → IsChangedIn ns tree)) (sym (back c.walk.new.nodes.len new _ n))
+    (cut_unmarked (slots_of mid) (slots_of new) (marks_of mid) (marks_of new) (length mid) marked at name c.cut.ensures.here (λ k m off. c.cut.ensures.others k m off ∙ ap (λ ns. slots_of ns k m) before) (unmarked idle) idle
+    (slots_of old) (marks_of old) (opened_same_changed (slots_of old) (slots_of mid) (marks_of old) (marks_of mid) (length old) (length mid) c.args.self.now.forest c.in_ok-at.ensures.opened.forest c.in_ok-at.ensures.marks c.in_ok-at.ensures.opened.links) tree)
+
+pub returns-then-is_null-clause-made : goal.returns-then-is_null-clause-made
+returns-then-is_null-clause-made g c = λ way w null made tree.
+    let path = c.args.path.now in
+    let i = c.in_ok-at.depth in
+    let at = c.in_ok-at.at.0 in
+    let old = c.args.self.now.nodes.items in
+    let mid = c.walk.new.nodes.items in
+    let new = c.cut.new.nodes in
+    let before = c.as_mut_slice.ensures.value in
+    let n : c.walk.new.nodes.len ≡ length new = omega (arith, c.cut.auto.nodes, c.as_mut_slice.ensures.len) in
+    let lt : i < length path = c.in_ok-at.ensures.within.1 in
+    let d : Bor (List ℕ) = record { ref_ptr = (0, 0); now = [] } in
+    let name : List ℕ = (get_or path i d).now in
+    let name_is : get_or (names path) i [] ≡ name = get_or-map (λ (x : Bor (List ℕ)). x.now) path i d [] lt in
+    let plain = λ (some : names (drop (i + 1) path) ≢ []). subst (λ m. IsNoFolder (slots_of mid at m)) name_is (c.in_ok-at.ensures.blocked (more_names path (i + 1) some)) in
+    let unmarked = subst (λ ns. IsIdle (marks_of ns) (slots_of ns at name) → (k : ℕ) → marks_of new k ≡ marks_of ns k) before c.cut.ensures.idle in
+    let marked = opened_marked (slots_of old) (slots_of mid) (marks_of old) (marks_of mid) (length old) (length mid) c.args.self.now.forest c.args.self.now.marked false c.in_ok-at.ensures.marks c.in_ok-at.ensures.opened.forest c.in_ok-at.ensures.marks.fresh in
+    let idle = made_there _ _ (slots_of old) (slots_of mid) (length old) (length mid) c.args.self.now.forest c.in_ok-at.ensures.opened (onto way (names path)) at name (names (drop (i + 1) path)) (names (drop i path))
+    (c.in_ok-at.ensures.leads way w) (names_step path i d lt) (marks_of old) (marks_of mid) c.in_ok-at.ensures.marks plain made.0 made.1 made.2 in
+    subst (λ ns. (IsChangedIn ns tree → IsChanged c.args.self.now tree) × (IsChanged c.args.self.now tree → IsChangedIn ns tree)) (sym (back c.walk.new.nodes.len new _ n))
+    (cut_unmarked (slots_of mid) (slots_of new) (marks_of mid) (marks_of new) (length mid) marked at name c.cut.ensures.here (λ k m off. c.cut.ensures.others k m off ∙ ap (λ ns. slots_of ns k m) before) (unmarked idle) idle
+    (slots_of old) (marks_of old) (opened_same_changed (slots_of old) (slots_of mid) (marks_of old) (marks_of mid) (length old) (length mid) c.args.self.now.forest c.in_ok-at.ensures.opened.forest c.in_ok-at.ensures.marks c.in_ok-at.ensures.opened.links) tree)
+
+pub returns-then-is_null-clause-already : goal.returns-then-is_null-clause-already
+returns-then-is_null-clause-already g c = λ way w honest trees has some is closed.
+    let null : is_null (id_of c.args.id) ≡ true = null_test (id_of c.args.id) c.is_null.result c.is_null.ensures ∙ c.if-is_null.true in
+    absurd (cc (sym null ∙ some))
+
+pub returns-then-stands_already-clause-nothing : goal.returns-then-stands_already-clause-nothing
+returns-then-stands_already-clause-nothing g c = λ way w honest trees has null none tree.
+    opened_same_changed (slots_of c.args.self.now.nodes.items) (slots_of c.walk.new.nodes.items) (marks_of c.args.self.now.nodes.items) (marks_of c.walk.new.nodes.items) (length c.args.self.now.nodes.items) (length c.walk.new.nodes.items) c.args.self.now.forest c.in_ok-at.ensures.opened.forest c.in_ok-at.ensures.marks c.in_ok-at.ensures.opened.links tree
+
+pub returns-then-stands_already-clause-made : goal.returns-then-stands_already-clause-made
+returns-then-stands_already-clause-made g c = λ way w null made tree.
+    opened_same_changed (slots_of c.args.self.now.nodes.items) (slots_of c.walk.new.nodes.items) (marks_of c.args.self.now.nodes.items) (marks_of c.walk.new.nodes.items) (length c.args.self.now.nodes.items) (length c.walk.new.nodes.items) c.args.self.now.forest c.in_ok-at.ensures.opened.forest c.in_ok-at.ensures.marks c.in_ok-at.ensures.opened.links tree
+
+pub returns-then-stands_already-clause-already : goal.returns-then-stands_already-clause-already
+returns-then-stands_already-clause-already g c = λ way w honest trees has some is closed tree.
+    opened_same_changed (slots_of c.args.self.now.nodes.items) (slots_of c.walk.new.nodes.items) (marks_of c.args.self.now.nodes.items) (marks_of c.walk.new.nodes.items) (length c.args.self.now.nodes.items) (length c.walk.new.nodes.items) c.args.self.now.forest c.in_ok-at.ensures.opened.forest c.in_ok-at.ensures.marks c.in_ok-at.ensures.opened.links tree
+
+pub returns-clause-nothing : goal.returns-clause-nothing
+returns-clause-nothing g c = λ way w honest trees has null none.
+    let some : is_null (id_of c.args.id) ≡ false = null_test (id_of c.args.id) c.is_null.result c.is_null.ensures ∙ c.if-is_null.false in
+    absurd (cc (sym null ∙ some))
+
+pub returns-clause-made : goal.returns-clause-made
+returns-clause-made g c = λ way w null made.
+    let some : is_null (id_of c.args.id) ≡ false = null_test (id_of c.args.id) c.is_null.result c.is_null.ensures ∙ c.if-is_null.false in
+    absurd (cc (sym null ∙ some))
+
+pub returns-clause-already : goal.returns-clause-already
+returns-clause-already g c = λ way w honest trees has some is closed.
+    let path = c.args.path.now in
+    let i = c.in_ok-at.depth in
+    let at = c.in_ok-at.at.0 in
+    let old = c.args.self.now.nodes.items in
+    let mid = c.walk.new.nodes.items in
+    let left = take (length path - i) (drop i path) in
+    let cut : left ≡ drop i path = rest_is path i in
+    let lt : i < length path = c.in_ok-at.ensures.within.1 in
+    let leaf : Leaf = record { mode = mode_of c.from.result; id = id_of c.args.id } in
+    let same : leaf ≡ leaf_of_kind c.args.kind c.args.id =
+    ap (λ (v : ℕ). let l : Leaf = record { mode = record { value = v; padded = c.from.result.padded }; id = id_of c.args.id } in l) c.from.ensures.0
+    ∙ ap (λ (b : Bool). let l : Leaf = record { mode = record { value = kind_value c.args.kind; padded = b }; id = id_of c.args.id } in l) c.from.ensures.1 in
+    let there = already_there _ _ (slots_of old) (slots_of mid) (length old) (length mid) c.args.self.now.forest c.in_ok-at.ensures.opened (onto way (names path)) at (get_or (names path) i []) (names (drop (i + 1) path)) (names (drop i path))
+    (c.in_ok-at.ensures.leads way w) (name_left path i lt) (marks_of old) (marks_of mid) c.in_ok-at.ensures.marks (λ more. c.in_ok-at.ensures.blocked (more_names path (i + 1) more)) c.in_ok-at.ensures.before honest trees has leaf
+    (is ∙ ap Some (sym same)) closed in
+    let one : length left ≡ 1 = omega (arith, last_left path i lt there.0, ap length cut, length-drop i path) in
+    let entry = subst (λ m. IsEntry (slots_of mid at m) leaf) (sym (ap (λ p. get_or (names p) 0 []) cut ∙ first_left path i lt)) there.1 in
+    absurd (c.stands_already.ensures.otherwise c.if-stands_already.false one (subst (λ (ns : List Node). IsEntry (slots_of ns at (get_or (names left) 0 [])) leaf) (sym c.as_slice.ensures.value) entry))
