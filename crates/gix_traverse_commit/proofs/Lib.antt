@@ -22,4 +22,5 @@ mod Times
 mod Pending
 mod Rest
 mod Counting
+pub mod Ending
 pub mod Meeting

@@ -19,3 +19,4 @@ pub mod Painting
 pub mod Turns
 pub mod Sorting
 pub mod Timely
+pub mod Ending

@@ -1,5 +1,6 @@
 -- Where a walk stands, and what it gives.
-use Rattle.std.specs.Prelude.{◌≡◌, ◌⊎◌, ◌↔◌, ◌<◌, ◌≤◌, ◌+◌, ℕ, IfOk, IfErr, IfSome, IfNone, IsNone, OnErr, Bool, true, false, not, ◌&&◌, List, [], ◌∷◌, ◌++◌, length, Option, None, Some, IsSome, ℤ, Result, Contains, take, ⊤}
+use Rattle.std.specs.Prelude.{◌≡◌, ◌⊎◌, ◌↔◌, ◌<◌, ◌≤◌, ◌+◌, ℕ, IfOk, IfErr, IfSome, IfNone, IsNone, OnErr, Bool, true, false, not, ◌&&◌, List, [], ◌∷◌, ◌++◌, length, Option, None, Some, IsSome, ℤ, Result, Contains, take, ⊤, map, OnOk, if◌then◌else◌}
+use Rattle.std.specs.List.{sum_by}
 use Rattle.gix_hash.specs.Id.{Id, id_of}
 use Rattle.gix_hash.specs.declared.kind.Kind as hash
 use Rattle.gix_hash.specs.declared.object_id.ObjectId.{ObjectId}
@@ -7,6 +8,7 @@ use Rattle.gix_object_find.specs.Existing as object
 use Rattle.gix_object_find.specs.Table.{Table}
 use Rattle.gix_object_lines.specs.declared.kind.Kind.TheVariants as kinds
 use Rattle.gix_traverse_commit.specs.Commits.{Commit, Commits, WalkRequest, asked_parents}
+use Rattle.gix_traverse_commit.specs.Ending.{NoneGains, is_empty, may_come, times_in, times_waiting}
 use Rattle.gix_traverse_commit.specs.Fetching.{FetchFault, TimeFault, TimeIsTold, HasRowsGeneration, one_more}
 use Rattle.gix_traverse_commit.specs.Keeping.{Kept, KeptAll}
 use Rattle.gix_traverse_commit.specs.Meeting.{Asks, CountsAll, CountsOne, CountsTimes, IsFresh, accepted}
@@ -69,6 +71,22 @@ queued_in walk = walk.queue.items ++ queued_by walk.waiting
 -- it has met the commit: as a tip, or as a parent of a commit that came, which was not hidden then
 abbrev pub HasMet : {F P : Type 0} → Simple F P → ObjectId → Type 0
 HasMet walk x = is_met walk.nodes x ≡ true
+
+-- how often an id is queued, or waits
+abbrev pub times_queued : {F P : Type 0} → Simple F P → Id → ℕ
+times_queued walk id = times_in walk.queue.items id + times_waiting (waiting walk.waiting) id
+
+-- no commit may come more often than before
+abbrev pub GainsNone : {F P : Type 0} → Simple F P → Simple F P → Type 0
+GainsNone before after = NoneGains before.nodes (times_queued before) after.nodes (times_queued after)
+
+-- the ids of the rows, and these
+abbrev pub known_ids : List Row → List Id → List Id
+known_ids rows ids = map (λ (row : Row). id_of row.id) rows ++ ids
+
+-- what is left of a walk, of the ids of its rows and these: each once where it isn't met, and as often as it is queued or waits
+abbrev pub left_of : {F P : Type 0} → List Id → Simple F P → ℕ
+left_of ids walk = sum_by (may_come walk.nodes (times_queued walk)) (known_ids (rows_of walk.source.rows) ids)
 
 -- ---- what it is asked for
 
@@ -210,6 +228,15 @@ pub record IsOver {F P : Type 0} (walk : Simple F P) : Type 0 where
   pub begun : walk.begun ≡ true
   pub empty : walk.queue.items ≡ []
   pub none_waits : waiting walk.waiting ≡ []
+
+-- the same, as a test
+abbrev pub is_over : {F P : Type 0} → Simple F P → Bool
+is_over walk = walk.begun && (is_empty walk.queue.items && is_empty (waiting walk.waiting))
+
+-- how many answers may still come, of the ids of its rows and these: none where it is over, and else the commits that are left and
+-- an error
+abbrev pub answers_left : {F P : Type 0} → List Id → Simple F P → ℕ
+answers_left ids walk = if is_over walk then 0 else left_of ids walk + 1
 
 -- what is left of a walk that was asked for this: from what is queued, in its order, past no other commit that was met
 pub record IsRest {F P : Type 0} (a rest : Asked) (walk : Simple F P) : Type 0 where
@@ -439,3 +466,4 @@ pub record GivesNext {F P : Type 0} (accepts : P → Id → Bool) (goes : P → 
   pub rowed_end : InRows before → IfNone item (after.source.lookups ≡ before.source.lookups)
   pub first : (a : Asked) → IsMade accepts a before → IfSome item (λ answer. IfOk answer (λ info. CountsFirst accepts goes honest may_fail table ids a before info after))
   pub first_end : (a : Asked) → IsMade accepts a before → IfNone item (CountsBeginning honest (rows_of before.source.rows) table a before.source.lookups after.source.lookups)
+  pub falls : IfSome item (λ answer. OnOk answer (left_of ids after < left_of ids before))

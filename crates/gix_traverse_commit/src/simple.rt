@@ -1,6 +1,7 @@
 //! A walk over commits, each once.
 
 ghost use Rattle.std.specs.Prelude.{◌≡◌, ◌≤◌, ◌+◌, List, Contains, [], length, IfOk, IfErr, IsOk, OnOk, None, true, false};
+ghost use Rattle.std.specs.Iterator.{at_most};
 ghost use Rattle.gix_hash.specs.Id.{Id};
 ghost use Rattle.gix_hash.specs.declared.object_id.ObjectId.{ObjectId};
 ghost use Rattle.gix_object_commit.specs.Tokens.{place_of, start};
@@ -8,7 +9,7 @@ ghost use Rattle.gix_traverse_commit.specs.Commits.{Commits};
 ghost use Rattle.gix_traverse_commit.specs.Fetching.{TimeIsTold};
 ghost use Rattle.gix_traverse_commit.specs.Meeting.{AsksOnce, CountsTimes, accepted};
 ghost use Rattle.gix_traverse_commit.specs.Rows.{AllHeld};
-ghost use Rattle.gix_traverse_commit.specs.Simply.{Asked, HasAhead, IsAccepted, IsMade, IsUnderWay, IsOver, IsKnown, TipFault, GivesNext, predicate_of, source_of, objects_of, graph_of, lookups_of, content_of, kind_of};
+ghost use Rattle.gix_traverse_commit.specs.Simply.{Asked, HasAhead, IsAccepted, IsMade, IsUnderWay, IsOver, IsKnown, TipFault, GivesNext, answers_left, predicate_of, source_of, objects_of, graph_of, lookups_of, content_of, kind_of};
 ghost use Rattle.gix_traverse_commit.specs.Sorting.{IsByTime, timing_of};
 ghost use Rattle.gix_traverse_commit.specs.Told.{rows_of};
 ghost use Rattle.gix_traverse_commit.specs.declared.parents.Parents.TheVariants.{All as AllParents};
@@ -235,6 +236,8 @@ impl<F: Find + Drop, P: Accept + Drop> Iterator for Simple<F, P> {
     ghost next_gives = { λ before item after. GivesNext P.accepts P.goes (F.is_honest before.source.objects)
         (F.may_fail before.source.objects) (F.table before.source.objects) (F.ids before.source.objects)
         before item after };
+
+    ghost remaining = { λ walk. at_most (answers_left (F.ids (objects_of walk)) walk) };
 
     /// The next commit. It is an error where that isn't found or isn't read, where the hidden commits aren't painted, and where
     /// no memory is left; and nothing where all are given, or an error was.

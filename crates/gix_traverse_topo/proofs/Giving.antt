@@ -1,19 +1,22 @@
 -- What one call of a walk gives, from what its clauses say.
-use Rattle.std.proofs.Common.{◌≡◌, ◌⊎◌, List, [], ◌∷◌, ◌++◌, sym, subst, Some, None, Option, Bool, ◌<◌}
-use Rattle.std.specs.Prelude.{Result, Ok, Err, IfOk, IfErr, OnErr, IfSome, IfNone, IsNone, OnOk}
+use Rattle.std.proofs.Common.{refl, cond, arith, ℕ, ◌+◌, true, false, ◌≡◌, ◌⊎◌, List, [], ◌∷◌, ◌++◌, sym, subst, Some, None, Option, Bool, ◌<◌}
+use Rattle.std.specs.Prelude.{Result, Ok, Err, IfOk, IfErr, OnErr, IfSome, IfNone, IsNone, OnOk, ⊤}
+use Rattle.std.specs.Iterator.{MakesProgress, at_most}
 use Rattle.gix_hash.specs.Id.{Id, id_of}
 use Rattle.gix_hash.specs.declared.object_id.ObjectId.{ObjectId}
 use Rattle.gix_traverse_commit.specs.Commits.{Commits}
+use Rattle.gix_traverse_commit.specs.Ending.{is_empty}
 use Rattle.gix_traverse_commit.specs.declared.info.Info.{Info}
 use Rattle.gix_traverse_commit.specs.declared.parents.Parents.{Parents}
 use Rattle.gix_traverse_commit.specs.declared.rows.Row.{Row}
-use Rattle.gix_traverse_topo.specs.Giving.{AsksEach, AsksRest, GivesNext, left_of}
+use Rattle.gix_traverse_topo.specs.Giving.{AsksEach, AsksRest, GivesNext, answers_left, left_of}
 use Rattle.gix_traverse_topo.specs.Standing.{Answers, IsInfo, IsTurn, NoneReachesItself, Stands, all_accepted, topo_request}
 use Rattle.gix_traverse_topo.specs.Waiting.{waiting}
 use Rattle.gix_traverse_topo.specs.declared.error.Error.{Error}
 use Rattle.gix_traverse_topo.specs.declared.error.Error.TheVariants.{Memory}
 use Rattle.gix_traverse_topo.specs.declared.init.Sorting.{Sorting}
 use Rattle.gix_traverse_topo.specs.declared.iter.Topo.{Topo}
+use Rattle.gix_traverse_commit.proofs.Ending.{empty_from, empty_test, fewer_left, none_left}
 
 ok_then : (r : Option (Result Info Error)) (P Q : Info → Type 0) → IfSome r (λ a. IfOk a P) → ((info : Info) → P info → Q info) → IfSome r (λ a. IfOk a Q)
 ok_then None P Q h f = tt
@@ -53,3 +56,20 @@ module _ {P : Type 0} (accepts : P → Id → Bool) (goes : P → Id → P → T
     ended = ended;
     fewer = fewer;
   }
+
+no_item : false ≡ true → ⊥
+no_item e = let z : ⊥ = cc in z
+
+-- with each answer fewer may come
+pub progress : {P : Type 0} (before after : Topo P) (item : Option (Result Info Error)) → IfSome item (λ a. OnErr a (waiting after.ready ≡ [])) → (waiting before.ready ≡ [] → IsNone item) → IfSome item (λ a. OnOk a (left_of after < left_of before)) → MakesProgress (λ _. ⊤) (λ walk. at_most (answers_left walk)) before item after
+progress before after None failed ended fewer = record { on = λ _. tt; keeps = tt; rests = λ _. tt }
+progress before after (Some (Ok info)) failed ended fewer = record {
+  on = λ _. (tt, tt, fewer_left (is_empty (waiting before.ready)) (is_empty (waiting after.ready)) (left_of before) (left_of after) (λ t. no_item (sym (ended (empty_from (waiting before.ready) t)))) fewer);
+  keeps = tt;
+  rests = λ _. tt;
+}
+progress before after (Some (Err e)) failed ended fewer = record {
+  on = λ _. (tt, tt, none_left (is_empty (waiting before.ready)) (is_empty (waiting after.ready)) (left_of before) (left_of after) (λ t. no_item (sym (ended (empty_from (waiting before.ready) t)))) (empty_test (waiting after.ready) failed));
+  keeps = tt;
+  rests = λ _. tt;
+}

@@ -1,8 +1,9 @@
 -- What one call of a walk gives.
-use Rattle.std.specs.Prelude.{◌≡◌, ◌⊎◌, ℕ, ◌<◌, List, [], ◌∷◌, ◌++◌, Bool, Option, Some, Result, IfOk, IfErr, OnErr, OnOk, IfSome, IfNone, IsNone}
+use Rattle.std.specs.Prelude.{◌≡◌, ◌⊎◌, ℕ, ◌<◌, List, [], ◌∷◌, ◌++◌, ◌+◌, Bool, if◌then◌else◌, Option, Some, Result, IfOk, IfErr, OnErr, OnOk, IfSome, IfNone, IsNone}
 use Rattle.gix_hash.specs.Id.{Id, id_of}
 use Rattle.gix_hash.specs.declared.object_id.ObjectId.{ObjectId}
 use Rattle.gix_traverse_commit.specs.Commits.{Commits}
+use Rattle.gix_traverse_commit.specs.Ending.{is_empty}
 use Rattle.gix_traverse_commit.specs.Meeting.{Asks}
 use Rattle.gix_traverse_commit.specs.declared.info.Info.{Info}
 use Rattle.gix_traverse_commit.specs.declared.rows.Row.{Row}
@@ -31,6 +32,10 @@ HasGiven accepts walk sorting rows faults g tips ends given = Stands sorting row
 -- what is left of a walk: the names that are still to be counted off, and the commits that wait
 abbrev pub left_of : {P : Type 0} → Topo P → ℕ
 left_of walk = weight walk.known walk.ready
+
+-- how many answers may still come: none where no commit waits, and else what is left and an error
+abbrev pub answers_left : {P : Type 0} → Topo P → ℕ
+answers_left walk = if is_empty (waiting walk.ready) then 0 else left_of walk + 1
 
 -- these commits were finished, in this order, and the predicate was asked of each of them once
 pub record AsksEach {P : Type 0} (goes : P → Id → P → Type 0) (before after : Topo P) (more : List ObjectId) : Type 0 where

@@ -1,6 +1,7 @@
 //! The walk.
 
 ghost use Rattle.std.specs.Prelude.{true, false, ◌≡◌, ◌+◌, ◌<◌, ◌≤◌, ◌++◌, ◌∷◌, [], ℕ, List, OnOk, IfOk, IfErr, OnErr, IfSome, IfNone, IsNone, Option, Some, ◌⊎◌, length};
+ghost use Rattle.std.specs.Iterator.{at_most};
 ghost use Rattle.gix_hash.specs.declared.object_id.ObjectId.{ObjectId};
 ghost use Rattle.gix_traverse_commit.specs.Commits.{Commits, asked};
 ghost use Rattle.gix_traverse_commit.specs.Order.{At};
@@ -8,7 +9,7 @@ ghost use Rattle.gix_traverse_commit.specs.declared.rows.Row.{Row};
 ghost use Rattle.gix_traverse_topo.specs.declared.init.Sorting.{Sorting};
 ghost use Rattle.gix_traverse_topo.specs.Nodes.{readings, counts, IsOnce};
 ghost use Rattle.gix_traverse_topo.specs.Asking.{lookups_of};
-ghost use Rattle.gix_traverse_topo.specs.Giving.{AsksEach, AsksRest, GivesNext};
+ghost use Rattle.gix_traverse_topo.specs.Giving.{AsksEach, AsksRest, GivesNext, answers_left};
 ghost use Rattle.gix_traverse_topo.specs.Standing.{Answers, CountsOff, Gives, GoesOff, IsInfo, IsTurn, IsTurnOf, NoneReachesItself, NotCounted, RowOff, Standing, Stands, Steps, all_accepted, topo_request, weight};
 ghost use Rattle.gix_traverse_topo.specs.Waiting.{waiting};
 ghost use Rattle.gix_hash.specs.Id.{id_of};
@@ -225,6 +226,8 @@ impl<P: Accept + Drop> Iterator for Topo<P> {
     type Item = Result<Info, Error>;
 
     ghost next_gives = { λ before item after. GivesNext P.accepts P.goes before item after };
+
+    ghost remaining = { λ walk. at_most (answers_left walk) };
 
     /// The next commit. It is an error where that isn't read, and where no memory is left; and nothing where all are given, or an
     /// error was.

@@ -3,6 +3,7 @@
 ghost use Rattle.std.specs.Prelude.{◌≡◌, List, Bool, true, false, not, ◌&&◌, [], ◌∷◌, ◌++◌, length, if◌then◌else◌, Contains, IfSome, IfNone, OnOk};
 ghost use Rattle.gix_hash.specs.Id.{id_of};
 ghost use Rattle.gix_hash.specs.declared.object_id.ObjectId.{ObjectId};
+ghost use Rattle.gix_traverse_commit.specs.Ending.{NoneGains, times_in};
 ghost use Rattle.gix_traverse_commit.specs.Keeping.{Kept, KeptAll};
 ghost use Rattle.gix_traverse_commit.specs.Meeting.{Asks, AsksOnce, IsFresh, fresh};
 ghost use Rattle.gix_traverse_commit.specs.Nodes.{is_asked, is_met, is_hidden};
@@ -116,6 +117,8 @@ pub fn queue_tips(
         → is_met nodes.new q ≡ true) }
     ensures rowed { OnOk result ((rows : List Row) → AllHeld rows queue.old.items
         → AllHeld rows tips.now → AllHeld rows queue.new.items) }
+    ensures left { OnOk result (NoneGains nodes.old (times_in queue.old.items) nodes.new
+        (times_in queue.new.items)) }
     ensures walked { OnOk result ((along : ObjectId → List ObjectId) (keep : ObjectId → Bool)
         → ((x : ObjectId) → Contains tips.now x → is_met nodes.old x ≡ false
         → keep x ≡ not (is_hidden nodes.old x))
@@ -171,6 +174,8 @@ pub fn meet_parents<P: Accept>(
         → is_met nodes.new q ≡ true) }
     ensures rowed { OnOk result ((rows : List Row) → AllHeld rows queue.old.items
         → AllHeld rows parents.now → AllHeld rows queue.new.items) }
+    ensures left { OnOk result (NoneGains nodes.old (times_in queue.old.items) nodes.new
+        (times_in queue.new.items)) }
     ensures walked { OnOk result ((along : ObjectId → List ObjectId) (keep : ObjectId → Bool)
         (tips listed : List ObjectId) (id : ObjectId)
         → ((x : ObjectId) → is_met nodes.old x ≡ false

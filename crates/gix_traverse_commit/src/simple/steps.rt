@@ -4,11 +4,12 @@ ghost use Rattle.std.specs.Prelude.{◌≡◌, ◌↔◌, ◌≤◌, ◌+◌, Li
 ghost use Rattle.gix_hash.specs.Id.{Id, id_of};
 ghost use Rattle.gix_hash.specs.declared.object_id.ObjectId.{ObjectId};
 ghost use Rattle.gix_traverse_commit.specs.Commits.{Commits, asked_parents};
+ghost use Rattle.gix_traverse_commit.specs.Ending.{times_in};
 ghost use Rattle.gix_traverse_commit.specs.Fetching.{TimeIsTold};
 ghost use Rattle.gix_traverse_commit.specs.Meeting.{Asks, CountsOne, CountsTimes, CountsTips, IsFresh, accepted, unmet};
 ghost use Rattle.gix_traverse_commit.specs.Order.{IsListOf};
 ghost use Rattle.gix_traverse_commit.specs.Rows.{AllHeld, Holds};
-ghost use Rattle.gix_traverse_commit.specs.Simply.{Answers, Asked, CountsBeginning, CountsFault, CountsUpTo, HasAhead, IsMade, IsNew, IsPaintedFor, IsUnderWay, IsAtTurn, IsOver, IsKnown, IsInfo, IsTurn, IsSure, IsContentOf, IsUnmet, InRows, Meets, Stands, StopsFetch, TipFault, SimpleFault, content_of};
+ghost use Rattle.gix_traverse_commit.specs.Simply.{Answers, Asked, CountsBeginning, CountsFault, CountsUpTo, HasAhead, IsMade, IsNew, IsPaintedFor, IsUnderWay, IsAtTurn, IsOver, IsKnown, IsInfo, IsTurn, IsSure, IsContentOf, IsUnmet, InRows, Meets, Stands, StopsFetch, TipFault, SimpleFault, GainsNone, content_of, times_queued};
 ghost use Rattle.gix_traverse_commit.specs.Sorting.{IsByTime, timing_of};
 ghost use Rattle.gix_traverse_commit.specs.Timely.{waiting};
 ghost use Rattle.gix_traverse_commit.specs.Told.{AreTold, rows_of};
@@ -93,6 +94,7 @@ impl<F: Find + Drop, P: Accept + Drop> Simple<F, P> {
             → (self.new ≡ self.old) × IsOk result }
         ensures made { (a : Asked) → IsMade P.accepts a self.old
             → OnOk result (IsNew P.accepts a self.new) }
+        ensures left { OnOk result (GainsNone self.old self.new) }
         ensures order { (self.new.parents ≡ self.old.parents)
             × (self.new.sorting ≡ self.old.sorting) }
         ensures rowed { InRows self.old → OnOk result (InRows self.new) }
@@ -118,6 +120,7 @@ impl<F: Find + Drop, P: Accept + Drop> Simple<F, P> {
             → (ids : List Id) (a : Asked) → IsSure (F.may_fail self.old.source.objects) a
             → IsPaintedFor P.accepts g a self.old
             → OnOk result (IsUnderWay P.accepts ids g a [] self.new) }
+        ensures left { OnOk result (GainsNone self.old self.new) }
         ensures rowed { InRows self.old → OnOk result (InRows self.new
             × (self.new.source.lookups ≡ self.old.source.lookups)) }
         ensures in_breadth { timing_of self.old.parents self.old.sorting ≡ None
@@ -157,6 +160,7 @@ impl<F: Find + Drop, P: Accept + Drop> Simple<F, P> {
             → AreTold (rows_of self.old.source.rows) (F.table self.old.source.objects) g
             → (ids : List Id) (a : Asked) → IsSure (F.may_fail self.old.source.objects) a
             → IsMade P.accepts a self.old → OnOk result (IsUnderWay P.accepts ids g a [] self.new) }
+        ensures left { OnOk result (GainsNone self.old self.new) }
         ensures content { OnOk result (content_of self.new ≡ content_of self.old) }
         ensures rowed { OnOk result (InRows self.old → InRows self.new
             × (self.new.source.lookups ≡ self.old.source.lookups)) }
@@ -192,6 +196,7 @@ impl<F: Find + Drop, P: Accept + Drop> Simple<F, P> {
             → IsSure (F.may_fail self.old.source.objects) a
             → Stands P.accepts ids g a listed self.old
             → OnOk result (IsUnderWay P.accepts ids g a listed self.new) }
+        ensures left { OnOk result (GainsNone self.old self.new) }
         ensures same { self.old.begun ≡ true → OnOk result (self.new ≡ self.old) }
         ensures begun { self.old.begun ≡ true → IsOk result }
         ensures content { OnOk result (content_of self.new ≡ content_of self.old) }
@@ -247,6 +252,8 @@ impl<F: Find + Drop, P: Accept + Drop> Simple<F, P> {
         ensures turn { IfSome result (λ id. (ids : List Id) (g : Commits ObjectId) (a : Asked)
             (listed : List ObjectId) → IsUnderWay P.accepts ids g a listed self.old
             → IsAtTurn P.accepts ids g a listed id self.new × IsTurn g a listed id) }
+        ensures less { IfSome result (λ id. (x : Id) → times_queued self.old x
+            ≡ times_in (id ∷ []) x + times_queued self.new x) }
         ensures end { IfNone result ((ids : List Id) (g : Commits ObjectId) (a : Asked)
             (listed : List ObjectId) → IsUnderWay P.accepts ids g a listed self.old
             → Answers g a listed) }
@@ -276,6 +283,7 @@ impl<F: Find + Drop, P: Accept + Drop> Simple<F, P> {
             → IsKnown (rows_of self.old.source.rows) ids id
             → IsAtTurn P.accepts ids g a listed id self.old
             → IsUnderWay P.accepts ids g a (listed ++ id ∷ []) self.new) }
+        ensures left { OnOk result (GainsNone self.old self.new) }
         ensures rowed { InRows self.old → AllHeld (rows_of self.old.source.rows) parents.now
             → OnOk result (InRows self.new × (self.new.source.lookups ≡ self.old.source.lookups)) }
         ensures in_breadth { timing_of self.old.parents self.old.sorting ≡ None
@@ -329,6 +337,7 @@ impl<F: Find + Drop, P: Accept + Drop> Simple<F, P> {
             → IsAtTurn P.accepts (F.ids self.old.source.objects) g a listed id self.old
             → IsUnderWay P.accepts (F.ids self.old.source.objects) g a (listed ++ id ∷ [])
             self.new) }
+        ensures left { OnOk result (GainsNone self.old self.new) }
         ensures content { OnOk result (IsContentOf (F.is_honest self.old.source.objects)
             (rows_of self.old.source.rows) (F.table self.old.source.objects) id
             self.new.source.buffer.items × (self.new.kind ≡ (id_of id).kind)) }

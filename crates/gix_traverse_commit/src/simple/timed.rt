@@ -4,6 +4,7 @@ ghost use Rattle.std.specs.Prelude.{◌≡◌, ◌⊎◌, ◌∷◌, ℕ, ◌≤
 ghost use Rattle.gix_hash.specs.Id.{Id, id_of};
 ghost use Rattle.gix_hash.specs.declared.object_id.ObjectId.{ObjectId};
 ghost use Rattle.gix_traverse_commit.specs.Commits.{Commits};
+ghost use Rattle.gix_traverse_commit.specs.Ending.{NoneGains, times_in, times_waiting};
 ghost use Rattle.gix_traverse_commit.specs.Fetching.{TimeIsTold, one_more};
 ghost use Rattle.gix_traverse_commit.specs.Meeting.{Asks, CountsAll, IsFresh, accepted, fresh, unmet};
 ghost use Rattle.gix_traverse_commit.specs.Nodes.{is_met, is_hidden};
@@ -116,6 +117,8 @@ fn wait<F: Find>(
         → (g : Commits ObjectId) → AreTold (rows_of source.old.rows) (F.table source.old.objects) g
         → Joins (in_time since (g id).time) (waiting_turns waiting.old) (turn_of g id)
         (waiting_turns waiting.new)) }
+    ensures once { OnOk result ((x : Id) → times_waiting (waiting_turns waiting.new) x
+        ≤ times_waiting (waiting_turns waiting.old) x + times_in (id ∷ []) x) }
     ensures asked { (¬ Holds (rows_of source.old.rows) id)
         → source.new.lookups ≡ one_more source.old.lookups }
     ensures refused { IfErr result (λ error. error ≡ Memory) }
@@ -150,6 +153,8 @@ fn await_tip<F: Find>(
         → (g : Commits ObjectId) → AreTold (rows_of source.old.rows) (F.table source.old.objects) g
         → Joins (not (is_met nodes.old id) && (not (is_hidden nodes.old id) && in_time since
         (g id).time)) (waiting_turns waiting.old) (turn_of g id) (waiting_turns waiting.new)) }
+    ensures left { OnOk result (NoneGains nodes.old (times_waiting (waiting_turns waiting.old))
+        nodes.new (times_waiting (waiting_turns waiting.new))) }
     ensures timed { OnOk result (CountsAll (rows_of source.old.rows) (fresh nodes.old id)
         source.old.lookups source.new.lookups) }
     ensures refused { IfErr result (λ error. error ≡ Memory) }
@@ -192,6 +197,8 @@ pub fn await_tips<F: Find>(
         (λ _. ⊥) [] (waiting_turns waiting.old)
         → IsMetSoFar g (keep_since since g (is_hidden nodes.old) accepts) (is_met nodes.new)
         (Contains tips.now) [] (waiting_turns waiting.new)) }
+    ensures left { OnOk result (NoneGains nodes.old (times_waiting (waiting_turns waiting.old))
+        nodes.new (times_waiting (waiting_turns waiting.new))) }
     ensures timed { OnOk result ((timed : List ObjectId)
         × IsListOf (IsFresh nodes.old tips.now) timed
         × CountsAll (rows_of source.old.rows) timed source.old.lookups source.new.lookups) }
@@ -229,6 +236,8 @@ fn await_parent<F: Find, P: Accept>(
         → Joins (not (is_met nodes.old id) && keep_since since g (is_hidden nodes.old)
         (P.accepts predicate.old) id) (waiting_turns waiting.old) (turn_of g id)
         (waiting_turns waiting.new)) }
+    ensures left { OnOk result (NoneGains nodes.old (times_waiting (waiting_turns waiting.old))
+        nodes.new (times_waiting (waiting_turns waiting.new))) }
     ensures asked { OnOk result (Asks P.goes (fresh nodes.old id) predicate.old predicate.new) }
     ensures timed { OnOk result (CountsAll (rows_of source.old.rows)
         (accepted (P.accepts predicate.old) (fresh nodes.old id)) source.old.lookups
@@ -280,6 +289,8 @@ pub fn await_parents<F: Find, P: Accept>(
         → IsMetSoFar g (keep_since since g (is_hidden nodes.old) accepts) (is_met nodes.new)
         (λ x. IsOpen along tips front x ⊎ Contains parents.now x) listed
         (waiting_turns waiting.new)) }
+    ensures left { OnOk result (NoneGains nodes.old (times_waiting (waiting_turns waiting.old))
+        nodes.new (times_waiting (waiting_turns waiting.new))) }
     ensures asked { OnOk result ((met : List ObjectId)
         × IsListOf (IsFresh nodes.old parents.now) met
         × Asks P.goes met predicate.old predicate.new

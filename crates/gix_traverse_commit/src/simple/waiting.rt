@@ -1,6 +1,8 @@
 //! The commits that wait in a walk by time, in the order of their times.
 
-ghost use Rattle.std.specs.Prelude.{◌≡◌, ◌↔◌, [], ◌∷◌, ◌++◌, IfSome, IfNone, IfOk, OnOk, true};
+ghost use Rattle.std.specs.Prelude.{◌≡◌, ◌≤◌, ◌+◌, ◌↔◌, [], ◌∷◌, ◌++◌, IfSome, IfNone, IfOk, OnOk, true};
+ghost use Rattle.gix_hash.specs.Id.{Id};
+ghost use Rattle.gix_traverse_commit.specs.Ending.{times_in, times_waiting};
 ghost use Rattle.gix_traverse_commit.specs.Timely.{IsTaken, Joins, queued_by, waiting};
 
 use crate::simple::sorting::CommitTimeOrder;
@@ -38,6 +40,8 @@ impl Waiting {
     /// One more waits, and is queued last.
     pub fn put(&mut self, turn: Turn) -> Result<(), AllocError>
         ensures joins { OnOk result (Joins true (waiting self.old) turn (waiting self.new)) }
+        ensures once { OnOk result ((id : Id) → times_waiting (waiting self.new) id
+            ≤ times_waiting (waiting self.old) id + times_in (turn.id ∷ []) id) }
         ensures last { OnOk result (self.new.order.items ≡ self.old.order.items ++ turn ∷ []) }
     {
         self.turns.insert(turn, self.order.len())?;

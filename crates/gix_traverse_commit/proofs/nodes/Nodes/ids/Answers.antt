@@ -1,5 +1,5 @@
-use Rattle.std.proofs.Common.{◌≡◌, List, ◌∙◌, ap}
-use Rattle.gix_traverse_commit.specs.Nodes.{Node, ids_of}
+use Rattle.std.proofs.Common.{◌≡◌, ◌∙◌, ap}
+use Rattle.gix_traverse_commit.specs.Nodes.{ids_of}
 use Rattle.gix_traverse_commit.proofs.NodeLemmas.{ids_again}
 use Rattle.gix_traverse_commit.proofs.Pending.{ok_more}
 use Rattle.gix_traverse_commit.proofs.nodes.Nodes.ids.Goals as goal

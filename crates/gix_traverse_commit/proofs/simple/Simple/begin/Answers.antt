@@ -1,4 +1,4 @@
-use Rattle.std.proofs.Common.{◌≡◌, ◌≤◌, ◌+◌, sym, ◌∙◌, ap, refl, subst, List, [], Option, length}
+use Rattle.std.proofs.Common.{arith, ◌≡◌, ◌≤◌, ◌+◌, sym, ◌∙◌, ap, refl, subst, List, [], Option, length}
 use Rattle.gix_hash.specs.declared.object_id.ObjectId.{ObjectId}
 use Rattle.gix_traverse_commit.specs.Painting.{PaintFault, Paints, ReachedFrom}
 use Rattle.gix_traverse_commit.specs.Order.{IsListOf}
@@ -7,7 +7,7 @@ use Rattle.std.specs.Prelude.{Contains, IsSome}
 use Rattle.gix_traverse_commit.specs.Meeting.{CountsAll, CountsTimes, IsFresh}
 use Rattle.gix_traverse_commit.specs.Nodes.{is_hidden}
 use Rattle.gix_traverse_commit.specs.Sorting.{timing_of}
-use Rattle.gix_traverse_commit.specs.Simply.{IsAccepted, IsNew, IsSure, SimpleFault, hidden_error, timing}
+use Rattle.gix_traverse_commit.specs.Simply.{IsAccepted, IsNew, IsSure, SimpleFault, hidden_error, times_queued, timing}
 use Rattle.gix_traverse_commit.specs.Timely.{AllRowed, waiting}
 use Rattle.gix_traverse_commit.specs.Told.{AreTold, rows_of}
 use Rattle.gix_object_find.specs.Table.{Table}
@@ -17,6 +17,7 @@ use Rattle.gix_traverse_commit.specs.declared.rows.Row.{Row}
 use Rattle.gix_traverse_commit.specs.declared.simple.sorting.Timing.{Timing}
 use Rattle.gix_traverse_commit.specs.declared.simple.faults.Error.{Error}
 use Rattle.gix_traverse_commit.proofs.ByTime.{timing_same, under_source}
+use Rattle.gix_traverse_commit.proofs.Ending.{gains_more, gains_same}
 use Rattle.gix_traverse_commit.proofs.Meeting.{list_same}
 use Rattle.gix_traverse_commit.proofs.Pending.{is_false}
 use Rattle.gix_traverse_commit.proofs.Simply.{accepts_more}
@@ -125,3 +126,11 @@ returns-in_err-line_up-clause-order g c = (c.line_up.ensures.order.0 ∙ c.gathe
 
 pub returns-clause-order : goal.returns-clause-order
 returns-clause-order g c = (c.line_up.ensures.order.0 ∙ c.gather.ensures.order.0, c.line_up.ensures.order.1 ∙ c.gather.ensures.order.1)
+
+pub returns-clause-left : goal.returns-clause-left
+returns-clause-left g c =
+    let queued = times_queued c.gather.new.self in
+    let painted = gains_same c.gather.new.self.nodes c.paint.new.nodes queued queued (λ x h. c.in_default.ensures.met x ∙ h) (λ id. omega arith) in
+    gains_more c.args.self.now.nodes c.paint.new.nodes c.line_up.new.self.nodes (times_queued c.args.self.now) queued (times_queued c.line_up.new.self)
+    (gains_more c.args.self.now.nodes c.gather.new.self.nodes c.paint.new.nodes (times_queued c.args.self.now) queued queued c.in_ok-gather.ensures.left painted)
+    c.in_ok-line_up.ensures.left

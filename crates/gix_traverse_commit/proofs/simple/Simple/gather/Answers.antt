@@ -1,8 +1,13 @@
-use Rattle.std.proofs.Common.{◌≡◌, ◌∙◌, sym, ap, subst, inl, inr, List, ◌++◌}
+use Rattle.std.proofs.Common.{arith, ◌+◌, ◌≡◌, ◌∙◌, sym, ap, subst, inl, inr, List, ◌++◌}
 use Rattle.std.specs.Prelude.{Contains}
 use Rattle.gix_hash.specs.declared.object_id.ObjectId.{ObjectId}
 use Rattle.gix_traverse_commit.specs.Rows.{AllHeld}
-use Rattle.gix_traverse_commit.specs.Timely.{AllRowed, waiting}
+use Rattle.std.proofs.lemmas.List.Elements.{Contains-append_cases}
+use Rattle.gix_traverse_commit.specs.Ending.{times_in, times_waiting}
+use Rattle.gix_traverse_commit.specs.Simply.{times_queued}
+use Rattle.gix_traverse_commit.specs.Timely.{AllRowed, queued_by, waiting}
+use Rattle.gix_traverse_commit.specs.declared.simple.waiting.Turn.{Turn}
+use Rattle.gix_traverse_commit.proofs.Ending.{gains_gathered, gains_none, times_some, waiting_some}
 use Rattle.gix_traverse_commit.specs.Told.{rows_of}
 use Rattle.gix_traverse_commit.specs.declared.rows.Row.{Row}
 use Rattle.gix_traverse_commit.proofs.Pending.{held_both, held_waited, none_held, none_rowed, queued_waits}
@@ -56,3 +61,21 @@ returns-clause-made g c = λ a m. elim m [
         none_waits = c.in_ok-waiting.ensures.emptied;
       })
 ]
+
+pub returns-then-is_idle-clause-left : goal.returns-then-is_idle-clause-left
+returns-then-is_idle-clause-left g c = gains_none c.args.self.now.nodes (times_queued c.args.self.now)
+
+pub returns-clause-left : goal.returns-clause-left
+returns-clause-left g c =
+    let w = c.args.self.now.waiting in
+    let queue : List ObjectId = c.args.self.now.queue.items in
+    let all : c.queue_all.new.queue.items ≡ queue ++ queued_by w = c.in_ok-queue_all.ensures ∙ ap (λ (zs : List ObjectId). queue ++ zs) (c.as_slice.ensures.value ∙ c.in_ok-waiting.ensures.queued) in
+    gains_gathered c.args.self.now.nodes c.take_all-2.new.nodes (times_queued c.args.self.now) (λ id. times_in c.take_all-2.new.queue.items id + times_waiting (waiting c.take_all.new.self) id)
+    (λ id. let a = ap (λ (zs : List ObjectId). times_in zs id) c.in_ok-take_all.ensures.emptied in let b = ap (λ (ts : List Turn). times_waiting ts id) c.in_ok-waiting.ensures.emptied in omega (arith, a, b))
+    (λ x f. elim (c.in_ok-take_all.ensures.unmet x f) [
+      | inl u ↦ inl (sym (c.in_ok-unpaint.ensures.met x) ∙ u)
+      | inr k ↦ elim (Contains-append_cases queue (queued_by w) x (subst (λ (zs : List ObjectId). Contains zs x) all k)) [
+        | inl d ↦ inr (let a = times_some queue x d in omega (arith, a))
+        | inr d ↦ inr (let a = waiting_some (waiting w) x (queued_waits w x d) in omega (arith, a))
+      ]
+    ])

@@ -14,6 +14,8 @@ use Rattle.gix_traverse_commit.specs.Timely.{AllRowed, IsMetSoFar, keep_since, w
 use Rattle.gix_traverse_commit.specs.Told.{rows_of}
 use Rattle.gix_traverse_commit.specs.declared.rows.Row.{Row}
 use Rattle.gix_traverse_commit.specs.declared.simple.sorting.Timing.{Timing}
+use Rattle.gix_traverse_commit.specs.Ending.{times_in, times_waiting}
+use Rattle.gix_traverse_commit.proofs.Ending.{gains_before, gains_behind}
 use Rattle.gix_traverse_commit.proofs.ByTime.{is_sure, timing_same}
 use Rattle.gix_traverse_commit.specs.Keeping.{KeptAll}
 use Rattle.gix_traverse_commit.proofs.Chosen.{chosen_none, met_tips}
@@ -110,3 +112,9 @@ returns-clause-timed g c =
       each = subst (λ (t : Option Timing). CountsTimes t (rows_of c.args.self.now.source.rows) timed c.args.self.now.source.lookups c.await_tips.new.source.lookups) (sym is) counts;
       list = λ some. subst (λ (ts : List ObjectId). IsListOf (IsFresh c.args.self.now.nodes ts) timed) c.as_slice-2.ensures.value list;
     }
+
+pub returns-in_default-clause-left : goal.returns-in_default-clause-left
+returns-in_default-clause-left g c = gains_before c.args.self.now.nodes c.queue_tips.new.nodes (times_in c.args.self.now.queue.items) (times_in c.queue_tips.new.queue.items) (times_waiting (waiting c.args.self.now.waiting)) c.in_ok-queue_tips.ensures.left
+
+pub returns-clause-left : goal.returns-clause-left
+returns-clause-left g c = gains_behind c.args.self.now.nodes c.await_tips.new.nodes (times_waiting (waiting c.args.self.now.waiting)) (times_waiting (waiting c.await_tips.new.waiting)) (times_in c.args.self.now.queue.items) c.in_ok-await_tips.ensures.left

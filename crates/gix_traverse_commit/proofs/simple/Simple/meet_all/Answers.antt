@@ -12,6 +12,8 @@ use Rattle.gix_traverse_commit.specs.Timely.{AllRowed, IsMetSoFar, keep_since, w
 use Rattle.gix_traverse_commit.specs.Told.{rows_of}
 use Rattle.gix_traverse_commit.specs.declared.rows.Row.{Row}
 use Rattle.gix_traverse_commit.specs.declared.simple.sorting.Timing.{Timing}
+use Rattle.gix_traverse_commit.specs.Ending.{times_in, times_waiting}
+use Rattle.gix_traverse_commit.proofs.Ending.{gains_before, gains_behind}
 use Rattle.gix_traverse_commit.proofs.ByTime.{is_sure, none_some, one_timing, timing_same}
 use Rattle.gix_traverse_commit.specs.Order.{IsOpen}
 use Rattle.gix_traverse_commit.proofs.Chosen.{met_parents}
@@ -101,3 +103,9 @@ returns-clause-met g c =
     let is : timing_of c.args.self.now.parents c.args.self.now.sorting ≡ Some c.in-Some.timing = sym c.time_order.ensures ∙ c.in-Some.is in
     let (met, list, asks, counts) = c.in_ok-await_parents.ensures.asked in
     (met, list, asks, subst (λ (t : Option Timing). CountsTimes t (rows_of c.args.self.now.source.rows) (accepted (g.P.Accept.accepts c.args.self.now.predicate) met) c.args.self.now.source.lookups c.await_parents.new.source.lookups) (sym is) counts)
+
+pub returns-in_default-clause-left : goal.returns-in_default-clause-left
+returns-in_default-clause-left g c = gains_before c.args.self.now.nodes c.meet_parents.new.nodes (times_in c.args.self.now.queue.items) (times_in c.meet_parents.new.queue.items) (times_waiting (waiting c.args.self.now.waiting)) c.in_ok-meet_parents.ensures.left
+
+pub returns-clause-left : goal.returns-clause-left
+returns-clause-left g c = gains_behind c.args.self.now.nodes c.await_parents.new.nodes (times_waiting (waiting c.args.self.now.waiting)) (times_waiting (waiting c.await_parents.new.waiting)) (times_in c.args.self.now.queue.items) c.in_ok-await_parents.ensures.left

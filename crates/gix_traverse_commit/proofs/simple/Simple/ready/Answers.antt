@@ -1,7 +1,8 @@
 use Rattle.std.proofs.Common.{sym, subst, inl, inr, List}
 use Rattle.std.specs.Prelude.{OnOk}
 use Rattle.gix_hash.specs.declared.object_id.ObjectId.{ObjectId}
-use Rattle.gix_traverse_commit.specs.Simply.{IsUnderWay}
+use Rattle.gix_traverse_commit.specs.Simply.{IsUnderWay, times_queued}
+use Rattle.gix_traverse_commit.proofs.Ending.{gains_none}
 use Rattle.gix_traverse_commit.proofs.simple.Simple.ready.Goals as goal
 
 pub returns-then-self-clause-going : goal.returns-then-self-clause-going
@@ -30,3 +31,6 @@ returns-then-self-clause-counted g c = λ a made. elim made [
   | inl m ↦ (let h = m.begun in let f = c.if-self.true in let z : ⊥ = cc in absurd z)
   | inr m ↦ (let h = m.begun in let f = c.if-self.true in let z : ⊥ = cc in absurd z)
 ]
+
+pub returns-then-self-clause-left : goal.returns-then-self-clause-left
+returns-then-self-clause-left g c = gains_none c.args.self.now.nodes (times_queued c.args.self.now)

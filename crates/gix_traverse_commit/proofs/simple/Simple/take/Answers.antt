@@ -1,4 +1,4 @@
-use Rattle.std.proofs.Common.{rules, ◌≡◌, sym, ◌∙◌, refl, subst, inl, inr, List, [], ◌∷◌, ◌++◌, Some, None}
+use Rattle.std.proofs.Common.{ap, arith, rules, ◌≡◌, sym, ◌∙◌, refl, subst, inl, inr, List, [], ◌∷◌, ◌++◌, Some, None}
 use Rattle.gix_hash.specs.Id.{Id}
 use Rattle.gix_hash.specs.declared.object_id.ObjectId.{ObjectId}
 use Rattle.gix_traverse_commit.specs.Commits.{Commits, asked_parents}
@@ -8,6 +8,8 @@ use Rattle.gix_traverse_commit.specs.Sorting.{timing_of}
 use Rattle.gix_traverse_commit.specs.Timely.{IsTaken, keep_since, waiting}
 use Rattle.gix_traverse_commit.specs.Told.{rows_of}
 use Rattle.gix_traverse_commit.specs.declared.simple.sorting.Timing.{Timing}
+use Rattle.gix_traverse_commit.specs.Ending.{times_in}
+use Rattle.gix_traverse_commit.proofs.Ending.{taken_less, times_first}
 use Rattle.gix_traverse_commit.proofs.ByTime.{none_some, one_timing, timing_same, since_end, since_turn}
 use Rattle.gix_traverse_commit.proofs.Chosen.{taken_chosen, taken_met}
 use Rattle.gix_traverse_commit.proofs.Keeping.{kept_pop}
@@ -94,3 +96,14 @@ returns-clause-rowed g c = λ r.
     let turn = c.in_ok-turn.turn in
     let some = taken_some c.in-Some.timing.order old turn new c.in_ok-turn.ensures.taken in
     (record { tips = r.tips; hidden = r.hidden; queue = r.queue; waiting_rows = λ t d. r.waiting_rows t ((some t).1 (inr d)) }, r.waiting_rows turn ((some turn).1 (inl refl)))
+
+pub returns-in_default-clause-less : goal.returns-in_default-clause-less
+returns-in_default-clause-less g c = λ x.
+    let a = ap (λ (zs : List ObjectId). times_in zs x) c.in_ok-id.ensures.first in
+    let b = times_first c.in_ok-id.id c.pop.new.queue.items x in
+    omega (arith, a, b)
+
+pub returns-clause-less : goal.returns-clause-less
+returns-clause-less g c = λ x.
+    let a = taken_less c.in-Some.timing.order (waiting c.args.self.now.waiting) c.in_ok-turn.turn (waiting c.take.new.self) c.in_ok-turn.ensures.taken x in
+    omega (arith, a)

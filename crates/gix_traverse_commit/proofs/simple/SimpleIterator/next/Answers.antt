@@ -1,8 +1,11 @@
-use Rattle.std.proofs.Common.{inl, ◌≡◌, ◌∙◌, sym, refl, ap, subst, arith, ℕ, length, List, [], ◌∷◌, ◌++◌, Option, None, true, false}
+use Rattle.std.proofs.Common.{inl, ◌<◌, ◌≡◌, ◌∙◌, sym, refl, ap, subst, arith, ℕ, length, List, [], ◌∷◌, ◌++◌, Option, None, true, false, cond, ◌+◌}
 use Rattle.gix_hash.specs.Id.{id_of}
 use Rattle.gix_hash.specs.declared.object_id.ObjectId.{ObjectId}
+use Rattle.std.specs.List.{sum_by}
+use Rattle.gix_traverse_commit.specs.Ending.{may_come}
+use Rattle.gix_traverse_commit.specs.Timely.{waiting}
 use Rattle.gix_traverse_commit.specs.Meeting.{CountsOne}
-use Rattle.gix_traverse_commit.specs.Simply.{CountsBeginning, CountsFault, CountsUpTo, IsAtTurn, IsContentOf, IsInfo, IsOver, IsKnown, IsSure, IsTurn, IsUnderWay, StopsFetch}
+use Rattle.gix_traverse_commit.specs.Simply.{CountsBeginning, CountsFault, CountsUpTo, IsAtTurn, IsContentOf, IsInfo, IsOver, IsKnown, IsSure, IsTurn, IsUnderWay, StopsFetch, is_over, known_ids, left_of, times_queued}
 use Rattle.gix_traverse_commit.specs.Rows.{Holds}
 use Rattle.gix_traverse_commit.specs.Sorting.{timing_of}
 use Rattle.gix_traverse_commit.specs.Told.{AreTold, rows_of}
@@ -11,6 +14,7 @@ use Rattle.gix_traverse_commit.specs.declared.rows.Row.{Row}
 use Rattle.gix_traverse_commit.specs.declared.simple.sorting.Sorting.{Sorting}
 use Rattle.gix_traverse_commit.proofs.ByTime.{at_fewer, at_order, timing_same}
 use Rattle.gix_traverse_commit.proofs.Counting.{meets_moved}
+use Rattle.gix_traverse_commit.proofs.Ending.{fewer_left, left_falls, none_left, over_from, over_test}
 use Rattle.gix_traverse_commit.proofs.Rest.{made_order}
 use Rattle.gix_traverse_commit.proofs.Simply.{fault_more, fetch_fault}
 use Rattle.gix_traverse_commit.proofs.simple.SimpleIterator.next.Goals as goal
@@ -42,6 +46,7 @@ returns-in-Err-clause-steps g c = record {
   rowed_end = λ r. tt;
   first = λ a m. tt;
   first_end = λ a m. tt;
+  falls = tt;
 }
 
 pub returns-in_default-take-clause-steps : goal.returns-in_default-take-clause-steps
@@ -70,6 +75,7 @@ returns-in_default-take-clause-steps g c =
       rowed_end = λ r. lookups ∙ (c.in_default.ensures.rowed r).1;
       first = λ a m. tt;
       first_end = λ a m. subst (λ (n : ℕ). CountsBeginning (g.F.Lookup.is_honest c.args.self.now.source.objects) (rows_of c.args.self.now.source.rows) (g.F.Lookup.table c.args.self.now.source.objects) a c.args.self.now.source.lookups n) (sym lookups) (c.in_default.ensures.counted a m);
+      falls = tt;
     }
 
 pub returns-in-Ok-clause-steps : goal.returns-in-Ok-clause-steps
@@ -154,6 +160,17 @@ returns-in-Ok-clause-steps g c =
                 (subst (λ (r : Option (List Row)). CountsUpTo (rows_of r) id more c.take.new.self.source.lookups c.enter.new.self.source.lookups) same_rows c.in-Ok.ensures.counted));
           });
       first_end = λ a m. tt;
+      falls = (
+          let now = ap rows_of (c.enter.ensures.rows ∙ same_rows) in
+          let old = c.args.self.now in
+          let new = c.enter.new.self in
+          let left = left_falls rows ids old.nodes new.nodes old.queue.items new.queue.items (waiting old.waiting) (waiting new.waiting) id known (λ x.
+          let a = c.in_default.ensures.left x in
+          let b = c.in-Some.ensures.less (id_of x) in
+          let d = c.in-Ok.ensures.left x in
+          let e = ap (λ nodes. may_come nodes (times_queued c.take.new.self) (id_of x)) c.take.ensures.nodes in
+          omega (arith, a, b, d, e)) in
+          subst (λ (r : List Row). sum_by (may_come new.nodes (times_queued new)) (known_ids r ids) < left_of ids old) (sym now) left);
     }
 
 pub returns-in-Err-enter-clause-steps : goal.returns-in-Err-enter-clause-steps
@@ -195,4 +212,47 @@ returns-in-Err-enter-clause-steps g c =
       rowed_end = λ r. tt;
       first = λ a m. tt;
       first_end = λ a m. tt;
+      falls = tt;
     }
+
+pub returns-in-Ok-clause-goes : goal.returns-in-Ok-clause-goes
+returns-in-Ok-clause-goes g c =
+    let steps = returns-in-Ok-clause-steps g c in
+    let old = c.args.self.now in
+    let new = c.enter.new.self in
+    let ids = g.F.Lookup.ids old.source.objects in
+    let fewer = fewer_left (is_over old) (is_over new) (left_of ids old) (left_of ids new) (λ t. no_way (sym (steps.ended (over_from old t)))) steps.falls in
+    record {
+      on = λ finite. (tt, tt, subst (λ (o : g.row.F.Denot). cond (is_over new) 0 (left_of (g.F.Lookup.ids o) new + 1) < cond (is_over old) 0 (left_of ids old + 1)) (sym steps.objects) fewer);
+      keeps = tt;
+      rests = λ _. tt;
+    }
+
+pub returns-in-Err-enter-clause-goes : goal.returns-in-Err-enter-clause-goes
+returns-in-Err-enter-clause-goes g c =
+    let steps = returns-in-Err-enter-clause-steps g c in
+    let old = c.args.self.now in
+    let new = c.stop-in-Err-enter.new.self in
+    record {
+      on = λ finite. (tt, tt, none_left (is_over old) (is_over new) (left_of (g.F.Lookup.ids old.source.objects) old) (left_of (g.F.Lookup.ids new.source.objects) new) (λ t. no_way (sym (steps.ended (over_from old t)))) (over_test new steps.failed));
+      keeps = tt;
+      rests = λ _. tt;
+    }
+
+pub returns-in-Err-clause-goes : goal.returns-in-Err-clause-goes
+returns-in-Err-clause-goes g c =
+    let steps = returns-in-Err-clause-steps g c in
+    let old = c.args.self.now in
+    let new = c.stop.new.self in
+    record {
+      on = λ finite. (tt, tt, none_left (is_over old) (is_over new) (left_of (g.F.Lookup.ids old.source.objects) old) (left_of (g.F.Lookup.ids new.source.objects) new) (λ t. no_way (sym (steps.ended (over_from old t)))) (over_test new steps.failed));
+      keeps = tt;
+      rests = λ _. tt;
+    }
+
+pub returns-in_default-take-clause-goes : goal.returns-in_default-take-clause-goes
+returns-in_default-take-clause-goes g c = record {
+  on = λ finite. tt;
+  keeps = tt;
+  rests = λ _. tt;
+}

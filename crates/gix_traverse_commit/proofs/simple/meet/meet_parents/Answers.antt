@@ -5,6 +5,8 @@ use Rattle.gix_hash.specs.Id.{Id, id_of}
 use Rattle.gix_hash.specs.declared.object_id.ObjectId.{ObjectId}
 use Rattle.gix_hash.specs.declared.object_id.ObjectId.TheVariants.{Sha1}
 use Rattle.gix_traverse_commit.specs.Nodes.{is_hidden, is_met}
+use Rattle.gix_traverse_commit.specs.Ending.{times_in}
+use Rattle.gix_traverse_commit.proofs.Ending.{and_not, gains_more, gains_none, gains_queued}
 use Rattle.gix_traverse_commit.proofs.Keeping.{kept_row, kept_step, stays_met, unmet_before}
 use Rattle.gix_traverse_commit.proofs.Lists.{contains_from_at}
 use Rattle.gix_traverse_commit.proofs.Painting.{queues_held}
@@ -23,6 +25,11 @@ parents-preserved g c =
       accepts = c.meet.ensures.accepts ∙ c.parents.invariant.accepts;
       hidden = λ q. c.in_ok-meet.ensures.hidden q ∙ c.parents.invariant.hidden q;
       grown = λ q h. stays_met (is_met c.parents.nodes) (is_met c.meet.new.nodes) (is_hidden c.parents.nodes id) id q c.in_ok-meet.ensures.met (c.parents.invariant.grown q h);
+      left = gains_more c.args.nodes.now c.parents.nodes c.meet.new.nodes (times_in c.args.queue.now.items) (times_in c.parents.queue.items) (times_in c.meet.new.queue.items) c.parents.invariant.left
+          (gains_queued c.parents.nodes c.meet.new.nodes c.parents.queue.items c.meet.new.queue.items id (not (is_hidden c.parents.nodes id) && accepts c.parents.predicate (id_of id))
+          (λ x h. stays_met (is_met c.parents.nodes) (is_met c.meet.new.nodes) (is_hidden c.parents.nodes id) id x c.in_ok-meet.ensures.met h)
+          (λ j. parent_met (is_met c.parents.nodes) (is_met c.meet.new.nodes) (is_hidden c.parents.nodes id) id c.in_ok-meet.ensures.met (and_not (is_hidden c.parents.nodes id) (accepts c.parents.predicate (id_of id)) j))
+          c.in_ok-meet.ensures.queued);
       rowed = λ rows a b. queues_held rows (is_met c.parents.nodes id) (not (is_hidden c.parents.nodes id) && accepts c.parents.predicate (id_of id)) c.parents.queue.items c.meet.new.queue.items id c.in_ok-meet.ensures.queued (c.parents.invariant.rowed rows a b) (b id (contains_from_at ids c.parents.parent-index id here));
       walked = λ along keep tips listed child which e w r. kept_step along tips keep (is_met c.parents.nodes) (is_met c.meet.new.nodes) (is_hidden c.parents.nodes id) (accepts c.parents.predicate (id_of id)) listed c.parents.queue.items c.meet.new.queue.items (length listed) c.parents.parent-index id child (c.parents.invariant.walked along keep tips listed child which e w r)
           (subst (λ (zs : List ObjectId). slice_get zs c.parents.parent-index ≡ Some id) e here) c.in_ok-meet.ensures.queued c.in_ok-meet.ensures.met
@@ -52,6 +59,7 @@ parents-init g c = record {
   accepts = refl;
   hidden = λ q. refl;
   grown = λ q h. h;
+  left = gains_none c.args.nodes.now (times_in c.args.queue.now.items);
   rowed = λ rows a b. a;
   walked = λ along keep tips listed child which e w r. (w, r);
   once = ([], refl, meets_none (is_met c.args.nodes.now) (is_hidden c.args.nodes.now));
@@ -61,3 +69,6 @@ pub returns-clause-asked : goal.returns-clause-asked
 returns-clause-asked g c =
     let (xs, asks, w) = c.parents.invariant.once in
     (xs, subst (λ (ps : List ObjectId). IsListOf (Fresh (is_met c.args.nodes.now) (is_hidden c.args.nodes.now) ps) xs) (take_all c.args.parents.now c.parents.parent-index c.parents-test.false) w.list, asks)
+
+pub returns-clause-left : goal.returns-clause-left
+returns-clause-left g c = c.parents.invariant.left

@@ -2,6 +2,7 @@ use Rattle.std.proofs.Common.{take, ◌≡◌, List, ◌++◌, length, Bool, tru
 use Rattle.std.specs.Prelude.{not, ◌&&◌}
 use Rattle.gix_hash.specs.Id.{id_of}
 use Rattle.gix_hash.specs.declared.object_id.ObjectId.{ObjectId}
+use Rattle.gix_traverse_commit.specs.Ending.{NoneGains, times_in}
 use Rattle.gix_traverse_commit.specs.Keeping.{Kept}
 use Rattle.gix_traverse_commit.specs.Meeting.{Asks}
 use Rattle.gix_traverse_commit.specs.Nodes.{is_hidden, is_met}
@@ -16,6 +17,7 @@ invariant-parents g l = record {
   accepts : g.P.Accept.accepts l.predicate ≡ g.P.Accept.accepts l.fn.predicate;
   hidden : (q : ObjectId) → is_hidden l.nodes q ≡ is_hidden l.fn.nodes q;
   grown : (q : ObjectId) → is_met l.fn.nodes q ≡ true → is_met l.nodes q ≡ true;
+  left : NoneGains l.fn.nodes (times_in l.fn.queue.items) l.nodes (times_in l.queue.items);
   rowed : (rows : List Row) → AllHeld rows l.fn.queue.items → AllHeld rows l.parents → AllHeld rows l.queue.items;
   walked : (along : ObjectId → List ObjectId) (keep : ObjectId → Bool) (tips listed : List ObjectId) (id : ObjectId)
       → ((x : ObjectId) → is_met l.fn.nodes x ≡ false → keep x ≡ (not (is_hidden l.fn.nodes x) && g.P.Accept.accepts l.fn.predicate (id_of x)))

@@ -4,7 +4,9 @@ use Rattle.std.proofs.lemmas.Option.{slice_get-get_or}
 use Rattle.gix_hash.specs.declared.object_id.ObjectId.{ObjectId}
 use Rattle.gix_hash.specs.declared.object_id.ObjectId.TheVariants.{Sha1}
 use Rattle.gix_traverse_commit.specs.Nodes.{is_hidden, is_met}
-use Rattle.gix_traverse_commit.proofs.Keeping.{kept_meet, kept_start, met_more, unmet_before}
+use Rattle.gix_traverse_commit.specs.Ending.{times_in}
+use Rattle.gix_traverse_commit.proofs.Ending.{gains_more, gains_queued}
+use Rattle.gix_traverse_commit.proofs.Keeping.{kept_meet, kept_start, met_itself, met_more, unmet_before}
 use Rattle.gix_traverse_commit.proofs.Lists.{contains_from_at}
 use Rattle.gix_traverse_commit.proofs.Painting.{queues_held}
 use Rattle.gix_traverse_commit.proofs.simple.meet.queue_tips.Goals as goal
@@ -17,6 +19,11 @@ tips-preserved c =
     record {
       hidden = λ q. c.in_ok-queue_tip.ensures.hidden q ∙ c.tips.invariant.hidden q;
       grown = λ q h. met_more (is_met c.tips.nodes) (is_met c.queue_tip.new.nodes) id q c.in_ok-queue_tip.ensures.met (c.tips.invariant.grown q h);
+      left = gains_more c.args.nodes.now c.tips.nodes c.queue_tip.new.nodes (times_in c.args.queue.now.items) (times_in c.tips.queue.items) (times_in c.queue_tip.new.queue.items) c.tips.invariant.left
+          (gains_queued c.tips.nodes c.queue_tip.new.nodes c.tips.queue.items c.queue_tip.new.queue.items id (not (is_hidden c.tips.nodes id))
+          (λ x h. met_more (is_met c.tips.nodes) (is_met c.queue_tip.new.nodes) id x c.in_ok-queue_tip.ensures.met h)
+          (λ j. met_itself (is_met c.tips.nodes) (is_met c.queue_tip.new.nodes) id c.in_ok-queue_tip.ensures.met)
+          c.in_ok-queue_tip.ensures.queued);
       rowed = λ rows a b. queues_held rows (is_met c.tips.nodes id) (not (is_hidden c.tips.nodes id)) c.tips.queue.items c.queue_tip.new.queue.items id c.in_ok-queue_tip.ensures.queued (c.tips.invariant.rowed rows a b) (b id (contains_from_at ids c.tips.tip-index id here));
       walked = λ along keep which w. kept_meet along ids keep (is_met c.tips.nodes) (is_met c.queue_tip.new.nodes) (not (is_hidden c.tips.nodes id)) [] c.tips.queue.items c.queue_tip.new.queue.items 0 c.tips.tip-index id (c.tips.invariant.walked along keep which w) here c.in_ok-queue_tip.ensures.queued c.in_ok-queue_tip.ensures.met
           (λ f. which id (contains_from_at ids c.tips.tip-index id here) (unmet_before (is_met c.args.nodes.now) (is_met c.tips.nodes) id (c.tips.invariant.grown id) f) ∙ ap not (sym (c.tips.invariant.hidden id)));
@@ -27,3 +34,6 @@ returns-clause-walked c = λ along keep which w. kept_start along c.args.tips.no
 
 pub returns-clause-grown : goal.returns-clause-grown
 returns-clause-grown c = c.tips.invariant.grown
+
+pub returns-clause-left : goal.returns-clause-left
+returns-clause-left c = c.tips.invariant.left

@@ -11,6 +11,8 @@ use Rattle.gix_traverse_commit.specs.Timely.{AllRowed, IsMetSoFar, keep_since, t
 use Rattle.gix_traverse_commit.specs.Told.{AreTold, rows_of}
 use Rattle.gix_traverse_commit.specs.declared.rows.Row.{Row}
 use Rattle.gix_traverse_commit.proofs.Chosen.{take_all}
+use Rattle.gix_traverse_commit.specs.Ending.{times_waiting}
+use Rattle.gix_traverse_commit.proofs.Ending.{gains_more, gains_none}
 use Rattle.gix_traverse_commit.proofs.Keeping.{stays_met, unmet_before}
 use Rattle.gix_traverse_commit.proofs.Lists.{contains_from_at}
 use Rattle.gix_traverse_commit.proofs.Timely.{hides_out, in_nil, joins_same, met_renamed, parent_joins, step_parent}
@@ -31,6 +33,7 @@ parents-init g c = record {
   counted = omega arith;
   rising = omega arith;
   same = λ all. refl;
+  left = gains_none c.args.nodes.now (times_waiting (waiting c.args.waiting.now));
   rowed = λ all before. before;
   walked = λ honest sure h told accepts along tips front listed which w. met_renamed h (keep_since c.args.since h (is_hidden c.args.nodes.now) accepts) listed (is_met c.args.nodes.now) (IsOpen along tips front) (λ x. IsOpen along tips front x ⊎ Contains (take 0 c.args.parents.now) x) (waiting c.args.waiting.now) w (λ x. ((λ o. inl o), (λ d. elim d [ inl o ↦ o | inr c ↦ absurd (in_nil x c) ])));
   once = ([], refl, refl, meets_none (is_met c.args.nodes.now) (is_hidden c.args.nodes.now));
@@ -52,6 +55,7 @@ parents-preserved g c =
       counted = omega (arith, c.await_parent.ensures.counted, inv.counted);
       rising = omega (arith, c.await_parent.ensures.rising, inv.rising);
       same = λ all. (rowed (all id (contains_from_at ids c.parents.parent-index id here))).0 ∙ inv.same all;
+      left = gains_more c.args.nodes.now c.parents.nodes c.await_parent.new.nodes (times_waiting (waiting c.args.waiting.now)) (times_waiting (waiting c.parents.waiting)) (times_waiting (waiting c.await_parent.new.waiting)) inv.left c.in_ok-await_parent.ensures.left;
       rowed = λ all before. (rowed (all id (contains_from_at ids c.parents.parent-index id here))).1 (inv.rowed all before);
       walked = (λ honest sure h told accepts along tips front listed which w.
           let keep = keep_since c.args.since h (is_hidden c.args.nodes.now) accepts in
@@ -93,3 +97,6 @@ pub returns-clause-asked : goal.returns-clause-asked
 returns-clause-asked g c =
     let (xs, asks, counts, w) = c.parents.invariant.once in
     (xs, subst (λ (ps : List ObjectId). IsListOf (Fresh (is_met c.args.nodes.now) (is_hidden c.args.nodes.now) ps) xs) (take_all c.args.parents.now c.parents.parent-index c.parents-test.false) w.list, asks, counts)
+
+pub returns-clause-left : goal.returns-clause-left
+returns-clause-left g c = c.parents.invariant.left

@@ -3,6 +3,7 @@ use Rattle.std.specs.Prelude.{Contains}
 use Rattle.gix_hash.specs.Id.{Id, id_of}
 use Rattle.gix_hash.specs.declared.object_id.ObjectId.{ObjectId}
 use Rattle.gix_traverse_commit.specs.Commits.{Commits}
+use Rattle.gix_traverse_commit.specs.Ending.{NoneGains, times_waiting}
 use Rattle.gix_traverse_commit.specs.Meeting.{Asks, CountsAll, accepted}
 use Rattle.gix_traverse_commit.specs.Nodes.{is_hidden, is_met}
 use Rattle.gix_traverse_commit.specs.Order.{IsOpen}
@@ -22,6 +23,7 @@ invariant-parents g l = record {
   counted : l.source.lookups ≤ l.fn.source.lookups + l.parent-index;
   rising : l.fn.source.lookups ≤ l.source.lookups;
   same : AllHeld (rows_of l.fn.source.rows) l.parents → l.source.lookups ≡ l.fn.source.lookups;
+  left : NoneGains l.fn.nodes (times_waiting (waiting l.fn.waiting)) l.nodes (times_waiting (waiting l.waiting));
   rowed : AllHeld (rows_of l.fn.source.rows) l.parents → AllRowed (rows_of l.fn.source.rows) (waiting l.fn.waiting) → AllRowed (rows_of l.fn.source.rows) (waiting l.waiting);
   walked : g.F.Lookup.is_honest l.fn.source.objects → (¬ g.F.Lookup.may_fail l.fn.source.objects) → (h : Commits ObjectId) → AreTold (rows_of l.fn.source.rows) (g.F.Lookup.table l.fn.source.objects) h
       → (accepts : Id → Bool) (along : ObjectId → List ObjectId) (tips front listed : List ObjectId)

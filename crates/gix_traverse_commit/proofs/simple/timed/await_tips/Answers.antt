@@ -11,6 +11,8 @@ use Rattle.gix_traverse_commit.specs.Timely.{AllRowed, IsMetSoFar, keep_since, t
 use Rattle.gix_traverse_commit.specs.Told.{AreTold, rows_of}
 use Rattle.gix_traverse_commit.specs.declared.rows.Row.{Row}
 use Rattle.gix_traverse_commit.proofs.Chosen.{take_all}
+use Rattle.gix_traverse_commit.specs.Ending.{times_waiting}
+use Rattle.gix_traverse_commit.proofs.Ending.{gains_more, gains_none}
 use Rattle.gix_traverse_commit.proofs.Keeping.{met_more, unmet_before}
 use Rattle.gix_traverse_commit.proofs.Lists.{contains_from_at}
 use Rattle.gix_traverse_commit.proofs.Timely.{in_nil, joins_same, met_renamed, next_tip, tip_joins}
@@ -29,6 +31,7 @@ tips-init g c = record {
   most = omega arith;
   rising = omega arith;
   counted = λ all. refl;
+  left = gains_none c.args.nodes.now (times_waiting (waiting c.args.waiting.now));
   rowed = λ all before. before;
   walked = λ honest sure h told accepts which w. met_renamed h (keep_since c.args.since h (is_hidden c.args.nodes.now) accepts) [] (is_met c.args.nodes.now) (λ _. ⊥) (Contains (take 0 c.args.tips.now)) (waiting c.args.waiting.now) w (λ x. ((λ z. absurd z), (λ d. in_nil x d)));
   timed = ([], refl, meets_none (is_met c.args.nodes.now) (is_hidden c.args.nodes.now));
@@ -49,6 +52,7 @@ tips-preserved g c =
       most = omega (arith, c.await_tip.ensures.counted, inv.most);
       rising = omega (arith, c.await_tip.ensures.rising, inv.rising);
       counted = λ all. (rowed (all id (contains_from_at ids c.tips.tip-index id here))).0 ∙ inv.counted all;
+      left = gains_more c.args.nodes.now c.tips.nodes c.await_tip.new.nodes (times_waiting (waiting c.args.waiting.now)) (times_waiting (waiting c.tips.waiting)) (times_waiting (waiting c.await_tip.new.waiting)) inv.left c.in_ok-await_tip.ensures.left;
       rowed = λ all before. (rowed (all id (contains_from_at ids c.tips.tip-index id here))).1 (inv.rowed all before);
       walked = (λ honest sure h told accepts which w.
           let keep = keep_since c.args.since h (is_hidden c.args.nodes.now) accepts in
@@ -87,3 +91,6 @@ pub returns-clause-timed : goal.returns-clause-timed
 returns-clause-timed g c =
     let (xs, counts, w) = c.tips.invariant.timed in
     (xs, subst (λ (ts : List ObjectId). IsListOf (Fresh (is_met c.args.nodes.now) (is_hidden c.args.nodes.now) ts) xs) (take_all c.args.tips.now c.tips.tip-index c.tips-test.false) w.list, counts)
+
+pub returns-clause-left : goal.returns-clause-left
+returns-clause-left g c = c.tips.invariant.left

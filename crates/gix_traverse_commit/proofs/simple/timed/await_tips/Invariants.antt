@@ -3,6 +3,7 @@ use Rattle.std.specs.Prelude.{Contains}
 use Rattle.gix_hash.specs.Id.{Id, id_of}
 use Rattle.gix_hash.specs.declared.object_id.ObjectId.{ObjectId}
 use Rattle.gix_traverse_commit.specs.Commits.{Commits}
+use Rattle.gix_traverse_commit.specs.Ending.{NoneGains, times_waiting}
 use Rattle.gix_traverse_commit.specs.Meeting.{CountsAll}
 use Rattle.gix_traverse_commit.specs.Nodes.{is_hidden, is_met}
 use Rattle.gix_traverse_commit.specs.Rows.{AllHeld}
@@ -20,6 +21,7 @@ invariant-tips g l = record {
   most : l.source.lookups ≤ l.fn.source.lookups + l.tip-index;
   rising : l.fn.source.lookups ≤ l.source.lookups;
   counted : AllHeld (rows_of l.fn.source.rows) l.tips → l.source.lookups ≡ l.fn.source.lookups;
+  left : NoneGains l.fn.nodes (times_waiting (waiting l.fn.waiting)) l.nodes (times_waiting (waiting l.waiting));
   rowed : AllHeld (rows_of l.fn.source.rows) l.tips → AllRowed (rows_of l.fn.source.rows) (waiting l.fn.waiting) → AllRowed (rows_of l.fn.source.rows) (waiting l.waiting);
   walked : g.F.Lookup.is_honest l.fn.source.objects → (¬ g.F.Lookup.may_fail l.fn.source.objects) → (h : Commits ObjectId) → AreTold (rows_of l.fn.source.rows) (g.F.Lookup.table l.fn.source.objects) h
       → (accepts : Id → Bool) → ((x : ObjectId) → Contains l.tips x → is_met l.fn.nodes x ≡ false → accepts (id_of x) ≡ true)

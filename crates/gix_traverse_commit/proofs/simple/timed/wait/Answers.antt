@@ -25,3 +25,6 @@ returns-in_ok-put-clause-waits g c = λ honest sure commits told.
     let same : to_z w64 (of_z w64 c.in_ok-time.time) ≡ c.in_ok-time.time = search rules in
     joins_same true (in_time c.args.since (commits c.args.id).time) (waiting c.args.waiting.now) (turn (to_z w64 (of_z w64 c.in_ok-time.time)) c.args.id) (turn_of commits c.args.id) (waiting c.put.new.self)
     (sym so ∙ ap (in_time c.args.since) e) (ap (λ (n : ℤ). turn n c.args.id) (same ∙ e)) c.in_ok-put.ensures.joins
+
+pub returns-in_ok-put-clause-once : goal.returns-in_ok-put-clause-once
+returns-in_ok-put-clause-once g c = c.in_ok-put.ensures.once
