@@ -29,7 +29,7 @@ use Rattle.history_model.proofs.OfferedCauses.{first_offered_cause}
 use Rattle.history_model.proofs.OfferedFiles.{files_are_stored}
 use Rattle.history_model.proofs.WholeLists.{texts_differ}
 use Rattle.history_store.specs.Commits.{IsCommitOf}
-use Rattle.history_store.specs.declared.commit.Commit as commits
+use Rattle.gix_object_commit.specs.declared.commit.owned.Commit as commits
 use Rattle.gix_hash.specs.declared.object_id.ObjectId.{ObjectId}
 use Rattle.history.specs.Acts.{AnswersReading, Gives, ReadsWord, IsReadingFault, word_cause}
 use Rattle.history.specs.Shown.{shown_commit, shown_content}

@@ -10,7 +10,7 @@ use Rattle.history_model.specs.Repository as plain
 use Rattle.history_model.specs.Meaning.{files_at}
 use Rattle.history_model.specs.Repository.{HoldsCommit, IsWholeStore, as_commit}
 use Rattle.history_store.specs.Commits.{IsCommitOf}
-use Rattle.history_store.specs.declared.commit.Commit.{Commit}
+use Rattle.gix_object_commit.specs.declared.commit.owned.Commit.{Commit}
 use Rattle.history.specs.Acts.{IsReadingFault, Gives}
 use Rattle.history.specs.declared.stopped.Stopped.{Stopped}
 

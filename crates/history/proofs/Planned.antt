@@ -1,17 +1,18 @@
 -- What a commit is to store, and how its name is to move, read from its command.
-use Rattle.std.proofs.Common.{◌≡◌, ◌⊎◌, inl, inr, ◌<◌, ◌≤◌, refl, sym, ◌∙◌, ap, subst, Bool, true, false, cond, ◌||◌, List, [], ◌∷◌, ◌++◌, map, length}
-use Rattle.std.specs.Prelude.{Contains, Option, Some, None, option_map, unwrap_or, Result, Ok, Err}
-use Rattle.std.specs.List.{list_any, flat_map}
+use Rattle.std.proofs.Common.{◌≡◌, ◌⊎◌, inl, inr, ◌<◌, ◌≤◌, refl, sym, ◌∙◌, ap, subst, Bool, true, false, cond, ◌||◌, ◌&&◌, List, [], ◌∷◌, ◌++◌, map, length}
+use Rattle.std.specs.Prelude.{Contains, IsSome, IsTrue, option_and_then, Option, Some, None, option_map, unwrap_or, Result, Ok, Err}
+use Rattle.std.specs.List.{AllByRecursion, list_all, list_any, flat_map}
 use Rattle.std.proofs.lemmas.List.{map-append}
 use Rattle.std.proofs.lemmas.List.Folds.{list_any-append}
 use Rattle.history_model.specs.Bytes.{Bytes}
 use Rattle.history_model.specs.FileMap.{FileMap, folders_of, some_refused}
-use Rattle.history_model.specs.Objects.{Value, StoredBytes, StoredFolder, StoredCommit, digest, folder_id, object_text, content_of, commit_content}
+use Rattle.history_model.specs.Objects.{Value, StoredBytes, StoredFolder, StoredCommit, digest, folder_id, object_text, content_of, commit_content, root, tree_text}
 use Rattle.history_model.specs.Objects.{id_of as value_id}
 use Rattle.gix_hash.specs.Id.{Id, null_id, id_of}
 use Rattle.history_model.specs.Repository as plain
-use Rattle.history_model.specs.Repository.{HasWholeNames, id_at}
-use Rattle.history_model.specs.Forms.{title, max_content}
+use Rattle.std.specs.FinMap.{get}
+use Rattle.history_model.specs.Repository.{HasWholeNames, HoldsCommit, IsWholeStore, as_commit, id_at}
+use Rattle.history_model.specs.Forms.{is_id, title, max_content}
 use Rattle.history_model.specs.Commands.{CommitCommand, Commit}
 use Rattle.history_model.specs.CommandParts.{paths_in, contents_in}
 use Rattle.history_model.specs.Meaning.{branch_or_name, first_files, parents_of, edits_of, new_commit, put_bytes, read_actor, stored_by, takes_id}
@@ -28,17 +29,19 @@ use Rattle.history_model.specs.declared.Fault.{Fault}
 use Rattle.history_model.specs.declared.Fault.TheVariants.{Memory, File, IdTaken}
 use Rattle.gix_hash.specs.declared.kind.Kind.{Kind}
 use Rattle.gix_object_lines.specs.declared.kind.Kind.TheVariants as kinds
+use Rattle.history_model.proofs.IdLemmas.{digest_is_id}
 use Rattle.history_model.proofs.PassedStops.{commits_store_whole}
+use Rattle.history_model.proofs.TreePlaces.{values_have_ids}
 use Rattle.history_model.proofs.WholeLists.{In, in_left, in_right, in_either, in_map, of_map}
 use Rattle.history_model.proofs.WholeSteps.{contains_in, in_contains}
 use Rattle.history_files.specs.Editing.{AreEdited, AreTreesOf, HaveNull}
 use Rattle.history_files.specs.declared.trees.EditedTree.{EditedTree}
 use Rattle.history_files.specs.declared.trees.EditedFiles.{EditedFiles}
-use Rattle.history_store.specs.Formats.{actor_of, entry_of}
-use Rattle.history_store.specs.Commits.{IsCommitOf}
+use Rattle.history_store.specs.Formats.{actor_of, entry_of, own_actor}
+use Rattle.history_store.specs.Commits.{IsCommitOf, IsPlainCommit, has_ids_of}
 use Rattle.history_store.specs.Stores.{AreObjectsOf}
 use Rattle.history_store.specs.declared.object.NewObject.{NewObject}
-use Rattle.history_store.specs.declared.commit.Commit as stored
+use Rattle.gix_object_commit.specs.declared.commit.owned.Commit.{Commit as OwnCommit}
 use Rattle.gix_hash.specs.declared.object_id.ObjectId.{ObjectId}
 use Rattle.history_store.specs.declared.log_entry.LogEntry.{LogEntry}
 use Rattle.history_word.specs.Commands.{AreEdits}
@@ -92,6 +95,18 @@ reading_planned MayFail r order IdTaken h = absurd h
 
 pub refusal_planned : (MayFail : Type 0) (r : plain.Repository) (order : CommitCommand) (cause : Cause) (ends : Result Plan Stopped) → ends ≡ Err (Refused cause) → first_cause r (Commit order) ≡ Some cause → Plans MayFail r order ends
 refusal_planned MayFail r order cause ends is_end is = subst (Plans MayFail r order) (sym is_end) is
+
+both : (a b : Bool) → IsTrue a → IsTrue b → IsTrue (a && b)
+both a b p q = λ i. p i && q i
+
+-- stored commits have ids of the kind
+commits_have_ids : (r : plain.Repository) → IsWholeStore r → (ids : List Id) → AllByRecursion (HoldsCommit r) ids → IsTrue (list_all (is_id r.kind) ids)
+commits_have_ids r store [] hold = refl
+commits_have_ids r store (id ∷ ids) hold = both (is_id r.kind id) (list_all (is_id r.kind) ids) (of_value (get r.objects id) refl hold.0) (commits_have_ids r store ids hold.1)
+  where
+    of_value : (o : Option Value) → get r.objects id ≡ o → IsSome (option_and_then as_commit o) → IsTrue (is_id r.kind id)
+    of_value None e h = absurd cc
+    of_value (Some value) e h = values_have_ids r.kind r.objects store.own_ids id value e
 
 module _ (r : plain.Repository) (order : CommitCommand) (o : IsOffered r) (w : HasWholeNames r) (offered : is_spoken (Commit order) ≡ true) where
   pub base_planned : (MayFail : Type 0) (result : Result Base Stopped) (ends : Result Plan Stopped) (stopped : Stopped) → result ≡ Err stopped → ends ≡ Err stopped
@@ -203,16 +218,14 @@ module _ (r : plain.Repository) (order : CommitCommand) (o : IsOffered r) (w : H
   before_is parent null at is_null =
       before_told parent null ∙ (λ i. unwrap_or (at i) (is_null i))
 
-  pub commit_is : (commit : stored.Commit) (tree : ObjectId) → id_of tree ≡ folder_id r.kind (new_commit r order).files → commit.tree ≡ tree
-      → map id_of commit.parents.items ≡ parents_of r order → actor_of commit.author ≡ read_actor order.author → actor_of commit.committer ≡ read_actor order.committer → commit.message.items ≡ order.message
-      → IsCommitOf r.kind commit (new_commit r order)
-  commit_is commit tree is at parents author committer message = record {
-    tree = ap id_of at ∙ is;
-    parents = parents;
-    author = author;
-    committer = committer;
-    message = message;
-  }
+  pub commit_is : IsWholeStore r → AllByRecursion (HoldsCommit r) (parents_of r order) → (commit : OwnCommit) → id_of commit.tree ≡ folder_id r.kind (new_commit r order).files
+      → map id_of commit.parents.items ≡ parents_of r order → own_actor commit.author ≡ read_actor order.author → own_actor commit.committer ≡ read_actor order.committer → commit.message ≡ order.message
+      → (IsTrue (has_ids_of r.kind commit) → IsPlainCommit r.kind commit) → IsCommitOf r.kind commit (new_commit r order)
+  commit_is store hold commit tree parents author committer message plain =
+      let files = (new_commit r order).files in
+      let has = both (is_id r.kind (id_of commit.tree)) (list_all (is_id r.kind) (map id_of commit.parents.items))
+      (ap (is_id r.kind) tree ∙ digest_is_id r.kind (tree_text (root r.kind files))) (ap (list_all (is_id r.kind)) parents ∙ commits_have_ids r store (parents_of r order) hold) in
+      record { plain = plain has; tree = tree; parents = parents; author = author; committer = committer; message = message }
 
   pub entry_is : (entry : LogEntry) (kind : Kind) (commit : NewObject) → kind ≡ r.kind → id_of entry.before ≡ unwrap_or (id_at r (branch_or_name r order.name)) (null_id r.kind)
       → IsMade kind kinds.Commit (commit_content r.kind (new_commit r order)) commit → entry.after ≡ commit.id → actor_of entry.actor ≡ read_actor order.committer → entry.message.items ≡ title order.message

@@ -3,8 +3,8 @@ use Rattle.std.specs.Prelude.{map}
 use Rattle.history_model.specs.Bytes.{Bytes}
 use Rattle.history_model.specs.Replies.{CommitShown, ContentShown}
 use Rattle.history_model.specs.declared.FileKind.{FileKind}
-use Rattle.history_store.specs.Formats.{actor_of}
-use Rattle.history_store.specs.declared.commit.Commit.{Commit}
+use Rattle.history_store.specs.Formats.{own_actor}
+use Rattle.gix_object_commit.specs.declared.commit.owned.Commit.{Commit}
 use Rattle.gix_hash.specs.declared.object_id.ObjectId.{ObjectId}
 use Rattle.gix_hash.specs.Id.{id_of}
 
@@ -13,9 +13,9 @@ shown_commit id commit = record {
   id = id_of id;
   tree = id_of commit.tree;
   parents = map id_of commit.parents.items;
-  author = actor_of commit.author;
-  committer = actor_of commit.committer;
-  message = commit.message.items;
+  author = own_actor commit.author;
+  committer = own_actor commit.committer;
+  message = commit.message;
 }
 
 -- a file whose content has this id and is these bytes

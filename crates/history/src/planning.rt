@@ -20,7 +20,7 @@ use gix_hash::ObjectId;
 use gix_ref_file::Files;
 use history_files::EditedTree;
 use history_model::{Cause, Fault};
-use history_store::{Actor, Commit, LogEntry, NewObject, ObjectKind};
+use history_store::{Actor, LogEntry, NewObject, ObjectKind, commit_bytes, plain_commit};
 use history_word::CommitCommand;
 use std::alloc::{AllocError, Global};
 
@@ -139,14 +139,10 @@ impl<F: Files> Repository<F> {
         let message = into_kept(command.message);
         let title = Vec::from_slice(alloc, title(&message))?;
         let log_actor = committer.try_clone()?;
-        let commit = Commit {
-            tree: edited.root,
-            parents: base.parents,
-            author,
-            committer,
-            message,
-        };
-        let commit = self.new_object(ObjectKind::Commit, commit.to_bytes(alloc)?)?;
+        let commit = plain_commit(alloc, edited.root, base.parents, author, committer, message);
+        // Its ids are of the kind of the store, so it can be spelled.
+        let content = commit_bytes(alloc, &commit)?.ok_or(Fault::File)?;
+        let commit = self.new_object(ObjectKind::Commit, content)?;
         let before = base.held.unwrap_or(ObjectId::null(self.objects.kind()));
         let moves = moves_to(base.name, before, commit.id, log_actor, title);
         objects.push(commit)?;

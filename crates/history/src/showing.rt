@@ -5,20 +5,24 @@ ghost use Rattle.history_model.specs.Bytes.{Bytes};
 ghost use Rattle.history_model.specs.Objects.{hex};
 ghost use Rattle.history_model.specs.Spelling.{parts_text, parent_part, actor_parts};
 ghost use Rattle.history_model.specs.Replies.{reply_text, spelled_actor, ShowsCommit, ShowsContent};
-ghost use Rattle.history_store.specs.Formats.{actor_of};
+ghost use Rattle.history_store.specs.Actors.{HasForm};
+ghost use Rattle.history_store.specs.Commits.{IsPlainCommit};
+ghost use Rattle.history_store.specs.Formats.{own_actor};
 ghost use Rattle.history.specs.Shown.{shown_commit, shown_content};
 ghost use Rattle.gix_hash.specs.Id.{id_of};
+ghost use Rattle.gix_hash.specs.declared.kind.Kind as hash;
 
 use crate::fields::{is_bad_path, kept};
 use crate::reply::{field, kind_word, line};
 use crate::repository::Repository;
 use crate::stopped::Stopped;
 use gix_hash::{Kind, ObjectId};
-use gix_object::lines::write_time;
+use gix_object::Commit;
+use gix_object::lines::{Actor, write_time};
 use gix_ref_file::Files;
 use history_files::Found;
 use history_model::{Cause, FileKind};
-use history_store::{Actor, Commit, ObjectKind, hex_digits};
+use history_store::{ObjectKind, hex_digits};
 use history_word::{Field, Show};
 use std::alloc::{AllocError, Global};
 
@@ -39,9 +43,11 @@ fn parent_lines(text: &mut Vec<u8>, parents: &[ObjectId]) -> Result<(), AllocErr
 
 /// Appends an actor as a command spells it.
 fn actor(alloc: Global, text: &mut Vec<u8>, role: &[u8], actor: &Actor) -> Result<(), AllocError>
-    ensures { OnOk result (text.new.items ≡ text.old.items
-        ++ parts_text (actor_parts role.now (spelled_actor (actor_of actor.now)))) }
+    ensures { HasForm actor.now → OnOk result (text.new.items ≡ text.old.items
+        ++ parts_text (actor_parts role.now (spelled_actor (own_actor actor.now)))) }
 {
+    let name = actor.name.as_bytes();
+    let email = actor.email.as_bytes();
     let mut name_len = itoa::Buffer::new();
     let mut email_len = itoa::Buffer::new();
     // The seconds, a space and the offset, as two words of the line.
@@ -51,18 +57,18 @@ fn actor(alloc: Global, text: &mut Vec<u8>, role: &[u8], actor: &Actor) -> Resul
         text,
         &[
             role,
-            name_len.format(actor.name.len()).as_bytes(),
-            email_len.format(actor.email.len()).as_bytes(),
+            name_len.format(name.len()).as_bytes(),
+            email_len.format(email.len()).as_bytes(),
             &time,
         ],
     )?;
-    field(text, &actor.name)?;
-    field(text, &actor.email)
+    field(text, name)?;
+    field(text, email)
 }
 
 /// The text that shows a commit of this id.
 fn commit_text(alloc: Global, id: &ObjectId, commit: &Commit) -> Result<Vec<u8>, AllocError>
-    ensures { IfOk result (λ text. text.items
+    ensures { (kind : hash.Kind) → IsPlainCommit kind commit.now → IfOk result (λ text. text.items
         ≡ reply_text (ShowsCommit (shown_commit id.now commit.now))) }
 {
     let mut text = Vec::new(alloc);
@@ -88,7 +94,7 @@ fn commit_text(alloc: Global, id: &ObjectId, commit: &Commit) -> Result<Vec<u8>,
             count.format(commit.parents.len()).as_bytes(),
         ],
     )?;
-    parent_lines(&mut text, &commit.parents)?;
+    parent_lines(&mut text, commit.parents.as_slice())?;
     actor(alloc, &mut text, b"author", &commit.author)?;
     actor(alloc, &mut text, b"committer", &commit.committer)?;
     let mut size = itoa::Buffer::new();
@@ -96,10 +102,10 @@ fn commit_text(alloc: Global, id: &ObjectId, commit: &Commit) -> Result<Vec<u8>,
         &mut text,
         &[
             b"message".as_slice(),
-            size.format(commit.message.len()).as_bytes(),
+            size.format(commit.message.as_bytes().len()).as_bytes(),
         ],
     )?;
-    field(&mut text, &commit.message)?;
+    field(&mut text, commit.message.as_bytes())?;
     Ok(text)
 }
 

@@ -12,10 +12,11 @@ ghost use Rattle.gix_hash.specs.Id.{id_of};
 use crate::repository::Repository;
 use crate::stopped::Stopped;
 use gix_hash::ObjectId;
+use gix_object::Commit;
 use gix_ref_file::Files;
 use history_files::{File, Found, entry_at, files};
 use history_model::Fault;
-use history_store::{Commit, ObjectKind};
+use history_store::{ObjectKind, parse_commit};
 use std::alloc::Global;
 
 // In a whole repository each id that is read names an object of its kind, so only a failed call leads to `fault File`.
@@ -49,7 +50,7 @@ impl<F: Files> Repository<F> {
             → Gives F.reading_may_fail (λ commit. IsCommitOf r.kind commit value) result }
     {
         let content = self.content(alloc, ObjectKind::Commit, id)?;
-        Ok(Commit::parse(alloc, self.objects.kind(), &content)?.ok_or(Fault::File)?)
+        Ok(parse_commit(alloc, self.objects.kind(), &content)?.ok_or(Fault::File)?)
     }
 
     /// The files below a stored tree, their paths ascending. No content of theirs is read.

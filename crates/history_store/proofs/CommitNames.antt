@@ -12,10 +12,10 @@ use Rattle.gix_object_commit.specs.Commit.{Parts, SpellsCommit, commit_text}
 use Rattle.history_model.specs.Bytes.{Bytes, has_twice}
 use Rattle.history_model.specs.Forms.{is_actor, is_commit_form, is_id, max_parents, max_title, title}
 use Rattle.history_model.specs.Objects.{CommitValue}
-use Rattle.history_store.specs.Commits.{IsPlain, has_ids_of}
-use Rattle.history_store.specs.Formats.{actor_of, parts_of}
+use Rattle.history_store.specs.Commits.{IsPlain, IsPlainCommit}
+use Rattle.history_store.specs.Formats.{own_actor, parts_of}
 use Rattle.history_store.specs.Written.{NamesByCommit, NamesByParts, Naming, commit_parts, named_by_commit, naming_of}
-use Rattle.history_store.specs.declared.commit.Commit.{Commit}
+use Rattle.gix_object_commit.specs.declared.commit.owned.Commit.{Commit}
 use Rattle.history_store.specs.declared.written.Named.{Named}
 use Rattle.history_store.proofs.CommitTexts.{ids_tell, plain_spelled}
 use Rattle.history_store.proofs.Spelled.{and_from, and_of}
@@ -69,30 +69,30 @@ none_named kind parts unlike named names =
     })
 
 -- nor are those over a limit
-pub over_limit : (kind : Kind) (parts : Parts) (commit : Commit) → parts ≡ parts_of commit → IsTrue (has_ids_of kind commit) → IsFalse (within_limits (map id_of commit.parents.items) commit.message.items)
+pub over_limit : (kind : Kind) (parts : Parts) (commit : Commit) → parts ≡ parts_of commit → IsPlainCommit kind commit → IsFalse (within_limits (map id_of commit.parents.items) commit.message)
     → (named : List Naming) → NamesByParts kind parts named → ⊥
-over_limit kind parts commit told ids over named names =
+over_limit kind parts commit told plain over named names =
     let are = names.parts_are in
     let form = commit_form kind names.value are.form in
     let same = sym told ∙ are.told in
-    let has = and_of (is_id kind (id_of commit.tree)) (list_all (is_id kind) (map id_of commit.parents.items)) ids in
+    let has = and_of (is_id kind (id_of commit.tree)) (list_all (is_id kind) (map id_of commit.parents.items)) plain.ids in
     let parents = ids_tell kind _ _ has.1 form.parents (ap (λ (p : Parts). p.parents) same) in
-    let message : commit.message.items ≡ names.value.message = ap (λ (p : Parts). p.message) same in
+    let message : commit.message ≡ names.value.message = ap (λ (p : Parts). p.message) same in
     cc (sym over ∙ (λ i. within_limits (parents i) (message i)) ∙ form.limits)
 
 -- a commit within the limits names its tree and its parents
-pub names_of_commit : (kind : Kind) (parts : Parts) (commit : Commit) (named : List Naming) → parts ≡ parts_of commit → IsTrue (has_ids_of kind commit) → IsTrue (within_limits (map id_of commit.parents.items) commit.message.items)
-    → named ≡ named_by_commit (id_of commit.tree) (record { parents = map id_of commit.parents.items; author = actor_of commit.author; committer = actor_of commit.committer; message = commit.message.items; files = empty })
+pub names_of_commit : (kind : Kind) (parts : Parts) (commit : Commit) (named : List Naming) → parts ≡ parts_of commit → IsPlainCommit kind commit → IsTrue (within_limits (map id_of commit.parents.items) commit.message)
+    → named ≡ named_by_commit (id_of commit.tree) (record { parents = map id_of commit.parents.items; author = own_actor commit.author; committer = own_actor commit.committer; message = commit.message; files = empty })
     → NamesByParts kind parts named
-names_of_commit kind parts commit named told ids within is =
-    let has = and_of (is_id kind (id_of commit.tree)) (list_all (is_id kind) (map id_of commit.parents.items)) ids in
-    let value : CommitValue = record { parents = map id_of commit.parents.items; author = actor_of commit.author; committer = actor_of commit.committer; message = commit.message.items; files = empty } in
+names_of_commit kind parts commit named told plain within is =
+    let has = and_of (is_id kind (id_of commit.tree)) (list_all (is_id kind) (map id_of commit.parents.items)) plain.ids in
+    let value : CommitValue = record { parents = map id_of commit.parents.items; author = own_actor commit.author; committer = own_actor commit.committer; message = commit.message; files = empty } in
     record {
       tree = id_of commit.tree;
       value = value;
       parts_are = record {
         tree_is = has.0;
-        form = form_of kind value (record { parents = has.1; author = ((commit.author).formed).actor; committer = ((commit.committer).formed).actor; limits = within });
+        form = form_of kind value (record { parents = has.1; author = plain.author.actor; committer = plain.committer.actor; limits = within });
         told = told;
       };
       named_are = is;

@@ -16,9 +16,9 @@ use Rattle.history_model.specs.Forms.{is_id, is_actor, is_commit_form, title, ma
 use Rattle.history_model.specs.Objects.{Actor, CommitValue, hex, actor_text, commit_content, folder_id, tree_text, root}
 use Rattle.history_model.proofs.IdLemmas.{digest_is_id, has_kind, id_digits, length-hex, low_digit}
 use Rattle.history_model.proofs.OnePairTexts.{hex_same}
-use Rattle.history_store.specs.Commits.{IsCommitOf, IsPlain, has_ids_of}
+use Rattle.history_store.specs.Commits.{IsCommitOf, IsPlain, IsPlainCommit}
 use Rattle.history_store.specs.Formats.{parts_of, plain_parts}
-use Rattle.history_store.specs.declared.commit.Commit.{Commit}
+use Rattle.gix_object_commit.specs.declared.commit.owned.Commit.{Commit}
 use Rattle.history_store.proofs.ActorTexts.{line_of_person, person_formed, person_tells}
 use Rattle.history_store.proofs.Spelled.{and_from, and_of}
 
@@ -93,7 +93,7 @@ content_of_parts kind value =
     lines_of_parents [] = refl
     lines_of_parents (parent ∷ parents) = ap (λ text. line (codes "parent " ++ hex parent) ++ text) (lines_of_parents parents)
 
--- what a commit of this crate prints is the value's content
+-- what is written of such a commit is the value's content
 pub text_of_commit : (kind : Kind) (commit : Commit) (value : CommitValue) → IsCommitOf kind commit value → commit_text (parts_of commit) ≡ commit_content kind value
 text_of_commit kind commit value is =
     (λ i. commit_text (plain_parts (is.tree i) (is.parents i) (is.author i) (is.committer i) (is.message i))) ∙ sym (content_of_parts kind value)
@@ -138,27 +138,28 @@ value_plain kind value parts formed is =
     })
 
 -- a commit of these parts says what the value says
-pub value_told : (kind : Kind) (value : CommitValue) (commit : Commit) → IsTrue (is_commit_form kind value) → parts_of commit ≡ value_parts kind value → IsTrue (has_ids_of kind commit) → IsCommitOf kind commit value
-value_told kind value commit formed is ids =
+pub value_told : (kind : Kind) (value : CommitValue) (commit : Commit) → IsTrue (is_commit_form kind value) → parts_of commit ≡ value_parts kind value → IsPlainCommit kind commit → IsCommitOf kind commit value
+value_told kind value commit formed is plain =
     let forms = value_forms kind value formed in
-    let has = and_of (is_id kind (id_of commit.tree)) (list_all (is_id kind) (map id_of commit.parents.items)) ids in
+    let has = and_of (is_id kind (id_of commit.tree)) (list_all (is_id kind) (map id_of commit.parents.items)) plain.ids in
     record {
+      plain = plain;
       tree = hex_same kind _ _ has.0 forms.tree (ap (λ p. p.tree) is);
       parents = ids_tell kind _ _ has.1 forms.parents (ap (λ p. p.parents) is);
-      author = person_tells _ _ ((commit.author).formed).actor forms.author (ap (λ p. p.author) is);
-      committer = person_tells _ _ ((commit.committer).formed).actor forms.committer (ap (λ p. p.committer) is);
+      author = person_tells _ _ plain.author.actor forms.author (ap (λ p. p.author) is);
+      committer = person_tells _ _ plain.committer.actor forms.committer (ap (λ p. p.committer) is);
       message = ap (λ p. p.message) is;
     }
 
 -- so a text of the value is answered with it
 pub value_answered : (kind : Kind) (value : CommitValue) (parts : Parts) (found : Option Commit) → IsTrue (is_commit_form kind value) → parts ≡ value_parts kind value
-    → MatchOption found (¬ IsPlain kind parts) (λ commit. (parts ≡ parts_of commit) × IsTrue (has_ids_of kind commit)) → MatchOption found ⊥ (λ commit. IsCommitOf kind commit value)
+    → MatchOption found (¬ IsPlain kind parts) (λ commit. (parts ≡ parts_of commit) × IsPlainCommit kind commit) → MatchOption found ⊥ (λ commit. IsCommitOf kind commit value)
 value_answered kind value parts None formed is none = none (value_plain kind value parts formed is)
 value_answered kind value parts (Some commit) formed is told = value_told kind value commit formed (sym told.0 ∙ is) told.1
 
 -- what is refused spells no such parts
 pub none_answered : (kind : Kind) (content : Bytes) (read : Parts) (found : Option Commit) → ((parts : Parts) → SpellsCommit (hex_len kind) content parts → read ≡ parts)
-    → MatchOption found (¬ IsPlain kind read) (λ commit. (read ≡ parts_of commit) × IsTrue (has_ids_of kind commit)) → IfNone found ((parts : Parts) → SpellsCommit (hex_len kind) content parts → ¬ IsPlain kind parts)
+    → MatchOption found (¬ IsPlain kind read) (λ commit. (read ≡ parts_of commit) × IsPlainCommit kind commit) → IfNone found ((parts : Parts) → SpellsCommit (hex_len kind) content parts → ¬ IsPlain kind parts)
 none_answered kind content read None same none = λ parts spelled plain. none (subst (IsPlain kind) (sym (same parts spelled)) plain)
 none_answered kind content read (Some commit) same told = tt
 

@@ -1,6 +1,7 @@
 -- What a name, an email and a time say as an actor of the plain repository.
 use Rattle.std.specs.Prelude.{ℕ, ℤ, pos, ◌≡◌, ◌≢◌, ◌≤◌, ◌⊎◌, IsTrue, IsFalse, decimal, unsigned_abs}
 use Rattle.gix_object_lines.specs.Time.{IsSpellableOffset, offset_text}
+use Rattle.gix_object_lines.specs.declared.lines.actor.Actor as lines
 use Rattle.gix_object_lines.specs.declared.lines.time.Time.{Time}
 use Rattle.history_model.specs.Bytes.{Bytes}
 use Rattle.history_model.specs.Forms.{is_actor, is_offset, max_seconds}
@@ -18,6 +19,10 @@ pub record IsPlainTime (time : Time) : Type 0 where
 pub record IsFormed (name email : Bytes) (time : Time) : Type 0 where
   pub plain_time : IsPlainTime time
   pub actor : IsTrue (is_actor (plain_actor name email time))
+
+-- an actor that a commit holds has the written form
+abbrev pub HasForm : lines.Actor → Type 0
+HasForm actor = IsFormed actor.name actor.email actor.time
 
 -- ---- the words of a time
 

@@ -4,15 +4,20 @@ use Rattle.history_model.specs.Bytes.{Bytes}
 use Rattle.history_model.specs.Objects.{hex}
 use Rattle.gix_hash.specs.Id.{Id, id_of}
 use Rattle.gix_object_commit.specs.Commit.{Person, Parts}
+use Rattle.gix_object_commit.specs.declared.commit.owned.Commit.{Commit}
+use Rattle.gix_object_lines.specs.declared.lines.actor.Actor as lines
 use Rattle.history_model.specs.Objects as model
 use Rattle.history_model.specs.Repository as repository
 use Rattle.history_store.specs.Actors.{plain_actor}
 use Rattle.history_store.specs.declared.actor.Actor as actors
-use Rattle.history_store.specs.declared.commit.Commit as commits
 use Rattle.history_store.specs.declared.log_entry.LogEntry as entries
 
 abbrev pub actor_of : actors.Actor → model.Actor
 actor_of actor = plain_actor actor.name.items actor.email.items actor.time
+
+-- an actor as a commit holds it
+abbrev pub own_actor : lines.Actor → model.Actor
+own_actor actor = plain_actor actor.name actor.email actor.time
 
 -- the actor as a line of an object has it
 abbrev pub person_of : model.Actor → Person
@@ -31,8 +36,8 @@ plain_parts tree parents author committer message = record {
 }
 
 -- the parts of a commit, which git-commit-tree writes
-abbrev pub parts_of : commits.Commit → Parts
-parts_of commit = plain_parts (id_of commit.tree) (map id_of commit.parents.items) (actor_of commit.author) (actor_of commit.committer) commit.message.items
+abbrev pub parts_of : Commit → Parts
+parts_of commit = plain_parts (id_of commit.tree) (map id_of commit.parents.items) (own_actor commit.author) (own_actor commit.committer) commit.message
 
 -- the move that an entry tells
 abbrev pub entry_of : entries.LogEntry → repository.LogEntry

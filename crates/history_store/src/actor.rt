@@ -5,11 +5,10 @@ ghost use Rattle.history_model.specs.Bytes.{has_byte};
 ghost use Rattle.history_model.specs.Forms.{is_actor_part, is_offset, max_seconds};
 ghost use Rattle.history_store.specs.Actors.{IsFormed, IsNoTime, IsOffsetOf, IsPlainTime, IsSecondsOf, IsTimeOf};
 
-use bstr::BStr;
-use gix_object::lines::{ActorRef, Time, read_actor, read_time, write_actor_parts, write_time};
+use gix_object::ByteString;
+use gix_object::lines::{self, ActorRef, Time, read_actor, read_time, write_actor_parts};
 use gix_object_lines::cut::split_once;
 use gix_object_lines::decimal::read_unsigned;
-use smallvec::SmallVec;
 use std::alloc::{AllocError, Global};
 
 const MAX_PART: usize = 512;
@@ -32,8 +31,8 @@ impl Actor {
     ghost use Rattle.history_model.specs.Forms.{is_actor};
     ghost use Rattle.history_model.specs.Objects.{actor_text};
     ghost use Rattle.history_model.specs.Objects as model;
-    ghost use Rattle.history_store.specs.Actors.{plain_actor};
-    ghost use Rattle.history_store.specs.Formats.{actor_of, person_of};
+    ghost use Rattle.history_store.specs.Actors.{HasForm, plain_actor};
+    ghost use Rattle.history_store.specs.Formats.{actor_of, own_actor, person_of};
     ghost use Rattle.gix_object_commit.specs.Views as views;
 
     /// The actor of these parts; `None` where one of them is against the written form or its limit.
@@ -66,25 +65,16 @@ impl Actor {
         write_actor_parts(&self.name, &self.email, self.time, out).map_err(|_| AllocError)
     }
 
-    /// The actor's parts as lines of objects have them; the text of its time is `time_text`'s.
-    pub(crate) fn to_ref<'a>(&'a self, time: &'a [u8]) -> ActorRef<'a>
-        ensures { views.person_of result
-            ≡ record { name = self.now.name.items; email = self.now.email.items; time = time.now } }
+    /// The actor as a commit holds it. It takes no memory.
+    pub(crate) fn into_own(self) -> lines::Actor
+        ensures told { own_actor result ≡ actor_of self }
+        ensures formed { HasForm result }
     {
-        ActorRef {
-            name: BStr::new(&self.name),
-            email: BStr::new(&self.email),
-            time: BStr::new(time),
+        lines::Actor {
+            name: ByteString::new(self.name),
+            email: ByteString::new(self.email),
+            time: self.time,
         }
-    }
-
-    /// The text of its time, which takes no memory.
-    pub(crate) fn time_text(&self, alloc: Global) -> Result<SmallVec<u8, 32>, AllocError>
-        ensures { IfOk result (λ text. text.items ≡ (person_of (actor_of self.now)).time) }
-    {
-        let mut text = SmallVec::new(alloc);
-        write_time(self.time, &mut text).map_err(|_| AllocError)?;
-        Ok(text)
     }
 
     /// The actor that a text spells; `None` where it spells none. The seconds are a number in decimal without a leading zero, of

@@ -1,154 +1,92 @@
-//! A commit. Its text is read and written by `gix_object`.
-ghost use Rattle.std.specs.Prelude.{◌≡◌, ◌≢◌, ◌↔◌, List, map, IfOk, IfSome, IfNone, MatchOption, IsTrue, IsFalse};
+//! Commits of the store, which are `gix_object`'s: what they hold, and their contents.
+ghost use Rattle.std.specs.Prelude.{◌≡◌, ◌≢◌, ◌↔◌, List, None, map, IfOk, IfSome, IfNone, MatchOption, IsTrue, IsFalse};
 ghost use Rattle.std.specs.List.{list_all};
 ghost use Rattle.bstr.specs.BStr.{bstr_bytes};
 ghost use Rattle.gix_hash.specs.Id.{Id, id_of};
 ghost use Rattle.gix_hash.specs.Kind.{hex_len};
+ghost use Rattle.gix_hash.specs.declared.kind.Kind as hash;
 ghost use Rattle.gix_object_commit.specs.Commit.{Parts, SpellsCommit, commit_text};
+ghost use Rattle.gix_object_commit.specs.OwnedText.{own_parts, own_refusal};
 ghost use Rattle.gix_object_commit.specs.Views as views;
 ghost use Rattle.history_model.specs.Forms.{is_id, is_commit_form};
 ghost use Rattle.history_model.specs.Objects.{CommitValue, hex, commit_content};
-ghost use Rattle.history_store.specs.Commits.{AreTextsOf, IsCommitOf, IsPlain, TellsNoMore, has_ids_of};
-ghost use Rattle.history_store.specs.Formats.{parts_of};
+ghost use Rattle.history_store.specs.Commits.{IsCommitOf, IsPlain, IsPlainCommit, TellsNoMore, has_ids_of};
+ghost use Rattle.history_store.specs.Formats.{actor_of, own_actor, parts_of};
 
 use crate::actor::Actor;
-use crate::id_text::{hex_digits, parse_lower_hex};
+use crate::id_text::parse_lower_hex;
 use bstr::BStr;
 use gix_hash::{Kind, ObjectId};
 use gix_object::decode::Error;
-use gix_object::{CommitRef, WriteTo};
+use gix_object::{ByteString, Commit, CommitRef, WriteTo, WriteToError};
 use smallvec::SmallVec;
 use std::alloc::{AllocError, Global};
 
-/// What a commit says.
-#[derive(Drop, Debug)]
-pub struct Commit {
-    pub tree: ObjectId,
-    pub parents: Vec<ObjectId>,
-    pub author: Actor,
-    pub committer: Actor,
-    pub message: Vec<u8>,
-}
-
-impl Commit {
-    /// The commit's content. It is an error where a growth is refused, and for a commit whose ids aren't all of one kind, which
-    /// has no content.
-    pub fn to_bytes(&self, alloc: Global) -> Result<Vec<u8>, AllocError>
-        ensures { IfOk result (λ text. text.items ≡ commit_text (parts_of self.now)) }
-    {
-        let texts = Texts::new(alloc, self)?;
-        let parts = self.to_ref(alloc, &texts)?;
-        content_of(alloc, &parts)
-    }
-
-    // The commit's parts, lent. The texts are its own.
-    fn to_ref<'a>(&'a self, alloc: Global, texts: &'a Texts) -> Result<CommitRef<'a>, AllocError>
-        requires { AreTextsOf texts.now self.now }
-        ensures { IfOk result (λ parts. views.parts_of parts ≡ parts_of self.now) }
-    {
-        Ok(CommitRef {
-            tree: BStr::new(texts.tree.as_slice()),
-            parents: lent(alloc, texts.parents.as_slice())?,
-            author: self.author.to_ref(texts.author_time.as_slice()),
-            committer: self.committer.to_ref(texts.committer_time.as_slice()),
-            encoding: None,
-            message: BStr::new(&self.message),
-            extra_headers: Vec::new(alloc),
-        })
-    }
-
-    /// The commit that a content spells, with ids of this kind; `None` where it spells none: ids are in lower-case hex, both actors
-    /// as `Actor` has them, and no encoding and no further headers are told.
-    pub fn parse(alloc: Global, kind: Kind, content: &[u8]) -> Result<Option<Commit>, AllocError>
-        ensures spelled { IfOk result (λ found. IfSome found
-            (λ commit. SpellsCommit (hex_len kind) content.now (parts_of commit))) }
-        ensures kinds { IfOk result (λ found. IfSome found
-            (λ commit. IsTrue (has_ids_of kind commit))) }
-        ensures none { IfOk result (λ found. IfNone found
-            ((parts : Parts) → SpellsCommit (hex_len kind) content.now parts
-            → ¬ IsPlain kind parts)) }
-        ensures read { IfOk result (λ found. (value : CommitValue)
-            → IsTrue (is_commit_form kind value) → content.now ≡ commit_content kind value
-            → MatchOption found ⊥ (λ commit. IsCommitOf kind commit value)) }
-    {
-        match CommitRef::from_bytes(alloc, content, kind) {
-            Ok(parts) => commit_of(alloc, kind, &parts),
-            Err(fault) => match fault {
-                Error::Memory => Err(AllocError),
-                _ => Ok(None),
-            },
-        }
+/// The commit that says this, with no encoding and no further headers. It takes no memory.
+pub fn plain_commit(
+    alloc: Global,
+    tree: ObjectId,
+    parents: Vec<ObjectId>,
+    author: Actor,
+    committer: Actor,
+    message: Vec<u8>,
+) -> Commit
+    ensures tree { result.tree ≡ tree }
+    ensures parents { result.parents.items ≡ parents.items }
+    ensures author { own_actor result.author ≡ actor_of author }
+    ensures committer { own_actor result.committer ≡ actor_of committer }
+    ensures message { result.message ≡ message.items }
+    ensures plain { (kind : hash.Kind) → IsTrue (has_ids_of kind result)
+        → IsPlainCommit kind result }
+{
+    Commit {
+        tree,
+        parents: SmallVec::from_vec(parents),
+        author: author.into_own(),
+        committer: committer.into_own(),
+        encoding: None,
+        message: ByteString::new(message),
+        extra_headers: Vec::new(alloc),
     }
 }
 
 // Most commits' texts have no more bytes, and grow no further.
 const USUAL_LENGTH: usize = 512;
 
-// The content of the commit of these parts.
-fn content_of(alloc: Global, parts: &CommitRef<'_>) -> Result<Vec<u8>, AllocError>
-    ensures { IfOk result (λ text. text.items ≡ commit_text (views.parts_of parts.now)) }
+/// The commit's content; `None` where a part of it can't be spelled, as with ids of two kinds.
+pub fn commit_bytes(alloc: Global, commit: &Commit) -> Result<Option<Vec<u8>>, AllocError>
+    ensures { IfOk result (λ found. MatchOption found (own_refusal commit.now ≢ None)
+        (λ text. (own_refusal commit.now ≡ None)
+        × (text.items ≡ commit_text (own_parts commit.now)))) }
 {
     let mut text = Vec::with_capacity(alloc, USUAL_LENGTH)?;
-    // A commit whose ids are all of one kind can be spelled; of another the refusal is told as one of memory.
-    parts.write_to(&mut text).map_err(|_| AllocError)?;
-    Ok(text)
-}
-
-// The digits of an id, and the text of a time. They stand in the value itself and take no memory.
-type HexText = SmallVec<u8, 64>;
-
-// The texts of a commit's ids and times, which are lent to write it.
-#[derive(Drop)]
-struct Texts {
-    tree: HexText,
-    parents: SmallVec<HexText, 1>,
-    author_time: SmallVec<u8, 32>,
-    committer_time: SmallVec<u8, 32>,
-}
-
-impl Texts {
-    // The texts of this commit.
-    fn new(alloc: Global, commit: &Commit) -> Result<Texts, AllocError>
-        ensures { IfOk result (λ texts. AreTextsOf texts commit.now) }
-    {
-        Ok(Texts {
-            tree: hex_text(alloc, &commit.tree)?,
-            parents: hex_texts(alloc, &commit.parents)?,
-            author_time: commit.author.time_text(alloc)?,
-            committer_time: commit.committer.time_text(alloc)?,
-        })
+    match commit.write_to(&mut text) {
+        Ok(()) => Ok(Some(text)),
+        Err(WriteToError::Writer(_)) => Err(AllocError),
+        Err(_) => Ok(None),
     }
 }
 
-// The lower-case hex digits of an id.
-fn hex_text(alloc: Global, id: &ObjectId) -> Result<HexText, AllocError>
-    ensures { IfOk result (λ text. text.items ≡ hex (id_of id.now)) }
+/// The commit that a content spells, with ids of this kind; `None` where it spells none: ids are in lower-case hex, both actors
+/// as `Actor` has them, and no encoding and no further headers are told.
+pub fn parse_commit(alloc: Global, kind: Kind, content: &[u8]) -> Result<Option<Commit>, AllocError>
+    ensures spelled { IfOk result (λ found. IfSome found
+        (λ commit. SpellsCommit (hex_len kind) content.now (parts_of commit))) }
+    ensures plain { IfOk result (λ found. IfSome found (IsPlainCommit kind)) }
+    ensures none { IfOk result (λ found. IfNone found
+        ((parts : Parts) → SpellsCommit (hex_len kind) content.now parts
+        → ¬ IsPlain kind parts)) }
+    ensures read { IfOk result (λ found. (value : CommitValue)
+        → IsTrue (is_commit_form kind value) → content.now ≡ commit_content kind value
+        → MatchOption found ⊥ (λ commit. IsCommitOf kind commit value)) }
 {
-    let mut buffer = Kind::hex_buf();
-    SmallVec::from_slice(alloc, hex_digits(id, &mut buffer))
-}
-
-// The lower-case hex digits of each id.
-fn hex_texts(alloc: Global, ids: &[ObjectId]) -> Result<SmallVec<HexText, 1>, AllocError>
-    ensures { IfOk result (λ texts. map (λ text. text.items) texts.items
-        ≡ map hex (map id_of ids.now)) }
-{
-    let mut texts = SmallVec::new(alloc);
-    for id in ids {
-        texts.push(hex_text(alloc, id)?)?;
+    match CommitRef::from_bytes(alloc, content, kind) {
+        Ok(parts) => commit_of(alloc, kind, &parts),
+        Err(fault) => match fault {
+            Error::Memory => Err(AllocError),
+            _ => Ok(None),
+        },
     }
-    Ok(texts)
-}
-
-// The texts, lent.
-fn lent(alloc: Global, texts: &[HexText]) -> Result<SmallVec<BStr<'_>, 1>, AllocError>
-    ensures { IfOk result (λ lent. map bstr_bytes lent.items ≡ map (λ text. text.items) texts.now) }
-{
-    let mut views = SmallVec::new(alloc);
-    for text in texts {
-        views.push(BStr::new(text.as_slice()))?;
-    }
-    Ok(views)
 }
 
 // The commit of these parts; `None` where they aren't all as this crate writes them.
@@ -159,7 +97,7 @@ pub(crate) fn commit_of(
 ) -> Result<Option<Commit>, AllocError>
     ensures { IfOk result (λ found. MatchOption found (¬ IsPlain kind (views.parts_of parts.now))
         (λ commit. (views.parts_of parts.now ≡ parts_of commit)
-        × IsTrue (has_ids_of kind commit))) }
+        × IsPlainCommit kind commit)) }
 {
     if tells_more(parts) {
         return Ok(None);
@@ -176,13 +114,8 @@ pub(crate) fn commit_of(
     let Some(committer) = Actor::from_ref(alloc, parts.committer)? else {
         return Ok(None);
     };
-    Ok(Some(Commit {
-        tree,
-        parents,
-        author,
-        committer,
-        message: Vec::from_slice(alloc, parts.message.as_bytes())?,
-    }))
+    let message = Vec::from_slice(alloc, parts.message.as_bytes())?;
+    Ok(Some(plain_commit(alloc, tree, parents, author, committer, message)))
 }
 
 // Whether the parts hold what no commit of the store does: an encoding, or further headers.

@@ -2,22 +2,27 @@
 
 use crate::common::{actor, all_hold, id, is_id, object};
 use gix_hash::{Kind, ObjectId};
-use history_store::{Commit, ObjectKind};
+use gix_object::Commit;
+use history_store::{ObjectKind, commit_bytes, parse_commit, plain_commit};
 use std::alloc::{AllocError, Global};
 use std::process::Abort;
 
 fn commit(alloc: Global, tree: ObjectId, message: &[u8]) -> Result<Commit, AllocError> {
-    Ok(Commit {
+    Ok(plain_commit(
+        alloc,
         tree,
-        parents: Vec::new(alloc),
-        author: actor(alloc, "A", "a@b", 1, 0)?,
-        committer: actor(alloc, "B C", "c", 2, -5_400)?,
-        message: message.to_vec(alloc)?,
-    })
+        Vec::new(alloc),
+        actor(alloc, "A", "a@b", 1, 0)?,
+        actor(alloc, "B C", "c", 2, -5_400)?,
+        message.to_vec(alloc)?,
+    ))
 }
 
-fn printed(alloc: Global, commit: &Commit) -> Result<Vec<u8>, AllocError> {
-    commit.to_bytes(alloc)
+fn printed<R: Abort>(rt: &R, alloc: Global, commit: &Commit) -> Result<Vec<u8>, AllocError> {
+    match commit_bytes(alloc, commit)? {
+        Some(content) => Ok(content),
+        None => panic!(rt; "no content"),
+    }
 }
 
 fn id_of(alloc: Global, kind: Kind, content: &[u8]) -> Result<ObjectId, AllocError> {
@@ -26,7 +31,7 @@ fn id_of(alloc: Global, kind: Kind, content: &[u8]) -> Result<ObjectId, AllocErr
 }
 
 fn read<R: Abort>(rt: &R, alloc: Global, kind: Kind, content: &[u8]) -> Result<Commit, AllocError> {
-    match Commit::parse(alloc, kind, content)? {
+    match parse_commit(alloc, kind, content)? {
         Some(commit) => Ok(commit),
         None => panic!(rt; "no commit"),
     }
@@ -67,15 +72,15 @@ const SHA256_IDS: Ids = Ids {
 fn check_commits<R: Abort>(rt: &R, alloc: Global, kind: Kind, ids: &Ids) -> Result<(), AllocError> {
     let tree = id(rt, ids.tree);
     let first = commit(alloc, tree, b"one")?;
-    let first = id_of(alloc, kind, printed(alloc, &first)?.as_slice())?;
+    let first = id_of(alloc, kind, printed(rt, alloc, &first)?.as_slice())?;
     assert!(rt; is_id(&first, ids.first));
     let mut second = commit(alloc, tree, b"two\n\nmore\n")?;
     second.parents.push(first)?;
-    let content = printed(alloc, &second)?;
+    let content = printed(rt, alloc, &second)?;
     assert!(rt; is_id(&id_of(alloc, kind, content.as_slice())?, ids.second));
     let again = read(rt, alloc, kind, content.as_slice())?;
     all_hold(rt, &comparisons(&second, &again));
-    assert!(rt; printed(alloc, &again)?.as_slice() == content.as_slice());
+    assert!(rt; printed(rt, alloc, &again)?.as_slice() == content.as_slice());
     Ok(())
 }
 
@@ -98,7 +103,7 @@ const OF_NO_FILES: &str =
     "tree 4b825dc642cb6eb9a060e54bf8d69288fbee4904\nauthor A <a@b> 1 +0000\ncommitter A <a@b> 1 +0000\n\none";
 
 fn is_no_commit(alloc: Global, kind: Kind, text: &str) -> bool {
-    matches!(Commit::parse(alloc, kind, text.as_bytes()), Ok(None))
+    matches!(parse_commit(alloc, kind, text.as_bytes()), Ok(None))
 }
 
 #[test]
@@ -108,4 +113,12 @@ fn what_is_no_commit(rt: HostRuntime) {
     }
     // Its tree is an id of the other kind.
     assert!(rt; is_no_commit(rt.alloc(), Kind::Sha256, OF_NO_FILES));
+}
+
+#[test]
+fn ids_of_two_kinds_are_not_written(rt: HostRuntime) -> Result<(), AllocError> {
+    let mut commit = commit(rt.alloc(), id(&rt, SHA1_IDS.tree), b"one")?;
+    commit.parents.push(id(&rt, SHA256_IDS.first))?;
+    assert!(rt; commit_bytes(rt.alloc(), &commit)?.is_none());
+    Ok(())
 }

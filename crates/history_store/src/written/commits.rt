@@ -9,11 +9,11 @@ ghost use Rattle.history_model.specs.Forms.{max_parents, max_title, title};
 ghost use Rattle.history_store.specs.Ids.{is_one_of};
 ghost use Rattle.history_store.specs.Written.{NamesByCommit, NamesByParts, Naming, naming_of};
 
-use crate::commit::{Commit, commit_of};
+use crate::commit::commit_of;
 use crate::written::{MAX_TITLE, Named, title};
 use gix_hash::{Kind, ObjectId};
 use gix_object::decode::Error;
-use gix_object::{CommitRef, Kind as ObjectKind};
+use gix_object::{Commit, CommitRef, Kind as ObjectKind};
 use std::alloc::{AllocError, Global};
 
 const MAX_PARENTS: usize = 64;
@@ -60,11 +60,11 @@ fn named_by_parts(
 fn is_within_limits(commit: &Commit) -> bool
     ensures { result ≡ (nat_le (length (map id_of commit.now.parents.items)) max_parents
         && not (has_twice id_eq (map id_of commit.now.parents.items))
-        && nat_le (length (title commit.now.message.items)) max_title) }
+        && nat_le (length (title commit.now.message)) max_title) }
 {
     commit.parents.len() <= MAX_PARENTS
-        && !has_twice(&commit.parents)
-        && title(&commit.message).len() <= MAX_TITLE
+        && !has_twice(commit.parents.as_slice())
+        && title(commit.message.as_bytes()).len() <= MAX_TITLE
 }
 
 // Whether one of the ids stands twice.
@@ -98,7 +98,7 @@ fn names_of(alloc: Global, commit: &Commit) -> Result<Vec<Named>, AllocError>
         id: commit.tree,
         kind: ObjectKind::Tree,
     })?;
-    for parent in &commit.parents {
+    for parent in commit.parents.as_slice() {
         names.push(Named {
             id: *parent,
             kind: ObjectKind::Commit,

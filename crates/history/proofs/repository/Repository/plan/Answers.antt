@@ -21,9 +21,8 @@ use Rattle.history_model.specs.declared.Cause.TheVariants.{BadActor, BadPath, To
 use Rattle.gix_hash.specs.declared.kind.Kind.{Kind}
 use Rattle.history_files.specs.Editing.{AreEdited}
 use Rattle.history_store.specs.Stores.{AreObjectsOf}
-use Rattle.history_store.specs.declared.commit.Commit.{Commit}
 use Rattle.history_store.specs.Formats.{actor_of}
-use Rattle.history_store.proofs.CommitTexts.{text_of_commit}
+use Rattle.history_store.proofs.CommitWrites.{value_written}
 use Rattle.history_word.specs.Commands.{AreEdits}
 use Rattle.history_word.specs.declared.command.Edit.{Edit}
 use Rattle.history.specs.CommitCauses.{is_long}
@@ -33,7 +32,7 @@ use Rattle.history.specs.declared.editing.PathChange.{PathChange}
 use Rattle.history.specs.declared.stopped.Stopped.{Stopped}
 use Rattle.history.specs.declared.stopped.Stopped.TheVariants.{Refused, Fault as ByFault}
 use Rattle.history_files.specs.declared.trees.EditedFiles.{EditedFiles}
-use Rattle.history_model.specs.declared.Fault.TheVariants.{IdTaken}
+use Rattle.history_model.specs.declared.Fault.TheVariants.{File, IdTaken}
 use Rattle.history.proofs.Edits.{edits_same, have_paths}
 use Rattle.history.proofs.FieldLemmas.{kept_whole}
 use Rattle.history.proofs.FirstCauses.{refused_by_form, good_actors}
@@ -212,15 +211,11 @@ returns-in_err-commit g c = λ r order asked.
     let author = rw c.in_ok-author.ensures.ok_part at (c.actor_at.ensures order.author is.author actors.0 times.author) in
     let committer = rw c.in_ok-committer.ensures.ok_part at (c.actor_at-2.ensures order.committer is.committer actors.1 times.committer) in
     let message = c.into_kept-message.ensures ∙ kept_whole max_content c.args.command.message order.message is.message times.message in
-    let commit : Commit = record {
-      tree = c.in_ok-edited-2.edited.root;
-      parents = c.in_ok-base.base.parents;
-      author = c.in_ok-author.author;
-      committer = c.in_ok-committer.committer;
-      message = c.into_kept-message.result;
-    } in
-    let commit_told = commit_is r order h.stage.offered w ours commit c.in_ok-edited-2.edited.root so.root refl base.1.parents author committer message in
-    let commit_text_is = c.in_ok-to_bytes.ensures ∙ text_of_commit r.kind commit (new_commit r order) commit_told in
+    let parts = c.plain_commit-commit.ensures in
+    let parents_hold : AllByRecursion (HoldsCommit r) (parents_of r order) = parents_are_commits r order h.stands.whole.whole.store in
+    let commit_told = commit_is r order h.stage.offered w ours h.stands.whole.whole.store parents_hold c.plain_commit-commit.result (ap id_of parts.tree ∙ so.root) (ap (map id_of) parts.parents ∙ base.1.parents)
+    (parts.author ∙ author) (parts.committer ∙ committer) (parts.message ∙ message) (parts.plain r.kind) in
+    let commit_text_is = rw c.in_ok-content.ensures.ok_part at (value_written r.kind c.plain_commit-commit.result (new_commit r order) c.in_ok-commit_bytes.field-0 commit_told c.in_ok-commit_bytes.ensures) in
     let stopped = err_from_is_err_and c.from_residual-in_err-commit.result c.from_residual-in_err-commit.ensures.1 in
     let large = c.in_err-commit.ensures in
     refusal_planned g.F.Files.reading_may_fail r order TooLarge c.from_residual-in_err-commit.result (stopped.1 ∙ ap Err (stopped.2 ∙ ap Refused large.0))
@@ -265,15 +260,11 @@ returns g c = λ r order asked.
     let author = rw c.in_ok-author.ensures.ok_part at (c.actor_at.ensures order.author is.author actors.0 times.author) in
     let committer = rw c.in_ok-committer.ensures.ok_part at (c.actor_at-2.ensures order.committer is.committer actors.1 times.committer) in
     let message = c.into_kept-message.ensures ∙ kept_whole max_content c.args.command.message order.message is.message times.message in
-    let commit : Commit = record {
-      tree = c.in_ok-edited-2.edited.root;
-      parents = c.in_ok-base.base.parents;
-      author = c.in_ok-author.author;
-      committer = c.in_ok-committer.committer;
-      message = c.into_kept-message.result;
-    } in
-    let commit_told = commit_is r order h.stage.offered w ours commit c.in_ok-edited-2.edited.root so.root refl base.1.parents author committer message in
-    let commit_text_is = c.in_ok-to_bytes.ensures ∙ text_of_commit r.kind commit (new_commit r order) commit_told in
+    let parts = c.plain_commit-commit.ensures in
+    let parents_hold : AllByRecursion (HoldsCommit r) (parents_of r order) = parents_are_commits r order h.stands.whole.whole.store in
+    let commit_told = commit_is r order h.stage.offered w ours h.stands.whole.whole.store parents_hold c.plain_commit-commit.result (ap id_of parts.tree ∙ so.root) (ap (map id_of) parts.parents ∙ base.1.parents)
+    (parts.author ∙ author) (parts.committer ∙ committer) (parts.message ∙ message) (parts.plain r.kind) in
+    let commit_text_is = rw c.in_ok-content.ensures.ok_part at (value_written r.kind c.plain_commit-commit.result (new_commit r order) c.in_ok-commit_bytes.field-0 commit_told c.in_ok-commit_bytes.ensures) in
     let kept_commit = c.in_ok-commit.ensures in
     let commit_made = subst (λ (bytes : Bytes). IsMade kind kinds.Commit bytes c.in_ok-commit.commit) commit_text_is kept_commit.0 in
     let none = none_refused r order h.stage.offered w ours c.in_ok-times.times times base.0 fit (subst (λ (bytes : Bytes). length bytes ≤ max_content) commit_text_is kept_commit.1) in
@@ -344,6 +335,52 @@ returns-in_err-committer g c = λ r order asked.
     let actors = good_actors r order c.in_ok-times.times times in
     absurd (no_actor _ c.actor_at-2.result c.in_err-committer.field-0.0 BadActor c.in_err-committer.ensures.value (c.actor_at-2.ensures order.committer is.committer actors.1 times.committer))
 
+pub returns-in_err-content : goal.returns-in_err-content
+returns-in_err-content g c = λ r order asked.
+    let h = asked.serves in
+    let is = asked.reads in
+    let ours = asked.offered in
+    let w = h.stands.whole.whole.names in
+    let base = c.in_ok-base.ensures r order asked in
+    let edits = c.args.command.edits.items in
+    let paths_of : AreEdits c.deref.result.now order.edits = subst (λ (es : List Edit). AreEdits es order.edits) (sym c.deref.ensures.value) is.edits in
+    let good : list_any is_bad_path (paths_in (CommitOf order)) ≡ false = c.in_ok-test_paths.ensures order.edits paths_of in
+    let kind_is = c.kind.ensures ∙ h.stands.objects_kind in
+    let made = map kept_edit edits in
+    let changes : AreReadAs r.kind c.in_ok-changes.changes made = subst (λ (k : Kind). AreReadAs k c.in_ok-changes.changes made) kind_is c.in_ok-changes.ensures in
+    let ids = map id_of c.deref-3.result.now in
+    let same : ids ≡ parents_of r order = ap (map id_of) c.deref-3.ensures.value ∙ base.1.parents in
+    let hold : AllByRecursion (HoldsCommit r) ids = subst (AllByRecursion (HoldsCommit r)) (sym same) (parents_are_commits r order h.stands.whole.whole.store) in
+    let are : AreChangesOf r.kind c.deref-4.result.now made = subst (λ (cs : List PathChange). AreChangesOf r.kind cs made) (sym c.deref-4.ensures.value) changes.changes_are in
+    let told : EditsFiles g.F.Files.reading_may_fail r ids made c.edited.result = c.edited.ensures r made h hold are (have_paths edits order.edits is.edits good) in
+    let given : EditsFiles g.F.Files.reading_may_fail r ids made (Ok c.in_ok-edited.edited) = subst (λ (x : Result (Option EditedFiles) Stopped). EditsFiles g.F.Files.reading_may_fail r ids made x) c.in_ok-edited.was told in
+    let free = edits_pass r order h.stage.offered w ours base.0 g.F.Files.reading_may_fail edits is.edits good ids same c.in_ok-edited.edited given in
+    let long : c.have_long_content-is_long.result ≡ list_any is_long (contents_in (CommitOf order)) = c.have_long_content-is_long.ensures order.edits (subst (λ (es : List Edit). AreEdits es order.edits) (sym c.deref-2.ensures.value) is.edits) in
+    let times = c.in_ok-times.ensures r order is.author is.committer is.message long free in
+    let some : c.in_ok-edited.edited ≡ Some c.in_ok-edited-2.edited = c.in_ok-edited-2.ensures.ok_part in
+    let so : AreEdited r.kind (first_files r (parents_of r order)) (edits_of r order) c.in_ok-edited-2.edited =
+    edited_so r order h.stage.offered w ours c.in_ok-times.times times base.0 g.F.Files.reading_may_fail edits is.edits ids same c.in_ok-edited-2.edited
+    (subst (λ (o : Option EditedFiles). EditsFiles g.F.Files.reading_may_fail r ids made (Ok o)) some given) in
+    let sound : IsSound r = record { whole = h.stands.whole.whole; written = h.stands.whole.written } in
+    let folders = so.trees.below ++ (new_commit r order).files ∷ [] in
+    let new = new_folders r h.stands.whole.whole.store (parents_of r order) (parents_are_commits r order h.stands.whole.whole.store) (new_commit r order).files c.in_ok-edited-2.edited.trees.items so.trees in
+    let adds : AddsTrees c.in_ok-changes.changes.blobs.items c.in_ok-edited-2.edited.trees.items c.add_trees.new.objects.items (Ok c.in_ok-add_trees.field-0) = c.in_ok-add_trees.ensures in
+    let fit = none_long r sound (new_commit r order).files folders c.in_ok-edited-2.edited.trees.items new so.trees.trees_are adds.0 in
+    let blobs_are : AreObjectsOf r.kind (flat_map put_bytes (edits_of r order)) c.in_ok-changes.changes.blobs.items =
+    subst (λ (es : List model.Edit). AreObjectsOf r.kind (flat_map put_bytes es) c.in_ok-changes.changes.blobs.items) (edits_same r edits order.edits is.edits good times.contents) changes.blobs_are in
+    let put = trees_put r.kind (flat_map put_bytes (edits_of r order)) folders c.in_ok-changes.changes.blobs.items c.add_trees.new.objects.items c.in_ok-edited-2.edited.trees.items blobs_are so.trees.trees_are adds.1 in
+    let kind = c.args.self.now.objects.kind in
+    let actors = good_actors r order c.in_ok-times.times times in
+    let author = rw c.in_ok-author.ensures.ok_part at (c.actor_at.ensures order.author is.author actors.0 times.author) in
+    let committer = rw c.in_ok-committer.ensures.ok_part at (c.actor_at-2.ensures order.committer is.committer actors.1 times.committer) in
+    let message = c.into_kept-message.ensures ∙ kept_whole max_content c.args.command.message order.message is.message times.message in
+    let parts = c.plain_commit-commit.ensures in
+    let parents_hold : AllByRecursion (HoldsCommit r) (parents_of r order) = parents_are_commits r order h.stands.whole.whole.store in
+    let commit_told = commit_is r order h.stage.offered w ours h.stands.whole.whole.store parents_hold c.plain_commit-commit.result (ap id_of parts.tree ∙ so.root) (ap (map id_of) parts.parents ∙ base.1.parents)
+    (parts.author ∙ author) (parts.committer ∙ committer) (parts.message ∙ message) (parts.plain r.kind) in
+    let written = value_written r.kind c.plain_commit-commit.result (new_commit r order) c.in_ok-commit_bytes.field-0 commit_told c.in_ok-commit_bytes.ensures in
+    absurd (no_actor _ c.in_ok-commit_bytes.field-0 c.in_err-content.field-0.0 File c.in_err-content.ensures.value written)
+
 pub returns-in_err-changes : goal.returns-in_err-changes
 returns-in_err-changes g c = λ r order asked.
     let stopped = err_from_is_err_and c.from_residual-in_err-changes.result c.from_residual-in_err-changes.ensures.1 in
@@ -359,9 +396,9 @@ returns-in_err-log_actor g c = λ r order asked.
     let stopped = err_from_is_err_and c.from_residual-in_err-log_actor.result c.from_residual-in_err-log_actor.ensures.1 in
     subst (Plans g.F.Files.reading_may_fail r order) (sym (stopped.1 ∙ ap Err stopped.2)) tt
 
-pub returns-in_err-to_bytes : goal.returns-in_err-to_bytes
-returns-in_err-to_bytes g c = λ r order asked.
-    let stopped = err_from_is_err_and c.from_residual-in_err-to_bytes.result c.from_residual-in_err-to_bytes.ensures.1 in
+pub returns-in_err-commit_bytes : goal.returns-in_err-commit_bytes
+returns-in_err-commit_bytes g c = λ r order asked.
+    let stopped = err_from_is_err_and c.from_residual-in_err-commit_bytes.result c.from_residual-in_err-commit_bytes.ensures.1 in
     subst (Plans g.F.Files.reading_may_fail r order) (sym (stopped.1 ∙ ap Err stopped.2)) tt
 
 pub returns-in_err-push : goal.returns-in_err-push

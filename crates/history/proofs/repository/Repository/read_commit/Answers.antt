@@ -12,16 +12,16 @@ use Rattle.gix_hash.specs.Id.{id_of}
 pub returns : goal.returns
 returns g c r value stands at =
     let spelled = c.deref.ensures.value ∙ c.in_ok-content.ensures r (StoredCommit value) stands at refl in
-    let reads = subst (λ kind. IsTrue (is_commit_form kind value) → c.deref.result.now ≡ commit_content kind value → MatchOption c.in_ok-parse.field-0 ⊥ (λ commit. IsCommitOf kind commit value))
-    (c.kind.ensures ∙ stands.objects_kind) (c.in_ok-parse.ensures.read value) in
+    let reads = subst (λ kind. IsTrue (is_commit_form kind value) → c.deref.result.now ≡ commit_content kind value → MatchOption c.in_ok-parse_commit.field-0 ⊥ (λ commit. IsCommitOf kind commit value))
+    (c.kind.ensures ∙ stands.objects_kind) (c.in_ok-parse_commit.ensures.read value) in
     let read = reads (commit_formed _ _ c.args.self.now r stands (id_of c.args.id.now) value at) spelled in
     rw c.in_ok-ok_or.ensures.ok_part at read
 
 pub returns-in_err-ok_or : goal.returns-in_err-ok_or
 returns-in_err-ok_or g c r value stands at =
     let spelled = c.deref.ensures.value ∙ c.in_ok-content.ensures r (StoredCommit value) stands at refl in
-    let reads = subst (λ kind. IsTrue (is_commit_form kind value) → c.deref.result.now ≡ commit_content kind value → MatchOption c.in_ok-parse.field-0 ⊥ (λ commit. IsCommitOf kind commit value))
-    (c.kind.ensures ∙ stands.objects_kind) (c.in_ok-parse.ensures.read value) in
+    let reads = subst (λ kind. IsTrue (is_commit_form kind value) → c.deref.result.now ≡ commit_content kind value → MatchOption c.in_ok-parse_commit.field-0 ⊥ (λ commit. IsCommitOf kind commit value))
+    (c.kind.ensures ∙ stands.objects_kind) (c.in_ok-parse_commit.ensures.read value) in
     let read = reads (commit_formed _ _ c.args.self.now r stands (id_of c.args.id.now) value at) spelled in
     let none = rw c.in_err-ok_or.ensures.ok_part at read in
     absurd none

@@ -14,5 +14,6 @@ returns-in_err-commit g c = λ r word s reads.
 pub returns : goal.returns
 returns g c = λ r word s reads.
     let read = reads_commit r s.stage.offered s.stands.whole.whole.names word (id_of c.args.id.now) reads in
+    let told = c.in_ok-commit.ensures r read.0 s.stands read.1 in
     commit_answered r s.stage.offered s.stands.whole.whole.names g.F.Files.reading_may_fail word c.args.id.now read.0 c.in_ok-commit.commit c.in_ok-commit_text.field-0
-    reads read.1 (c.in_ok-commit.ensures r read.0 s.stands read.1) c.in_ok-commit_text.ensures
+    reads read.1 told (c.in_ok-commit_text.ensures r.kind told.plain)

@@ -1,6 +1,6 @@
 use Rattle.std.proofs.lemmas.Result.{IfOk-weaker}
 use Rattle.history_store.proofs.CommitTexts.{none_answered, value_answered, value_spelled}
-use Rattle.history_store.proofs.commit.Commit.parse.Goals as goal
+use Rattle.history_store.proofs.commit.parse_commit.Goals as goal
 
 pub returns-in-Ok-clause-read : goal.returns-in-Ok-clause-read
 returns-in-Ok-clause-read c =
