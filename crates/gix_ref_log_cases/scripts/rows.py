@@ -97,6 +97,8 @@ for line in written.splitlines(keepends=True):
     wanted = line if b"\t" in line else line[:-1] + b"\t\n"
     add("again", line, wanted.hex())
     add("again", line.rstrip(b"\n"), wanted.hex())
+    add("copy", line, wanted.hex())
+    add("copy", line.rstrip(b"\n"), wanted.hex())
 
 # ---- lines that git reads but doesn't write, each put behind a line of its own
 

@@ -84,6 +84,24 @@ fn again(alloc: Global, text: &[u8]) -> Result<String, AllocError> {
     let Ok(line) = line.to_owned(alloc) else {
         return format!(in alloc; "{REFUSED}");
     };
+    written(alloc, &line)
+}
+
+// The copy of what was read, written in the same way.
+fn copied(alloc: Global, text: &[u8]) -> Result<String, AllocError> {
+    let Ok(line) = LineRef::from_bytes(text) else {
+        return format!(in alloc; "{REFUSED}");
+    };
+    let Ok(line) = line.to_owned(alloc) else {
+        return format!(in alloc; "{REFUSED}");
+    };
+    match line.try_clone() {
+        Ok(copy) => written(alloc, &copy),
+        Err(_) => format!(in alloc; "{REFUSED}"),
+    }
+}
+
+fn written(alloc: Global, line: &Line) -> Result<String, AllocError> {
     let mut written = Vec::new(alloc);
     match line.write_to(&mut written) {
         Ok(()) => hex::encode(alloc, written.as_slice()),
@@ -109,6 +127,7 @@ pub fn answer(alloc: Global, line: &str) -> Result<String, AllocError> {
         "reverse" => reverse_items(alloc, bytes, size),
         "file" => file_items(alloc, bytes, size),
         "again" => again(alloc, bytes),
+        "copy" => copied(alloc, bytes),
         _ => format!(in alloc; "no operation: {line}"),
     }
 }

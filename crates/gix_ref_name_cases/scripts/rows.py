@@ -1,19 +1,24 @@
 """Writes ../stdin and ../stdout: names with what git says of them, and tables of documented answers.
 
-Each answer comes from `git check-ref-format` (with `--allow-onelevel` for partial names), from Git's documents
-(gitrepository-layout, git-worktree, gitnamespaces) or from Python's `unicodedata`; none from the program.
+Each answer comes from `git check-ref-format` (with `--allow-onelevel` for partial names), from the files of references that git
+writes, from Git's documents (gitrepository-layout, git-worktree, gitnamespaces, git-update-ref), from Python's `unicodedata` and
+its order of bytes, or from what the tables say by hand; none from the program.
 """
-import itertools
 import os
 import random
 import subprocess
+import tempfile
 import unicodedata
 
 rows = []
 
 
 def add(operation, data, answer):
-    rows.append((operation + " " + data.hex(), answer))
+    add_fields(operation, [data], answer)
+
+
+def add_fields(operation, fields, answer):
+    rows.append((" ".join([operation, *(field.hex() for field in fields)]), answer))
 
 
 def git_takes(name, *flags):
@@ -22,12 +27,17 @@ def git_takes(name, *flags):
     return subprocess.run([b"git", b"check-ref-format", *flags, name]).returncode == 0
 
 
-def name_row(name):
+def rules(name):
+    """Whether git takes it for a partial name, and whether for a full one."""
     # A dash would be read as an option; the rules say nothing of dashes.
     asked = b"x" + name if name.startswith(b"-") else name
     partial = git_takes(asked, b"--allow-onelevel")
     capitals = all(65 <= b <= 90 or b == 95 for b in name)
-    full = git_takes(asked) or (partial and capitals)
+    return partial, git_takes(asked) or (partial and capitals)
+
+
+def name_row(name):
+    partial, full = rules(name)
     add("name", name, f"{str(partial).lower()} {str(full).lower()}")
 
 
@@ -83,6 +93,178 @@ for text in ["cafe\u0301", "\u0041\u030a", "abc", "\u1100\u1161", "o\u0308\u0304
     add("composed", text.encode(), unicodedata.normalize("NFC", text).encode().hex())
 for data in [b"\xff", b"a\xc3", b"e\xcc"]:
     add("composed", data, data.hex())
+
+broken = "the bytes break a rule of reference names"
+some = [b"main", b"HEAD", b"refs/heads/main", b"a/b", b"caf\xc3\xa9", b"refs/tags/caf\xc3\xa9", b"-a", b"worktrees/w/HEAD", b"a..b", b"",
+        b"a.lock", b"/a", b"refs/heads/", b"@", b"a b", b"refs/heads/x.lock"]
+
+
+def times(name, number, is_name):
+    return " ".join([name.decode() if is_name else "refused"] * number)
+
+
+# What names of their own and their views hold, however they are made: the name, where git takes it.
+for name in some:
+    partial, full = rules(name)
+    add("partial", name, times(name, 3, True) if partial else broken)
+    add("path", name, times(name, 3, full) if full else "refused")
+    add("partial_bytes", name, times(name, 4, partial))
+    add("partial_text", name, times(name, 3, partial))
+    add("full_bytes", name, times(name, 3, full))
+    add("full_text", name, times(name, 3, full))
+    add("between", name, times(name, 7, full) if full else "refused")
+for operation in ["partial_text", "full_text"]:
+    for name in [b"refs/heads/\xff", b"a\xe2\x82"]:
+        add(operation, name, "no text")
+for name, component in [(b"refs/heads", b"main"), (b"a", b"b/c"), (b"a", b""), (b"a", b"/b"), (b"a", b".b"), (b"a", b"b.lock"), (b"a", b"b/"),
+                        (b"a", b"@"), (b"@a", b"@{b"), (b"HEAD", b"x"), (b"a", b"caf\xc3\xa9"), (b"a", b"b c"), (b"a.", b"b")]:
+    whole = name + b"/" + component
+    answer = whole.decode() if rules(whole)[0] else broken
+    add_fields("join", [name, component], answer if rules(name)[0] else "refused")
+add_fields("join", [b"a..b", b"c"], "refused")
+add_fields("join", [b"a.lock", b"c"], "refused")
+
+# The short name and the category of the table above, each by the view and by the name; the whole where there is none.
+for name, answer in table.items():
+    category, _, short = answer.partition(" ")
+    short = short or name.decode()
+    add("shorten", name, "refused" if answer == "refused" else f"{short} {short} {category} {category}")
+
+# What begins the names (gitrepository-layout), and which of them git-worktree says that worktrees don't share: pseudo refs, which are
+# all names directly below the folder of git, and those below refs/bisect, refs/worktree and refs/rewritten. Of another worktree, what is
+# below refs/ isn't told apart.
+fronts = {"tag": ("refs/tags/", False), "local": ("refs/heads/", False), "remote": ("refs/remotes/", False), "note": ("refs/notes/", False),
+          "pseudo": ("", True), "main-pseudo": ("main-worktree/", True), "main": ("main-worktree/refs/", False),
+          "linked-pseudo": ("worktrees/", True), "linked": ("worktrees/", False), "bisect": ("refs/bisect/", True),
+          "rewritten": ("refs/rewritten/", True), "worktree": ("refs/worktree/", True)}
+for name, answer in table.items():
+    category = answer.partition(" ")[0]
+    if category in fronts:
+        front, private = fronts[category]
+        add("prefix", name, f"[{front}] {str(private).lower()} {str(category == 'remote').lower()}")
+    else:
+        add("prefix", name, answer)
+
+
+def front_of(name):
+    return b"".join(b"refs/namespaces/" + part + b"/" for part in name.split(b"/"))
+
+
+# gitnamespaces: each component is a level of its own. What is left must be a full name, or the name stays.
+for name in [b"foo", b"foo/bar"]:
+    for prefix in [b"refs/heads/", b"", b"refs/tags/v1", b"HEAD"]:
+        front = front_of(name).decode()
+        add_fields("prefixed", [name, prefix], f"{front}{prefix.decode()} {front} {front}")
+    for rest in [b"refs/heads/main", b"HEAD", b"refs/namespaces/foo/x", b"main", b"Head", b"a/b"]:
+        left = rest if rules(rest)[1] else front_of(name) + rest
+        add_fields("strip", [front_of(name) + rest, name], left.decode())
+    for whole in [b"refs/heads/main", b"HEAD", b"refs/namespaces/fo/HEAD", b"refs/namespaces/foo", b"x/refs/namespaces/foo/HEAD"]:
+        add_fields("strip", [whole, name], whole.decode())
+add_fields("prefixed", [b"a..b", b"x"], "refused")
+add_fields("strip", [b"main", b"foo"], "refused")
+add_fields("strip", [b"HEAD", b"a..b"], "refused")
+
+
+def order(one, other):
+    word = "Less" if one < other else "Greater" if one > other else "Equal"
+    return f"{word} {str(one == other).lower()}"
+
+
+# Names are ordered by their bytes, as Python orders bytes; namespaces by those of their fronts.
+pairs = [(b"refs/heads/a", b"refs/heads/b"), (b"refs/heads/b", b"refs/heads/a"), (b"refs/heads/a", b"refs/heads/a"), (b"HEAD", b"refs/heads/a"),
+         (b"refs/heads/a", b"refs/heads/a/b"), (b"refs/heads/a-b", b"refs/heads/a/b"), (b"refs/heads/a0", b"refs/heads/a/b"),
+         (b"refs/heads/\xff", b"refs/heads/z"), (b"refs/heads/\xc3\xa9", b"refs/heads/\xc3\xa8"), (b"HEAD", b"HEAD"), (b"FETCH_HEAD", b"HEAD"),
+         (b"refs/heads/A", b"refs/heads/a")]
+for one, other in pairs:
+    add_fields("order_of_full", [one, other], f"{order(one, other)} {order(one, other)}")
+for one, other in pairs + [(b"main", b"main"), (b"main", b"mai"), (b"main", b"Main"), (b"a/b", b"a-b")]:
+    add_fields("order_of_partial", [one, other], f"{order(one, other)} {order(one, other)}")
+for one, other in [(b"a", b"b"), (b"a/b", b"a"), (b"a", b"a"), (b"a/b", b"a-b"), (b"b", b"a/c")]:
+    add_fields("order_of_namespaces", [one, other], order(front_of(one), front_of(other)))
+for one, other in [(b"a..b", b"a"), (b"a", b"a..b"), (b"a/b", b"")]:
+    for operation in ["order_of_full", "order_of_partial", "order_of_namespaces"]:
+        add_fields(operation, [one, other], "refused")
+
+
+def git(room, *words, text=b""):
+    return subprocess.run(["git", "-C", room, *words], input=text, capture_output=True, check=True).stdout.strip().decode()
+
+
+def files_of_git(kind):
+    """The ids of two blobs, and the texts of the loose files that git writes for a name that points to each and for some symbolic ones."""
+    with tempfile.TemporaryDirectory() as room:
+        git(room, "init", "-q", f"--object-format={kind}")
+        ids = [git(room, "hash-object", "-w", "--stdin", text=text) for text in [b"one", b"two"]]
+        texts = []
+        for digits in ids:
+            git(room, "update-ref", "refs/tags/x", digits)
+            texts.append((digits, None, os.path.join(room, ".git/refs/tags/x")))
+            texts[-1] = (digits, None, open(texts[-1][2], "rb").read())
+        for name in ["refs/heads/main", "refs/heads/a/b", "refs/remotes/origin/caf\u00e9"]:
+            git(room, "symbolic-ref", "HEAD" if "heads" in name else "refs/remotes/origin/HEAD", name)
+            path = ".git/HEAD" if "heads" in name else ".git/refs/remotes/origin/HEAD"
+            texts.append((None, name, open(os.path.join(room, path), "rb").read()))
+        return texts
+
+
+# A target prints as the file that git writes for it; its kind, its id and its name are what git was asked to write.
+zeros = [(("0" * length), None, b"0" * length + b"\n") for length in (40, 64)]
+written = files_of_git("sha1") + files_of_git("sha256")[:2] + zeros
+for digits, name, text in written:
+    assert text.endswith(b"\n")
+    text = text[:-1]
+    kind = "Symbolic none " + name if name else f"Object {digits} none"
+    null = "true" if digits and not digits.strip("0") else "false"
+    add("target", text, f"{text.decode()}; {null}; {kind}; {kind}")
+    taken = f"id {digits}" if digits else f"back {text.decode()}"
+    add("taken", text, f"{taken}; {taken}; {text.decode()}")
+for text in [b"", b"ref: ", b"ref: main", b"ref: a..b", b"ref: refs/heads/a.lock", b"0" * 39, b"0" * 41, b"g" * 40, b"refs/heads/main"]:
+    add("target", text, "refused")
+add("taken", b"ref: main", "refused")
+for digits, _, _ in written:
+    if digits:
+        add("object", digits.encode(), f"{digits} {digits} {digits}")
+add("object", b"ref: refs/heads/main", "refused")
+
+
+# Ids come before names, as the type declares them: ids by their kind, SHA-1 first, and then by their digits (gix_hash), views of ids by
+# their digits alone; names by their bytes.
+def keys(target):
+    digits, name, _ = target
+    if name:
+        return (1, 0, name.encode()), (1, name.encode()), 1
+    return (0, len(digits), digits.encode()), (0, digits.encode()), 0
+
+
+for one in written:
+    for other in written:
+        answers = [order(key, other_key) for key, other_key in zip(keys(one), keys(other))]
+        add_fields("order_of_targets", [one[2][:-1], other[2][:-1]], " ".join(answers))
+add_fields("order_of_targets", [b"ref: main", b"0" * 40], "refused")
+add_fields("order_of_targets", [b"0" * 40, b"0"], "refused")
+
+# git-update-ref: what a reference becomes, and what it must be before. Expectations are ordered as the type declares them, then by target.
+texts = [text[:-1] for _, _, text in written]
+words = [b"any", b"stands", b"lacks", b"stands-at", b"if-at"]
+for word in words:
+    for new in [b"", texts[0], texts[2]]:
+        for target in [texts[1], texts[3]]:
+            told = target.decode() if word.endswith(b"-at") else "none"
+            plain = word == b"any" and not new
+            add_fields("edit", [word, target, new], f"refs/heads/main; {new.decode() or 'none'}; {told}; {str(plain).lower()}")
+for fields in [[b"never", b"", b""], [b"stands-at", b"", b""], [b"if-at", b"ref: main", b""], [b"any", b"", b"ref: main"], [b"", b"", b""]]:
+    add_fields("edit", fields, "refused")
+for one in words:
+    for other in words:
+        for target, other_target in [(written[0], written[1]), (written[2], written[0])]:
+            at = (words.index(one), keys(target)[0] if one.endswith(b"-at") else ())
+            other_at = (words.index(other), keys(other_target)[0] if other.endswith(b"-at") else ())
+            add_fields("order_of_expectations", [one, target[2][:-1], other, other_target[2][:-1]], order(at, other_at))
+add_fields("order_of_expectations", [b"any", b"", b"never", b""], "refused")
+
+# The usual change of a log: with the reference, not forced, and without a message.
+for message in [b"", b"commit: one", b"\n"]:
+    add("log", message, f"AndReference false [] {str(not message).lower()}")
 
 here = os.path.dirname(os.path.dirname(os.path.abspath(__file__)))
 with open(os.path.join(here, "stdin"), "w") as out:

@@ -1,4 +1,4 @@
-//! One case to one line.
+//! What full and partial names are, by their bytes.
 
 use gix_ref_name::compose::precompose_unicode;
 use gix_ref_name::namespace::expand;
@@ -7,15 +7,15 @@ use std::alloc::{AllocError, Global};
 
 const REFUSED: &str = "refused";
 
-// Whether it is a partial name, and whether a full one.
-fn name(alloc: Global, bytes: &[u8]) -> Result<String, AllocError> {
+/// Whether it is a partial name, and whether a full one.
+pub fn name(alloc: Global, bytes: &[u8]) -> Result<String, AllocError> {
     let partial = PartialNameRef::new(bytes).is_ok();
     let full = FullNameRef::new(bytes).is_ok();
     format!(in alloc; "{partial} {full}")
 }
 
-// The category and the short name.
-fn category(alloc: Global, bytes: &[u8]) -> Result<String, AllocError> {
+/// The category and the short name.
+pub fn category(alloc: Global, bytes: &[u8]) -> Result<String, AllocError> {
     let Ok(name) = FullNameRef::new(bytes) else {
         return format!(in alloc; "{REFUSED}");
     };
@@ -25,7 +25,8 @@ fn category(alloc: Global, bytes: &[u8]) -> Result<String, AllocError> {
     }
 }
 
-fn word(category: Category<'_>) -> &'static str {
+/// The word for a category.
+pub fn word(category: Category<'_>) -> &'static str {
     match category {
         Category::Tag => "tag",
         Category::LocalBranch => "local",
@@ -42,8 +43,8 @@ fn word(category: Category<'_>) -> &'static str {
     }
 }
 
-// The name again, from its category and its short name.
-fn again(alloc: Global, bytes: &[u8]) -> Result<String, AllocError> {
+/// The name again, from its category and its short name.
+pub fn again(alloc: Global, bytes: &[u8]) -> Result<String, AllocError> {
     let Ok(name) = FullNameRef::new(bytes) else {
         return format!(in alloc; "{REFUSED}");
     };
@@ -56,8 +57,8 @@ fn again(alloc: Global, bytes: &[u8]) -> Result<String, AllocError> {
     }
 }
 
-// The name as it is printed: a view and a name of its own, and both again where it is a full one.
-fn shown(alloc: Global, bytes: &[u8]) -> Result<String, AllocError> {
+/// The name as it is printed: a view and a name of its own, and both again where it is a full one.
+pub fn shown(alloc: Global, bytes: &[u8]) -> Result<String, AllocError> {
     let Ok(partial) = PartialNameRef::new(bytes) else {
         return format!(in alloc; "{REFUSED}");
     };
@@ -69,8 +70,8 @@ fn shown(alloc: Global, bytes: &[u8]) -> Result<String, AllocError> {
     format!(in alloc; "{partial} {owned} {full} {whole}")
 }
 
-// The namespace of the name, and `refs/heads/main` in it.
-fn namespace(alloc: Global, bytes: &[u8]) -> Result<String, AllocError> {
+/// The namespace of the name, and `refs/heads/main` in it.
+pub fn namespace(alloc: Global, bytes: &[u8]) -> Result<String, AllocError> {
     let Ok(name) = PartialNameRef::new(bytes) else {
         return format!(in alloc; "{REFUSED}");
     };
@@ -84,31 +85,16 @@ fn namespace(alloc: Global, bytes: &[u8]) -> Result<String, AllocError> {
     }
 }
 
-fn composed(alloc: Global, bytes: &[u8]) -> Result<String, AllocError> {
+/// The bytes with their characters composed.
+pub fn composed(alloc: Global, bytes: &[u8]) -> Result<String, AllocError> {
     let bytes = precompose_unicode(alloc, bytes)?;
     hex::encode(alloc, bytes.as_bytes())
 }
 
-/// What the operation of the line gives.
-pub fn answer(alloc: Global, line: &str) -> Result<String, AllocError> {
-    let Some((operation, digits)) = line.split_once(' ') else {
-        return format!(in alloc; "no case: {line}");
-    };
-    let Ok(bytes) = hex::decode(alloc, digits) else {
-        return format!(in alloc; "no bytes: {line}");
-    };
-    let bytes = bytes.as_slice();
-    match operation {
-        "name" => name(alloc, bytes),
-        "category" => category(alloc, bytes),
-        "again" => again(alloc, bytes),
-        "last" => match FullNameRef::new(bytes) {
-            Ok(name) => format!(in alloc; "{}", name.file_name()),
-            Err(error) => format!(in alloc; "{error}"),
-        },
-        "shown" => shown(alloc, bytes),
-        "namespace" => namespace(alloc, bytes),
-        "composed" => composed(alloc, bytes),
-        _ => format!(in alloc; "no operation: {line}"),
+/// The last component.
+pub fn last(alloc: Global, bytes: &[u8]) -> Result<String, AllocError> {
+    match FullNameRef::new(bytes) {
+        Ok(name) => format!(in alloc; "{}", name.file_name()),
+        Err(error) => format!(in alloc; "{error}"),
     }
 }

@@ -1,7 +1,7 @@
 """Writes ../stdin and ../stdout: files of repositories that git made, and what git says of their references.
 
-Each answer comes from `git for-each-ref`, `git symbolic-ref`, `git rev-parse` and `git log -g` over the very files, or, where it says
-so, from a rule of git's documents; none from the program.
+Each answer comes from `git for-each-ref`, `git symbolic-ref`, `git rev-parse`, `git log -g` and `git ls-remote` over the very files, or, where it
+says so, from a rule of git's documents; none from the program.
 """
 import os
 import subprocess
@@ -224,6 +224,8 @@ assert run(hand.folder, "rev-parse", "--verify", "refs/heads/z", ok=False).retur
 rows.append((f"find - refs/heads/main {hand.files()}", f"refs/heads/main {hand.commits[0]}"))
 hand.ask("find", "refs/heads/z", "packed broken")
 hand.ask("all", "", "packed broken")
+for operation in ["try_find_packed", "cached_packed_buffer", "iter_prefixed_packed", "iter_within_packed", "follow_packed", "follow_in_place", "peel_packed"]:
+    hand.ask(operation, "refs/heads/z", "packed broken")
 
 # A linked worktree: its own HEAD, private names and logs, and the shared names.
 tree = Repository("tree")
@@ -262,25 +264,43 @@ def chain(repository, front, length):
         repository.git("symbolic-ref", f"refs/chain/{k}", front if k == 0 else f"refs/chain/{k - 1}")
 
 
+def in_place(name, error=None):
+    """The object that git says a name leads to, and the last name on the way; after an error the reference is as it was."""
+    if error:
+        with open(links.path(name)) as file:
+            links.ask("follow_in_place", name, f"{error} {name} {file.read().strip()}")
+    else:
+        id = links.git("rev-parse", name)
+        links.ask("follow_in_place", name, f"{id} {links.git('rev-parse', '--symbolic-full-name', name)} {id}")
+
+
 links = Repository("links")
 links.git("update-ref", "refs/heads/end", links.commits[2])
 chain(links, "refs/heads/end", 7)
 for k in range(4):
     links.ask("follow", f"refs/chain/{k}", links.git("rev-parse", f"refs/chain/{k}"))
+    in_place(f"refs/chain/{k}")
 # The crate's own rule: at most 5 names are followed, where git follows 4.
 links.ask("follow", "refs/chain/4", links.commits[2])
+links.ask("follow_in_place", "refs/chain/4", f"{links.commits[2]} refs/heads/end {links.commits[2]}")
 for k in [5, 6]:
     links.ask("follow", f"refs/chain/{k}", "more than 5 references point to one another")
+    in_place(f"refs/chain/{k}", "more than 5 references point to one another")
 links.ask("follow", "refs/heads/end", links.commits[2])
+in_place("refs/heads/end")
 links.git("pack-refs", "--all")
 links.ask("follow", "refs/chain/2", links.git("rev-parse", "refs/chain/2"))
+in_place("refs/chain/2")
+in_place("refs/heads/end")
 links.git("symbolic-ref", "refs/heads/none", "refs/heads/nosuch")
 assert run(links.folder, "rev-parse", "--verify", "-q", "refs/heads/none", ok=False).returncode != 0
 links.ask("follow", "refs/heads/none", "there is no reference of this name")
+in_place("refs/heads/none", "there is no reference of this name")
 for length in [1, 2, 5]:
     chain(links, f"refs/chain/{length - 1}", length)
     assert run(links.folder, "rev-parse", "--verify", "-q", "refs/chain/0", ok=False).returncode != 0
     links.ask("follow", "refs/chain/0", "references point to one another in a ring")
+    in_place("refs/chain/0", "references point to one another in a ring")
 
 # The next reference, and the object in the end: a tag of a tag, by files and by records that tell what they peel to.
 ends = Repository("ends")
@@ -406,6 +426,66 @@ for word in ["o\u0308", "refs/heads/o\u0308"]:
     for operation in ["find", "packed", "loose"]:
         for asked in [word, unicodedata.normalize("NFC", word)]:
             marks.ask(operation, asked, "none", "+")
+
+# Namespaces: git tells the names of one, and what they point to, without its front.
+spaces = Repository("spaces")
+for name, id in [("a/refs/heads/main", 0), ("a/refs/heads/x/y", 1), ("a/refs/tags/light", 2), ("a/refs/namespaces/b/refs/heads/deep", 3), ("ab/refs/heads/main", 1)]:
+    spaces.git("update-ref", "refs/namespaces/" + name, spaces.commits[id])
+spaces.git("update-ref", "refs/heads/main", spaces.commits[1])
+spaces.git("tag", "-a", "-m", "x", "v1", spaces.commits[3])
+spaces.git("update-ref", "refs/namespaces/a/refs/tags/v1", spaces.git("rev-parse", "refs/tags/v1"))
+for name, target in [("a/HEAD", "refs/namespaces/a/refs/heads/main"), ("a/refs/heads/sym", "refs/namespaces/a/refs/heads/x/y"), ("a/refs/heads/out", "refs/heads/main")]:
+    spaces.git("symbolic-ref", "refs/namespaces/" + name, target)
+
+
+def strip(space):
+    """The names of a repository without the front of this namespace, as git lists them by it; others git doesn't list: they stay."""
+    front = "".join(f"refs/namespaces/{part}/" for part in space.split("/"))
+    told = {}
+    for line in spaces.git("--namespace=" + space, "ls-remote", "--symref", ".").splitlines():
+        target, name = line.split("\t")
+        if "^{}" not in name:
+            told.setdefault(name, target)
+    for name in spaces.names():
+        if name.startswith(front):
+            rest = name.removeprefix(front)
+            # Of a target outside of the namespace git tells no name: by the rule it stays.
+            target = told[rest] if told[rest] != "ref: (null)" else spaces.target(name)
+            answer = f"{rest} {rest} {target}{spaces.peeled(name)}"
+        else:
+            answer = f"outside {spaces.shown(name)}"
+        rows.append((f"strip - {name} {spaces.files()} {space}", answer))
+
+
+for _ in range(2):
+    for space in ["a", "a/b", "ab", "c"]:
+        strip(space)
+    spaces.git("pack-refs", "--all")
+# What is left of a name is no full name: by the rule it stays.
+spaces.git("update-ref", "refs/namespaces/a/x", spaces.commits[0])
+rows.append((f"strip - refs/namespaces/a/x {spaces.files()} a", "outside " + spaces.shown("refs/namespaces/a/x")))
+
+# The number of bytes from which Git maps packed references, 32 KiB, and any other that is told.
+for number in [0, 1, 32768, 100000, 2 ** 64 - 1]:
+    rows.append((f"threshold - {number} HEAD={b'ref: refs/heads/main'.hex()}", f"32768 {number}"))
+
+# An operation by another call answers what its sister does, whose answer is git's: each so many rows, and those of errors.
+unread = "packed-refs=" + b"no record\n".hex()
+for operation, sister, step in [("try_find", "find", 5), ("try_find_packed", "packed", 1), ("try_find_packed", "find", 11), ("try_find_loose", "loose", 1),
+                                ("cached_packed_buffer", "packed", 1), ("cached_packed_buffer", "find", 13), ("iter_packed", "all", 1), ("iter_prefixed_packed", "prefixed", 4),
+                                ("iter_within_packed", "within", 4), ("iter_pseudo", "pseudo", 1), ("follow_packed", "next", 1), ("peel_packed", "peel", 1), ("log_iter", "log", 1)]:
+    alike = [(asked, answer) for asked, answer in rows if asked.split(" ")[0] == sister and (operation in ["try_find", "iter_packed"] or unread not in asked)]
+    for k, (asked, answer) in enumerate(alike):
+        if k % step == 0 or answer in ["broken", "packed broken"] or "!" in answer:
+            rows.append((operation + asked.removeprefix(sister), answer))
+for asked, answer in list(rows):
+    operation, _, rest = asked.partition(" ")
+    if operation == "files" and rest.startswith("- - "):
+        rows.append(("loose_iter " + rest, answer))
+    if operation == "log":
+        rows.append(("reflog_exists " + rest, "false false" if answer == "none" else "true true"))
+    if operation == "all":
+        rows.append(("force_refresh_packed_buffer " + rest, "packed broken" if answer == "packed broken" else "opened"))
 
 here = os.path.dirname(os.path.abspath(__file__))
 with open(os.path.join(here, "../stdin"), "w") as file:

@@ -1,12 +1,15 @@
 //! One case to one line.
 
 use crate::ends::{end, pristine};
-use crate::files;
 use crate::lists::list;
+use crate::logs::log;
+use crate::names::{strip, threshold};
 use crate::objects::Objects;
+use crate::tries::{look_up, refreshed};
+use crate::{files, packed};
 use gix_ref_file::MemoryFiles;
 use gix_ref_format::packed::FindError;
-use gix_ref_name::{FullNameRef, PartialNameRef};
+use gix_ref_name::PartialNameRef;
 use gix_ref_store::store::file::{Store, find};
 use gix_ref_store::{Options, Reference};
 use std::alloc::{AllocError, Global};
@@ -60,7 +63,8 @@ pub fn found_in(
     }
 }
 
-fn fault(alloc: Global, error: find::Error) -> Result<String, AllocError> {
+/// Why a lookup gives up.
+pub fn fault(alloc: Global, error: find::Error) -> Result<String, AllocError> {
     match error {
         find::Error::ReadFileContents => format!(in alloc; "unread"),
         find::Error::ReferenceCreation(_) => format!(in alloc; "broken"),
@@ -144,48 +148,26 @@ fn follow(alloc: Global, store: &Store<MemoryFiles>, name: &str) -> Result<Strin
     }
 }
 
-// The new ids of a log's lines, from its beginning and from its end.
-fn log(alloc: Global, store: &Store<MemoryFiles>, name: &str) -> Result<String, AllocError> {
-    let Ok(name) = FullNameRef::new(name.as_bytes()) else {
-        return format!(in alloc; "no name");
-    };
-    let mut text = String::new(alloc);
-    let mut bytes = Vec::new(alloc);
-    match store.reflog_iter(alloc, name, &mut bytes) {
-        Ok(Some(lines)) => {
-            for line in lines {
-                match line {
-                    Ok(line) => text.push_str(&format!(in alloc; "{} ", line.new_oid)?)?,
-                    Err(error) => text.push_str(&format!(in alloc; "!{} ", error.line)?)?,
-                }
-            }
-        }
-        Ok(None) => return format!(in alloc; "none"),
-        Err(error) => return format!(in alloc; "{error}"),
-    }
-    backwards(alloc, store, name, text)
-}
-
-fn backwards(
+// What one of the other operations gives; the last word is a namespace, or objects.
+fn other(
     alloc: Global,
-    store: &Store<MemoryFiles>,
-    name: FullNameRef<'_>,
-    mut text: String,
+    mut store: Store<MemoryFiles>,
+    operation: &str,
+    asked: &str,
+    last: &str,
 ) -> Result<String, AllocError> {
-    let mut buffer = [0u8; 512];
-    text.push_str("/")?;
-    match store.reflog_iter_rev(alloc, name, &mut buffer) {
-        Ok(Some(lines)) => {
-            for line in lines {
-                match line {
-                    Ok(line) => text.push_str(&format!(in alloc; " {}", line.new_oid.to_hex())?)?,
-                    Err(error) => text.push_str(&format!(in alloc; " {error}")?)?,
-                }
-            }
-            Ok(text)
+    match operation {
+        "try_find" | "try_find_packed" | "try_find_loose" | "cached_packed_buffer" => {
+            look_up(alloc, &store, operation, asked)
         }
-        Ok(None) => format!(in alloc; "none"),
-        Err(error) => format!(in alloc; "{error}"),
+        "force_refresh_packed_buffer" => refreshed(alloc, &store),
+        "follow_packed" | "follow_in_place" | "peel_packed" => {
+            let objects = Objects::read(alloc, last)?;
+            packed::end(alloc, &store, &objects, operation, asked)
+        }
+        "strip" => strip(alloc, &store, asked, last),
+        "threshold" => threshold(alloc, &mut store, asked),
+        _ => format!(in alloc; "no operation"),
     }
 }
 
@@ -209,7 +191,7 @@ pub fn answer(alloc: Global, line: &str) -> Result<String, AllocError> {
     };
     match operation {
         "find" | "loose" | "packed" | "record" => find_word(alloc, &store, asked, operation),
-        "log" => log(alloc, &store, asked),
+        "log" | "log_iter" | "reflog_exists" => log(alloc, &store, operation, asked),
         "follow" => follow(alloc, &store, asked),
         "next" | "peel" | "lines" => {
             let objects = Objects::read(alloc, objects)?;
@@ -217,6 +199,10 @@ pub fn answer(alloc: Global, line: &str) -> Result<String, AllocError> {
         }
         "pristine" => pristine(alloc, &store, asked),
         "all" | "prefixed" | "within" | "files" | "pseudo" => list(alloc, &store, operation, asked),
-        _ => format!(in alloc; "no operation"),
+        "iter_packed" | "iter_prefixed_packed" | "iter_within_packed" | "iter_pseudo" => {
+            list(alloc, &store, operation, asked)
+        }
+        "loose_iter" => list(alloc, &store, operation, asked),
+        _ => other(alloc, store, operation, asked, objects),
     }
 }

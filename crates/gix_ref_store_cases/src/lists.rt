@@ -39,6 +39,36 @@ fn of_platform(
     }
 }
 
+// The references of a listing by the packed references that are opened for it.
+fn of_packed(
+    alloc: Global,
+    store: &Store<MemoryFiles>,
+    operation: &str,
+    prefix: &[u8],
+) -> Result<String, AllocError> {
+    let Ok(opened) = store.open_packed_buffer(alloc) else {
+        return format!(in alloc; "packed broken");
+    };
+    let packed = opened.as_ref();
+    match operation {
+        "iter_packed" => listed(alloc, store.iter_packed(alloc, packed)),
+        "iter_within_packed" => listed(alloc, store.iter_within_packed(alloc, prefix, packed)),
+        _ => listed(alloc, store.iter_prefixed_packed(alloc, prefix, packed)),
+    }
+}
+
+fn of_platform_now(
+    alloc: Global,
+    store: &Store<MemoryFiles>,
+    operation: &str,
+    prefix: &str,
+) -> Result<String, AllocError> {
+    match store.iter(alloc) {
+        Ok(platform) => of_platform(alloc, &platform, operation, prefix),
+        Err(_) => format!(in alloc; "packed broken"),
+    }
+}
+
 /// The references of a listing.
 pub fn list(
     alloc: Global,
@@ -47,11 +77,13 @@ pub fn list(
     asked: &str,
 ) -> Result<String, AllocError> {
     let prefix = if asked == "-" { "" } else { asked };
-    if operation == "files" {
-        return listed(alloc, store.loose_iter_prefixed(alloc, prefix.as_bytes()));
-    }
-    match store.iter(alloc) {
-        Ok(platform) => of_platform(alloc, &platform, operation, prefix),
-        Err(_) => format!(in alloc; "packed broken"),
+    match operation {
+        "files" => listed(alloc, store.loose_iter_prefixed(alloc, prefix.as_bytes())),
+        "loose_iter" => listed(alloc, store.loose_iter(alloc)),
+        "iter_pseudo" => listed(alloc, store.iter_pseudo(alloc)),
+        "iter_packed" | "iter_prefixed_packed" | "iter_within_packed" => {
+            of_packed(alloc, store, operation, prefix.as_bytes())
+        }
+        _ => of_platform_now(alloc, store, operation, prefix),
     }
 }
