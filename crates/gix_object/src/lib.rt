@@ -18,7 +18,7 @@ pub mod commit {
 
     /// The parts of a commit, one after another.
     pub mod ref_iter {
-        pub use gix_object_commit::commit::ref_iter::{
+        pub use gix_object_commit_tokens::ref_iter::{
             CommitSignature, ParentIds, Signatures, Token,
         };
     }
@@ -150,13 +150,13 @@ pub mod write {
     pub use gix_object_write::write::Error;
 }
 
-pub use gix_object_commit::{
-    Blob, BlobRef, Commit, CommitRef, CommitRefIter, compute_hash, compute_stream_hash,
-};
+pub use gix_object_commit::{Commit, CommitRef};
+pub use gix_object_commit_tokens::CommitRefIter;
 pub use gix_object_entries::{Tree, TreeRef, TreeRefIter};
 pub use gix_object_find::{
     Exists, Find, FindExt, FindHeader, FindObjectOrHeader, HeaderExt, Lookup,
 };
+pub use gix_object_hash::{Blob, BlobRef, compute_hash, compute_stream_hash};
 pub use gix_object_lines::write::Error as WriteToError;
 pub use gix_object_lines::{ByteString, Header, Kind, WriteTo};
 pub use gix_object_tag::{Tag, TagRef, TagRefIter};

@@ -2,6 +2,7 @@
 use Rattle.std.proofs.Common.{◌≡◌, ◌≢◌, ◌∙◌, ap, refl, sym, ℕ, Bool, true, false, not, Option, None, Some, List, [], ◌∷◌, ◌++◌, length, map, arith}
 use Rattle.std.specs.Prelude.{All, IfSome, codes, nat_eq, ◌==◌, ◌&&◌, if◌then◌else◌}
 use Rattle.std.specs.Cmp.Lexicographic.{pointwise}
+use Rattle.std.specs.Option.{option_map}
 use Rattle.std.proofs.lemmas.Bool.{eq-eqb, ne_eqb}
 use Rattle.std.proofs.lemmas.Bool.Decides.{Decides-eqb}
 use Rattle.std.proofs.lemmas.List.Elements.{All-head, All-tail}
@@ -12,12 +13,14 @@ use Rattle.gix_object_lines.specs.Actor.{IsPlain, TellsTime}
 use Rattle.gix_object_lines.specs.Bytes.{Lacks}
 use Rattle.gix_object_lines.specs.HexLine.{IsHex, is_id}
 use Rattle.gix_object_lines.specs.declared.encode.Error.TheVariants.{NewlineInHeaderValue, EmptyValue}
+use Rattle.gix_object_lines.specs.declared.write.Error.TheVariants.{Header}
 use Rattle.gix_object_lines.specs.TimeTest.{tells_time}
 use Rattle.gix_object_lines.proofs.TimeTests.{tells_time-Decides}
-use Rattle.gix_object_commit.specs.Commit.{Person, Field, Parts, IsField, IsEncodingFirst, SpellsCommit}
+use Rattle.gix_object_commit_lines.specs.Commit.{Person, Field, Parts, IsField, IsEncodingFirst, SpellsCommit}
 use Rattle.gix_object_commit.specs.Writable.{IsPlainPerson, IsWritable}
-use Rattle.gix_object_commit.specs.Writing.{Piece, first_refused, refused_or, holds, is_id_like, is_plain, is_person, is_folded, is_empty, is_word, is_field, is_encoding_first, encoding_cause, unspellable_unless, tree_piece, parent_piece, person_piece, encoding_piece, field_piece, message_piece, commit_refusal}
-use Rattle.gix_object_commit.proofs.HexDigits.{is_id_of_hex}
+use Rattle.gix_object_commit.specs.Writing.{holds, is_id_like, is_plain, is_person, is_folded, is_empty, is_word, is_field, is_encoding_first, encoding_cause, unspellable_unless, refused_unless, tree_piece, parent_piece, person_piece, encoding_piece, field_piece, message_piece, commit_refusal}
+use Rattle.gix_object_lines.specs.Pieces.{Piece, first_refused, refused_or}
+use Rattle.gix_object_lines.proofs.HexDigits.{is_id_of_hex}
 use Rattle.gix_object_commit.proofs.OwnTexts.{folded_is}
 
 -- ---- a piece that is accepted, before others
@@ -91,10 +94,10 @@ accepted kind input parts is fits =
     let last = message_piece parts.message ∷ [] in
     let tail = encoding_piece parts.encoding parts.headers ∷ (map field_piece parts.headers ++ last) in
     let people = person_piece (codes "author") parts.author ∷ (person_piece (codes "committer") parts.committer ∷ tail) in
-    on [] (tree_piece parts.tree) (map (parent_piece parts.tree) parts.parents ++ people) (ap unspellable_unless (is_id_of_hex kind parts.tree is.tree))
-    (λ b. all_on (parent_piece parts.tree) (IsHex (hex_len kind)) (λ digits hex. ap unspellable_unless (id_like kind parts.tree digits is.tree hex)) b parts.parents people is.parents
-    (λ c. on c (person_piece (codes "author") parts.author) (person_piece (codes "committer") parts.committer ∷ tail) (ap unspellable_unless (person parts.author fits.author is.author.time_told))
-    (λ d. on d (person_piece (codes "committer") parts.committer) tail (ap unspellable_unless (person parts.committer fits.committer is.committer.time_told))
-    (λ e. on e (encoding_piece parts.encoding parts.headers) (map field_piece parts.headers ++ last) (encoding parts.encoding parts.headers fits.encoding is.encoding is.no_encoding)
-    (λ f. all_on field_piece IsField (λ header fit. ap unspellable_unless (field header fit)) f parts.headers last is.headers
+    on [] (tree_piece parts.tree) (map (parent_piece parts.tree) parts.parents ++ people) (ap refused_unless (is_id_of_hex kind parts.tree is.tree))
+    (λ b. all_on (parent_piece parts.tree) (IsHex (hex_len kind)) (λ digits hex. ap refused_unless (id_like kind parts.tree digits is.tree hex)) b parts.parents people is.parents
+    (λ c. on c (person_piece (codes "author") parts.author) (person_piece (codes "committer") parts.committer ∷ tail) (ap refused_unless (person parts.author fits.author is.author.time_told))
+    (λ d. on d (person_piece (codes "committer") parts.committer) tail (ap refused_unless (person parts.committer fits.committer is.committer.time_told))
+    (λ e. on e (encoding_piece parts.encoding parts.headers) (map field_piece parts.headers ++ last) (ap (option_map Header) (encoding parts.encoding parts.headers fits.encoding is.encoding is.no_encoding))
+    (λ f. all_on field_piece IsField (λ header fit. ap refused_unless (field header fit)) f parts.headers last is.headers
     (λ g. on g (message_piece parts.message) [] refl (λ h. refl)))))))

@@ -1,79 +1,16 @@
--- Hexadecimal digits are those that an id is read from.
-use Rattle.std.proofs.Common.{◌≡◌, ◌∙◌, ap, refl, sym, ℕ, Bool, true, false, ◌||◌, ◌&&◌, List, [], ◌∷◌, length, map, Option, Some, None, Result, Ok, Err}
-use Rattle.std.specs.Prelude.{if◌then◌else◌, nat_le, ◌-◌, ◌==◌, All, MatchResult}
-use Rattle.std.specs.Char.{is_ascii_hexdigit}
+-- Ids' digits in a list.
+use Rattle.std.proofs.Common.{◌≡◌, ◌∙◌, ap, sym, ℕ, List, [], map, Some, true}
+use Rattle.std.specs.Prelude.{All}
 use Rattle.std.specs.List.{list_all, slice_get}
 use Rattle.std.specs.Option.{option_map}
-use Rattle.std.specs.Result.{IsOk}
-use Rattle.std.proofs.lemmas.Bool.Decides.{Decides-eqb}
 use Rattle.std.proofs.lemmas.List.Sums.{AllPass-from_list_all, list_all-from_AllPass}
 use Rattle.std.proofs.lemmas.Option.{slice_get_within, get_or_from_slice_get, slice_get-map}
 use Rattle.bstr.specs.BStr.{bstr_bytes}
 use Rattle.bstr.specs.declared.bstr.BStr.{BStr}
-use Rattle.hex.specs.Hex.{hex_digit_value}
-use Rattle.gix_hash.specs.declared.kind.Kind.{Kind}
-use Rattle.gix_hash.specs.declared.kind.Kind.TheVariants.{Sha1, Sha256}
-use Rattle.gix_hash.specs.declared.object_id.ObjectId.{ObjectId}
-use Rattle.gix_hash.specs.declared.object_id.decode.Error.{Error}
-use Rattle.gix_hash.specs.declared.object_id.decode.Error.TheVariants.{InvalidHexEncodingLength, Invalid}
-use Rattle.gix_hash.specs.Id.{Id}
 use Rattle.gix_hash.specs.Kind.{hex_len}
-use Rattle.gix_hash.specs.Views.{IsHexOfId, IsFaultOf}
-use Rattle.gix_object_lines.specs.HexLine.{IsHex, is_hex}
-use Rattle.gix_object_lines.specs.HexLine.{is_id}
-use Rattle.gix_object_commit.proofs.Progress.{all_head, all_tail}
-
-one_of : (upper lower digit : Bool) (x y z : ℕ) → ((digit || upper) || lower) ≡ true → (value : ℕ) × ((if upper then Some x else if lower then Some y else if digit then Some z else None) ≡ Some value)
-one_of true lower digit x y z t = (x, refl)
-one_of false true digit x y z t = (y, refl)
-one_of false false true x y z t = (z, refl)
-one_of false false false x y z t = absurd cc
-
-has_value : (c : ℕ) → is_ascii_hexdigit c ≡ true → (value : ℕ) × (hex_digit_value c ≡ Some value)
-has_value c = one_of (nat_le 65 c && nat_le c 70) (nat_le 97 c && nat_le c 102) (nat_le 48 c && nat_le c 57) (c - 55) (c - 87) (c - 48)
-
-values_of : (text : List ℕ) → All (λ c. is_ascii_hexdigit c ≡ true) text → (values : List ℕ) × (map hex_digit_value text ≡ map (λ (d : ℕ). Some d) values)
-values_of [] all = ([], refl)
-values_of (c ∷ text) all =
-    let first = has_value c (all_head (λ (b : ℕ). is_ascii_hexdigit b ≡ true) c text all) in
-    let rest = values_of text (all_tail (λ (b : ℕ). is_ascii_hexdigit b ≡ true) c text all) in
-    (first.0 ∷ rest.0, ap (λ (o : Option ℕ). o ∷ map hex_digit_value text) first.1 ∙ ap (λ t. Some first.0 ∷ t) rest.1)
-
-pub id_of_hex : (kind : Kind) (text : List ℕ) → IsHex (hex_len kind) text → (id : Id) × IsHexOfId text id
-id_of_hex kind text hex =
-    let values = values_of text (λ k d below. AllPass-from_list_all is_ascii_hexdigit text hex.1 k d below) in
-    (record { kind = kind; digits = values.0 }, record { whole = hex.0; spelled = values.1 })
-
--- ---- the test of an id's digits
-
-both : (a b : Bool) → (a && b) ≡ true → (a ≡ true) × (b ≡ true)
-both true b e = (refl, e)
-both false b e = absurd cc
-
--- the text has the length of an id, and each of its digits a value
-not_refused : (text : List ℕ) (e : Error) → is_id text ≡ true → IsFaultOf hex_digit_value text e → ⊥
-not_refused text (InvalidHexEncodingLength n) is fault =
-    of_length (length text == 40) (length text == 64) (both (length text == 40 || length text == 64) (is_hex text) is).0
-    (λ t. fault.1 (fault.0 ∙ (Decides-eqb (length text) 40).0 t)) (λ t. fault.2 (fault.0 ∙ (Decides-eqb (length text) 64).0 t))
-  where
-    of_length : (a b : Bool) → (a || b) ≡ true → (a ≡ true → ⊥) → (b ≡ true → ⊥) → ⊥
-    of_length true b e not_a not_b = not_a refl
-    of_length false b e not_a not_b = not_b e
-not_refused text Invalid is fault =
-    let bad = fault.1 in
-    let digit = AllPass-from_list_all is_ascii_hexdigit text (both (length text == 40 || length text == 64) (is_hex text) is).1 bad.0 bad.1 bad.2 in
-    let value = has_value bad.1 (ap is_ascii_hexdigit (sym bad.3) ∙ digit) in
-    let clash : None ≡ Some value.0 = sym bad.4 ∙ value.1 in
-    cc
-
-pub id_is_read : (text : List ℕ) (r : Result ObjectId Error) (P : ObjectId → Type 0) → is_id text ≡ true → MatchResult r P (IsFaultOf hex_digit_value text) → IsOk r
-id_is_read text (Ok id) P is h = refl
-id_is_read text (Err e) P is h = absurd (not_refused text e is h)
-
--- an id's digits pass it
-pub is_id_of_hex : (kind : Kind) (text : List ℕ) → IsHex (hex_len kind) text → is_id text ≡ true
-is_id_of_hex Sha1 text hex = ap (λ n. (n == 40 || n == 64) && is_hex text) hex.0 ∙ hex.1
-is_id_of_hex Sha256 text hex = ap (λ n. (n == 40 || n == 64) && is_hex text) hex.0 ∙ hex.1
+use Rattle.gix_hash.specs.declared.kind.Kind.{Kind}
+use Rattle.gix_object_lines.specs.HexLine.{IsHex, is_id}
+use Rattle.gix_object_lines.proofs.HexDigits.{is_id_of_hex}
 
 pub all_ids_of_hex : (kind : Kind) (texts : List (List ℕ)) → All (IsHex (hex_len kind)) texts → list_all is_id texts ≡ true
 all_ids_of_hex kind texts hex = list_all-from_AllPass is_id texts (λ k d below. is_id_of_hex kind _ (hex k d below))

@@ -1,16 +1,17 @@
 -- Pieces that are written in several parts, of which the first alone may be refused.
 use Rattle.std.proofs.Common.{◌≡◌, ◌∙◌, ap, refl, sym, subst, ℕ, List, [], ◌∷◌, ◌++◌, append_assoc, append-nil}
 use Rattle.std.specs.Prelude.{Option, None, Result, Ok, Err}
+use Rattle.std.specs.Option.{option_map}
 use Rattle.gix_object_lines.specs.Writes.{Writes}
 use Rattle.gix_object_lines.specs.LineWrites.{WritesLine}
 use Rattle.gix_object_lines.specs.declared.write.Error.{Error}
 use Rattle.gix_object_lines.specs.declared.write.Error.TheVariants.{Writer, Header, TagName, Filename}
 use Rattle.gix_object_lines.specs.declared.encode.Error as encode
 use Rattle.gix_object_lines.specs.declared.encode.Error.TheVariants.{NewlineInHeaderValue, EmptyValue, Unspellable}
-use Rattle.gix_object_commit.specs.Commit.{line}
+use Rattle.gix_object_commit_lines.specs.Commit.{line}
 use Rattle.gix_object_commit.specs.OwnedText.{text_piece}
-use Rattle.gix_object_commit.specs.Writing.{Piece, pieces_text, first_refused, refused_or, WritesPieces}
-use Rattle.gix_object_commit.proofs.Pieces.{pieces_then, pieces_stop}
+use Rattle.gix_object_lines.specs.Pieces.{Piece, pieces_text, first_refused, refused_or, WritesPieces}
+use Rattle.gix_object_lines.proofs.Pieces.{pieces_then, pieces_stop}
 
 in_parts : (a b : Option (List ℕ)) (first : Piece) (rest : List Piece) (text : List ℕ) (r : Result (Unit {0}) Error) → first_refused first.text rest ≡ None → first.text ++ pieces_text rest ≡ text
     → WritesPieces {U = Unit {0}} a b (first ∷ rest) r → WritesPieces {U = Unit {0}} a b (record { text = text; cause = first.cause } ∷ []) r
@@ -38,13 +39,13 @@ module _ (a b c : Option (List ℕ)) (done part : List ℕ) where
 
 module _ (word text : List ℕ) (cause : Option encode.Error) where
   abbrev pub front_piece : Piece
-  front_piece = record { text = word ++ 32 ∷ []; cause = cause }
+  front_piece = record { text = word ++ 32 ∷ []; cause = option_map Header cause }
 
   abbrev pub end_piece : Piece
   end_piece = text_piece (10 ∷ [])
 
   abbrev pub line_piece : Piece
-  line_piece = record { text = line word text; cause = cause }
+  line_piece = record { text = line word text; cause = option_map Header cause }
 
   line_is : (word ++ 32 ∷ []) ++ (text ++ 10 ∷ []) ≡ line word text
   line_is = append_assoc word (32 ∷ []) (text ++ 10 ∷ [])

@@ -1,6 +1,6 @@
 -- The texts of owned parts.
 use Rattle.std.proofs.Common.{◌≡◌, ◌∙◌, ap, refl, sym, ℕ, ◌%◌, ◌+◌, ◌<◌, ◌≤◌, ◌^◌, Bool, true, false, cond, ◌&&◌, List, [], ◌∷◌, ◌++◌, length, length-append, Option, None, Some, arith}
-use Rattle.std.specs.Option.{SomeIff}
+use Rattle.std.specs.Option.{SomeIff, option_map}
 use Rattle.std.specs.Prelude.{MatchOption, codes, count_by, filter, ◌==◌, nat_lt, unsigned_abs}
 use Rattle.std.proofs.lemmas.Bool.{ne_eqb}
 use Rattle.std.proofs.lemmas.List.Sums.{length-filter}
@@ -8,12 +8,14 @@ use Rattle.std.proofs.lemmas.Bool.Decides.{Decides-eqb, Decides-ltb}
 use Rattle.gix_object_lines.specs.Actor.{IsSpellable}
 use Rattle.gix_object_lines.specs.Writes.{cause_of}
 use Rattle.gix_object_lines.specs.declared.encode.Error as encode
+use Rattle.gix_object_lines.specs.declared.write.Error.TheVariants.{Header}
 use Rattle.gix_object_lines.specs.declared.lines.actor.Actor.{Actor}
-use Rattle.gix_object_commit.specs.Commit.{line, field_text, folded}
+use Rattle.gix_object_commit_lines.specs.Commit.{line, field_text, folded}
 use Rattle.gix_object_commit.specs.OwnedText.{own_field, is_whole_offset, is_own_person}
-use Rattle.gix_object_commit.specs.Writing.{refused_or, unspellable_unless, is_plain, is_word, is_folded, field_piece}
-use Rattle.gix_object_commit.specs.declared.commit.owned.ExtraHeader.{ExtraHeader}
-use Rattle.gix_object_commit.proofs.Folds.{by_feed, feed_folded, plain_folded}
+use Rattle.gix_object_commit.specs.Writing.{unspellable_unless, is_plain, is_word, is_folded, field_piece}
+use Rattle.gix_object_lines.specs.Pieces.{refused_or}
+use Rattle.gix_object_commit_lines.specs.declared.header.ExtraHeader.{ExtraHeader}
+use Rattle.gix_object_commit_lines.proofs.Folds.{by_feed, feed_folded, plain_folded}
 use Rattle.gix_object_commit.proofs.FoldedTests.{plain_byte}
 use Rattle.gix_object_commit.proofs.OwnPieces.{line_piece}
 use Rattle.gix_object_commit.proofs.Written.{both, fine, plain_name}
@@ -35,10 +37,10 @@ own_spellable actor e =
     }
 
 -- a front that was written wasn't refused
-pub front_fine : (actor : Actor) (cause : Option encode.Error) → cause ≡ unspellable_unless (is_own_person actor) → cause_of (refused_or cause [] None) ≡ None → IsSpellable actor.name actor.email actor.time
-front_fine actor cause is none = own_spellable actor (fine (is_own_person actor) (sym is ∙ unrefused cause none))
+pub front_fine : (actor : Actor) (cause : Option encode.Error) → cause ≡ unspellable_unless (is_own_person actor) → cause_of (refused_or (option_map Header cause) [] None) ≡ None → IsSpellable actor.name actor.email actor.time
+front_fine actor cause is none = own_spellable actor (fine (is_own_person actor) (ap (option_map Header) (sym is ∙ unrefused cause none)))
   where
-    unrefused : (cause : Option encode.Error) → cause_of (refused_or cause [] None) ≡ None → cause ≡ None
+    unrefused : (cause : Option encode.Error) → cause_of (refused_or (option_map Header cause) [] None) ≡ None → cause ≡ None
     unrefused None e = refl
     unrefused (Some c) e = absurd cc
 
@@ -60,7 +62,7 @@ pub header_piece_is : (header : ExtraHeader) (name value : List ℕ) (word : Boo
 header_piece_is header name value word cause n v k w =
     let kept : is_word header.name ≡ (is_word header.name && is_folded (folded header.value)) = sym (ap (λ t. is_word header.name && t) (folded_is header.value) ∙ and_true (is_word header.name)) in
     let causes = k ∙ ap unspellable_unless (w ∙ ap is_word n ∙ kept) in
-    λ i. record { text = line (n i) (folded (v i)); cause = causes i }
+    λ i. record { text = line (n i) (folded (v i)); cause = option_map Header (causes i) }
 
 -- a value gains a byte for each of its line feeds
 folded_length : (value : List ℕ) → length (folded value) ≡ length value + length (filter (λ byte. byte == 10) value)

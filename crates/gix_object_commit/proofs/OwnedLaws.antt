@@ -8,9 +8,10 @@ use Rattle.gix_object_lines.specs.declared.lines.actor.Actor.{Actor}
 use Rattle.gix_object_lines.specs.TimeTest.{tells_time}
 use Rattle.gix_object_lines.proofs.TimeTests.{tells_time-Decides}
 use Rattle.gix_object_lines.proofs.TimeLemmas.{time_written}
-use Rattle.gix_object_commit.specs.Commit.{SpellsCommit, commit_text}
+use Rattle.gix_object_commit_lines.specs.Commit.{SpellsCommit, commit_text}
 use Rattle.gix_object_commit.specs.OwnedText.{own_parts, own_person, own_person_piece, own_refusal, is_own_person, is_whole_offset}
-use Rattle.gix_object_commit.specs.Writing.{Piece, first_refused, refused_or, is_plain, is_person, unspellable_unless, id_pieces, person_piece, encoding_pieces, header_pieces, message_pieces, commit_refusal}
+use Rattle.gix_object_commit.specs.Writing.{is_plain, is_person, refused_unless, id_pieces, person_piece, encoding_pieces, header_pieces, message_pieces, commit_refusal}
+use Rattle.gix_object_lines.specs.Pieces.{Piece, first_refused, refused_or}
 use Rattle.gix_object_commit.specs.declared.commit.owned.Commit.{Commit}
 use Rattle.gix_object_commit.proofs.OwnTexts.{own_spellable}
 use Rattle.gix_object_commit.proofs.Written.{both, fine, none_refused, written}
@@ -47,7 +48,7 @@ person_fits actor fits e =
     all_true (is_plain actor.name) (is_plain actor.email) (tells_time (time_text actor.time)) a.0 b.0 ((tells_time-Decides (time_text actor.time)).1 (told actor fits e))
 
 piece_fits : (word : List ℕ) (actor : Actor) → FitsSigned w64 actor.time.seconds → (own_person_piece word actor).cause ≡ None → (person_piece word (own_person actor)).cause ≡ None
-piece_fits word actor fits none = ap unspellable_unless (person_fits actor fits (fine (is_own_person actor) none))
+piece_fits word actor fits none = ap refused_unless (person_fits actor fits (fine (is_own_person actor) none))
 
 -- the actors of a commit whose pieces aren't refused
 person_told : (before : List ℕ) (ps : List Piece) (word : List ℕ) (actor : Actor) (rest : List Piece) → first_refused before (ps ++ (own_person_piece word actor ∷ rest)) ≡ None

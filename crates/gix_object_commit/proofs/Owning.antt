@@ -14,7 +14,7 @@ use Rattle.gix_hash.proofs.ReadBack.{all_values}
 use Rattle.gix_object_lines.specs.Actor.{TellsTime}
 use Rattle.gix_object_lines.specs.declared.decode.Error.{Error}
 use Rattle.gix_object_lines.specs.declared.decode.Error.TheVariants.{HexDigits, InvalidTime, Memory}
-use Rattle.gix_object_commit.specs.Commit.{Parts}
+use Rattle.gix_object_commit_lines.specs.Commit.{Parts}
 use Rattle.gix_object_commit.specs.Owned.{IsOwnId, SpellsNoId, OwningFault}
 
 pub spells_no_id : (digits text : List ℕ) (fault : hex.Error) → text ≡ digits → IsFaultOf hex_digit_value text fault → SpellsNoId digits

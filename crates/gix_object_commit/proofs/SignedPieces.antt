@@ -1,20 +1,23 @@
 -- The pieces of a commit that was signed.
 use Rattle.std.proofs.Common.{◌≡◌, ◌∙◌, ap, refl, sym, ℕ, not, Option, None, Some, List, [], ◌∷◌, ◌++◌, map, append_assoc}
 use Rattle.std.specs.Prelude.{codes}
+use Rattle.std.specs.Option.{option_map}
 use Rattle.std.proofs.lemmas.List.{map-append}
 use Rattle.gix_hash.specs.Id.{id_of}
 use Rattle.gix_hash.specs.declared.kind.Kind.{Kind}
 use Rattle.gix_hash.specs.declared.kind.Kind.TheVariants.{Sha1, Sha256}
 use Rattle.gix_object_lines.specs.Writes.{Refusal, cause_of}
 use Rattle.gix_object_lines.specs.declared.lines.actor.Actor.{Actor}
+use Rattle.gix_object_lines.specs.declared.write.Error.TheVariants.{Header}
 use Rattle.gix_object_lines.specs.Bytes.{without_last_feed}
-use Rattle.gix_object_commit.specs.Commit.{Field, Parts, encoding_text}
+use Rattle.gix_object_commit_lines.specs.Commit.{Field, Parts, encoding_text}
 use Rattle.gix_object_commit.specs.OwnedText.{own_digits, own_person, own_field, own_parts, own_person_piece, own_author_pieces, own_committer_pieces, own_front_pieces, own_pieces_with, own_refusal, own_refusal_with}
-use Rattle.gix_object_commit.specs.Signature.{signature_name}
+use Rattle.gix_object_commit_lines.specs.Signature.{signature_name}
 use Rattle.gix_object_commit.specs.Signing.{IsSignedBy, IsWithHeaders, signature_header, unsigned, unsigned_fault}
-use Rattle.gix_object_commit.specs.Writing.{Piece, first_refused, field_piece, message_piece, id_pieces, encoding_pieces, header_pieces, message_pieces, encoding_cause, is_encoding_first, unspellable_unless}
+use Rattle.gix_object_commit.specs.Writing.{field_piece, message_piece, id_pieces, encoding_pieces, header_pieces, message_pieces, encoding_cause, is_encoding_first, refused_unless, unspellable_unless}
+use Rattle.gix_object_lines.specs.Pieces.{Piece, first_refused}
 use Rattle.gix_object_commit.specs.declared.commit.owned.Commit.{Commit}
-use Rattle.gix_object_commit.specs.declared.commit.owned.ExtraHeader.{ExtraHeader}
+use Rattle.gix_object_commit_lines.specs.declared.header.ExtraHeader.{ExtraHeader}
 use Rattle.gix_object_commit.proofs.OwnCommits.{pieces_are}
 use Rattle.gix_object_commit.proofs.OwnedLaws.{accepted}
 use Rattle.gix_object_commit.proofs.OwnTexts.{folded_is}
@@ -30,8 +33,8 @@ put_before_end before (p ∷ ps) piece message fits none =
 
 -- the header of a signature is fine, and none is named as the line for the encoding is
 fits : (kind : Kind) (value : List ℕ) → (field_piece (own_field (record { name = signature_name kind; value = value }))).cause ≡ None
-fits Sha1 value = ap unspellable_unless (folded_is value)
-fits Sha256 value = ap unspellable_unless (folded_is value)
+fits Sha1 value = ap refused_unless (folded_is value)
+fits Sha256 value = ap refused_unless (folded_is value)
 
 first_stays : (kind : Kind) (value : List ℕ) (headers : List ExtraHeader) → is_encoding_first (map own_field (headers ++ record { name = signature_name kind; value = value } ∷ [])) ≡ is_encoding_first (map own_field headers)
 first_stays Sha1 value [] = refl
@@ -48,7 +51,7 @@ cause_stays (Some name) a b same = refl
 
 front_stays : (commit : Commit) (a b : List Field) → is_encoding_first a ≡ is_encoding_first b → own_front_pieces a commit ≡ own_front_pieces b commit
 front_stays commit a b same =
-    ap (λ cause. id_pieces (own_parts commit) ++ (own_author_pieces commit ++ (own_committer_pieces commit ++ record { text = encoding_text commit.encoding; cause = cause } ∷ [])))
+    ap (λ cause. id_pieces (own_parts commit) ++ (own_author_pieces commit ++ (own_committer_pieces commit ++ record { text = encoding_text commit.encoding; cause = option_map Header cause } ∷ [])))
     (cause_stays commit.encoding a b same)
 
 -- a commit whose headers a fine one is put behind

@@ -1,6 +1,7 @@
 -- What is written without a refusal spells the commit.
 use Rattle.std.proofs.Common.{◌≡◌, ◌∙◌, ap, refl, sym, ℕ, Bool, true, false, not, Option, None, Some, List, [], ◌∷◌, ◌++◌, length, map, arith}
 use Rattle.std.specs.Prelude.{codes, All, IfSome, ◌==◌, ◌&&◌, ◌||◌, if◌then◌else◌}
+use Rattle.std.specs.Option.{option_map}
 use Rattle.std.proofs.lemmas.Bool.Decides.{Decides-eqb}
 use Rattle.std.proofs.lemmas.List.Elements.{All-nil, All-cons}
 use Rattle.gix_object_lines.specs.Bytes.{Lacks}
@@ -9,10 +10,13 @@ use Rattle.gix_object_lines.specs.TimeTest.{tells_time}
 use Rattle.gix_object_lines.proofs.ActorLemmas as marks
 use Rattle.gix_object_lines.proofs.TimeTests.{tells_time-Decides}
 use Rattle.gix_object_lines.specs.declared.encode.Error as encode
+use Rattle.gix_object_lines.specs.declared.write.Error as write
+use Rattle.gix_object_lines.specs.declared.write.Error.TheVariants.{Header}
 use Rattle.gix_object_lines.specs.declared.encode.Error.TheVariants.{NewlineInHeaderValue, EmptyValue}
-use Rattle.gix_object_commit.specs.Commit.{Person, Field, Parts, IsFolded, IsPerson, IsField, IsEncodingFirst, commit_text, SpellsCommit}
-use Rattle.gix_object_commit.specs.Writing.{Piece, first_refused, refused_or, holds, is_id_like, is_plain, is_person, is_folded, begins_with_space, is_empty, is_word, is_field, is_encoding_first, encoding_cause, unspellable_unless, tree_piece, parent_piece, person_piece, encoding_piece, field_piece, message_piece, commit_refusal}
-use Rattle.gix_object_commit.proofs.Folds.{by_feed, plain_folded}
+use Rattle.gix_object_commit_lines.specs.Commit.{Person, Field, Parts, IsFolded, IsPerson, IsField, IsEncodingFirst, commit_text, SpellsCommit}
+use Rattle.gix_object_commit.specs.Writing.{holds, is_id_like, is_plain, is_person, is_folded, begins_with_space, is_empty, is_word, is_field, is_encoding_first, encoding_cause, unspellable_unless, refused_unless, tree_piece, parent_piece, person_piece, encoding_piece, field_piece, message_piece, commit_refusal}
+use Rattle.gix_object_lines.specs.Pieces.{Piece, first_refused, refused_or}
+use Rattle.gix_object_commit_lines.proofs.Folds.{by_feed, plain_folded}
 use Rattle.gix_object_commit.proofs.FoldedTests.{plain_byte}
 
 -- ---- tests that hold
@@ -28,16 +32,24 @@ lacks_of byte text e = go (holds byte text) e
     go true e = absurd cc
     go false e = refl
 
-pub fine : (b : Bool) → unspellable_unless b ≡ None → b ≡ true
+pub fine : (b : Bool) → refused_unless b ≡ None → b ≡ true
 fine true e = refl
 fine false e = absurd cc
+
+not_unspellable : (b : Bool) → unspellable_unless b ≡ None → b ≡ true
+not_unspellable true e = refl
+not_unspellable false e = absurd cc
+
+no_cause : (cause : Option encode.Error) → option_map Header cause ≡ None → cause ≡ None
+no_cause None e = refl
+no_cause (Some cause) e = absurd cc
 
 -- ---- no piece is refused
 
 pub none_refused : (before : List ℕ) (piece : Piece) (rest : List Piece) → first_refused before (piece ∷ rest) ≡ None → (piece.cause ≡ None) × (first_refused (before ++ piece.text) rest ≡ None)
 none_refused before piece rest none = by_cause piece.cause refl
   where
-    by_cause : (cause : Option encode.Error) → piece.cause ≡ cause → (piece.cause ≡ None) × (first_refused (before ++ piece.text) rest ≡ None)
+    by_cause : (cause : Option write.Error) → piece.cause ≡ cause → (piece.cause ≡ None) × (first_refused (before ++ piece.text) rest ≡ None)
     by_cause None is = (is, sym (ap (λ c. refused_or c before (first_refused (before ++ piece.text) rest)) is) ∙ none)
     by_cause (Some cause) is = absurd (let clash : refused_or (Some cause) before (first_refused (before ++ piece.text) rest) ≡ None = sym (ap (λ c. refused_or c before (first_refused (before ++ piece.text) rest)) is) ∙ none in cc)
 
@@ -118,7 +130,7 @@ some false true e = absurd cc
 some false false e = refl
 
 encoding_fits : (encoding : Option (List ℕ)) (headers : List Field) → encoding_cause encoding headers ≡ None → IfSome encoding (Lacks 10) × (encoding ≡ None → ¬ IsEncodingFirst headers)
-encoding_fits None headers none = (tt, λ e named. not_true (is_encoding_first headers) (fine (not (is_encoding_first headers)) none) (first_named headers named))
+encoding_fits None headers none = (tt, λ e named. not_true (is_encoding_first headers) (not_unspellable (not (is_encoding_first headers)) none) (first_named headers named))
 encoding_fits (Some name) headers none = (some (is_empty name) (holds 10 name) none, λ e. absurd cc)
 
 pub written : (parts : Parts) → commit_refusal parts ≡ None → SpellsCommit (length parts.tree) (commit_text parts) parts
@@ -132,7 +144,7 @@ written parts none =
     let c = none_refused _ (person_piece (codes "committer") parts.committer) tail a.1 in
     let e = none_refused _ (encoding_piece parts.encoding parts.headers) (map field_piece parts.headers ++ (message_piece parts.message ∷ [])) c.1 in
     let hs = all_fit field_piece IsField (λ f cause. field_fits f (fine (is_field f) cause)) _ parts.headers (message_piece parts.message ∷ []) e.1 in
-    let told = encoding_fits parts.encoding parts.headers e.0 in
+    let told = encoding_fits parts.encoding parts.headers (no_cause (encoding_cause parts.encoding parts.headers) e.0) in
     record {
       spelled = refl;
       tree = (refl, (both (length tree == 40 || length tree == 64) (is_hex tree) (fine (is_id tree) t.0)).1);

@@ -6,10 +6,11 @@ use Rattle.gix_hash.specs.declared.object_id.ObjectId.{ObjectId}
 use Rattle.gix_object_lines.specs.Time.{time_text}
 use Rattle.gix_object_lines.specs.Writes.{Refusal}
 use Rattle.gix_object_lines.specs.declared.lines.actor.Actor.{Actor}
-use Rattle.gix_object_commit.specs.Commit.{Person, Field, Parts, line, actor_line, folded}
-use Rattle.gix_object_commit.specs.Writing.{Piece, is_plain, unspellable_unless, encoding_piece, id_pieces, encoding_pieces, header_pieces, message_pieces, first_refused}
+use Rattle.gix_object_commit_lines.specs.Commit.{Person, Field, Parts, line, actor_line, folded}
+use Rattle.gix_object_commit.specs.Writing.{is_plain, refused_unless, encoding_piece, id_pieces, encoding_pieces, header_pieces, message_pieces}
+use Rattle.gix_object_lines.specs.Pieces.{Piece, first_refused}
 use Rattle.gix_object_commit.specs.declared.commit.owned.Commit.{Commit}
-use Rattle.gix_object_commit.specs.declared.commit.owned.ExtraHeader.{ExtraHeader}
+use Rattle.gix_object_commit_lines.specs.declared.header.ExtraHeader.{ExtraHeader}
 
 -- ---- the parts as they are written
 
@@ -48,7 +49,7 @@ abbrev pub is_own_person : Actor → Bool
 is_own_person actor = is_plain actor.name && (is_plain actor.email && is_whole_offset actor.time.offset)
 
 abbrev pub own_person_piece : List ℕ → Actor → Piece
-own_person_piece word actor = record { text = line word (actor_line (own_person actor)); cause = unspellable_unless (is_own_person actor) }
+own_person_piece word actor = record { text = line word (actor_line (own_person actor)); cause = refused_unless (is_own_person actor) }
 
 abbrev pub own_author_pieces : Commit → List Piece
 own_author_pieces commit = own_person_piece (codes "author") commit.author ∷ []

@@ -14,12 +14,12 @@ use Rattle.gix_object_signature.specs.declared.run.RunError as run
 use Rattle.gix_object_signature.specs.declared.sign.Error.{Error}
 use Rattle.gix_object_signature.specs.declared.sign.Error.TheVariants.{Encode, Memory}
 use Rattle.gix_object_signature.specs.declared.sign.Options.{Options}
-use Rattle.gix_object_commit.specs.Commit.{Parts, commit_text}
+use Rattle.gix_object_commit_lines.specs.Commit.{Parts, commit_text}
 use Rattle.gix_object_commit.specs.Owned.{IsCommitOf, OwningFault}
 use Rattle.gix_object_commit.specs.OwnedText.{own_parts_with, own_refusal_with}
-use Rattle.gix_object_commit.specs.Signature.{signature_name}
+use Rattle.gix_object_commit_lines.specs.Signature.{signature_name}
 use Rattle.gix_object_commit.specs.declared.commit.owned.Commit.{Commit}
-use Rattle.gix_object_commit.specs.declared.commit.owned.ExtraHeader.{ExtraHeader}
+use Rattle.gix_object_commit_lines.specs.declared.header.ExtraHeader.{ExtraHeader}
 
 -- ---- what is signed: the commit as it is written without signatures of either hash function
 

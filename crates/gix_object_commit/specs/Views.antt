@@ -1,17 +1,10 @@
--- The parts that borrowed values show.
+-- The parts that a borrowed commit shows.
 use Rattle.std.specs.Prelude.{map}
 use Rattle.std.specs.Option.{option_map}
 use Rattle.bstr.specs.BStr.{bstr_bytes}
-use Rattle.gix_object_lines.specs.declared.lines.actor.ActorRef.{ActorRef}
-use Rattle.gix_object_commit.specs.declared.commit.HeaderRef.{HeaderRef}
+use Rattle.gix_object_commit_lines.specs.Commit.{Parts}
+use Rattle.gix_object_commit_lines.specs.Views.{person_of, field_of}
 use Rattle.gix_object_commit.specs.declared.commit.CommitRef.{CommitRef}
-use Rattle.gix_object_commit.specs.Commit.{Person, Field, Parts}
-
-abbrev pub person_of : ActorRef → Person
-person_of actor = record { name = bstr_bytes actor.name; email = bstr_bytes actor.email; time = bstr_bytes actor.time }
-
-abbrev pub field_of : HeaderRef → Field
-field_of header = record { name = bstr_bytes header.name; value = bstr_bytes header.value }
 
 abbrev pub parts_of : CommitRef → Parts
 parts_of commit = record {

@@ -1,35 +1,17 @@
 -- How a commit is written, and which parts the format never writes.
-use Rattle.std.specs.Prelude.{ℕ, nat_eq, ◌==◌, ◌&&◌, Bool, true, false, not, List, [], ◌∷◌, ◌++◌, codes, map, flat_map, length, if◌then◌else◌, Option, None, Some, Result}
+use Rattle.std.specs.Prelude.{ℕ, nat_eq, ◌==◌, ◌&&◌, Bool, true, false, not, List, [], ◌∷◌, ◌++◌, codes, map, length, if◌then◌else◌, Option, None, Some}
 use Rattle.std.specs.List.{list_any}
+use Rattle.std.specs.Option.{option_map}
 use Rattle.std.specs.Cmp.Lexicographic.{pointwise}
 use Rattle.gix_object_lines.specs.HexLine.{hex_line, is_id}
 use Rattle.gix_object_lines.specs.TimeTest.{tells_time}
-use Rattle.gix_object_lines.specs.Writes.{Refusal, Writes}
+use Rattle.gix_object_lines.specs.Pieces.{Piece, first_refused}
+use Rattle.gix_object_lines.specs.Writes.{Refusal}
 use Rattle.gix_object_lines.specs.declared.write.Error.{Error}
 use Rattle.gix_object_lines.specs.declared.write.Error.TheVariants.{Header}
 use Rattle.gix_object_lines.specs.declared.encode.Error as encode
 use Rattle.gix_object_lines.specs.declared.encode.Error.TheVariants.{NewlineInHeaderValue, EmptyValue, Unspellable}
-use Rattle.gix_object_commit.specs.Commit.{Person, Field, Parts, line, actor_line, encoding_text, field_text}
-
--- ---- pieces that are written in order, up to the first that is refused
-
-pub record Piece : Type 0 where
-  pub text : List ℕ
-  pub cause : Option encode.Error
-
-abbrev pub pieces_text : List Piece → List ℕ
-pieces_text pieces = flat_map (λ piece. piece.text) pieces
-
-abbrev pub refused_or : Option encode.Error → List ℕ → Option Refusal → Option Refusal
-refused_or None before later = later
-refused_or (Some cause) before later = Some (record { before = before; cause = Header cause })
-
-abbrev pub first_refused : List ℕ → List Piece → Option Refusal
-first_refused before [] = None
-first_refused before (piece ∷ pieces) = refused_or piece.cause before (first_refused (before ++ piece.text) pieces)
-
-abbrev pub WritesPieces : {U : Type 0} → Option (List ℕ) → Option (List ℕ) → List Piece → Result U Error → Type 0
-WritesPieces old new pieces result = Writes old new (pieces_text pieces) (first_refused [] pieces) result
+use Rattle.gix_object_commit_lines.specs.Commit.{Person, Field, Parts, line, actor_line, encoding_text, field_text}
 
 -- ---- what is refused
 
@@ -38,6 +20,10 @@ holds byte text = list_any (λ other. other == byte) text
 
 abbrev pub unspellable_unless : Bool → Option encode.Error
 unspellable_unless fine = if fine then None else Some Unspellable
+
+-- the same, as a piece is refused for it
+abbrev pub refused_unless : Bool → Option Error
+refused_unless fine = option_map Header (unspellable_unless fine)
 
 -- an id in as many digits as the tree's
 abbrev pub is_id_like : List ℕ → List ℕ → Bool
@@ -82,19 +68,19 @@ encoding_cause (Some name) headers = if is_empty name then Some EmptyValue else 
 -- ---- the pieces of a commit
 
 abbrev pub tree_piece : List ℕ → Piece
-tree_piece digits = record { text = hex_line (codes "tree") digits; cause = unspellable_unless (is_id digits) }
+tree_piece digits = record { text = hex_line (codes "tree") digits; cause = refused_unless (is_id digits) }
 
 abbrev pub parent_piece : List ℕ → List ℕ → Piece
-parent_piece tree digits = record { text = hex_line (codes "parent") digits; cause = unspellable_unless (is_id_like tree digits) }
+parent_piece tree digits = record { text = hex_line (codes "parent") digits; cause = refused_unless (is_id_like tree digits) }
 
 abbrev pub person_piece : List ℕ → Person → Piece
-person_piece word person = record { text = line word (actor_line person); cause = unspellable_unless (is_person person) }
+person_piece word person = record { text = line word (actor_line person); cause = refused_unless (is_person person) }
 
 abbrev pub encoding_piece : Option (List ℕ) → List Field → Piece
-encoding_piece encoding headers = record { text = encoding_text encoding; cause = encoding_cause encoding headers }
+encoding_piece encoding headers = record { text = encoding_text encoding; cause = option_map Header (encoding_cause encoding headers) }
 
 abbrev pub field_piece : Field → Piece
-field_piece field = record { text = field_text field; cause = unspellable_unless (is_field field) }
+field_piece field = record { text = field_text field; cause = refused_unless (is_field field) }
 
 abbrev pub message_piece : List ℕ → Piece
 message_piece message = record { text = 10 ∷ message; cause = None }

@@ -5,41 +5,30 @@ ghost use Rattle.bstr.specs.BStr.{bstr_bytes};
 ghost use Rattle.gix_object_lines.specs.Time.{SpellsTime};
 ghost use Rattle.gix_object_lines.specs.declared.lines.time.Time.{Time};
 ghost use Rattle.gix_object_lines.specs.declared.decode.Error.TheVariants.{InvalidTime};
-ghost use Rattle.gix_object_commit.specs.HeaderViews.{headers_of};
-ghost use Rattle.gix_object_commit.specs.Signature.{signature_name};
+ghost use Rattle.gix_object_commit_lines.specs.HeaderViews.{headers_of};
 ghost use Rattle.gix_object_commit.specs.Views.{parts_of};
 
 mod decode;
-mod extra_headers;
-mod header;
 mod ids;
 mod message;
 mod owned;
-pub mod ref_iter;
 mod sign;
 mod spelling;
 mod unsigned;
 mod write;
 mod write_owned;
 
-pub use crate::commit::extra_headers::{ExtraHeaders, FindAll, MergeTags};
 pub use crate::commit::ids::Parents;
-pub use crate::commit::owned::{Commit, ExtraHeader};
-pub use crate::commit::ref_iter::CommitRefIter;
+pub use crate::commit::owned::Commit;
 use bstr::BStr;
-use gix_hash::Kind;
+pub use gix_object_commit_lines::extra_headers::{ExtraHeaders, FindAll, MergeTags};
+pub use gix_object_commit_lines::header::{ExtraHeader, HeaderRef};
+pub use gix_object_commit_lines::signature_name::{
+    SIGNATURE_FIELD_NAME, SIGNATURE_FIELD_NAME_SHA256, signature_field_name,
+};
 use gix_object_lines::decode::Error;
 use gix_object_lines::lines::{ActorRef, Time, read_time};
 use smallvec::SmallVec;
-
-/// A further header of a commit.
-#[derive(Debug, Clone, Copy, PartialEq, Eq)]
-pub struct HeaderRef<'a> {
-    /// Its name.
-    pub name: BStr<'a>,
-    /// Its value as it stands in the commit: each line but the first behind a space.
-    pub value: BStr<'a>,
-}
 
 /// A commit whose parts are borrowed from its content.
 #[derive(Debug, Drop, PartialEq, Eq)]
@@ -91,21 +80,5 @@ impl<'a> CommitRef<'a> {
         ensures { headers_of result ≡ (parts_of self.now).headers }
     {
         ExtraHeaders::new(self.extra_headers.as_slice())
-    }
-}
-
-/// The name of the header that holds a commit's signature, over its content with SHA-1 ids.
-pub const SIGNATURE_FIELD_NAME: &str = "gpgsig";
-
-/// The name of the header that holds a commit's signature, over its content with SHA-256 ids.
-pub const SIGNATURE_FIELD_NAME_SHA256: &str = "gpgsig-sha256";
-
-/// The name of the header that holds a commit's signature, where its ids are of this hash function.
-pub fn signature_field_name(hash_kind: Kind) -> &'static str
-    ensures { result.now ≡ signature_name hash_kind }
-{
-    match hash_kind {
-        Kind::Sha1 => SIGNATURE_FIELD_NAME,
-        Kind::Sha256 => SIGNATURE_FIELD_NAME_SHA256,
     }
 }

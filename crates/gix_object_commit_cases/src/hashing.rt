@@ -3,7 +3,7 @@
 use crate::case::Case;
 use crate::page::Page;
 use gix_hash::io::{self, Interrupt, Progress};
-use gix_object_commit::{BlobRef, compute_hash, compute_stream_hash};
+use gix_object_hash::{BlobRef, compute_hash, compute_stream_hash};
 use gix_object_lines::Kind;
 use gix_object_lines::decimal::read_unsigned;
 use std::alloc::Global;

@@ -2,9 +2,9 @@
 
 use crate::case::Case;
 use crate::page::Page;
-use gix_object_commit::CommitRefIter;
-use gix_object_commit::commit::ref_iter::Token;
-use gix_object_commit::laws::tokens_tell_a_commit;
+use gix_object_commit_tokens::CommitRefIter;
+use gix_object_commit_tokens::laws::tokens_tell_a_commit;
+use gix_object_commit_tokens::ref_iter::Token;
 use gix_object_lines::decode::Error;
 
 fn show_token(token: Token<'_>, page: &mut Page) {

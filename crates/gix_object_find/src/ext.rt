@@ -10,8 +10,10 @@ ghost use Rattle.gix_object_find.specs.Existing.{Stands, StandsAs, tree_value, c
 use crate::find::{existing, existing_iter, existing_object};
 use crate::{Find, FindHeader};
 use gix_hash::{ObjectId, oid};
-use gix_object_commit::{BlobRef, CommitRef, CommitRefIter};
+use gix_object_commit::CommitRef;
+use gix_object_commit_tokens::CommitRefIter;
 use gix_object_entries::{TreeRef, TreeRefIter};
+use gix_object_hash::BlobRef;
 use gix_object_lines::{Header, Kind};
 use gix_object_tag::{TagRef, TagRefIter};
 use gix_object_tree::Data;

@@ -8,9 +8,9 @@ ghost use Rattle.gix_hash.specs.Views.{viewed_id};
 ghost use Rattle.gix_object_find_cases.specs.Store.{ids_of, table_of};
 
 use gix_hash::{Kind as HashKind, ObjectId, oid};
-use gix_object_commit::compute_hash;
 use gix_object_find::find::Error;
 use gix_object_find::{Exists, Find, FindHeader, Lookup};
+use gix_object_hash::compute_hash;
 use gix_object_lines::decode::loose_header;
 use gix_object_lines::{Header, Kind};
 use std::alloc::Global;

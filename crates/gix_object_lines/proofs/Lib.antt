@@ -11,3 +11,5 @@ pub mod TimeTests
 pub mod ActorLemmas
 pub mod NameLemmas
 pub mod NameTests
+pub mod HexDigits
+pub mod Pieces

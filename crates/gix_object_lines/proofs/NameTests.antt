@@ -8,7 +8,8 @@ use Rattle.std.proofs.lemmas.Bool.Decides.{Decides-eqb, Decides-ltb, Decides-lik
 use Rattle.std.proofs.lemmas.List.Folds.{Any-from_list_any, list_any-from_Any}
 use Rattle.std.proofs.lemmas.Map.Made.{is_member-Decides}
 use Rattle.std.proofs.lemmas.Slice.Eq.{bytes_eq-Decides, starts_is, ends_is}
-use Rattle.gix_object_lines.specs.PartialName.{BeginsWith, EndsWith, Holds, IsBarred, IsPartialName}
+use Rattle.gix_object_lines.specs.Bytes.{BeginsWith}
+use Rattle.gix_object_lines.specs.PartialName.{EndsWith, Holds, IsBarred, IsPartialName}
 use Rattle.gix_object_lines.specs.NameTest.{begins, ends, holds, is_barred, is_partial_name}
 
 pub begins-Decides : (front name : List ℕ) → Decides (begins front name) (BeginsWith front name)

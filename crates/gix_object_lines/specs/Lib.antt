@@ -4,6 +4,7 @@ pub mod Decimal
 pub mod Header
 pub mod HexLine
 pub mod Writes
+pub mod Pieces
 pub mod Time
 pub mod Clock
 pub mod TimeTest

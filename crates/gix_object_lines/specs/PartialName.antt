@@ -1,8 +1,6 @@
 -- Names of references, whole or not: the rules of git-check-ref-format but for its second, as under `--allow-onelevel`.
 use Rattle.std.specs.Prelude.{ℕ, ◌≡◌, ◌≢◌, ◌<◌, ◌⊎◌, List, [], ◌++◌, codes, Any, Contains}
-
-abbrev pub BeginsWith : List ℕ → List ℕ → Type 0
-BeginsWith front name = (rest : List ℕ) × (name ≡ front ++ rest)
+use Rattle.gix_object_lines.specs.Bytes.{BeginsWith}
 
 abbrev pub EndsWith : List ℕ → List ℕ → Type 0
 EndsWith back name = (rest : List ℕ) × (name ≡ rest ++ back)

@@ -24,15 +24,26 @@ pub fn rsplit_once(bytes: &[u8], byte: u8) -> Option<(&[u8], &[u8])>
 }
 
 /// What stands behind this front; `None` where the bytes don't begin with it.
-pub fn behind<'a>(bytes: &'a [u8], front: &[u8]) -> Option<&'a [u8]>
-    ensures { MatchOption result ((rest : List ℕ) → bytes.now ≢ front.now ++ rest) (λ rest. bytes.now ≡ front.now ++ rest.now) }
+pub fn strip_prefix<'a>(bytes: &'a [u8], front: &[u8]) -> Option<&'a [u8]>
+    ensures { MatchOption result ((rest : List ℕ) → bytes.now ≢ front.now ++ rest)
+        (λ rest. bytes.now ≡ front.now ++ rest.now) }
 {
     bytes.strip_prefix(front)
 }
 
+/// What stands behind this word and a space; `None` where the bytes don't begin with them.
+pub fn strip_word<'a>(bytes: &'a [u8], word: &[u8]) -> Option<&'a [u8]>
+    ensures { MatchOption result ((rest : List ℕ) → bytes.now ≢ word.now ++ 32 ∷ rest)
+        (λ rest. bytes.now ≡ word.now ++ 32 ∷ rest.now) }
+{
+    let rest = strip_prefix(bytes, word)?;
+    strip_prefix(rest, b" ")
+}
+
 /// What stands before this back; `None` where the bytes don't end with it.
-pub fn before<'a>(bytes: &'a [u8], back: &[u8]) -> Option<&'a [u8]>
-    ensures { MatchOption result ((rest : List ℕ) → bytes.now ≢ rest ++ back.now) (λ rest. bytes.now ≡ rest.now ++ back.now) }
+pub fn strip_suffix<'a>(bytes: &'a [u8], back: &[u8]) -> Option<&'a [u8]>
+    ensures { MatchOption result ((rest : List ℕ) → bytes.now ≢ rest ++ back.now)
+        (λ rest. bytes.now ≡ rest.now ++ back.now) }
 {
     bytes.strip_suffix(back)
 }
@@ -45,8 +56,8 @@ pub fn lacks(bytes: &[u8], byte: u8) -> bool
 }
 
 /// Whether the bytes begin with this front.
-pub fn begins_with(bytes: &[u8], front: &[u8]) -> bool
+pub fn starts_with(bytes: &[u8], front: &[u8]) -> bool
     ensures { IsTrue result ↔ BeginsWith front.now bytes.now }
 {
-    behind(bytes, front).is_some()
+    strip_prefix(bytes, front).is_some()
 }

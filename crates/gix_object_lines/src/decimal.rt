@@ -1,7 +1,8 @@
 //! Decimal numbers, as headers have them. A time's may be negative and begin with zeros: `lines` reads them.
 
-ghost use Rattle.std.specs.Prelude.{◌≡◌, decimal, MatchOption};
+ghost use Rattle.std.specs.Prelude.{◌≡◌, ◌<◌, decimal, MatchOption};
 ghost use Rattle.gix_object_lines.specs.Decimal.{IsNoUnsigned};
+ghost use Rattle.gix_object_lines.specs.Time.{two_digits};
 
 /// The number that the digits spell: without a sign or a leading zero (`0` alone is zero), and at most
 /// 18,446,744,073,709,551,615. `None` where they spell none.
@@ -15,4 +16,12 @@ pub fn read_unsigned(text: &[u8]) -> Option<u64>
     } else {
         None
     }
+}
+
+/// The two digits of a number below 100.
+pub fn two_digits(n: u8) -> [u8; 2]
+    requires { n < 100 }
+    ensures { result ≡ two_digits n }
+{
+    [b'0' + n / 10, b'0' + n % 10]
 }

@@ -1,14 +1,17 @@
 //! Lines of a word, a space and the hexadecimal digits of an id, as commits and tags have them.
 
-ghost use Rattle.std.specs.Prelude.{◌≡◌, ◌≢◌, ◌++◌, ◌∷◌, ℕ, List, IsTrue, IfOk, IfErr, IsOkAnd, OnOk, OnErr, MatchOption};
+ghost use Rattle.std.specs.Prelude.{◌≡◌, ◌++◌, ◌∷◌, ℕ, List, IsTrue, IfOk, IfErr, IsOkAnd, OnOk, OnErr};
 ghost use Rattle.std.specs.Io.KnownBytes.{Appends};
+ghost use Rattle.gix_hash.specs.Id.{id_of};
+ghost use Rattle.gix_hash.specs.Views.{IsHexOfId};
 ghost use Rattle.gix_object_lines.specs.HexLine.{hex_line, is_hex, IsHex, HexLineFault};
 ghost use Rattle.gix_object_lines.specs.HexLine as test;
 ghost use Rattle.gix_object_lines.specs.Writes.{AppendsFront};
 
-use crate::cut::behind;
+use crate::cut::{strip_prefix, strip_word};
 use crate::decode::Error;
 use crate::write::write_bytes;
+use gix_hash::ObjectId;
 use std::io;
 
 /// The digits of a line that begins the input, and what follows the line: the word, a space, exactly `hex_len`
@@ -25,23 +28,15 @@ pub fn read_hex_line<'a>(
         → IsOkAnd result (λ line. (line.0.now ≡ digits) × (line.1.now ≡ rest)) }
     ensures refused { IfErr result (λ error. HexLineFault word.now hex_len input.now error) }
 {
-    let rest = behind_word(input, word).ok_or(Error::FieldName)?;
+    let rest = strip_word(input, word).ok_or(Error::FieldName)?;
     let (digits, rest) = rest.split_at_checked(hex_len).ok_or(Error::HexDigits)?;
     if !is_hexadecimal(digits) {
         return Err(Error::HexDigits);
     }
-    match behind(rest, b"\n") {
+    match strip_prefix(rest, b"\n") {
         Some(rest) => Ok((digits, rest)),
         None => Err(Error::LineEnd),
     }
-}
-
-// What follows the word and a space.
-fn behind_word<'a>(input: &'a [u8], word: &[u8]) -> Option<&'a [u8]>
-    ensures { MatchOption result ((rest : List ℕ) → input.now ≢ word.now ++ 32 ∷ rest) (λ rest. input.now ≡ word.now ++ 32 ∷ rest.now) }
-{
-    let rest = behind(input, word)?;
-    behind(rest, b" ")
 }
 
 // Whether all bytes are hexadecimal digits.
@@ -56,6 +51,14 @@ pub fn is_id(digits: &[u8]) -> bool
     ensures { result ≡ test.is_id digits.now }
 {
     (digits.len() == 40 || digits.len() == 64) && is_hexadecimal(digits)
+}
+
+/// The id that the digits spell.
+pub fn id_of_digits(digits: &[u8]) -> ObjectId
+    requires { IsTrue (test.is_id digits.now) }
+    ensures { IsHexOfId digits.now (id_of result) }
+{
+    ObjectId::from_hex(digits).unwrap()
 }
 
 /// Writes a line: the word, a space, the digits as they are, and a line feed. Where the writer fails it has taken a

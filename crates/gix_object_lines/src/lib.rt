@@ -11,6 +11,7 @@ mod header;
 pub mod hex_line;
 pub mod kind;
 pub mod lines;
+pub mod text;
 mod traits;
 pub mod write;
 

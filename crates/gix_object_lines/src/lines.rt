@@ -4,7 +4,6 @@ mod actor;
 mod digits;
 mod full_name;
 mod name;
-mod parts;
 mod time;
 
 pub use crate::lines::actor::{Actor, ActorRef, read_actor, write_actor, write_actor_parts};

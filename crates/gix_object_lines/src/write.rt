@@ -1,9 +1,11 @@
 //! Writing objects, and why it stops.
 
-ghost use Rattle.std.specs.Prelude.{◌≡◌, OnOk, OnErr, length};
+ghost use Rattle.std.specs.Prelude.{◌≡◌, ◌+◌, ◌^◌, ◌≤◌, [], ◌∷◌, OnOk, OnErr, MatchOption, flat_map, length, option_map};
 ghost use Rattle.std.specs.Io.{WritesAtMost};
 ghost use Rattle.std.specs.Io.KnownBytes.{Appends, WriteAppends};
+ghost use Rattle.gix_object_lines.specs.Pieces.{WritesPieces};
 ghost use Rattle.gix_object_lines.specs.Writes.{AppendsFront};
+ghost use Rattle.gix_object_lines.specs.declared.write.Error.TheVariants.{Header};
 
 use crate::encode;
 use std::io;
@@ -76,4 +78,49 @@ fn write_some<W: io::Write>(out: &mut W, bytes: &[u8]) -> io::Result<usize>
         }
     }
     Err(io::Error::from(io::ErrorKind::Interrupted))
+}
+
+/// Writes the parts in order. Where the writer fails it has taken a beginning of them.
+pub fn write_parts<W: io::Write>(out: &mut W, parts: &[&[u8]]) -> io::Result<()>
+    ensures ok { OnOk result (Appends (W.contents out.old) (W.contents out.new)
+        (flat_map (λ part. part.now) parts.now)) }
+    ensures err { OnErr result (AppendsFront (W.contents out.old) (W.contents out.new)
+        (flat_map (λ part. part.now) parts.now)) }
+{
+    for part in parts {
+        write_bytes(out, part)?;
+    }
+    Ok(())
+}
+
+/// Writes a piece of an object, given in parts, where it isn't refused. Else it is `Header` of the cause, and nothing is
+/// written.
+pub fn write_piece<W: io::Write>(
+    refused: Option<encode::Error>,
+    parts: &[&[u8]],
+    out: &mut W,
+) -> Result<(), Error>
+    ensures { let text = flat_map (λ part. part.now) parts.now in
+        WritesPieces (W.contents out.old) (W.contents out.new)
+        (record { text = text; cause = option_map Header refused } ∷ []) result }
+{
+    if let Some(cause) = refused {
+        return Err(Error::Header(cause));
+    }
+    if let Err(error) = write_parts(out, parts) {
+        return Err(Error::Writer(error));
+    }
+    Ok(())
+}
+
+/// This length and those of the parts; `None` where the sum is more than 18,446,744,073,709,551,615.
+pub fn add_lengths(before: u64, parts: &[&[u8]]) -> Option<u64>
+    ensures { let text = flat_map (λ part. part.now) parts.now in
+        MatchOption result (2 ^ 64 ≤ before + length text) (λ total. total ≡ before + length text) }
+{
+    let mut total = before;
+    for part in parts {
+        total = total.checked_add(part.len() as u64)?;
+    }
+    Some(total)
 }

@@ -2,7 +2,7 @@
 
 use crate::fields::quoted;
 use bstr::BStr;
-use gix_object_lines::cut::{before, begins_with, behind, lacks, rsplit_once, split_once};
+use gix_object_lines::cut::{lacks, rsplit_once, split_once, starts_with, strip_prefix, strip_suffix};
 use gix_object_lines::lines::is_partial_name;
 use std::alloc::Global;
 
@@ -57,7 +57,7 @@ pub fn edges(alloc: Global, fields: &[Vec<u8>]) -> Option<String> {
     let [edge, text] = fields else {
         return None;
     };
-    let behind = rest(alloc, behind(text, edge))?;
-    let before = rest(alloc, before(text, edge))?;
-    format!(in alloc; "{behind} {before} {}", begins_with(text, edge)).ok()
+    let behind = rest(alloc, strip_prefix(text, edge))?;
+    let before = rest(alloc, strip_suffix(text, edge))?;
+    format!(in alloc; "{behind} {before} {}", starts_with(text, edge)).ok()
 }

@@ -1,6 +1,6 @@
 -- The armor that begins a signature, by its format (git-config, `gpg.format`).
 use Rattle.std.specs.Prelude.{ℕ, ◌⊎◌, List, codes}
-use Rattle.gix_object_lines.specs.PartialName.{BeginsWith}
+use Rattle.gix_object_lines.specs.Bytes.{BeginsWith}
 use Rattle.gix_object_signature.specs.declared.format.Format.{Format}
 use Rattle.gix_object_signature.specs.declared.format.Format.TheVariants.{OpenPgp, X509, Ssh}
 

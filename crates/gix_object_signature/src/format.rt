@@ -1,10 +1,10 @@
 //! The formats of signatures, told by the armor that begins one.
 
-ghost use Rattle.std.specs.Prelude.{◌↔◌, IsTrue, MatchOption};
-ghost use Rattle.gix_object_lines.specs.PartialName.{BeginsWith};
+ghost use Rattle.std.specs.Prelude.{MatchOption};
 ghost use Rattle.gix_object_signature.specs.Armor.{BeginsArmor, BeginsNoArmor};
 
 use bstr::BStr;
+use gix_object_lines::cut::starts_with;
 
 /// The format of a signature.
 #[derive(Debug, Clone, Copy, PartialEq, Eq)]
@@ -22,25 +22,18 @@ impl Format {
     pub fn from_signature(signature: &[u8]) -> Option<Format>
         ensures { MatchOption result (BeginsNoArmor signature.now) (BeginsArmor signature.now) }
     {
-        if begins(signature, b"-----BEGIN PGP SIGNATURE-----") {
+        if starts_with(signature, b"-----BEGIN PGP SIGNATURE-----") {
             Some(Format::OpenPgp)
-        } else if begins(signature, b"-----BEGIN PGP MESSAGE-----") {
+        } else if starts_with(signature, b"-----BEGIN PGP MESSAGE-----") {
             Some(Format::OpenPgp)
-        } else if begins(signature, b"-----BEGIN SIGNED MESSAGE-----") {
+        } else if starts_with(signature, b"-----BEGIN SIGNED MESSAGE-----") {
             Some(Format::X509)
-        } else if begins(signature, b"-----BEGIN SSH SIGNATURE-----") {
+        } else if starts_with(signature, b"-----BEGIN SSH SIGNATURE-----") {
             Some(Format::Ssh)
         } else {
             None
         }
     }
-}
-
-/// Whether the text begins with these bytes.
-pub(crate) fn begins(text: &[u8], front: &[u8]) -> bool
-    ensures { IsTrue result ↔ BeginsWith front.now text.now }
-{
-    text.starts_with(front)
 }
 
 /// A signature, and the format that its armor tells.

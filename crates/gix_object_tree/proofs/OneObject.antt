@@ -6,8 +6,8 @@ use Rattle.gix_hash.specs.declared.kind.Kind as hash
 use Rattle.gix_object_lines.specs.Header.{header_text}
 use Rattle.gix_object_lines.specs.declared.kind.Kind.{Kind}
 use Rattle.gix_object_lines.specs.declared.kind.Kind.TheVariants as kinds
-use Rattle.gix_object_commit.specs.Commit as commit
-use Rattle.gix_object_commit.specs.Commit.{SpellsCommit}
+use Rattle.gix_object_commit_lines.specs.Commit as commit
+use Rattle.gix_object_commit_lines.specs.Commit.{SpellsCommit}
 use Rattle.gix_object_tag.specs.Tag as tag
 use Rattle.gix_object_tag.specs.Tag.{SpellsTag}
 use Rattle.gix_object_tree.specs.Loose.{IsLoose, loose_text}

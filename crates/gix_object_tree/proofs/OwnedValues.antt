@@ -13,12 +13,12 @@ use Rattle.gix_object_lines.specs.Time.{SpellsTime, time_text}
 use Rattle.gix_object_lines.specs.declared.lines.actor.Actor.{Actor}
 use Rattle.gix_object_lines.specs.declared.lines.time.Time.{Time}
 use Rattle.gix_object_lines.proofs.TimeLemmas.{time_once}
-use Rattle.gix_object_commit.specs.Commit as commit
-use Rattle.gix_object_commit.specs.Commit.{Person, Field, IsField, SpellsCommit, folded}
+use Rattle.gix_object_commit_lines.specs.Commit as commit
+use Rattle.gix_object_commit_lines.specs.Commit.{Person, Field, IsField, SpellsCommit, folded}
 use Rattle.gix_object_commit.specs.Owned.{IsOwnId, IsActorOf, IsHeaderOf, IsCommitOf}
 use Rattle.gix_object_commit.specs.OwnedText.{own_digits, own_person, own_field, own_parts}
 use Rattle.gix_object_commit.specs.declared.commit.owned.Commit as owned_commit
-use Rattle.gix_object_commit.specs.declared.commit.owned.ExtraHeader.{ExtraHeader}
+use Rattle.gix_object_commit_lines.specs.declared.header.ExtraHeader.{ExtraHeader}
 use Rattle.gix_object_tag.specs.Owned.{IsOwnTagger, IsTagOf}
 use Rattle.gix_object_tag.specs.OwnedText.{actor_of, parts_of_tag}
 use Rattle.gix_object_tag.specs.Tag as tag

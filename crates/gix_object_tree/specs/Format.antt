@@ -7,7 +7,7 @@ use Rattle.gix_hash.specs.LetterCase.{IsLowerCase}
 use Rattle.gix_hash.specs.declared.kind.Kind as hash
 use Rattle.gix_object_lines.specs.Time.{SpellsTime, time_text}
 use Rattle.gix_object_lines.specs.declared.lines.time.Time.{Time}
-use Rattle.gix_object_commit.specs.Commit as commit
+use Rattle.gix_object_commit_lines.specs.Commit as commit
 use Rattle.gix_object_commit.specs.Writable as writable
 use Rattle.gix_object_tag.specs.NameTest.{name_fault}
 use Rattle.gix_object_tag.specs.Tag as tag_parts

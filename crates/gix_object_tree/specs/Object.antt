@@ -8,9 +8,9 @@ use Rattle.gix_object_lines.specs.declared.kind.Kind.TheVariants as kinds
 use Rattle.gix_object_lines.specs.declared.decode.Error.{Error}
 use Rattle.gix_object_entries.specs.Entry.{Item, SpellsTree, TreeFault}
 use Rattle.gix_object_entries.specs.Writing.{tree_text, tree_refusal}
-use Rattle.gix_object_commit.specs.Commit as commit
-use Rattle.gix_object_commit.specs.Commit.{SpellsCommit, commit_text}
-use Rattle.gix_object_commit.specs.Faults.{CommitFault}
+use Rattle.gix_object_commit_lines.specs.Commit as commit
+use Rattle.gix_object_commit_lines.specs.Commit.{SpellsCommit, commit_text}
+use Rattle.gix_object_commit_lines.specs.Faults.{CommitFault}
 use Rattle.gix_object_commit.specs.Writing.{commit_refusal}
 use Rattle.gix_object_tag.specs.Faults.{TagFault}
 use Rattle.gix_object_tag.specs.Tag as tag

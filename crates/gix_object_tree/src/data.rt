@@ -16,8 +16,9 @@ pub mod verify;
 
 use crate::ObjectRef;
 use gix_hash::{ObjectId, oid};
-use gix_object_commit::{CommitRefIter, compute_hash};
+use gix_object_commit_tokens::CommitRefIter;
 use gix_object_entries::TreeRefIter;
+use gix_object_hash::compute_hash;
 use gix_object_lines::Kind;
 use gix_object_lines::decode::Error;
 use gix_object_tag::TagRefIter;

@@ -10,8 +10,9 @@ mod convert;
 mod decode;
 mod write;
 
-use gix_object_commit::{BlobRef, CommitRef};
+use gix_object_commit::CommitRef;
 use gix_object_entries::TreeRef;
+use gix_object_hash::BlobRef;
 use gix_object_lines::Kind;
 use gix_object_lines::decode::{Error, LooseHeaderDecodeError};
 use gix_object_tag::TagRef;

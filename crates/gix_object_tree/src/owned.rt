@@ -12,8 +12,9 @@ mod convert;
 mod write;
 
 use crate::ObjectRef;
-use gix_object_commit::{Blob, BlobRef, Commit};
+use gix_object_commit::Commit;
 use gix_object_entries::Tree;
+use gix_object_hash::{Blob, BlobRef};
 use gix_object_lines::Kind;
 use gix_object_lines::decode::Error;
 use gix_object_tag::Tag;

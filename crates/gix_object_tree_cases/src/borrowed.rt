@@ -2,8 +2,9 @@
 
 use crate::case::Case;
 use crate::page::Page;
-use gix_object_commit::{BlobRef, CommitRef};
+use gix_object_commit::CommitRef;
 use gix_object_entries::TreeRef;
+use gix_object_hash::BlobRef;
 use gix_object_lines::Kind;
 use gix_object_lines::decode::Error;
 use gix_object_tag::TagRef;

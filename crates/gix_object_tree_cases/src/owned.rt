@@ -2,8 +2,9 @@
 
 use crate::case::Case;
 use crate::page::Page;
-use gix_object_commit::{Blob, Commit};
+use gix_object_commit::Commit;
 use gix_object_entries::Tree;
+use gix_object_hash::Blob;
 use gix_object_lines::Kind;
 use gix_object_tag::Tag;
 use gix_object_tree::{Object, ObjectRef};

@@ -12,7 +12,7 @@ ghost use Rattle.gix_ref_format.specs.Loose.{loose_target, loose_text, LooseFaul
 use crate::ids::parse_hex;
 use crate::lines::strip_last;
 use gix_hash::{Kind, ObjectId};
-use gix_object_lines::cut::behind;
+use gix_object_lines::cut::strip_prefix;
 use gix_ref_name::{FullName, FullNameRef, Target, TargetRef};
 use std::alloc::{AllocError, Global};
 use thiserror::Error;
@@ -105,7 +105,7 @@ fn behind_spaces(text: &[u8]) -> &[u8]
     ensures { result.now ≡ spec.without_spaces text.now }
 {
     let mut left = text;
-    while let Some(rest) = behind(left, b" ") {
+    while let Some(rest) = strip_prefix(left, b" ") {
         left = rest;
     }
     left

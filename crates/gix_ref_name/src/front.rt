@@ -4,14 +4,14 @@ ghost use Rattle.std.specs.Prelude.{◌≡◌, ◌++◌, IfOk};
 ghost use Rattle.gix_ref_name.specs.Fronts as spec;
 
 use gix_object_lines::ByteString;
-use gix_object_lines::cut::{begins_with, behind};
+use gix_object_lines::cut::{starts_with, strip_prefix};
 use std::alloc::{AllocError, Global};
 
 /// What stands behind the front, and the whole where it doesn't begin the bytes.
 pub(crate) fn without_front<'a>(bytes: &'a [u8], front: &[u8]) -> &'a [u8]
     ensures { result.now ≡ spec.without_front front.now bytes.now }
 {
-    match behind(bytes, front) {
+    match strip_prefix(bytes, front) {
         Some(rest) => rest,
         None => bytes,
     }
@@ -25,7 +25,7 @@ pub(crate) fn with_front(
 ) -> Result<ByteString, AllocError>
     ensures { IfOk result (λ text. text ≡ spec.with_front front.now bytes.now) }
 {
-    if begins_with(bytes, front) {
+    if starts_with(bytes, front) {
         return ByteString::from_slice(alloc, bytes);
     }
     let mut out = Vec::from_slice(alloc, front)?;

@@ -1,14 +1,14 @@
 //! What references point to.
 
 use gix_hash::{ObjectId, oid};
-use gix_object_lines::cut::behind;
+use gix_object_lines::cut::strip_prefix;
 use gix_ref_name::{FullName, FullNameRef, Target, TargetRef};
 use std::alloc::{AllocError, Global};
 use std::convert::TryFrom;
 
 /// The target of the text of a loose file without its line feed. `None` where it is no such text or no memory is left.
 pub fn read(alloc: Global, text: &[u8]) -> Option<Target> {
-    match behind(text, b"ref: ") {
+    match strip_prefix(text, b"ref: ") {
         Some(name) => Some(Target::from(FullName::from_bytes(alloc, name).ok()?)),
         None => Some(Target::from(ObjectId::from_hex(text).ok()?)),
     }

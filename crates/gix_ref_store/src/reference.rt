@@ -8,7 +8,7 @@ ghost use Rattle.gix_ref_store.specs.References.{IsOfRecord, IsOutside};
 ghost use Rattle.gix_ref_store.specs.Stripped.{points_outside};
 
 use gix_hash::ObjectId;
-use gix_object_lines::cut::behind;
+use gix_object_lines::cut::strip_prefix;
 use gix_ref_format::{loose, packed};
 use gix_ref_name::{FullName, FullNameRef, Kind, Namespace, Target};
 use std::alloc::{AllocError, Global};
@@ -49,7 +49,7 @@ impl Reference {
             ((rest : List ℕ) → self.now.name ≡ namespace.now ++ rest → IsFalse (is_full_name rest))
             (λ name. self.now.name ≡ namespace.now ++ name_of name) }
     {
-        let rest = behind(self.name.to_path(), namespace.as_bytes())?;
+        let rest = strip_prefix(self.name.to_path(), namespace.as_bytes())?;
         match FullNameRef::new(rest) {
             Ok(name) => Some(name),
             Err(_) => None,

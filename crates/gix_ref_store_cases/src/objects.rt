@@ -8,9 +8,9 @@ ghost use Rattle.gix_hash.specs.Views.{viewed_id};
 ghost use Rattle.gix_ref_store_cases.specs.Table.{ids_of, table_of};
 
 use gix_hash::{ObjectId, oid};
-use gix_object_commit::compute_hash;
 use gix_object_find::find::Error;
 use gix_object_find::{Find, Lookup};
+use gix_object_hash::compute_hash;
 use gix_object_lines::Kind;
 use gix_object_lines::decode::loose_header;
 use std::alloc::{AllocError, Global};

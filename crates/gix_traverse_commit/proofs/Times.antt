@@ -4,8 +4,8 @@ use Rattle.std.specs.Prelude.{unwrap_or, ◌≢◌, Contains}
 use Rattle.std.specs.Result.{result_ok}
 use Rattle.gix_hash.specs.Id.{Id, id_of}
 use Rattle.gix_hash.specs.declared.object_id.ObjectId.{ObjectId}
-use Rattle.gix_object_commit.specs.ReadingOn.{TellsNone, committer_told}
-use Rattle.gix_object_commit.specs.Tokens.{Place, start}
+use Rattle.gix_object_commit_tokens.specs.ReadingOn.{TellsNone, committer_told}
+use Rattle.gix_object_commit_tokens.specs.Tokens.{Place, start}
 use Rattle.gix_object_find.specs.Existing.{Stands, KindFault}
 use Rattle.gix_object_find.specs.Table.{Table, kind_at}
 use Rattle.gix_object_find.specs.declared.find.Error.TheVariants as lookup

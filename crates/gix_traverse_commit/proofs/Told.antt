@@ -10,11 +10,11 @@ use Rattle.gix_hash.specs.declared.kind.Kind as hash
 use Rattle.gix_hash.specs.declared.object_id.ObjectId.{ObjectId}
 use Rattle.gix_object_lines.specs.Actor.{TellsTime}
 use Rattle.gix_object_lines.specs.declared.decode.Error as decode
-use Rattle.gix_object_commit.specs.Commit.{Person, IsPerson}
-use Rattle.gix_object_commit.specs.ReadingOn.{Reads, TellsFirst, committer_told, parent_told}
-use Rattle.gix_object_commit.specs.Tokens.{Part, Tree, Parent, Author, Committer, Encoding, Header, Message, Place, IsNext, GivesToken, part_of, start}
-use Rattle.gix_object_commit.specs.declared.commit.ref_iter.Token.{Token}
-use Rattle.gix_object_commit.specs.declared.commit.ref_iter.Token.TheVariants as token
+use Rattle.gix_object_commit_lines.specs.Commit.{Person, IsPerson}
+use Rattle.gix_object_commit_tokens.specs.ReadingOn.{Reads, TellsFirst, committer_told, parent_told}
+use Rattle.gix_object_commit_tokens.specs.Tokens.{Part, Tree, Parent, Author, Committer, Encoding, Header, Message, Place, IsNext, GivesToken, part_of, start}
+use Rattle.gix_object_commit_tokens.specs.declared.ref_iter.Token.{Token}
+use Rattle.gix_object_commit_tokens.specs.declared.ref_iter.Token.TheVariants as token
 use Rattle.gix_object_find.specs.Existing.{Stands, KindFault}
 use Rattle.gix_object_find.specs.Table.{Table}
 use Rattle.gix_object_find.specs.declared.find.Error.TheVariants as lookup

@@ -7,9 +7,9 @@ use Rattle.gix_object_lines.specs.Time.{SpellsTime}
 use Rattle.gix_object_lines.specs.declared.decode.Error as decode
 use Rattle.gix_object_lines.specs.declared.kind.Kind.TheVariants as kinds
 use Rattle.gix_object_lines.specs.declared.lines.time.Time.{Time}
-use Rattle.gix_object_commit.specs.Commit.{Person}
-use Rattle.gix_object_commit.specs.ReadingOn.{Reads, TellsFirst, TellsNone, TakesTree, parent_told, committer_told}
-use Rattle.gix_object_commit.specs.Tokens.{Part, Tree, Parent, Place, IsNext, place_of, start}
+use Rattle.gix_object_commit_lines.specs.Commit.{Person}
+use Rattle.gix_object_commit_tokens.specs.ReadingOn.{Reads, TellsFirst, TellsNone, TakesTree, parent_told, committer_told}
+use Rattle.gix_object_commit_tokens.specs.Tokens.{Part, Tree, Parent, Place, IsNext, place_of, start}
 use Rattle.gix_object_find.specs.Existing.{Stands}
 use Rattle.gix_object_find.specs.Table.{Table}
 use Rattle.gix_traverse_commit.specs.Commits.{Commit, Commits}

@@ -3,8 +3,8 @@
 ghost use Rattle.std.specs.Prelude.{◌≡◌, Ok, ℤ, IfOk, IfErr, IfSome, IfNone, Contains};
 ghost use Rattle.std.specs.Option.{option_copied};
 ghost use Rattle.gix_hash.specs.Id.{id_of};
-ghost use Rattle.gix_object_commit.specs.ReadingOn.{TellsNone, committer_told};
-ghost use Rattle.gix_object_commit.specs.Tokens.{place_of};
+ghost use Rattle.gix_object_commit_tokens.specs.ReadingOn.{TellsNone, committer_told};
+ghost use Rattle.gix_object_commit_tokens.specs.Tokens.{place_of};
 ghost use Rattle.gix_object_find.specs.Existing.{KindFault};
 ghost use Rattle.gix_object_lines.specs.declared.kind.Kind.TheVariants as kinds;
 ghost use Rattle.gix_traverse_commit.specs.Rows.{Holds, AreRows};
@@ -12,7 +12,7 @@ ghost use Rattle.gix_traverse_commit.specs.Told.{IsFound, TakesTreeOf, TellsTime
 
 use crate::{Graph, Row};
 use gix_hash::ObjectId;
-use gix_object_commit::CommitRefIter;
+use gix_object_commit_tokens::CommitRefIter;
 use gix_object_find::find::existing_iter;
 use gix_object_find::{Find, FindExt};
 use gix_object_lines::decode;

@@ -3,7 +3,7 @@
 ghost use Rattle.std.specs.Prelude.{◌≡◌, ◌≢◌, ◌⊎◌, ◌≤◌, ◌+◌, [], Contains, IfOk, IfErr, IsOk, OnOk, map, unwrap_or, pos};
 ghost use Rattle.gix_hash.specs.Id.{id_of};
 ghost use Rattle.gix_hash.specs.declared.object_id.ObjectId.{ObjectId};
-ghost use Rattle.gix_object_commit.specs.Tokens.{place_of};
+ghost use Rattle.gix_object_commit_tokens.specs.Tokens.{place_of};
 ghost use Rattle.gix_object_find.specs.Existing.{KindFault, Stands};
 ghost use Rattle.gix_object_lines.specs.declared.kind.Kind.TheVariants as kinds;
 ghost use Rattle.gix_traverse_commit.specs.Commits.{Commits, asked_parents, asked};
@@ -15,8 +15,8 @@ ghost use Rattle.gix_traverse_commit.specs.declared.fetch.FetchError.TheVariants
 use crate::either::{row_in, seconds};
 use crate::{Graph, ParentIds, Parents};
 use gix_hash::ObjectId;
-use gix_object_commit::CommitRefIter;
-use gix_object_commit::commit::ref_iter::Token;
+use gix_object_commit_tokens::CommitRefIter;
+use gix_object_commit_tokens::ref_iter::Token;
 use gix_object_find::Find;
 use gix_object_find::find::{self as lookup, existing_iter};
 use gix_object_lines::{Kind, decode};

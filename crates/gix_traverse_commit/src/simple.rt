@@ -4,7 +4,7 @@ ghost use Rattle.std.specs.Prelude.{◌≡◌, ◌≤◌, ◌+◌, List, Contain
 ghost use Rattle.std.specs.Iterator.{at_most};
 ghost use Rattle.gix_hash.specs.Id.{Id};
 ghost use Rattle.gix_hash.specs.declared.object_id.ObjectId.{ObjectId};
-ghost use Rattle.gix_object_commit.specs.Tokens.{place_of, start};
+ghost use Rattle.gix_object_commit_tokens.specs.Tokens.{place_of, start};
 ghost use Rattle.gix_traverse_commit.specs.Commits.{Commits};
 ghost use Rattle.gix_traverse_commit.specs.Fetching.{TimeIsTold};
 ghost use Rattle.gix_traverse_commit.specs.Meeting.{AsksOnce, CountsTimes, accepted};
@@ -32,7 +32,7 @@ pub use crate::simple::sorting::{CommitTimeOrder, Sorting};
 use crate::simple::waiting::Waiting;
 use crate::{Accept, All, Graph, Info, Parents};
 use gix_hash::{Kind, ObjectId};
-use gix_object_commit::CommitRefIter;
+use gix_object_commit_tokens::CommitRefIter;
 use gix_object_find::Find;
 use std::alloc::Global;
 use std::collections::VecDeque;

@@ -10,7 +10,7 @@ use Rattle.gix_hash.specs.Order.{id_eq}
 use Rattle.gix_hash.specs.Spelling.{hex_character, hex_text}
 use Rattle.gix_hash.specs.declared.kind.Kind.{Kind}
 use Rattle.gix_object_lines.specs.HexLine.{IsHex, hex_line, is_hex}
-use Rattle.gix_object_commit.specs.Commit.{Parts, SpellsCommit, commit_text}
+use Rattle.gix_object_commit_lines.specs.Commit.{Parts, SpellsCommit, commit_text}
 use Rattle.history_model.specs.Bytes.{Bytes, has_twice, line}
 use Rattle.history_model.specs.Forms.{is_id, is_actor, is_commit_form, title, max_parents, max_title}
 use Rattle.history_model.specs.Objects.{Actor, CommitValue, hex, actor_text, commit_content, folder_id, tree_text, root}

@@ -11,12 +11,13 @@ use Rattle.gix_hash.specs.declared.kind.Kind.{Kind}
 use Rattle.gix_hash.specs.declared.object_id.ObjectId.{ObjectId}
 use Rattle.gix_object_lines.specs.Time.{offset_text}
 use Rattle.gix_object_lines.specs.Writes.{Refusal}
-use Rattle.gix_object_lines.specs.declared.encode.Error as encode
+use Rattle.gix_object_lines.specs.declared.write.Error as write
 use Rattle.gix_object_lines.specs.declared.lines.actor.Actor as lines
-use Rattle.gix_object_commit.specs.Commit.{Parts, SpellsCommit, commit_text}
+use Rattle.gix_object_commit_lines.specs.Commit.{Parts, SpellsCommit, commit_text}
 use Rattle.gix_object_commit.specs.OwnedText.{is_own_person, is_whole_offset, own_digits, own_field, own_parts, own_person, own_person_piece, own_refusal}
 use Rattle.gix_object_commit.specs.Writable.{IsPlainPerson}
-use Rattle.gix_object_commit.specs.Writing.{Piece, encoding_pieces, first_refused, header_pieces, holds, id_pieces, is_plain, message_pieces, person_piece, refused_or, unspellable_unless}
+use Rattle.gix_object_commit.specs.Writing.{encoding_pieces, header_pieces, holds, id_pieces, is_plain, message_pieces, person_piece, refused_unless}
+use Rattle.gix_object_lines.specs.Pieces.{Piece, first_refused, refused_or}
 use Rattle.gix_object_commit.specs.declared.commit.owned.Commit.{Commit}
 use Rattle.gix_object_commit.proofs.Accepted.{accepted}
 use Rattle.history_model.specs.Bytes.{Bytes}
@@ -78,7 +79,7 @@ plain_person actor formed =
 no_name : (encoding : Option Bytes) → encoding ≡ None → encoding ≢ Some []
 no_name encoding none is = cc
 
-none_at : (cause : Option encode.Error) (before : Bytes) (later : Option Refusal) → refused_or cause before later ≡ None → (cause ≡ None) × (later ≡ None)
+none_at : (cause : Option write.Error) (before : Bytes) (later : Option Refusal) → refused_or cause before later ≡ None → (cause ≡ None) × (later ≡ None)
 none_at None before later none = (refl, none)
 none_at (Some cause) before later none = absurd cc
 
@@ -109,7 +110,7 @@ none_refused kind commit plain =
     exchanged [] (id_pieces parts) (person_piece (codes "author") parts.author) (person_piece (codes "committer") parts.committer)
     (own_person_piece (codes "author") commit.author) (own_person_piece (codes "committer") commit.committer)
     (encoding_pieces parts ++ (header_pieces parts ++ message_pieces parts)) refl refl
-    (ap unspellable_unless (actor_fits commit.author plain.author)) (ap unspellable_unless (actor_fits commit.committer plain.committer)) fits
+    (ap refused_unless (actor_fits commit.author plain.author)) (ap refused_unless (actor_fits commit.committer plain.committer)) fits
 
 -- ---- so the value's content is written
 

@@ -14,7 +14,7 @@ use Rattle.gix_object_entries.specs.Order.{is_tree}
 use Rattle.gix_object_entries.specs.WellFormed.{IsWellFormed}
 use Rattle.gix_object_entries.specs.Writing.{tree_text}
 use Rattle.gix_object_entries.specs.declared.tree.mode.EntryKind.TheVariants as modes
-use Rattle.gix_object_commit.specs.Commit.{Parts, commit_text}
+use Rattle.gix_object_commit_lines.specs.Commit.{Parts, commit_text}
 use Rattle.history_model.specs.Bytes.{Bytes, is_empty}
 use Rattle.history_model.specs.Forms.{is_id, is_actor, is_commit_form, is_tag_form, is_tag_name, title, max_title}
 use Rattle.history_model.specs.Objects.{Actor, CommitValue, TagValue, actor_text, empty_tree_id, tag_content}

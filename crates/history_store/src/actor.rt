@@ -33,7 +33,7 @@ impl Actor {
     ghost use Rattle.history_model.specs.Objects as model;
     ghost use Rattle.history_store.specs.Actors.{HasForm, plain_actor};
     ghost use Rattle.history_store.specs.Formats.{actor_of, own_actor, person_of};
-    ghost use Rattle.gix_object_commit.specs.Views as views;
+    ghost use Rattle.gix_object_commit_lines.specs.Views as views;
 
     /// The actor of these parts; `None` where one of them is against the written form or its limit.
     pub fn new(name: Vec<u8>, email: Vec<u8>, time: Time) -> Option<Actor>

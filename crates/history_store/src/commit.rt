@@ -5,7 +5,7 @@ ghost use Rattle.bstr.specs.BStr.{bstr_bytes};
 ghost use Rattle.gix_hash.specs.Id.{Id, id_of};
 ghost use Rattle.gix_hash.specs.Kind.{hex_len};
 ghost use Rattle.gix_hash.specs.declared.kind.Kind as hash;
-ghost use Rattle.gix_object_commit.specs.Commit.{Parts, SpellsCommit, commit_text};
+ghost use Rattle.gix_object_commit_lines.specs.Commit.{Parts, SpellsCommit, commit_text};
 ghost use Rattle.gix_object_commit.specs.OwnedText.{own_parts, own_refusal};
 ghost use Rattle.gix_object_commit.specs.Views as views;
 ghost use Rattle.history_model.specs.Forms.{is_id, is_commit_form};

@@ -1,24 +1,25 @@
 //! Reading commits.
 
-ghost use Rattle.std.specs.Prelude.{ℕ, List, Option, None, ◌≡◌, ◌≢◌, ◌++◌, ◌∷◌, ◌⊎◌, map, flat_map, All, IfOk, IfErr, IfSome, IsOkAnd, MatchOption, MatchResult, codes};
-ghost use Rattle.std.specs.Option.{option_map};
+ghost use Rattle.std.specs.Prelude.{ℕ, List, ◌≡◌, ◌++◌, ◌∷◌, ◌⊎◌, map, flat_map, All, IfOk, IfErr, MatchResult, codes};
 ghost use Rattle.bstr.specs.BStr.{bstr_bytes};
 ghost use Rattle.gix_hash.specs.Kind.{hex_len};
-ghost use Rattle.gix_object_lines.specs.Bytes.{BeginsWith, Lacks};
+ghost use Rattle.gix_object_lines.specs.Bytes.{BeginsWith};
 ghost use Rattle.gix_object_lines.specs.HexLine.{hex_line, IsHex};
 ghost use Rattle.gix_object_lines.specs.declared.decode.Error.TheVariants.{Memory};
-ghost use Rattle.gix_object_commit.specs.Commit.{Person, Field, Parts, line, actor_line, encoding_text, field_text, IsPerson, IsField, SpellsCommit};
-ghost use Rattle.gix_object_commit.specs.Faults.{PersonFault, EncodingFault, ParentFault, HeadersFault, HasTwoParents, HasHeader, CommitFault};
-ghost use Rattle.gix_object_commit.specs.Views.{person_of, field_of, parts_of};
+ghost use Rattle.gix_object_commit_lines.specs.Commit.{Field, Parts, field_text, IsField, SpellsCommit};
+ghost use Rattle.gix_object_commit_lines.specs.Faults.{ParentFault, HeadersFault, HasTwoParents, HasHeader, CommitFault};
+ghost use Rattle.gix_object_commit_lines.specs.Views.{field_of};
+ghost use Rattle.gix_object_commit.specs.Views.{parts_of};
 
-use crate::commit::header::read_header;
-use crate::commit::{CommitRef, HeaderRef};
+use crate::commit::CommitRef;
 use bstr::BStr;
 use gix_hash::Kind;
-use gix_object_lines::cut::{begins_with, behind, split_once};
+use gix_object_commit_lines::encoding::read_encoding;
+use gix_object_commit_lines::header::{HeaderRef, read_header};
+use gix_object_commit_lines::person::read_person;
+use gix_object_lines::cut::{starts_with, strip_prefix};
 use gix_object_lines::decode::Error;
 use gix_object_lines::hex_line::read_hex_line;
-use gix_object_lines::lines::{ActorRef, read_actor};
 use smallvec::SmallVec;
 use std::alloc::Global;
 
@@ -76,7 +77,7 @@ fn read_parents<'a>(
 {
     let mut parents = SmallVec::new(alloc);
     let mut rest = input;
-    'parents: while begins_with(rest, b"parent ") {
+    'parents: while starts_with(rest, b"parent ") {
         let (parent, after) = read_hex_line(rest, b"parent", digits)?;
         if parents.push(BStr::new(parent)).is_err() {
             return Err(Error::Memory);
@@ -84,46 +85,6 @@ fn read_parents<'a>(
         rest = after;
     }
     Ok((parents, rest))
-}
-
-// The actor of a line of this word that begins the input, and what follows the line.
-pub(crate) fn read_person<'a>(
-    input: &'a [u8],
-    word: &[u8],
-) -> Result<(ActorRef<'a>, &'a [u8]), Error>
-    ensures read { IfOk result (λ read. (input.now ≡ line word.now (actor_line (person_of read.0)) ++ read.1.now) × IsPerson (person_of read.0)) }
-    ensures every { (person : Person) (rest : List ℕ) → IsPerson person → input.now ≡ line word.now (actor_line person) ++ rest
-        → IsOkAnd result (λ read. (person_of read.0 ≡ person) × (read.1.now ≡ rest)) }
-    ensures refused { IfErr result (λ error. PersonFault word.now input.now error) }
-{
-    let text = behind_word(input, word).ok_or(Error::FieldName)?;
-    let (text, rest) = split_once(text, b'\n').ok_or(Error::LineEnd)?;
-    let actor = read_actor(text)?;
-    Ok((actor, rest))
-}
-
-// What follows the word and a space.
-fn behind_word<'a>(input: &'a [u8], word: &[u8]) -> Option<&'a [u8]>
-    ensures { MatchOption result ((rest : List ℕ) → input.now ≢ word.now ++ 32 ∷ rest) (λ rest. input.now ≡ word.now ++ 32 ∷ rest.now) }
-{
-    let rest = behind(input, word)?;
-    behind(rest, b" ")
-}
-
-// The name of the encoding, where its line begins the input, and what follows.
-pub(crate) fn read_encoding(input: &[u8]) -> Result<(Option<BStr<'_>>, &[u8]), Error>
-    ensures read { IfOk result (λ read. (input.now ≡ encoding_text (option_map bstr_bytes read.0) ++ read.1.now)
-        × IfSome (option_map bstr_bytes read.0) (Lacks 10) × (option_map bstr_bytes read.0 ≡ None → ¬ BeginsWith (codes "encoding ") input.now)) }
-    ensures every { (encoding : Option (List ℕ)) (rest : List ℕ) → IfSome encoding (Lacks 10) → (encoding ≡ None → ¬ BeginsWith (codes "encoding ") rest)
-        → input.now ≡ encoding_text encoding ++ rest
-        → IsOkAnd result (λ read. (option_map bstr_bytes read.0 ≡ encoding) × (read.1.now ≡ rest)) }
-    ensures refused { IfErr result (λ error. EncodingFault input.now error) }
-{
-    let Some(text) = behind(input, b"encoding ") else {
-        return Ok((None, input));
-    };
-    let (name, rest) = split_once(text, b'\n').ok_or(Error::LineEnd)?;
-    Ok((Some(BStr::new(name)), rest))
 }
 
 // All headers up to the empty line, and what follows that: the message.
@@ -137,7 +98,7 @@ fn read_headers<'a>(alloc: Global, input: &'a [u8]) -> Result<(Vec<HeaderRef<'a>
     let mut headers = Vec::new(alloc);
     let mut rest = input;
     'headers: loop {
-        if let Some(message) = behind(rest, b"\n") {
+        if let Some(message) = strip_prefix(rest, b"\n") {
             return Ok((headers, message));
         }
         let (header, after) = read_header(rest)?;

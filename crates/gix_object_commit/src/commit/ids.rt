@@ -8,9 +8,9 @@ ghost use Rattle.gix_hash.specs.Views.{IsHexOfId};
 ghost use Rattle.gix_object_lines.specs.HexLine.{is_id};
 
 use crate::commit::CommitRef;
-use crate::id::id_of_digits;
 use bstr::BStr;
 use gix_hash::ObjectId;
+use gix_object_lines::hex_line::id_of_digits;
 
 impl<'a> CommitRef<'a> {
     ghost use Rattle.gix_object_commit.specs.Parents.{digits_left};

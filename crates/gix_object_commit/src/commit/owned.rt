@@ -2,31 +2,23 @@
 
 ghost use Rattle.std.specs.Prelude.{◌≡◌, ◌⊎◌, map, Any, IfOk, IfErr};
 ghost use Rattle.std.specs.List.{AllZip};
-ghost use Rattle.std.specs.Option.{option_map};
 ghost use Rattle.bstr.specs.BStr.{bstr_bytes};
 ghost use Rattle.gix_object_lines.specs.Actor.{TellsTime};
 ghost use Rattle.gix_object_lines.specs.declared.decode.Error.TheVariants.{HexDigits, InvalidTime, Memory};
-ghost use Rattle.gix_object_commit.specs.HeaderViews.{own_header, headers_of};
+ghost use Rattle.gix_object_commit_lines.specs.HeaderViews.{own_header, headers_of};
 ghost use Rattle.gix_object_commit.specs.Owned.{IsOwnId, IsActorOf, IsHeaderOf, IsCommitOf, SpellsNoId, OwningFault};
-ghost use Rattle.gix_object_commit.specs.Views.{person_of, field_of, parts_of};
+ghost use Rattle.gix_object_commit_lines.specs.Views.{person_of, field_of};
+ghost use Rattle.gix_object_commit.specs.Views.{parts_of};
 
-use crate::commit::{CommitRef, ExtraHeaders, HeaderRef};
+use crate::commit::{CommitRef, ExtraHeader, ExtraHeaders, HeaderRef};
 use bstr::BStr;
 use gix_hash::ObjectId;
 use gix_object_lines::ByteString;
 use gix_object_lines::decode::Error;
 use gix_object_lines::lines::{Actor, ActorRef};
+use gix_object_lines::text::{own_text, own_text_if_any};
 use smallvec::SmallVec;
 use std::alloc::Global;
-
-/// A further header of a commit.
-#[derive(Debug, Drop, PartialEq, Eq)]
-pub struct ExtraHeader {
-    /// Its name.
-    pub name: ByteString,
-    /// Its value, without the space that stands in the commit behind each of its line feeds.
-    pub value: ByteString,
-}
 
 /// A commit.
 #[derive(Debug, Drop, PartialEq, Eq)]
@@ -99,7 +91,7 @@ fn own_texts(
     ensures headers { IfOk result (λ texts. AllZip IsHeaderOf (parts_of commit.now).headers texts.2.items) }
     ensures refused { IfErr result (λ error. error ≡ Memory) }
 {
-    let encoding = own_encoding(alloc, commit.encoding)?;
+    let encoding = own_text_if_any(alloc, commit.encoding)?;
     let message = own_text(alloc, commit.message)?;
     let extra_headers = own_headers(alloc, commit.extra_headers.as_slice())?;
     Ok((encoding, message, extra_headers))
@@ -148,26 +140,6 @@ fn own_actor(alloc: Global, actor: ActorRef<'_>) -> Result<Actor, Error>
     ensures refused { IfErr result (λ error. (error ≡ Memory) ⊎ ((error ≡ InvalidTime) × (¬ TellsTime (bstr_bytes actor.entry.time)))) }
 {
     actor.to_owned(alloc)
-}
-
-fn own_encoding(alloc: Global, encoding: Option<BStr<'_>>) -> Result<Option<ByteString>, Error>
-    ensures own { IfOk result (λ copy. copy ≡ option_map bstr_bytes encoding.entry) }
-    ensures refused { IfErr result (λ error. error ≡ Memory) }
-{
-    match encoding {
-        Some(name) => Ok(Some(own_text(alloc, name)?)),
-        None => Ok(None),
-    }
-}
-
-fn own_text(alloc: Global, text: BStr<'_>) -> Result<ByteString, Error>
-    ensures own { IfOk result (λ copy. copy ≡ bstr_bytes text.entry) }
-    ensures refused { IfErr result (λ error. error ≡ Memory) }
-{
-    match ByteString::from_slice(alloc, text.as_bytes()) {
-        Ok(copy) => Ok(copy),
-        Err(_) => Err(Error::Memory),
-    }
 }
 
 fn own_headers(alloc: Global, headers: &[HeaderRef<'_>]) -> Result<Vec<ExtraHeader>, Error>

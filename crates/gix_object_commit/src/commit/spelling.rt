@@ -3,14 +3,14 @@
 ghost use Rattle.std.specs.Prelude.{◌≡◌, Option, List, ℕ, map};
 ghost use Rattle.std.specs.Option.{option_map};
 ghost use Rattle.bstr.specs.BStr.{bstr_bytes};
-ghost use Rattle.gix_object_commit.specs.Commit.{Field};
+ghost use Rattle.gix_object_commit_lines.specs.Commit.{Field};
 ghost use Rattle.gix_object_commit.specs.OwnedText.{is_whole_offset as is_spellable_offset, is_own_person as is_spellable_own_person};
-ghost use Rattle.gix_object_commit.specs.Views.{person_of, field_of};
+ghost use Rattle.gix_object_commit_lines.specs.Views.{person_of, field_of};
 ghost use Rattle.gix_object_commit.specs.Writing.{unspellable_unless, holds as holds_byte, is_id_like as is_hex_id_like, is_plain as is_plain_text, is_person as is_spellable_person, is_folded as is_folded_text, is_word, is_field as is_spellable_field, is_encoding_first as is_named_first, encoding_cause as cause_of_encoding};
 
 use crate::commit::HeaderRef;
 use bstr::BStr;
-use gix_object_lines::cut::{behind, lacks, split_once};
+use gix_object_lines::cut::{lacks, split_once, strip_prefix};
 use gix_object_lines::encode::Error;
 use gix_object_lines::hex_line::is_id;
 use gix_object_lines::lines::{Actor, ActorRef, tells_time};
@@ -87,7 +87,7 @@ fn is_folded(text: &[u8]) -> bool
 {
     let mut rest = text;
     'lines: while let Some((_line, after)) = split_once(rest, b'\n') {
-        match behind(after, b" ") {
+        match strip_prefix(after, b" ") {
             Some(further) => rest = further,
             None => return false,
         }

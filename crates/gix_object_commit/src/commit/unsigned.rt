@@ -5,7 +5,8 @@ ghost use Rattle.gix_object_lines.specs.Writes.{Writes};
 ghost use Rattle.gix_object_commit.specs.OwnedText.{own_field, own_refusal_with};
 ghost use Rattle.gix_object_commit.specs.Signing as spec;
 ghost use Rattle.gix_object_commit.specs.Signing.{unsigned, unsigned_text};
-ghost use Rattle.gix_object_commit.specs.Writing.{WritesPieces, field_piece, is_encoding_first};
+ghost use Rattle.gix_object_commit.specs.Writing.{field_piece, is_encoding_first};
+ghost use Rattle.gix_object_lines.specs.Pieces.{WritesPieces};
 
 use crate::commit::write::write_message;
 use crate::commit::write_owned::{is_named_encoding, write_own_front, write_own_header};

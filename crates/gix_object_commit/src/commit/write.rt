@@ -5,19 +5,20 @@ ghost use Rattle.std.specs.Option.{option_map};
 ghost use Rattle.bstr.specs.BStr.{bstr_bytes};
 ghost use Rattle.gix_object_lines.specs.HexLine.{hex_line};
 ghost use Rattle.gix_object_lines.specs.declared.kind.Kind.TheVariants as kinds;
-ghost use Rattle.gix_object_commit.specs.Commit.{Field, commit_text, field_text};
-ghost use Rattle.gix_object_commit.specs.Views.{person_of, field_of, parts_of};
-ghost use Rattle.gix_object_commit.specs.Writing.{WritesPieces, pieces_text, tree_piece, parent_piece, person_piece, encoding_piece, field_piece, message_piece, id_pieces, encoding_pieces, header_pieces, is_encoding_first as is_named_first, commit_refusal};
+ghost use Rattle.gix_object_commit_lines.specs.Commit.{Field, commit_text, field_text};
+ghost use Rattle.gix_object_commit_lines.specs.Views.{person_of, field_of};
+ghost use Rattle.gix_object_commit.specs.Views.{parts_of};
+ghost use Rattle.gix_object_commit.specs.Writing.{tree_piece, parent_piece, person_piece, encoding_piece, field_piece, message_piece, id_pieces, encoding_pieces, header_pieces, is_encoding_first as is_named_first, commit_refusal};
+ghost use Rattle.gix_object_lines.specs.Pieces.{WritesPieces, pieces_text};
 
 use crate::commit::spelling::{
     encoding_cause, is_encoding_first, is_field, is_id_like, is_person, unless,
 };
 use crate::commit::{CommitRef, HeaderRef};
-use crate::parts::{add_lengths, write_piece};
 use bstr::BStr;
 use gix_object_lines::hex_line::is_id;
 use gix_object_lines::lines::ActorRef;
-use gix_object_lines::write::Error;
+use gix_object_lines::write::{Error, add_lengths, write_piece};
 use gix_object_lines::{Kind, WriteTo};
 use std::io;
 

@@ -1,14 +1,13 @@
 //! Writing commits that own their parts.
 
 ghost use Rattle.std.specs.Prelude.{◌+◌, ◌^◌, ◌≤◌, ◌≡◌, ◌==◌, List, [], ◌∷◌, map, length, count_by, codes, MatchOption};
-ghost use Rattle.std.specs.Option.{option_map};
-ghost use Rattle.bstr.specs.BStr.{bstr_bytes};
 ghost use Rattle.gix_object_lines.specs.HexLine.{hex_line};
 ghost use Rattle.gix_object_lines.specs.declared.kind.Kind.TheVariants as kinds;
-ghost use Rattle.gix_object_commit.specs.Commit.{Field, commit_text, field_text, folded};
+ghost use Rattle.gix_object_commit_lines.specs.Commit.{Field, commit_text, field_text, folded};
 ghost use Rattle.gix_object_commit.specs.OwnedText.{own_digits, own_field, own_front_pieces, own_parts, own_person_piece, own_refusal, text_piece};
-ghost use Rattle.gix_object_commit.specs.Writing.{WritesPieces, pieces_text, tree_piece, parent_piece, field_piece, id_pieces, header_pieces, is_encoding_first as is_named_first};
-ghost use Rattle.gix_object_commit.specs.Headers.{is_named};
+ghost use Rattle.gix_object_commit.specs.Writing.{tree_piece, parent_piece, field_piece, id_pieces, header_pieces, is_encoding_first as is_named_first};
+ghost use Rattle.gix_object_lines.specs.Pieces.{WritesPieces, pieces_text};
+ghost use Rattle.gix_object_commit_lines.specs.Headers.{is_named};
 
 use crate::commit::spelling::{is_name, is_own_person, unless};
 use crate::commit::write::{
@@ -16,13 +15,13 @@ use crate::commit::write::{
     write_tree,
 };
 use crate::commit::{Commit, ExtraHeader};
-use crate::parts::{add_lengths, write_piece};
 use bstr::BStr;
 use gix_hash::ObjectId;
 use gix_object_lines::cut::split_once;
 use gix_object_lines::lines::{Actor, write_actor};
-use gix_object_lines::write::Error;
-use gix_object_lines::{ByteString, Kind, WriteTo};
+use gix_object_lines::text::bstr_of;
+use gix_object_lines::write::{Error, add_lengths, write_piece};
+use gix_object_lines::{Kind, WriteTo};
 use std::io;
 
 impl WriteTo for Commit {
@@ -122,15 +121,6 @@ pub(crate) fn is_named_encoding(header: &ExtraHeader) -> bool
     ensures { result ≡ is_named (codes "encoding") (own_field header.now) }
 {
     header.name.as_bytes() == b"encoding".as_slice()
-}
-
-fn bstr_of(text: &Option<ByteString>) -> Option<BStr<'_>>
-    ensures { option_map bstr_bytes result ≡ text.now }
-{
-    match text {
-        Some(text) => Some(text.as_bstr()),
-        None => None,
-    }
 }
 
 // The further headers.

@@ -10,11 +10,10 @@ ghost use Rattle.gix_object_lines.specs.declared.decode.Error.TheVariants.{Inval
 ghost use Rattle.gix_object_lines.specs.declared.encode.Error.TheVariants.{Unspellable};
 
 use crate::byte_string::ByteString;
-use crate::cut::{before, behind, lacks, rsplit_once, split_once};
+use crate::cut::{lacks, rsplit_once, split_once, strip_prefix, strip_suffix};
 use crate::lines::digits::spell_offset;
-use crate::lines::parts::write_parts;
 use crate::lines::time::{Time, read_time};
-use crate::write::Error;
+use crate::write::{Error, write_parts};
 use crate::{decode, encode};
 use bstr::BStr;
 use std::alloc::{AllocError, Global};
@@ -104,8 +103,8 @@ fn cut(line: &[u8]) -> Option<ActorRef<'_>>
 {
     let (front, rest) = split_once(line, b'<')?;
     let (email, back) = rsplit_once(rest, b'>')?;
-    let name = before(front, b" ")?;
-    let time = behind(back, b" ")?;
+    let name = strip_suffix(front, b" ")?;
+    let time = strip_prefix(back, b" ")?;
     if !lacks(name, b'\n') {
         return None;
     }

@@ -5,6 +5,8 @@ ghost use Rattle.std.specs.Int.{w64};
 ghost use Rattle.gix_object_lines.specs.Time.{SpellsSeconds, SpellsOffset, IsSpellableOffset, two_digits, offset_text};
 ghost use Rattle.gix_object_lines.specs.Clock.{SpellsClock};
 
+use crate::decimal::two_digits;
+
 const SECONDS_PER_MINUTE: u32 = 60;
 
 const SECONDS_PER_HOUR: u32 = 3_600;
@@ -71,11 +73,4 @@ pub(crate) fn spell_offset(offset: i32) -> Option<[u8; 5]>
     let [a, b] = two_digits(hours as u8);
     let [c, d] = two_digits(minutes as u8);
     Some([sign, a, b, c, d])
-}
-
-fn two_digits(n: u8) -> [u8; 2]
-    requires { n < 100 }
-    ensures { result ≡ two_digits n }
-{
-    [b'0' + n / 10, b'0' + n % 10]
 }

@@ -1,7 +1,8 @@
 //! Names of references.
 
 ghost use Rattle.std.specs.Prelude.{◌≡◌, ◌↔◌, ◌⊎◌, IsTrue, Any, Contains, codes};
-ghost use Rattle.gix_object_lines.specs.PartialName.{BeginsWith, EndsWith, Holds, IsBarred, IsPartialName};
+ghost use Rattle.gix_object_lines.specs.Bytes.{BeginsWith};
+ghost use Rattle.gix_object_lines.specs.PartialName.{EndsWith, Holds, IsBarred, IsPartialName};
 ghost use Rattle.gix_object_lines.specs.NameTest as test;
 
 use memchr::memmem;

@@ -12,8 +12,7 @@ ghost use Rattle.gix_object_lines.specs.declared.encode.Error.TheVariants.{Unspe
 
 use crate::cut::split_once;
 use crate::lines::digits::{read_offset, read_seconds, spell_offset};
-use crate::lines::parts::write_parts;
-use crate::write::Error;
+use crate::write::{Error, write_parts};
 use crate::{decode, encode};
 use std::io;
 

@@ -1,12 +1,12 @@
 //! The time of signing, as the secure shell's program is told it.
 
 ghost use Rattle.std.specs.Prelude.{ℤ, List, ℕ, ◌≡◌, ◌↔◌, ◌++◌, ◌<◌, IsTrue, codes, IfOk, IfErr, MatchOption, option_map};
-ghost use Rattle.gix_object_lines.specs.Time.{two_digits};
 ghost use Rattle.gix_object_signature.specs.SignedTime as spec;
 ghost use Rattle.gix_object_signature.specs.SignedTime.{IsStamp, IsStampable, TellsNoTime, TellsSeconds, TimeWord};
 ghost use Rattle.gix_object_signature.specs.declared.verify.Error.TheVariants.{CommitTime};
 
 use crate::verify::Error;
+use gix_object_lines::decimal::two_digits;
 use gix_object_lines::lines::{read_actor, read_time};
 use jiff_core::civil::DateTime;
 
@@ -91,11 +91,4 @@ fn word(seconds: i64) -> [u8; 29]
         b'-', b'O', b'v', b'e', b'r', b'i', b'f', b'y', b'-', b't', b'i', b'm', b'e', b'=', a, b,
         c, d, e, f, g, h, i, j, k, l, m, n, b'Z',
     ]
-}
-
-fn two_digits(n: u8) -> [u8; 2]
-    requires { n < 100 }
-    ensures { result ≡ two_digits n }
-{
-    [b'0' + n / 10, b'0' + n % 10]
 }

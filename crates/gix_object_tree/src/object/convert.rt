@@ -7,8 +7,9 @@ ghost use Rattle.gix_object_tree.specs.Views.{value_of};
 ghost use Rattle.gix_object_tree.specs.declared.object.ObjectRef.TheVariants as object;
 
 use crate::object::ObjectRef;
-use gix_object_commit::{BlobRef, CommitRef};
+use gix_object_commit::CommitRef;
 use gix_object_entries::TreeRef;
+use gix_object_hash::BlobRef;
 use gix_object_tag::TagRef;
 use std::convert::TryFrom;
 

@@ -10,8 +10,9 @@ ghost use Rattle.gix_object_tree.specs.Views.{value_of};
 ghost use Rattle.gix_object_tree.specs.declared.object.LooseDecodeError.TheVariants.{OutOfMemory};
 
 use crate::object::{LooseDecodeError, ObjectRef};
-use gix_object_commit::{BlobRef, CommitRef};
+use gix_object_commit::CommitRef;
 use gix_object_entries::TreeRef;
+use gix_object_hash::BlobRef;
 use gix_object_lines::Kind;
 use gix_object_lines::decode::{Error, loose_header};
 use gix_object_tag::TagRef;

@@ -7,8 +7,9 @@ ghost use Rattle.gix_object_tree.specs.Owned.{own_value};
 ghost use Rattle.gix_object_tree.specs.declared.owned.Object.TheVariants as object;
 
 use crate::Object;
-use gix_object_commit::{Blob, Commit};
+use gix_object_commit::Commit;
 use gix_object_entries::Tree;
+use gix_object_hash::Blob;
 use gix_object_tag::Tag;
 use std::convert::TryFrom;
 

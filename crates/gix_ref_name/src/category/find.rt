@@ -7,7 +7,7 @@ ghost use Rattle.gix_ref_name.specs.Kinds.{SharedNone, PrivateNone, MainNone, Li
 
 use crate::category::Category;
 use bstr::BStr;
-use gix_object_lines::cut::{begins_with, behind, split_once};
+use gix_object_lines::cut::{split_once, starts_with, strip_prefix};
 use gix_object_lines::lines::is_capitals;
 
 /// The category of a name and its short name; `None` where it has none.
@@ -33,13 +33,13 @@ pub(crate) fn category_of(name: &[u8]) -> Option<(Category<'_>, BStr<'_>)>
 fn shared(name: &[u8]) -> Option<(Category<'_>, BStr<'_>)>
     ensures { MatchOption result (SharedNone name.now) (λ found. Tells name.now found.0 (bstr_bytes found.1)) }
 {
-    if let Some(short) = behind(name, b"refs/tags/") {
+    if let Some(short) = strip_prefix(name, b"refs/tags/") {
         return Some((Category::Tag, BStr::new(short)));
     }
-    if let Some(short) = behind(name, b"refs/heads/") {
+    if let Some(short) = strip_prefix(name, b"refs/heads/") {
         return Some((Category::LocalBranch, BStr::new(short)));
     }
-    let short = behind(name, b"refs/remotes/")?;
+    let short = strip_prefix(name, b"refs/remotes/")?;
     Some((Category::RemoteBranch, BStr::new(short)))
 }
 
@@ -47,7 +47,7 @@ fn shared(name: &[u8]) -> Option<(Category<'_>, BStr<'_>)>
 fn kept_apart(name: &[u8]) -> Option<(Category<'_>, BStr<'_>)>
     ensures { MatchOption result (PrivateNone name.now) (λ found. Tells name.now found.0 (bstr_bytes found.1)) }
 {
-    let short = behind(name, b"refs/")?;
+    let short = strip_prefix(name, b"refs/")?;
     let category = below_refs(short)?;
     Some((category, BStr::new(short)))
 }
@@ -56,16 +56,16 @@ fn kept_apart(name: &[u8]) -> Option<(Category<'_>, BStr<'_>)>
 fn below_refs(short: &[u8]) -> Option<Category<'_>>
     ensures { MatchOption result (NoWord short.now) (λ category. HasWord category short.now) }
 {
-    if begins_with(short, b"notes/") {
+    if starts_with(short, b"notes/") {
         return Some(Category::Note);
     }
-    if begins_with(short, b"bisect/") {
+    if starts_with(short, b"bisect/") {
         return Some(Category::Bisect);
     }
-    if begins_with(short, b"rewritten/") {
+    if starts_with(short, b"rewritten/") {
         return Some(Category::Rewritten);
     }
-    if begins_with(short, b"worktree/") {
+    if starts_with(short, b"worktree/") {
         return Some(Category::WorktreePrivate);
     }
     None
@@ -74,8 +74,8 @@ fn below_refs(short: &[u8]) -> Option<Category<'_>>
 fn of_main(name: &[u8]) -> Option<(Category<'_>, BStr<'_>)>
     ensures { MatchOption result (MainNone name.now) (λ found. Tells name.now found.0 (bstr_bytes found.1)) }
 {
-    let short = behind(name, b"main-worktree/")?;
-    if begins_with(short, b"refs/") {
+    let short = strip_prefix(name, b"main-worktree/")?;
+    if starts_with(short, b"refs/") {
         return Some((Category::MainRef, BStr::new(short)));
     }
     if is_capitals(short) {
@@ -87,10 +87,10 @@ fn of_main(name: &[u8]) -> Option<(Category<'_>, BStr<'_>)>
 fn of_linked(name: &[u8]) -> Option<(Category<'_>, BStr<'_>)>
     ensures { MatchOption result (LinkedNone name.now) (λ found. Tells name.now found.0 (bstr_bytes found.1)) }
 {
-    let rest = behind(name, b"worktrees/")?;
+    let rest = strip_prefix(name, b"worktrees/")?;
     let (worktree, short) = split_once(rest, b'/')?;
     let worktree = BStr::new(worktree);
-    if begins_with(short, b"refs/") {
+    if starts_with(short, b"refs/") {
         return Some((Category::LinkedRef { name: worktree }, BStr::new(short)));
     }
     if is_capitals(short) {

@@ -12,7 +12,7 @@ use crate::written::{MAX_TITLE, Named, title};
 use gix_hash::Kind;
 use gix_object::Kind as ObjectKind;
 use gix_object::lines::is_partial_name;
-use gix_object_lines::cut::{behind, split_once};
+use gix_object_lines::cut::{split_once, strip_prefix};
 use std::alloc::{AllocError, Global};
 
 const MAX_NAME: usize = 1_024;
@@ -65,10 +65,10 @@ impl<'a> TagTexts<'a> {
             × (content.now ≡ tag_lines (parts_of_tag texts))) }
     {
         let (target, rest) = line_behind(content, b"object ")?;
-        let rest = behind(rest, b"type commit\n")?;
+        let rest = strip_prefix(rest, b"type commit\n")?;
         let (name, rest) = line_behind(rest, b"tag ")?;
         let (tagger, rest) = line_behind(rest, b"tagger ")?;
-        let message = behind(rest, b"\n")?;
+        let message = strip_prefix(rest, b"\n")?;
         Some(TagTexts {
             target,
             name,
@@ -100,7 +100,7 @@ fn line_behind<'a>(text: &'a [u8], word: &[u8]) -> Option<(&'a [u8], &'a [u8])>
         ((line rest : Bytes) → Lacks 10 line → text.now ≢ word.now ++ (line ++ 10 ∷ rest))
         (λ cut. Lacks 10 cut.0.now × (text.now ≡ word.now ++ (cut.0.now ++ 10 ∷ cut.1.now))) }
 {
-    split_once(behind(text, word)?, b'\n')
+    split_once(strip_prefix(text, word)?, b'\n')
 }
 
 // Whether this may follow `refs/tags/` in a tag's name.

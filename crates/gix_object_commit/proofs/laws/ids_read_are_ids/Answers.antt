@@ -1,4 +1,5 @@
-use Rattle.gix_object_commit.proofs.HexDigits.{is_id_of_hex, all_ids_of_hex}
+use Rattle.gix_object_commit.proofs.HexDigits.{all_ids_of_hex}
+use Rattle.gix_object_lines.proofs.HexDigits.{is_id_of_hex}
 use Rattle.gix_object_commit.proofs.laws.ids_read_are_ids.Goals as goal
 
 pub returns-clause-tree : goal.returns-clause-tree

@@ -7,9 +7,9 @@ use Rattle.std.proofs.lemmas.Result.{err_from_is_err_and}
 use Rattle.bstr.specs.BStr.{bstr_bytes}
 use Rattle.gix_object_lines.specs.HexLine.{hex_line, IsHex}
 use Rattle.gix_object_lines.specs.Bytes.{BeginsWith}
-use Rattle.gix_object_commit.proofs.FaultLemmas.{next_parent, no_room_for_parent}
-use Rattle.gix_object_commit.proofs.Results.{when_ok}
-use Rattle.gix_object_commit.proofs.Progress.{Progress, progress_none, progress_one, progress_end, progress_stuck}
+use Rattle.gix_object_commit_lines.proofs.FaultLemmas.{next_parent, no_room_for_parent}
+use Rattle.gix_object_commit_lines.proofs.Results.{when_ok}
+use Rattle.gix_object_commit_lines.proofs.Progress.{Progress, progress_none, progress_one, progress_end, progress_stuck}
 use Rattle.gix_object_commit.proofs.commit.decode.read_parents.Goals as goal
 
 abbrev parent_line : List ℕ → List ℕ
@@ -26,7 +26,7 @@ parents-init c = (subst (λ xs. Progress parent_line (IsHex c.args.digits) NoPar
 
 pub returns-in_err-parent-clause-every : goal.returns-in_err-parent-clause-every
 returns-in_err-parent-clause-every c = λ parents rest hex none whole.
-    let begins = c.begins_with.ensures.0 c.parents-test.true in
+    let begins = c.starts_with.ensures.0 c.parents-test.true in
     absurd (progress_stuck parent_line (IsHex c.args.digits) NoParent _ _ _ c.parents.invariant.0
     (λ end ends is. ends (subst (BeginsWith (codes "parent ")) is begins))
     (λ y more end fit fits ends is. c.in_err-parent.ensures.back y _ fit is)
@@ -37,7 +37,7 @@ parents-smaller c = line_shorter _ _ _ c.in_ok-parent.ensures.read.0
 
 pub parents-preserved : goal.parents-preserved
 parents-preserved c =
-    let begins = c.begins_with.ensures.0 c.parents-test.true in
+    let begins = c.starts_with.ensures.0 c.parents-test.true in
     let pushed = when_ok c.push.result (sym c.is_err.ensures.value ∙ c.if-is_err.false) c.push.ensures.ok in
     let step = progress_one parent_line (IsHex c.args.digits) NoParent _ _ _ c.in_ok-parent.parent.now c.in_ok-parent.after.now c.parents.invariant.0
     c.in_ok-parent.ensures.read.1 c.in_ok-parent.ensures.read.0
@@ -48,17 +48,17 @@ parents-preserved c =
     (subst (λ xs. Progress parent_line (IsHex c.args.digits) NoParent c.args.input.now xs c.in_ok-parent.after.now) (sym (ap (map bstr_bytes) pushed ∙ map-append bstr_bytes c.parents.parents.items (c.new.result ∷ []) ∙ ap (λ b. map bstr_bytes c.parents.parents.items ++ b ∷ []) c.new.ensures)) step, omega arith)
 
 pub returns-clause-read : goal.returns-clause-read
-returns-clause-read c = (c.parents.invariant.0.spelled, c.parents.invariant.0.fit, λ begins. false≢true (sym c.parents-test.false ∙ c.begins_with.ensures.1 begins))
+returns-clause-read c = (c.parents.invariant.0.spelled, c.parents.invariant.0.fit, λ begins. false≢true (sym c.parents-test.false ∙ c.starts_with.ensures.1 begins))
 
 pub returns-in_err-parent-clause-refused : goal.returns-in_err-parent-clause-refused
 returns-in_err-parent-clause-refused c =
     let p = err_from_is_err_and c.from_residual.result c.from_residual.ensures.1 in
-    rw (p.1, p.2) (inl (next_parent c.args.digits c.args.input.now (map bstr_bytes c.parents.parents.items) c.parents.rest.now _ c.parents.invariant.0.fit c.parents.invariant.0.spelled (c.begins_with.ensures.0 c.parents-test.true) c.in_err-parent.ensures.refused))
+    rw (p.1, p.2) (inl (next_parent c.args.digits c.args.input.now (map bstr_bytes c.parents.parents.items) c.parents.rest.now _ c.parents.invariant.0.fit c.parents.invariant.0.spelled (c.starts_with.ensures.0 c.parents-test.true) c.in_err-parent.ensures.refused))
 
 pub returns-clause-every : goal.returns-clause-every
 returns-clause-every c = λ parents rest hex none whole.
     progress_end parent_line (IsHex c.args.digits) NoParent _ _ _ c.parents.invariant.0
-    (λ y r fit is. false≢true (sym c.parents-test.false ∙ c.begins_with.ensures.1 ((y ++ 10 ∷ []) ++ r, is)))
+    (λ y r fit is. false≢true (sym c.parents-test.false ∙ c.starts_with.ensures.1 ((y ++ 10 ∷ []) ++ r, is)))
     parents rest hex none whole
 
 not_ok : {A E : Type 0} (r : Result A E) → is_err r ≡ true → IsOk r → ⊥

@@ -2,7 +2,8 @@ use Rattle.std.proofs.Common.{◌∙◌, ap, map, subst, Ok, Err}
 use Rattle.std.proofs.lemmas.Result.{err_from_is_err_and}
 use Rattle.gix_object_commit.specs.OwnedText.{own_field}
 use Rattle.gix_object_commit.specs.Signing.{unsigned}
-use Rattle.gix_object_commit.specs.Writing.{WritesPieces, field_piece, message_piece, is_encoding_first}
+use Rattle.gix_object_commit.specs.Writing.{field_piece, message_piece, is_encoding_first}
+use Rattle.gix_object_lines.specs.Pieces.{WritesPieces}
 use Rattle.gix_object_commit.proofs.OwnCommits.{front_stops, lines_stop, all_written}
 use Rattle.gix_object_commit.proofs.OwnPieces.{as_piece}
 use Rattle.gix_object_commit.proofs.commit.unsigned.write_unsigned.Goals as goal

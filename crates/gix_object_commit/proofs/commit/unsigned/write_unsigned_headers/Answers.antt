@@ -1,6 +1,6 @@
 use Rattle.std.proofs.Common.{Ok, Err, [], ◌∷◌, ◌<◌, length, subst, arith}
 use Rattle.std.proofs.lemmas.Result.{err_from_is_err_and}
-use Rattle.gix_object_commit.specs.Writing.{WritesPieces}
+use Rattle.gix_object_lines.specs.Pieces.{WritesPieces}
 use Rattle.gix_object_commit.proofs.UnsignedLines.{unsigned_lines, unsigned_stop, unsigned_more}
 use Rattle.gix_object_commit.proofs.commit.unsigned.write_unsigned_headers.Goals as goal
 

@@ -1,5 +1,5 @@
 use Rattle.std.proofs.Common.{take, Ok}
-use Rattle.gix_object_commit.specs.Writing.{WritesPieces}
+use Rattle.gix_object_lines.specs.Pieces.{WritesPieces}
 use Rattle.gix_object_commit.proofs.UnsignedLines.{unsigned_lines}
 use Rattle.gix_object_commit.proofs.commit.unsigned.write_unsigned_headers.Given as goal
 

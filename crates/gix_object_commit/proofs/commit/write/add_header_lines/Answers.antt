@@ -1,9 +1,9 @@
 use Rattle.std.proofs.Common.{[], ◌<◌, length, arith}
 use Rattle.bstr.specs.declared.bstr.BStr.{BStr}
-use Rattle.gix_object_commit.specs.declared.commit.HeaderRef.{HeaderRef}
-use Rattle.gix_object_commit.specs.Views.{field_of}
+use Rattle.gix_object_commit_lines.specs.declared.header.HeaderRef.{HeaderRef}
+use Rattle.gix_object_commit_lines.specs.Views.{field_of}
 use Rattle.gix_object_commit.specs.Writing.{field_piece}
-use Rattle.gix_object_commit.proofs.Pieces.{loop_less}
+use Rattle.gix_object_lines.proofs.Pieces.{loop_less}
 use Rattle.gix_object_commit.proofs.commit.write.add_header_lines.Goals as goal
 
 pub returns-in_err-total : goal.returns-in_err-total

@@ -2,7 +2,7 @@ use Rattle.std.proofs.Common.{[], ◌∷◌, ◌<◌, length, arith}
 use Rattle.bstr.specs.declared.bstr.BStr.{BStr}
 use Rattle.bstr.specs.BStr.{bstr_bytes}
 use Rattle.gix_object_commit.specs.Writing.{tree_piece, parent_piece}
-use Rattle.gix_object_commit.proofs.Pieces.{loop_less}
+use Rattle.gix_object_lines.proofs.Pieces.{loop_less}
 use Rattle.gix_object_commit.proofs.commit.write.add_id_lines.Goals as goal
 
 pub returns-in_err-total-2 : goal.returns-in_err-total-2

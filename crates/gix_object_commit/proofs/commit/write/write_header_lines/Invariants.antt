@@ -1,6 +1,7 @@
 use Rattle.std.proofs.Common.{take, map, Ok}
-use Rattle.gix_object_commit.specs.Views.{field_of}
-use Rattle.gix_object_commit.specs.Writing.{WritesPieces, field_piece}
+use Rattle.gix_object_commit_lines.specs.Views.{field_of}
+use Rattle.gix_object_commit.specs.Writing.{field_piece}
+use Rattle.gix_object_lines.specs.Pieces.{WritesPieces}
 use Rattle.gix_object_commit.proofs.commit.write.write_header_lines.Given as goal
 
 abbrev pub invariant-loop-header : goal.invariant-loop-header

@@ -2,7 +2,7 @@ use Rattle.std.proofs.Common.{[], ◌∷◌, ◌<◌, length, map, arith}
 use Rattle.std.proofs.lemmas.Result.{err_from_is_err_and}
 use Rattle.bstr.specs.BStr.{bstr_bytes}
 use Rattle.gix_object_commit.specs.Writing.{tree_piece, parent_piece}
-use Rattle.gix_object_commit.proofs.Pieces.{loop_stop, loop_more, pieces_stop}
+use Rattle.gix_object_lines.proofs.Pieces.{loop_stop, loop_more, pieces_stop}
 use Rattle.gix_object_commit.proofs.commit.write.write_id_lines.Goals as goal
 
 pub returns-in_err-write_tree : goal.returns-in_err-write_tree

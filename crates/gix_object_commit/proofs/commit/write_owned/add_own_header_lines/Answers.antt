@@ -1,8 +1,8 @@
 use Rattle.std.proofs.Common.{ap, [], ◌<◌, length, arith}
-use Rattle.gix_object_commit.specs.Commit.{field_text}
+use Rattle.gix_object_commit_lines.specs.Commit.{field_text}
 use Rattle.gix_object_commit.specs.OwnedText.{own_field}
 use Rattle.gix_object_commit.specs.Writing.{field_piece}
-use Rattle.gix_object_commit.proofs.Pieces.{loop_less}
+use Rattle.gix_object_lines.proofs.Pieces.{loop_less}
 use Rattle.gix_object_commit.proofs.commit.write_owned.add_own_header_lines.Goals as goal
 
 pub returns-in_err-total : goal.returns-in_err-total

@@ -3,7 +3,7 @@ use Rattle.gix_hash.specs.declared.object_id.ObjectId.{ObjectId}
 use Rattle.gix_hash.specs.declared.object_id.ObjectId.TheVariants.{Sha1}
 use Rattle.gix_object_commit.specs.OwnedText.{own_digits}
 use Rattle.gix_object_commit.specs.Writing.{tree_piece, parent_piece}
-use Rattle.gix_object_commit.proofs.Pieces.{loop_less}
+use Rattle.gix_object_lines.proofs.Pieces.{loop_less}
 use Rattle.gix_object_commit.proofs.commit.write_owned.add_own_id_lines.Goals as goal
 
 pub returns-in_err-total-2 : goal.returns-in_err-total-2

@@ -1,6 +1,7 @@
 use Rattle.std.proofs.Common.{◌≡◌, ◌+◌, ◌∷◌, length, take, map}
 use Rattle.gix_object_commit.specs.OwnedText.{own_digits}
-use Rattle.gix_object_commit.specs.Writing.{pieces_text, tree_piece, parent_piece}
+use Rattle.gix_object_commit.specs.Writing.{tree_piece, parent_piece}
+use Rattle.gix_object_lines.specs.Pieces.{pieces_text}
 use Rattle.gix_object_commit.proofs.commit.write_owned.add_own_id_lines.Given as goal
 
 abbrev pub invariant-loop-parent : goal.invariant-loop-parent

@@ -2,7 +2,7 @@ use Rattle.std.proofs.Common.{◌∷◌, [], ◌++◌, ap, Err}
 use Rattle.std.proofs.lemmas.Result.{err_from_is_err_and}
 use Rattle.gix_object_commit.specs.OwnedText.{own_parts, own_author_pieces, own_committer_pieces}
 use Rattle.gix_object_commit.specs.Writing.{id_pieces, encoding_piece}
-use Rattle.gix_object_commit.proofs.Pieces.{pieces_then, pieces_stop}
+use Rattle.gix_object_lines.proofs.Pieces.{pieces_then, pieces_stop}
 use Rattle.gix_object_commit.proofs.OwnPieces.{as_piece}
 use Rattle.gix_object_commit.proofs.commit.write_owned.write_own_front.Goals as goal
 

@@ -2,7 +2,7 @@ use Rattle.std.proofs.Common.{ap, Ok, Err, [], ◌<◌, length, arith}
 use Rattle.std.proofs.lemmas.Result.{err_from_is_err_and}
 use Rattle.gix_object_commit.specs.OwnedText.{own_field}
 use Rattle.gix_object_commit.specs.Writing.{field_piece}
-use Rattle.gix_object_commit.proofs.Pieces.{loop_stop, loop_more}
+use Rattle.gix_object_lines.proofs.Pieces.{loop_stop, loop_more}
 use Rattle.gix_object_commit.proofs.OwnPieces.{as_piece}
 use Rattle.gix_object_commit.proofs.commit.write_owned.write_own_header_lines.Goals as goal
 

@@ -1,7 +1,7 @@
 use Rattle.std.proofs.Common.{◌∙◌, ap, Ok, Err}
 use Rattle.std.proofs.lemmas.Result.{err_from_is_err_and}
 use Rattle.gix_object_lines.specs.Actor.{IsSpellable}
-use Rattle.gix_object_commit.specs.Commit.{actor_line}
+use Rattle.gix_object_commit_lines.specs.Commit.{actor_line}
 use Rattle.gix_object_commit.specs.OwnedText.{own_person, own_person_piece}
 use Rattle.gix_object_commit.specs.Writing.{unspellable_unless}
 use Rattle.gix_object_commit.proofs.OwnPieces.{as_piece, line_piece, front_stops, text_stops, line_ends, from_line}

@@ -6,7 +6,7 @@ use Rattle.gix_hash.specs.Spelling.{hex_character}
 use Rattle.gix_hash.specs.declared.kind.Kind.{Kind}
 use Rattle.gix_hash.specs.declared.kind.Kind.TheVariants.{Sha1, Sha256}
 use Rattle.gix_hash.proofs.ByteLists.{id-digits_len}
-use Rattle.gix_object_commit.specs.Commit.{SpellsCommit, commit_text}
+use Rattle.gix_object_commit_lines.specs.Commit.{SpellsCommit, commit_text}
 use Rattle.gix_object_commit.specs.OwnedText.{own_digits, own_parts}
 use Rattle.gix_object_commit.proofs.OwnedLaws.{owned_written}
 use Rattle.gix_object_commit.proofs.laws.owned.owned_written_is_read.Goals as goal

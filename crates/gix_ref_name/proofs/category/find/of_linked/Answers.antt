@@ -7,5 +7,5 @@ pub returns : goal.returns
 returns c =
     linked_none c.args.name.now c.in_ok-rest.rest.now c.in_ok-worktree.worktree.now c.in_ok-worktree.short.now
     c.in_ok-rest.ensures c.in_ok-worktree.ensures.0 c.in_ok-worktree.ensures.1
-    (λ h. false≢true (sym c.if-begins_with.false ∙ c.begins_with.ensures.1 h))
+    (λ h. false≢true (sym c.if-starts_with.false ∙ c.starts_with.ensures.1 h))
     (sym c.is_capitals.ensures.tested ∙ c.if-is_capitals.false)

@@ -1,7 +1,7 @@
 use Rattle.std.proofs.Common.{◌++◌, Err}
 use Rattle.std.proofs.lemmas.Result.{err_from_is_err_and}
 use Rattle.gix_object_commit.specs.Views.{parts_of}
-use Rattle.gix_object_commit.proofs.Pieces.{pieces_then, pieces_stop}
+use Rattle.gix_object_lines.proofs.Pieces.{pieces_then, pieces_stop}
 use Rattle.gix_object_commit.specs.Writing.{id_pieces, author_pieces, committer_pieces, encoding_pieces, header_pieces, message_pieces}
 use Rattle.gix_object_commit.proofs.Commits.{whole}
 use Rattle.gix_object_commit.proofs.commit.write.CommitRefWriteTo.write_to.Goals as goal

@@ -1,0 +1,10 @@
+pub mod Stages
+pub mod Readings
+pub mod OnePart
+pub mod NoMore
+pub mod FirstTold
+pub mod FirstSignature
+pub mod SignedLaws
+pub mod Left
+pub mod WholeReadings
+pub mod ToldParts

@@ -1,0 +1,5 @@
+pub mod Tokens
+pub mod ReadingOn
+pub mod SignedCommit
+pub mod Whole
+pub mod TokenFaults
