@@ -50,6 +50,11 @@ def order(one, other):
     return "Less" if one < other else "Greater" if other < one else "Equal"
 
 
+def stand(one, other):
+    """The order of two values, and whether they and their hashes are equal: equal ones hash alike, and digests of what differs differ."""
+    return f"{order(one, other)} {truths(one == other, one == other)}"
+
+
 def shown(id):
     return f"{'Sha1' if len(id) == 20 else 'Sha256'}({id.hex()})"
 
@@ -106,7 +111,7 @@ def kinds():
         null, (empty_blob, empty_tree) = "0" * 2 * length, EMPTY[name]
         case("kind", name, answer=f"{name.capitalize()} {2 * length} {length} {null} {null} {empty_blob.hex()} {empty_tree.hex()}")
     for one, other in itertools.product(KINDS, repeat=2):
-        case("order_of_kinds", one, other, answer=f"{order(KINDS[one], KINDS[other])} {truths(one == other)}")
+        case("order_of_kinds", one, other, answer=stand(KINDS[one], KINDS[other]))
 
 
 # ---- ids, views and change ids
@@ -122,7 +127,7 @@ def ids():
             known = not any(id) or id in EMPTY[name]
             case("id", id, answer=f"{shown(id)} {answers_of(id)} {truths(known)}")
             case("view", id, answer=f"{shown(id)} {answers_of(id)}")
-            case("made", id, answer=" ".join([id.hex()] * 3))
+            case("made", id, answer=" ".join([id.hex()] * 3 + ["true"] + [id.hex()] * 2))
             case("overwrite", name, id, answer=id.hex())
             reverse = id.hex().translate(REVERSE)
             for what in ["id", "view", "change"]:
@@ -178,11 +183,11 @@ def orders():
     pairs = [pair for name in KINDS for pair in itertools.product(samples(name)[:9], repeat=2)]
     pairs += [pair for one in samples("sha1")[:7] for other in samples("sha256")[:7] for pair in [(one, other), (other, one)]]
     for one, other in pairs:
-        by_kind = order((len(one), one), (len(other), other))
+        by_kind = stand((len(one), one), (len(other), other))
         same = one == other
-        case("order_of_ids", one, other, answer=f"{by_kind} {truths(same, same)}")
-        case("order_of_views", one, other, answer=f"{order(one, other)} {truths(same, same)}")
-        case("order_of_changes", one, other, answer=f"{by_kind} {truths(same, same)}")
+        case("order_of_ids", one, other, answer=f"{by_kind} {truths(same, True)}")
+        case("order_of_views", one, other, answer=f"{stand(one, other)} {truths(same)}")
+        case("order_of_changes", one, other, answer=f"{by_kind} {truths(same)}")
         fault = f"Hash was {one.hex()}, but should have been {other.hex()} false false"
         case("verify", one, other, answer="as expected true true" if same else fault)
     for id in [id for name in KINDS for id in samples(name)[2:9]]:
@@ -235,7 +240,7 @@ def prefixes():
     some = ["a", "ab", "abc", "abc0", "b", "0", "e69de29", "e69de2", "e69de29" + "0" * 33, "e69de29" + "0" * 34, "f" * 64, "ABC"]
     for one, other in itertools.product(some, repeat=2):
         keys = [(len(text) > 40, text.lower()) for text in (one, other)]
-        case("order_of_prefixes", one, other, answer=f"{order(*keys)} {truths(keys[0] == keys[1])}")
+        case("order_of_prefixes", one, other, answer=stand(*keys))
     for text, id in itertools.product(some, [EMPTY["sha1"][0], EMPTY["sha256"][0], bytes(20), b"\xff" * 32, b"\xab\xc0" * 10]):
         if len(text) <= 2 * len(id):
             case("order_of_prefix", text, id, answer=order(text.lower(), id.hex()[:len(text)]))
@@ -293,6 +298,10 @@ def streams():
             case("zeros", name, count, number, length, answer=stream_of(name, count, number, bytes(length)))
         for count, number, stream in itertools.product([0, 1, 5, 6, 7], [0, 1, 2], [b"", b"hello", b"hello\n", b"hello\0\xff"]):
             case("stream", name, count, number, stream, answer=stream_of(name, count, number, stream))
+        for fed, count, stream in itertools.product([b"", b"blob 5\0", bytes(63), b"x" * 130], [0, 1, 5, 6], [b"", b"hello", b"hello\0\xff"]):
+            answer = f"{digest(name, fed + stream[:count]).hex()} {count}" if len(stream) >= count else "failed 0"
+            case("stream_behind", name, fed, count, stream, answer=answer)
+        case("stream_behind", name, b"blob 70000\0", 70000, bytes(70000), answer=f"{blob(name, bytes(70000)).hex()} 70000")
         for count, path in [(70000, "/dev/zero"), (0, "/dev/zero"), (200000, "/dev/zero"), (1, "/dev/null"), (0, "/dev/null"), (1, "none")]:
             known = path == "/dev/zero" or path == "/dev/null" and count == 0
             case("file", name, count, path, answer=f"{digest(name, bytes(count)).hex()} {count}" if known else "failed 0")

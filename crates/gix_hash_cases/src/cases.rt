@@ -31,6 +31,7 @@ fn answer_of_bytes(alloc: Global, operation: &str, fields: &[Vec<u8>]) -> Option
     match operation {
         "zeros" => streams::zeros(alloc, fields),
         "stream" => streams::stream(alloc, fields),
+        "stream_behind" => streams::behind(alloc, fields),
         "digest" => digests::digest(alloc, fields),
         "blob" => digests::blob(alloc, fields),
         "write" => digests::write(alloc, fields),

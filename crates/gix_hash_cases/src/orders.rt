@@ -5,27 +5,40 @@ use bstr::BStr;
 use gix_hash::{ChangeId, ObjectId, Prefix, oid};
 use std::alloc::Global;
 use std::cmp::Ordering;
+use std::hash::{DefaultHasher, Hash, Hasher};
+
+// The digest of what a value feeds a hasher.
+fn digest<T: Hash>(value: &T) -> u64 {
+    let mut hasher = DefaultHasher::new();
+    value.hash(&mut hasher);
+    hasher.finish()
+}
+
+// The order of two values, whether they are equal, and whether their hashes are.
+fn stand<T: Ord + Hash>(alloc: Global, first: &T, second: &T) -> Option<String> {
+    let order = first.cmp(second);
+    let is_hash = digest(first) == digest(second);
+    format!(in alloc; "{order:?} {} {is_hash}", *first == *second).ok()
+}
 
 /// How two kinds stand to each other.
 pub fn kinds(alloc: Global, fields: &[Vec<u8>]) -> Option<String> {
     let [first, second] = fields else {
         return None;
     };
-    let first = fields::kind(first)?;
-    let second = fields::kind(second)?;
-    format!(in alloc; "{:?} {}", first.cmp(&second), first == second).ok()
+    stand(alloc, &fields::kind(first)?, &fields::kind(second)?)
 }
 
-/// How two ids stand to each other.
+/// How two ids stand to each other, and whether the first hashes like its view.
 pub fn ids(alloc: Global, fields: &[Vec<u8>]) -> Option<String> {
     let [first, second] = fields else {
         return None;
     };
     let first = fields::id(first)?;
     let second = fields::id(second)?;
-    let order = first.cmp(&second);
-    let is_equal = first == second;
-    format!(in alloc; "{order:?} {is_equal} {}", first.eq_oid(second.as_oid())).ok()
+    let is_equal = first.eq_oid(second.as_oid());
+    let is_view = digest(&first) == digest(&first.as_oid());
+    format!(in alloc; "{} {is_equal} {is_view}", stand(alloc, &first, &second)?).ok()
 }
 
 /// How two views of ids stand to each other.
@@ -35,9 +48,8 @@ pub fn views(alloc: Global, fields: &[Vec<u8>]) -> Option<String> {
     };
     let first = oid::try_from_bytes(first).ok()?;
     let second = oid::try_from_bytes(second).ok()?;
-    let order = first.cmp(&second);
-    let is_equal = first == second;
-    format!(in alloc; "{order:?} {is_equal} {}", first.eq_oid(second)).ok()
+    let is_equal = first.eq_oid(second);
+    format!(in alloc; "{} {is_equal}", stand(alloc, &first, &second)?).ok()
 }
 
 /// How two change ids stand to each other.
@@ -47,9 +59,8 @@ pub fn changes(alloc: Global, fields: &[Vec<u8>]) -> Option<String> {
     };
     let first = ChangeId::from(fields::id(first)?);
     let second = ChangeId::from(fields::id(second)?);
-    let order = first.cmp(&second);
-    let is_equal = first == second;
-    format!(in alloc; "{order:?} {is_equal} {}", first.eq_oid(second.as_oid())).ok()
+    let is_equal = first.eq_oid(second.as_oid());
+    format!(in alloc; "{} {is_equal}", stand(alloc, &first, &second)?).ok()
 }
 
 /// How the prefixes of two texts stand to each other.
@@ -59,7 +70,7 @@ pub fn prefixes(alloc: Global, fields: &[Vec<u8>]) -> Option<String> {
     };
     let first = Prefix::from_hex_nonempty(fields::text(first)?).ok()?;
     let second = Prefix::from_hex_nonempty(fields::text(second)?).ok()?;
-    format!(in alloc; "{:?} {}", first.cmp(&second), first == second).ok()
+    stand(alloc, &first, &second)
 }
 
 /// How a text's prefix stands to an id.

@@ -1,7 +1,8 @@
 //! Streams and files that are hashed.
 
 use crate::fields;
-use gix_hash::io::{Error, Interrupt, Progress, bytes, bytes_of_file};
+use gix_hash::hasher::hasher;
+use gix_hash::io::{Error, Interrupt, Progress, bytes, bytes_of_file, bytes_with_hasher};
 use gix_hash::{Kind, ObjectId};
 use std::alloc::Global;
 use std::rt::Files;
@@ -60,6 +61,24 @@ pub fn stream(alloc: Global, fields: &[Vec<u8>]) -> Option<String> {
     let count = fields::number(count)? as u64;
     let number = fields::number(number)?;
     hashed(alloc, fields::kind(kind)?, stream, count, number)
+}
+
+/// The same with a hasher that was fed bytes before; the askings are all answered no.
+pub fn behind(alloc: Global, fields: &[Vec<u8>]) -> Option<String> {
+    let [kind, fed, count, stream] = fields else {
+        return None;
+    };
+    let count = fields::number(count)? as u64;
+    let mut before = hasher(fields::kind(kind)?);
+    before.update(fed);
+    let mut progress = Amount(0);
+    let mut interrupt = YesAt {
+        number: 0,
+        asked: 0,
+    };
+    let mut reader = stream.as_slice();
+    let answer = bytes_with_hasher(&mut reader, count, before, &mut progress, &mut interrupt);
+    shown(alloc, answer, progress.0)
 }
 
 /// The same, of a stream of so many zero bytes.

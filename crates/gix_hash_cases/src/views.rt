@@ -52,7 +52,8 @@ pub fn write(alloc: Global, fields: &[Vec<u8>]) -> Option<String> {
     format!(in alloc; "{}", BStr::new(&out)).ok()
 }
 
-/// The id and the view of 20 or 32 bytes, by the calls that ask for so many, and the id of the view.
+/// The id and the view of 20 or 32 bytes, by the calls that ask for so many, the id of the view, its bytes by both calls that
+/// lend them, and the id and the view of the bytes as an array, by value and lent.
 pub fn made(alloc: Global, fields: &[Vec<u8>]) -> Option<String> {
     let [bytes] = fields else {
         return None;
@@ -63,5 +64,16 @@ pub fn made(alloc: Global, fields: &[Vec<u8>]) -> Option<String> {
     let id = ObjectId::from_bytes_or_panic(bytes);
     let view = oid::from_bytes_unchecked(bytes);
     let shown = ObjectId::from(view);
-    format!(in alloc; "{id} {view} {shown}").ok()
+    let whole = id.as_slice() == bytes.as_slice() && id.as_bytes() == view.as_bytes();
+    let (array, lent) = of_array(bytes)?;
+    format!(in alloc; "{id} {view} {shown} {whole} {array} {lent}").ok()
+}
+
+// The id of the bytes as an array, and the view of that array.
+fn of_array(bytes: &[u8]) -> Option<(ObjectId, oid<'_>)> {
+    if let Some(array) = bytes.as_array::<20>() {
+        return Some((ObjectId::from(*array), oid::from(array)));
+    }
+    let array = bytes.as_array::<32>()?;
+    Some((ObjectId::from(*array), oid::from(array)))
 }

@@ -6,4 +6,3 @@ pub mod Written
 pub mod Twins
 pub mod Searched
 pub mod TreeLaws
-pub mod Equal

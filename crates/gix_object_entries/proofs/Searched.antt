@@ -3,17 +3,16 @@ use Rattle.std.proofs.Common.{◌≡◌, ◌∙◌, ap, refl, sym, subst, ◌⊎
 use Rattle.std.specs.Prelude.{IfSome, IfNone, is_some}
 use Rattle.std.specs.Result.{result_ok}
 use Rattle.std.specs.declared.cmp.Ordering.TheVariants.{Less, Equal, Greater}
-use Rattle.std.specs.Ordering.{ordering_index, is_eq}
+use Rattle.std.specs.Ordering.{ordering_index}
 use Rattle.std.specs.List.{All, HoldsAt}
 use Rattle.std.specs.List.Sorted.{IsNonDecreasingBy, IsPartitionPoint, IsBinarySearchResult}
 use Rattle.std.proofs.lemmas.Bool.{cases_lt}
 use Rattle.std.proofs.lemmas.Cmp.{nat_list_cmp_total, tied_itself}
 use Rattle.std.proofs.lemmas.List.{get_or-map}
-use Rattle.std.proofs.lemmas.Map.Text.{is_eq-slice_cmp}
-use Rattle.std.proofs.lemmas.Slice.Eq.{bytes_eq-Decides}
 use Rattle.gix_hash.specs.Order.{digits_cmp}
 use Rattle.gix_object_entries.specs.Entry.{Item}
 use Rattle.gix_object_entries.specs.Order.{git_key, item_key}
+use Rattle.gix_object_entries.specs.SameItem.{one_key}
 use Rattle.gix_object_entries.specs.WellFormed.{IsInOrder, IsNamed}
 
 -- an element of a list that is mapped
@@ -27,10 +26,6 @@ map_length item [] = refl
 map_length item (x ∷ xs) = ap suc (map_length item xs)
 
 -- ---- keys
-
--- keys that tie are one
-pub one_key : (a b : List ℕ) → digits_cmp a b ≡ Equal → a ≡ b
-one_key a b e = (bytes_eq-Decides a b).0 (sym (is_eq-slice_cmp a b) ∙ ap is_eq e)
 
 pub key_ties : (a b : List ℕ) → a ≡ b → digits_cmp a b ≡ Equal
 key_ties a b e = subst (λ t. digits_cmp a t ≡ Equal) e (tied_itself nat_list_cmp_total a)

@@ -6,3 +6,5 @@ pub mod Order
 pub mod OrderLaws
 pub mod Writing
 pub mod WellFormed
+pub mod SameItem
+pub mod Hashing

@@ -4,6 +4,7 @@
 ghost use Rattle.std.specs.Prelude.{◌≡◌, ◌↔◌, List, None, IsTrue, map, []};
 ghost use Rattle.std.specs.List.{All};
 ghost use Rattle.gix_object_entries.specs.Entry.{Item, item_of, own_item, SpellsTree};
+ghost use Rattle.gix_object_entries.specs.Hashing.{item_input};
 ghost use Rattle.gix_object_entries.specs.ModeText.{SpellsMode, mode_of, mode_text};
 ghost use Rattle.gix_object_entries.specs.OrderLaws.{item_eq};
 ghost use Rattle.gix_object_entries.specs.Reading.{Gives, start};
@@ -70,6 +71,12 @@ pub fn entries_are_read_one_by_one(_content: &[u8], _hash_kind: Kind)
 /// Entries are equal exactly where their modes, names and ids are.
 pub fn equal_entries_are_one(_entry: &Entry, _other: &Entry)
     ensures { IsTrue (item_eq (own_item _entry.now) (own_item _other.now)) ↔ (own_item _entry.now ≡ own_item _other.now) }
+{}
+
+/// Equal entries feed a hasher the same bytes, also where one borrows its parts and the other owns them.
+pub fn equal_entries_are_fed_alike(_entry: &Entry, _other: &EntryRef<'_>)
+    ensures { IsTrue (item_eq (own_item _entry.now) (item_of _other.now))
+        → item_input (own_item _entry.now) ≡ item_input (item_of _other.now) }
 {}
 
 fn entries_are_told_again<T: AsEntry>(entries: &[T])

@@ -2,6 +2,7 @@
 
 mod decode;
 pub(crate) mod entry;
+mod hash;
 mod mode;
 mod mode_text;
 mod order;

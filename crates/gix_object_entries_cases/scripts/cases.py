@@ -4,6 +4,7 @@ import hashlib, itertools, os, re, subprocess, tempfile
 
 LENGTH = {"sha1": 20, "sha256": 32}
 NAMES = {0o40000: "tree", 0o100644: "blob", 0o100755: "exe", 0o120000: "link", 0o160000: "commit"}
+VARIANTS = {"tree": "Tree", "blob": "Blob", "exe": "BlobExecutable", "link": "Link", "commit": "Commit"}
 rows, seen = [], set()
 
 
@@ -83,20 +84,27 @@ def kind_name(value):
 
 def read(kind, content):
     """The entries that begin a content, each with its mode, name and id, and the error of what stands behind them."""
-    entries = []
+    entries, _, error = read_to_ends(kind, content)
+    return entries, error
+
+
+def read_to_ends(kind, content):
+    """The same, and between both where each entry ends."""
+    entries, ends, whole = [], [], len(content)
     while content:
         text, space, rest = content.partition(b" ")
         mode = read_mode(text) if space else None
         if mode is None:
-            return entries, "FieldName"
+            return entries, ends, "FieldName"
         name, zero, rest = rest.partition(b"\0")
         if not zero:
-            return entries, "LineEnd"
+            return entries, ends, "LineEnd"
         if len(rest) < LENGTH[kind]:
-            return entries, "HexDigits"
+            return entries, ends, "HexDigits"
         entries.append((mode, name, rest[: LENGTH[kind]]))
         content = rest[LENGTH[kind] :]
-    return entries, None
+        ends.append(whole - len(content))
+    return entries, ends, None
 
 
 def entry_shown(entry):
@@ -113,17 +121,18 @@ def mode_shown(mode):
     value, kind = mode[0], kind_name(mode[0])
     tests = [("tree", kind == "tree"), ("no-tree", kind != "tree"), ("commit", kind == "commit"), ("link", kind == "link"), ("file", value >> 12 == 8), ("executable", kind == "exe"), ("file-or-link", value >> 12 == 8 or kind == "link")]
     text = mode_text(mode).decode()
-    return f"{value} {text} {text} {kind}" + "".join(f" {word}{'+' if passes else '-'}" for word, passes in tests)
+    return f"{value} {text} {text} {kind} {VARIANTS[kind]}" + "".join(f" {word}{'+' if passes else '-'}" for word, passes in tests)
 
 
 BAD = {b"badTree", b"treeNotSorted", b"duplicateEntries", b"emptyName", b"fullPathname"}
 
 
-def tree_rows(git, content, told=None):
+def tree_rows(git, content):
     """A content as git reads it, where it does."""
     kind = git.kind
-    entries, error = read(kind, content)
-    row("iter", kind, [content], "".join(entry_shown(e) + "; " for e in entries) + (f"refused {error}; " if error else "") + f"{len(entries) + (error is not None)} in all")
+    entries, ends, error = read_to_ends(kind, content)
+    told = "".join(f"{entry_shown(e)} to {end}; " for e, end in zip(entries, ends))
+    row("iter", kind, [content], told + (f"refused {error} to {len(content)}; refused {error}" if error else f"{len(entries)} in all"))
     if error:
         row("tree", kind, [content], f"refused {error}")
         row("owned", kind, [content], "not owned")
@@ -131,7 +140,7 @@ def tree_rows(git, content, told=None):
         return
     oid = git.stored(content)
     complaints = git.complaints(oid)
-    fine = told if told is not None else not complaints & BAD
+    fine = not complaints & BAD
     if all(e[1] for e in entries):
         listed = git.listed(oid)
         assert [(n, i.hex()) for _, n, i in entries] == [(n, i.decode()) for _, i, n in listed], content
@@ -239,7 +248,18 @@ for one, other, answer in [
     (entry(b"100644", b"a", x), entry(b"100644", b"ab", x), "Less equal-"),
     (entry(b"100644", b"b", x), entry(b"100644", b"a", x), "Greater equal-"),
 ]:
-    row("compare", "sha1", [one, other], f"{answer}; {answer}")
+    answer += " hash" + answer[-1]
+    row("compare", "sha1", [one, other], f"{answer}; {answer}; lent equal+ hash+")
+
+# ---- what derived Debug prints, in Rust's form: a borrowed name in quotes, an owned one as the list of its bytes
+for kind, length in LENGTH.items():
+    for mode, name, printed in [((0o100644, False), b"a", "a"), ((0o40000, True), b"tree", "tree"), ((0o100755, False), b"\xe4\xff \n", "\\xe4\\xff \\n")]:
+        oid = b"\x1a" * length
+        form = "%s { mode: EntryMode { value: %d, padded: %s }, filename: %s, oid: %s(%s) }"
+        end = (kind.capitalize(), oid.hex())
+        borrowed = form % ("EntryRef", mode[0], str(mode[1]).lower(), f'"{printed}"', *end)
+        owned = form % ("Entry", mode[0], str(mode[1]).lower(), "ByteString { bytes: %s }" % [*name], *end)
+        row("debug", kind, [mode_text(mode) + b" " + name + b"\0" + oid], f"{borrowed}; {owned}")
 
 # ---- modes
 numbers = [0, 1, 0o644, 0o40000, 0o40001, 0o47777, 0o50000, 0o77777, 0o100000, 0o100644, 0o100664, 0o100755, 0o100600, 0o100700, 0o107777, 0o110000, 0o120000, 0o120777, 0o130000, 0o140000, 0o160000, 0o160001, 0o177777]
@@ -258,6 +278,19 @@ for number in numbers + [0o200000, 0o240000, 0xFFFFFFFF, 65535, 65536, 32767, 32
     row("number", "sha1", [number.to_bytes(4, "big")], answer)
 for value, name in NAMES.items():
     row("kind", "sha1", [name.encode()], f"{value:o} {value} {mode_shown((value, False))}")
+
+def stand(one, other):
+    """The order of two values, and whether they are equal; the digests of what differs differ."""
+    sign = "+" if one == other else "-"
+    return f"{'Equal' if one == other else 'Less' if one < other else 'Greater'} equal{sign} hash{sign}"
+
+
+# kinds stand in the order of their numbers, modes in that of theirs, a tree's that had a zero before it behind the one without
+for (a, one), (b, other) in itertools.product(NAMES.items(), repeat=2):
+    row("kinds", "sha1", [one.encode(), other.encode()], stand(a, b))
+spelled = [b"40000", b"040000", b"0040000", b"100644", b"0100644", b"100664", b"100755", b"120000", b"160000", b"0", b"177777"]
+for one, other in itertools.product(spelled, repeat=2):
+    row("modes", "sha1", [one, other], stand(read_mode(one), read_mode(other)))
 
 # ---- trees that no content spells
 for kind, length in LENGTH.items():

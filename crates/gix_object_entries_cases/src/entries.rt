@@ -1,6 +1,7 @@
 //! Entries and their order.
 
 use crate::case::Case;
+use crate::orders;
 use crate::page::Page;
 use gix_object_entries::TreeRef;
 use gix_object_entries::tree::{EntryRef, name_order};
@@ -25,7 +26,8 @@ pub fn order(case: &Case, page: &mut Page) {
     ));
 }
 
-/// The order of the first entries of two trees, whether they are equal, and the same of entries that own their names.
+/// How the first entries of two trees stand to each other, the same of entries that own their names, and whether the first one
+/// is what its owned one lends, by its equality and by its hash.
 pub fn compare(alloc: Global, case: &Case, page: &mut Page) {
     let (Ok(one), Ok(other)) = (
         TreeRef::from_bytes(alloc, case.text(0), case.kind),
@@ -36,11 +38,26 @@ pub fn compare(alloc: Global, case: &Case, page: &mut Page) {
     let (Some(a), Some(b)) = (one.entries.first(), other.entries.first()) else {
         return page.word("no entries");
     };
-    page.name(a.cmp(b));
-    page.test(" equal", a == b);
-    if let (Ok(a), Ok(b)) = (a.to_owned(alloc), b.to_owned(alloc)) {
+    orders::stand(a, b, page);
+    if let (Ok(own_a), Ok(own_b)) = (a.to_owned(alloc), b.to_owned(alloc)) {
         page.word("; ");
-        page.name(a.cmp(&b));
-        page.test(" equal", a == b);
+        orders::stand(&own_a, &own_b, page);
+        page.test("; lent equal", EntryRef::from(&own_a) == *a);
+        page.test(" hash", orders::digest(&own_a) == orders::digest(a));
+    }
+}
+
+/// The first entry of a tree as `{:?}` prints it, and as it prints one that owns its name.
+pub fn debug(alloc: Global, case: &Case, page: &mut Page) {
+    let Ok(tree) = TreeRef::from_bytes(alloc, case.text(0), case.kind) else {
+        return page.word("no tree");
+    };
+    let Some(entry) = tree.entries.first() else {
+        return page.word("no entry");
+    };
+    page.name(*entry);
+    if let Ok(own) = entry.to_owned(alloc) {
+        page.word("; ");
+        page.name(own);
     }
 }

@@ -5,6 +5,7 @@ mod case;
 mod entries;
 mod modes;
 mod operations;
+mod orders;
 mod page;
 mod trees;
 

@@ -1,6 +1,7 @@
 //! Modes and kinds.
 
 use crate::case::Case;
+use crate::orders;
 use crate::page::Page;
 use gix_object_entries::tree::{EntryKind, EntryMode};
 use std::convert::TryFrom;
@@ -23,7 +24,8 @@ pub fn show(mode: EntryMode, page: &mut Page) {
     page.bytes(mode.as_bytes(&mut backing).as_bytes());
     page.word(" ");
     page.put(InOctal(mode));
-    page.value(" ", mode.as_str(), "");
+    page.value(" ", mode.as_str(), " ");
+    page.name(mode.kind());
     page.test(" tree", mode.is_tree());
     page.test(" no-tree", mode.is_no_tree());
     page.test(" commit", mode.is_commit());
@@ -87,4 +89,23 @@ pub fn kind(case: &Case, page: &mut Page) {
     page.bytes(kind.as_octal_str().as_bytes());
     page.value(" ", kind.value(), " ");
     show(EntryMode::from(kind), page);
+}
+
+/// How two kinds stand to each other.
+pub fn kinds(case: &Case, page: &mut Page) {
+    match (kind_of(case.text(0)), kind_of(case.text(1))) {
+        (Some(one), Some(other)) => orders::stand(&one, &other, page),
+        _ => page.word("no kinds"),
+    }
+}
+
+/// How the modes that two texts spell stand to each other.
+pub fn modes(case: &Case, page: &mut Page) {
+    match (
+        EntryMode::from_bytes(case.text(0)),
+        EntryMode::from_bytes(case.text(1)),
+    ) {
+        (Some(one), Some(other)) => orders::stand(&one, &other, page),
+        _ => page.word("no modes"),
+    }
 }

@@ -91,27 +91,22 @@ pub fn made(alloc: Global, case: &Case, page: &mut Page) {
     show_written(alloc, case.kind, &tree, page);
 }
 
-/// The entries of a content one by one, each with where the next begins, and the error that ends them.
-pub fn iter(case: &Case, page: &mut Page) {
+/// The entries of a content one by one, each with where the next begins, the error that ends them, and how many `entries` gives.
+#[tactic(auto, using(crate::proofs::Shorter::left_is_shorter))]
+pub fn iter(alloc: Global, case: &Case, page: &mut Page) {
     let content = case.text(0);
     let mut tokens = TreeRefIter::from_bytes(content, case.kind);
-    let mut count = 0;
     'tokens: while let Some(token) = tokens.next() {
         match token {
-            Ok(entry) => {
-                entries::show(entry, page);
-                page.word("; ");
-            }
-            Err(error) => {
-                page.refused(error);
-                page.word("; ");
-            }
+            Ok(entry) => entries::show(entry, page),
+            Err(error) => page.refused(error),
         }
-        if count < 1000 {
-            count += 1;
-        }
+        page.value(" to ", tokens.offset_to_next_entry(content), "; ");
     }
-    page.value("", count, " in all");
+    match TreeRefIter::from_bytes(content, case.kind).entries(alloc) {
+        Ok(entries) => page.value("", entries.len(), " in all"),
+        Err(error) => page.refused(error),
+    }
 }
 
 /// The entry of a name, a tree's where the last word isn't empty.

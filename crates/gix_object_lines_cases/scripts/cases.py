@@ -2,7 +2,7 @@
 """Writes stdin and stdout: run as `python3 scripts/cases.py` in the folder of this crate, with git 2.39 on the path.
 
 Nothing of the crate is used. The answers are git's where git tells them: its loose objects' headers, the lines of a commit that it
-made, the lines that `git var` prints and that `git cat-file` gives back, what `git check-ref-format --allow-onelevel` says. The others
+made, the lines that `git var` prints and that `git cat-file` gives back, what `git check-ref-format` says. The others
 are what the formats' descriptions say, as regular expressions and numbers of Python.
 """
 import datetime
@@ -50,7 +50,8 @@ def truth(value):
 
 
 def order(one, other):
-    return f"{'Less' if one < other else 'Greater' if other < one else 'Equal'} {truth(one == other)}"
+    """How two values stand to each other, and whether they are equal; equal ones hash alike, and digests of what differs differ."""
+    return f"{'Less' if one < other else 'Greater' if other < one else 'Equal'} {truth(one == other)} {truth(one == other)}"
 
 
 def git(*words, folder=".", given=b"", env=None):
@@ -280,9 +281,13 @@ def actors():
 def names():
     more = ["main", "refs/heads/main", "a.lock", "a.lock/b", "a.lockb", ".lock", "lock", "a/.lock", "a.LOCK", "a b", "a~b", "a^b", "a:b", "a?b", "a*b", "a[b", "a]b", "a\\b", "a\x7fb", "a\tb", "a\x1fb", "é", "a@{b", "@@", "@/a", "a/@", "a/-b", "a..b", "a.b.c", "HEAD", "@/", ""]
     all_names = letters(b"./@{a", 3)[1:] + [name.encode() for name in more] + [b"a%cb" % byte for byte in range(1, 256)] + [b"a\xff"]
-    all_names += texts([b".lock", b"/", b"a", b"."], 3, 1)
+    all_names += texts([b".lock", b"/", b"a", b"."], 3, 1) + texts([b"A", b"_", b"/", b"a", b"Z0"], 3, 1)
+    all_names += [b"FETCH_HEAD", b"_", b"Head", b"HEAD ", b"HEAD.lock", b"@HEAD", b"[", b"`", b"\xc3\x84"]
     for name in dict.fromkeys(all_names):
-        case("name", name, answer=truth(git("check-ref-format", "--allow-onelevel", os.fsdecode(name))[0] == 0))
+        partial = git("check-ref-format", "--allow-onelevel", os.fsdecode(name))[0] == 0
+        capitals = re.fullmatch(rb"[A-Z_]*", name) is not None
+        full = git("check-ref-format", os.fsdecode(name))[0] == 0 or partial and capitals
+        case("name", name, answer=f"{truth(partial)} {truth(full)} {truth(capitals)}")
 
 
 def sides(front, mark, back):
@@ -301,10 +306,10 @@ def plain_bytes():
         case("write", text, answer=quoted(text))
     strings = [b"", b"A", b"a@b", b"A\n", b"\n", b"A\n\n", b"\nA", b"A\r\n", b"\xff\0"]
     for text in strings:
-        case("string", text, answer=quoted(text))
+        case("string", text, answer=f"{quoted(text)} {quoted(text)}")
         case("line", text, answer=quoted(text[:-1] if text.endswith(b"\n") else text))
     for one, other in itertools.product(strings, repeat=2):
-        case("strings", one, other, answer=truth(one == other))
+        case("strings", one, other, answer=order(one, other))
 
 
 for part in [kinds, headers, unsigned, ids, times, actors, names, plain_bytes]:

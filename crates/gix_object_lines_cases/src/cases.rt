@@ -33,7 +33,7 @@ fn answer_of_bytes(alloc: Global, operation: &str, fields: &[Vec<u8>]) -> Option
         "edges" => cuts::edges(alloc, fields),
         "write" => strings::write(alloc, fields),
         "string" => strings::string(alloc, fields),
-        "strings" => strings::equality(alloc, fields),
+        "strings" => strings::order(alloc, fields),
         "line" => strings::line(alloc, fields),
         "unsigned" => hex_lines::unsigned(alloc, fields),
         "id" => hex_lines::id(alloc, fields),

@@ -3,15 +3,17 @@
 use crate::fields::quoted;
 use bstr::BStr;
 use gix_object_lines::cut::{lacks, rsplit_once, split_once, starts_with, strip_prefix, strip_suffix};
-use gix_object_lines::lines::is_partial_name;
+use gix_object_lines::lines::{is_capitals, is_full_name, is_partial_name};
 use std::alloc::Global;
 
-/// Whether the bytes are a partial name.
+/// Whether the bytes are a partial name, a full one, and capital letters and `_` alone.
 pub fn name(alloc: Global, fields: &[Vec<u8>]) -> Option<String> {
     let [name] = fields else {
         return None;
     };
-    format!(in alloc; "{}", is_partial_name(name)).ok()
+    let is_full = is_full_name(name);
+    let is_capitals = is_capitals(name);
+    format!(in alloc; "{} {is_full} {is_capitals}", is_partial_name(name)).ok()
 }
 
 // Both sides of a cut, and whether the byte stands nowhere.

@@ -3,6 +3,7 @@
 ghost use Rattle.gix_object_lines.specs.declared.kind.Kind.TheVariants as kinds;
 
 use crate::fields::{quoted, text};
+use crate::orders;
 use bstr::BStr;
 use gix_object_lines::decode::loose_header;
 use gix_object_lines::write::{Error, write_bytes};
@@ -37,8 +38,7 @@ pub fn order(alloc: Global, fields: &[Vec<u8>]) -> Option<String> {
     };
     let first = Kind::from_bytes(first).ok()?;
     let second = Kind::from_bytes(second).ok()?;
-    let order = first.cmp(&second);
-    format!(in alloc; "{order:?} {}", first == second).ok()
+    orders::stand(alloc, &first, &second)
 }
 
 /// The kind, the size and the length of the header that begins the bytes.

@@ -1,6 +1,8 @@
 //! Bytes that are written or owned.
 
 use crate::fields::quoted;
+use crate::orders;
+use bstr::BStr;
 use gix_object_lines::ByteString;
 use gix_object_lines::write::write_bytes;
 use std::alloc::Global;
@@ -15,7 +17,7 @@ pub fn write(alloc: Global, fields: &[Vec<u8>]) -> Option<String> {
     quoted(alloc, &out)
 }
 
-/// What a copy of the bytes gives back.
+/// What a copy of the bytes gives back, and what the string itself lends.
 pub fn string(alloc: Global, fields: &[Vec<u8>]) -> Option<String> {
     let [text] = fields else {
         return None;
@@ -26,21 +28,23 @@ pub fn string(alloc: Global, fields: &[Vec<u8>]) -> Option<String> {
 
 fn given_back(alloc: Global, string: &ByteString) -> Option<String> {
     let copy = string.try_clone().ok()?.into_vec();
-    quoted(alloc, &copy)
+    let copy = BStr::new(&copy);
+    let bytes = BStr::new(string.as_bytes());
+    format!(in alloc; "{copy:?} {bytes:?}").ok()
 }
 
-/// Whether two strings of bytes are equal.
-pub fn equality(alloc: Global, fields: &[Vec<u8>]) -> Option<String> {
+/// How two strings of bytes stand to each other.
+pub fn order(alloc: Global, fields: &[Vec<u8>]) -> Option<String> {
     let [first, second] = fields else {
         return None;
     };
     let first = ByteString::from_slice(alloc, first).ok()?;
-    is_equal(alloc, &first, second)
+    stand(alloc, &first, second)
 }
 
-fn is_equal(alloc: Global, string: &ByteString, bytes: &[u8]) -> Option<String> {
-    let other = ByteString::new(Vec::from_slice(alloc, bytes).ok()?);
-    format!(in alloc; "{}", *string == other).ok()
+fn stand(alloc: Global, string: &ByteString, bytes: &[u8]) -> Option<String> {
+    let other = ByteString::new(Vec::from_slice(string.allocator(), bytes).ok()?);
+    orders::stand(alloc, string, &other)
 }
 
 /// The bytes without the line feed at their end.

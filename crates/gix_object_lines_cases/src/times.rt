@@ -1,6 +1,7 @@
 //! Times.
 
 use crate::fields::{quoted, text};
+use crate::orders;
 use gix_object_lines::lines::{Time, read_time, tells_time, write_time};
 use std::alloc::Global;
 
@@ -37,8 +38,7 @@ pub fn order(alloc: Global, fields: &[Vec<u8>]) -> Option<String> {
     };
     let first = read_time(first).ok()?;
     let second = read_time(second).ok()?;
-    let order = first.cmp(&second);
-    format!(in alloc; "{order:?} {}", first == second).ok()
+    orders::stand(alloc, &first, &second)
 }
 
 /// The time of seconds and offset.

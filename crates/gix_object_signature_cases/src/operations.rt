@@ -10,6 +10,7 @@ fn write_answer(alloc: Global, operation: &str, case: &Case, page: &mut Page) {
     match operation {
         "format" => words::format(case, page),
         "level" => words::level(case, page),
+        "levels" => words::levels(case, page),
         "key" => words::key(case, page),
         "join" => words::join(alloc, case, page),
         "sign-openpgp" => signing::sign(alloc, Format::OpenPgp, case, page),

@@ -24,6 +24,20 @@ pub fn level(case: &Case, page: &mut Page) {
     }
 }
 
+/// The order of the levels that two words name, and whether they are equal.
+pub fn levels(case: &Case, page: &mut Page) {
+    match (
+        TrustLevel::from_bytes(case.text(0)),
+        TrustLevel::from_bytes(case.text(1)),
+    ) {
+        (Some(one), Some(other)) => {
+            page.name(one.cmp(&other));
+            page.word(if one == other { " equal+" } else { " equal-" });
+        }
+        _ => page.word("none"),
+    }
+}
+
 /// The public key that is told in the place of a file.
 pub fn key(case: &Case, page: &mut Page) {
     match is_literal_ssh_key(case.text(0)) {

@@ -5,6 +5,7 @@ Git's documents; none from the program.
 repository, and `git symbolic-ref` or `git rev-parse` tells what it points to; `git rev-parse` looks words up.
 """
 import os
+import re
 import shutil
 import subprocess
 import tempfile
@@ -96,6 +97,7 @@ for data, answer in [(packed, shown), (bare, shown), (backwards, shown_backwards
                      (b"", ""), (b"# pack-refs with: \n", ""), (b"# pack-refs with:\n" + bare, shown), (packed.replace(b"\n", b"\r\n"), shown)]:
     add("items " + data.hex() if data else "items ", answer)
     add("open " + data.hex() if data else "open ", "opened")
+    add("bytes " + data.hex() if data else "bytes ", data.hex())
 for data in [packed, bare, backwards, b"# pack-refs with: peeled fully-peeled \n" + backwards]:
     # git itself reads the file that was put together by hand
     write("packed-refs", data)
@@ -126,6 +128,27 @@ for name in ["HEAD", "refs/bisect/bad", "refs/rewritten/x", "refs/worktree/y", "
     add(f"find {name} {own.hex()}", "none")
 for name in ["refs/heads/w", "main-worktree/refs/heads/w", "worktrees/w/refs/heads/w", "w"]:
     add(f"find {name} {own.hex()}", f"{one} refs/heads/w {one}")
+
+# gitrevisions: names directly below the folder of git and those below refs/ are taken as they stand, and so are those of another
+# worktree; git-worktree: the names that each worktree has of its own, and the fronts behind which another worktree's are.
+def shared(name):
+    """The name by which a record may stand for it."""
+    rest = re.sub(rb"^main-worktree/|^worktrees/[^/]*/", b"", name)
+    if is_private(rest):
+        return b"none"
+    return rest if rest.startswith(b"refs/") else name
+
+
+def is_private(name):
+    return re.fullmatch(rb"[A-Z_]*|refs/(bisect|rewritten|worktree)/.*", name, re.S) is not None
+
+
+for name in [b"HEAD", b"FETCH_HEAD", b"head", b"main", b"refs/heads/main", b"refs/bisect/bad", b"refs/bisect", b"refs/bisecting/x", b"refs/rewritten/x", b"refs/worktree/y",
+             b"refs/worktrees/y", b"main-worktree/HEAD", b"main-worktree/refs/heads/a", b"main-worktree/refs/bisect/bad", b"main-worktree/x", b"worktrees/w/HEAD", b"worktrees/w/refs/heads/a",
+             b"worktrees/w/refs/rewritten/x", b"worktrees/w/x", b"worktrees/HEAD", b"worktrees/w", b"a/worktrees/w/HEAD", b"refs", b"refs/x", b"heads/main", b"a/b/c", b"tags/", b"refsx/a"]:
+    whole = name.startswith((b"refs/", b"main-worktree/", b"worktrees/")) or re.fullmatch(rb"[A-Z_]*", name) is not None
+    behind = name.partition(b"/")[2] if b"/" in name else b"none"
+    add("lookup " + name.hex(), f"{str(whole).lower()} {str(is_private(name)).lower()} {shared(name).decode()} {behind.decode()}")
 
 # ---- bad lines: git refuses the whole file
 

@@ -1,6 +1,8 @@
 //! One case to one line.
 
+use bstr::BStr;
 use gix_hash::Kind;
+use gix_ref_format::lookup::{behind_slash, is_complete, is_own, key_of};
 use gix_ref_format::loose;
 use gix_ref_format::packed::{
     Buffer, FindError, Header, Iter, Peeled, Records, Reference, buffer, iter,
@@ -132,6 +134,28 @@ fn must_stand(alloc: Global, word: &[u8], bytes: &[u8]) -> Result<String, AllocE
     }
 }
 
+// The bytes that an opened file lends, in hexadecimal digits.
+fn lent(alloc: Global, bytes: &[u8]) -> Result<String, AllocError> {
+    match Buffer::from_bytes(alloc, bytes.to_vec(alloc)?, Kind::Sha1) {
+        Ok(buffer) => hex::encode(alloc, buffer.as_ref()),
+        Err(_) => format!(in alloc; "not opened"),
+    }
+}
+
+// Whether no rule completes the name, whether each worktree has its own, the name by which a record may stand for it, and what
+// stands behind its first slash.
+fn looked_up(alloc: Global, name: &[u8]) -> Result<String, AllocError> {
+    let is_complete = is_complete(name);
+    let is_own = is_own(name);
+    let key = name_or_none(key_of(name));
+    let behind = name_or_none(behind_slash(name));
+    format!(in alloc; "{is_complete} {is_own} {key} {behind}")
+}
+
+fn name_or_none(name: Option<&[u8]>) -> BStr<'_> {
+    BStr::new(name.unwrap_or(b"none"))
+}
+
 // The records of a file in order: all, or those whose names begin so.
 fn listed(alloc: Global, prefix: Option<&[u8]>, bytes: &[u8]) -> Result<String, AllocError> {
     let Ok(buffer) = Buffer::from_bytes(alloc, bytes.to_vec(alloc)?, Kind::Sha1) else {
@@ -190,6 +214,8 @@ fn answer_one(alloc: Global, operation: &str, digits: &str) -> Result<String, Al
         "items" => items(alloc, bytes),
         "open" => opened(alloc, bytes),
         "all" => listed(alloc, None, bytes),
+        "bytes" => lent(alloc, bytes),
+        "lookup" => looked_up(alloc, bytes),
         _ => format!(in alloc; "no operation: {operation}"),
     }
 }

@@ -99,6 +99,10 @@ for line in written.splitlines(keepends=True):
     add("again", line.rstrip(b"\n"), wanted.hex())
     add("copy", line, wanted.hex())
     add("copy", line.rstrip(b"\n"), wanted.hex())
+# What a reference held before an update is what the update before it wrote, and nothing before the first.
+held = [NULL, first, second, third, first]
+for number, line in enumerate(written.splitlines(keepends=True)):
+    add("ids", line, f"{held[number]} {held[number + 1]}")
 
 # ---- lines that git reads but doesn't write, each put behind a line of its own
 
@@ -112,6 +116,8 @@ for spelling in spellings:
     entries = read_by_git()
     assert len(entries) == 2, (spelling, entries)
     items = [item(entry) for entry in reversed(entries)]
+    add("ids", spelling, f"{first} {entries[0][0].decode()}")
+    add("ids", spelling.replace(first.encode(), first.upper().encode()), f"{first} {entries[0][0].decode()}")
     log_rows(log, items, [len(spelling), len(spelling) + 1, 200])
     # The last line may lack its line feed.
     log_rows(log[:-1], items, [len(spelling), len(spelling) + 1])
@@ -127,7 +133,22 @@ for spelling in bad:
     entries = read_by_git()
     assert len(entries) == 2, (spelling, entries)
     told = [item(entry) for entry in reversed(entries)]
+    add("ids", spelling, "refused")
     log_rows(log, [told[0], None, told[1]], [101, 102, 103, 150, 400])
+
+# ---- the log of a repository of SHA-256
+
+folder = tempfile.mkdtemp()
+git("init", "-q", "-b", "main", "--object-format=sha256")
+tree = git("mktree", input=b"").strip().decode()
+held = ["0" * 64]
+for message in ("one", "two"):
+    held.append(git("commit-tree", tree, "-m", message).strip().decode())
+    git("update-ref", "--create-reflog", "-m", message, "refs/heads/main", held[-1])
+written = open(os.path.join(folder, ".git/logs/refs/heads/main"), "rb").read()
+for number, line in enumerate(written.splitlines(keepends=True)):
+    add("ids", line, f"{held[number]} {held[number + 1]}")
+log_rows(written, [item(entry) for entry in reversed(read_by_git())], [150, 151, 152, 400])
 
 # ---- no lines at all
 

@@ -1,5 +1,6 @@
 //! One case to one line.
 
+use gix_object_lines::hex_line::is_id;
 use gix_ref_file::{Files, MemoryFiles};
 use gix_ref_format::log::iter::{Error, FileAt, ReadAt, forward, reverse};
 use gix_ref_format::log::{Line, LineRef};
@@ -101,6 +102,17 @@ fn copied(alloc: Global, text: &[u8]) -> Result<String, AllocError> {
     }
 }
 
+// The ids that a line tells, by the calls that give them.
+fn ids(alloc: Global, text: &[u8]) -> Result<String, AllocError> {
+    let Ok(line) = LineRef::from_bytes(text) else {
+        return format!(in alloc; "{REFUSED}");
+    };
+    if !is_id(line.previous_oid.as_bytes()) || !is_id(line.new_oid.as_bytes()) {
+        return format!(in alloc; "no ids");
+    }
+    format!(in alloc; "{} {}", line.previous_oid(), line.new_oid())
+}
+
 fn written(alloc: Global, line: &Line) -> Result<String, AllocError> {
     let mut written = Vec::new(alloc);
     match line.write_to(&mut written) {
@@ -128,6 +140,7 @@ pub fn answer(alloc: Global, line: &str) -> Result<String, AllocError> {
         "file" => file_items(alloc, bytes, size),
         "again" => again(alloc, bytes),
         "copy" => copied(alloc, bytes),
+        "ids" => ids(alloc, bytes),
         _ => format!(in alloc; "no operation: {line}"),
     }
 }

@@ -166,8 +166,9 @@ add_fields("strip", [b"HEAD", b"a..b"], "refused")
 
 
 def order(one, other):
+    """The order of two values, and whether they and their hashes are equal: equal ones hash alike, and digests of what differs differ."""
     word = "Less" if one < other else "Greater" if one > other else "Equal"
-    return f"{word} {str(one == other).lower()}"
+    return " ".join([word] + [str(one == other).lower()] * 2)
 
 
 # Names are ordered by their bytes, as Python orders bytes; namespaces by those of their fronts.
@@ -184,6 +185,27 @@ for one, other in [(b"a", b"b"), (b"a/b", b"a"), (b"a", b"a"), (b"a/b", b"a-b"),
 for one, other in [(b"a..b", b"a"), (b"a", b"a..b"), (b"a/b", b"")]:
     for operation in ["order_of_full", "order_of_partial", "order_of_namespaces"]:
         add_fields(operation, [one, other], "refused")
+
+
+# Categories are ordered as gix-ref declares them, those of linked worktrees then by the worktree's name.
+declared = ["tag", "local", "remote", "note", "pseudo", "main-pseudo", "main", "linked-pseudo", "linked", "bisect", "rewritten", "worktree"]
+told = {name: answer.partition(" ")[0] for name, answer in table.items()}
+told |= {b"worktrees/v/HEAD": "linked-pseudo", b"worktrees/x/refs/heads/x": "linked", b"worktrees/w/refs/bisect/bad": "linked"}
+
+
+def category_key(name):
+    is_linked = told[name].startswith("linked")
+    return declared.index(told[name]), name.split(b"/")[1] if is_linked else b""
+
+
+for one in told:
+    for other in told:
+        known = told[one] in declared and told[other] in declared
+        if known or one == other:
+            add_fields("order_of_categories", [one, other], order(category_key(one), category_key(other)) if known else "refused")
+for one, other in [(b"both", b"both"), (b"both", b"log"), (b"log", b"both"), (b"log", b"log")]:
+    add_fields("order_of_logs", [one, other], order(one, other))
+add_fields("order_of_logs", [b"both", b"none"], "refused")
 
 
 def git(room, *words, text=b""):

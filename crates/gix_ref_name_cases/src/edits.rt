@@ -19,6 +19,15 @@ pub fn expectation(alloc: Global, word: &[u8], target: &[u8]) -> Option<Previous
     }
 }
 
+/// What an edit concerns, by its word.
+pub fn concern(word: &[u8]) -> Option<RefLog> {
+    match str::from_utf8(word).ok()? {
+        "both" => Some(RefLog::AndReference),
+        "log" => Some(RefLog::Only),
+        _ => None,
+    }
+}
+
 // An edit of `refs/heads/main`: a deletion where nothing is said of a new target.
 fn read_edit(alloc: Global, fields: [&[u8]; 3]) -> Option<RefEdit> {
     let [word, target, new] = fields;

@@ -66,6 +66,8 @@ fn of_two(alloc: Global, operation: &str, one: &[u8], other: &[u8]) -> Result<St
         "order_of_partial" => orders::partial(alloc, one, other),
         "order_of_full" => orders::full(alloc, one, other),
         "order_of_namespaces" => orders::namespaces(alloc, one, other),
+        "order_of_categories" => orders::categories(alloc, one, other),
+        "order_of_logs" => orders::logs(alloc, one, other),
         "order_of_targets" => orders::targets(alloc, one, other),
         _ => none(alloc, operation),
     }

@@ -1,16 +1,25 @@
 //! Orders and comparisons.
 
-use crate::edits::expectation;
+use crate::edits::{concern, expectation};
 use crate::targets::read;
 use gix_ref_name::namespace::expand;
-use gix_ref_name::{FullNameRef, PartialNameRef};
+use gix_ref_name::{Category, FullNameRef, PartialNameRef};
 use std::alloc::{AllocError, Global};
+use std::hash::{DefaultHasher, Hash, Hasher};
 
 const REFUSED: &str = "refused";
 
-// How two values stand to each other, and whether they are equal.
-fn order<T: Ord>(alloc: Global, one: &T, other: &T) -> Result<String, AllocError> {
-    format!(in alloc; "{:?} {}", one.cmp(other), one == other)
+// The digest of what a value feeds a hasher.
+fn digest<T: Hash>(value: &T) -> u64 {
+    let mut hasher = DefaultHasher::new();
+    value.hash(&mut hasher);
+    hasher.finish()
+}
+
+// How two values stand to each other, whether they are equal, and whether their hashes are.
+fn order<T: Ord + Hash>(alloc: Global, one: &T, other: &T) -> Result<String, AllocError> {
+    let is_hash = digest(one) == digest(other);
+    format!(in alloc; "{:?} {} {is_hash}", one.cmp(other), *one == *other)
 }
 
 /// How two partial names stand to each other, as views and as names of their own.
@@ -48,6 +57,32 @@ pub fn namespaces(alloc: Global, one: &[u8], other: &[u8]) -> Result<String, All
         return format!(in alloc; "{REFUSED}");
     };
     order(alloc, &expand(alloc, one)?, &expand(alloc, other)?)
+}
+
+/// How the categories of two full names stand to each other.
+pub fn categories(alloc: Global, one: &[u8], other: &[u8]) -> Result<String, AllocError> {
+    let Some(one) = category(one) else {
+        return format!(in alloc; "{REFUSED}");
+    };
+    let Some(other) = category(other) else {
+        return format!(in alloc; "{REFUSED}");
+    };
+    order(alloc, &one, &other)
+}
+
+fn category(name: &[u8]) -> Option<Category<'_>> {
+    FullNameRef::new(name).ok()?.category()
+}
+
+/// How two words for what an edit concerns stand to each other.
+pub fn logs(alloc: Global, one: &[u8], other: &[u8]) -> Result<String, AllocError> {
+    let Some(one) = concern(one) else {
+        return format!(in alloc; "{REFUSED}");
+    };
+    let Some(other) = concern(other) else {
+        return format!(in alloc; "{REFUSED}");
+    };
+    order(alloc, &one, &other)
 }
 
 /// How two targets stand to each other, by themselves, by their views and by their kinds.

@@ -1,4 +1,4 @@
-use Rattle.gix_object_entries.proofs.Equal.{one_item, item_itself}
+use Rattle.gix_object_entries.specs.SameItem.{one_item, item_itself}
 use Rattle.gix_object_entries.specs.Entry.{own_item}
 use Rattle.gix_object_entries.proofs.laws.equal_entries_are_one.Goals as goal
 

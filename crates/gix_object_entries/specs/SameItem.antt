@@ -1,16 +1,17 @@
 -- Entries that the order ties are one.
-use Rattle.std.proofs.Common.{◌≡◌, ◌∙◌, ap, refl, subst, ℕ, ◌<◌, Bool, true, false, Ordering}
+use Rattle.std.proofs.Common.{◌≡◌, ◌∙◌, ap, refl, sym, subst, ℕ, ◌<◌, Bool, true, false, List, Ordering}
 use Rattle.std.specs.Prelude.{IsTrue}
 use Rattle.std.specs.declared.cmp.Ordering.TheVariants.{Less, Equal, Greater}
 use Rattle.std.specs.Ordering.{MatchOrdering, nat_cmp, bool_cmp, ordering_then, is_eq}
 use Rattle.std.proofs.lemmas.Cmp.{tied_itself, ranked}
+use Rattle.std.proofs.lemmas.Map.Text.{is_eq-slice_cmp}
+use Rattle.std.proofs.lemmas.Slice.Eq.{bytes_eq-Decides}
 use Rattle.gix_hash.specs.Id.{Id}
 use Rattle.gix_hash.specs.Order.{digits_cmp, id_cmp}
 use Rattle.gix_hash.specs.OrderLaws.{id_eq-same, id_tied}
 use Rattle.gix_object_entries.specs.Entry.{Item}
 use Rattle.gix_object_entries.specs.Order.{item_key, mode_cmp, item_cmp}
 use Rattle.gix_object_entries.specs.OrderLaws.{item_total, item_eq}
-use Rattle.gix_object_entries.proofs.Searched.{one_key}
 
 -- what ties by one order and then another ties by both
 both_tie : (a b : Ordering) → ordering_then a b ≡ Equal → (a ≡ Equal) × (b ≡ Equal)
@@ -31,6 +32,10 @@ one_bool true true e = refl
 one_bool false false e = refl
 one_bool true false e = absurd cc
 one_bool false true e = absurd cc
+
+-- keys that tie are one
+pub one_key : (a b : List ℕ) → digits_cmp a b ≡ Equal → a ≡ b
+one_key a b e = (bytes_eq-Decides a b).0 (sym (is_eq-slice_cmp a b) ∙ ap is_eq e)
 
 one_id : (a b : Id) → id_cmp a b ≡ Equal → a ≡ b
 one_id a b e = id_eq-same a b (id_tied a b ∙ ap is_eq e)
