@@ -213,36 +213,3 @@ entry_of trees leaf s None is e = (by_null (is_null (leaf_in s).id) e, is)
     by_null : (b : Bool) → (if b then None else unless_tree (tree_under trees (leaf_in s)) (leaf_in s)) ≡ Some leaf → leaf_in s ≡ leaf
     by_null true h = absurd (cc h)
     by_null false h = by_tree (tree_under trees (leaf_in s)) h
-
-entry_stands : (trees : Trees) (slots : Slots) (at : ℕ) (name : Bytes) (leaf : Leaf) (o : Option Slot) → slots at name ≡ o → through o (files_of_slot trees slots []) ≡ Some leaf → IsEntry (slots at name) leaf
-entry_stands trees slots at name leaf None is e = absurd (cc e)
-entry_stands trees slots at name leaf (Some s) is e = let so = entry_of trees leaf s s.child refl e in (s, is, so.0, so.1)
-
-none_file : (trees : Trees) (slots : Slots) (whole : Path) (at : ℕ) (name m : Bytes) (k rest : Path) (leaf : Leaf) → rest ≡ name ∷ m ∷ k → LeadsTo slots whole at rest → IsFolderAt slots at name None
-    → files_of_node trees slots 0 whole ≡ Some leaf → ⊥
-none_file trees slots whole at name m k rest leaf is leads plain e =
-    let there = down trees slots leads.0 at name (m ∷ k) leads.1 in
-    let none : files_of_node trees slots 0 whole ≡ None = ap (files_of_node trees slots 0) (sym (ap (onto leads.0) (sym is) ∙ leads.2)) ∙ there ∙ plain trees m k in
-    cc (sym none ∙ e)
-
--- the entry whose file stands at a path
-pub same_entry : (trees : Trees) (slots : Slots) (whole : Path) (at : ℕ) (path : List (Bor (List ℕ))) (i : ℕ) (left : List (Bor (List ℕ))) (leaf : Leaf) → i < length path → left ≡ drop i path
-    → LeadsTo slots whole at (names left) → (i + 1 < length path → IsFolderAt slots at (get_or (names path) i []) None) → files_of_node trees slots 0 whole ≡ Some leaf
-    → (length left ≡ 1) × IsEntry (slots at (get_or (names left) 0 [])) leaf
-same_entry trees slots whole at path i left leaf lt cut leads plain e = elim (cases_eq (i + 1) (length path)) [
-  | inl last ↦
-      let one : length left ≡ 1 = omega (arith, last, ap length cut, length-drop i path) in
-      let name = get_or (names left) 0 [] in
-      let alone : names left ≡ name ∷ [] = lone (names left) (names_length left ∙ one) in
-      let there = down trees slots leads.0 at name [] leads.1 in
-      (one, entry_stands trees slots at name leaf (slots at name) refl (sym there ∙ ap (λ p. files_of_node trees slots 0 (onto leads.0 p)) (sym alone) ∙ ap (files_of_node trees slots 0) leads.2 ∙ e))
-  | inr ne ↦
-      let more : i + 1 < length path = omega (arith, lt, ne) in
-      let two = two_names path i more in
-      absurd (none_file trees slots whole at (get_or (names path) i []) two.0 two.1 (names left) leaf (ap names cut ∙ two.2) leads (plain more) e)
-]
-  where
-    lone : (p : Path) → length p ≡ 1 → p ≡ get_or p 0 [] ∷ []
-    lone [] n = absurd (omega arith)
-    lone (x ∷ []) n = refl
-    lone (x ∷ y ∷ p) n = absurd (omega arith)

@@ -3,12 +3,13 @@ use Rattle.std.proofs.Common.{ℕ, ◌≡◌, ◌≢◌, ◌<◌, ◌≤◌, Boo
 use Rattle.std.specs.Prelude.{bytes_eq, is_some}
 use Rattle.std.specs.Borrow.{Bor}
 use Rattle.gix_object_editor.specs.Files.{Bytes, Path, Leaf, FileMap, Trees, HasNoneBelow, behind, removed, put, put_at, cleared, through}
-use Rattle.gix_object_editor.specs.Nodes.{Slots, child_of, files_of_node, entry_at, Way, onto, IsForest, IsFolderAt, LeadsTo, IsPutIn}
+use Rattle.gix_object_editor.specs.Nodes.{Slots, child_of, files_of_node, entry_at, entry_from, Way, onto, IsForest, IsFolderAt, LeadsTo, IsPutIn}
 use Rattle.gix_object_editor.specs.Marks.{Mark, Marks, AreMarksKept, AreOnPath}
 use Rattle.gix_object_editor.proofs.Opening.{at_or_off}
 use Rattle.gix_object_editor.proofs.Paths.{same_name, name_itself, by_test, behind_is, onto-append}
 use Rattle.gix_object_editor.proofs.Ways.{down, child_no_file, removes, way_above, way_kept}
 use Rattle.gix_object_editor.proofs.Walked.{names}
+use Rattle.gix_object_editor.proofs.Entered.{none_met, cut_entries}
 use Rattle.gix_object_editor.proofs.Edits.{below_end, none_left}
 
 -- ---- paths
@@ -124,6 +125,11 @@ module _ (mid new : Slots) (more : ℕ) (ok : IsForest mid more) (path : Path) (
       ∙ ap (λ p. if is_some (behind p q) then None else files_of_node trees mid 0 q) (onto-append put_in.3.0 [] (x ∷ []) ∙ ap (λ p. p ++ x ∷ []) down_to)
       ∙ ap (λ y. if is_some (behind (path ++ x ∷ []) q) then None else y) (puts q)
       ∙ cleared_by trees path x leaf files none q
+
+  pub taken_entries : (trees : Trees) (q : Path) → entry_from none_met trees new 0 q ≡ removed (path ++ x ∷ []) (entry_from none_met trees mid 0) q
+  taken_entries trees q =
+      cut_entries trees mid new more ok end x put_in.3.0 put_in.3.1 (λ i m lt off. others i m off) here q
+      ∙ ap (λ p. removed p (entry_from none_met trees mid 0) q) (onto-append put_in.3.0 [] (x ∷ []) ∙ ap (λ p. p ++ x ∷ []) down_to)
 
 -- a slot without an opened tree is taken out
 module _ (mid new : Slots) (x : Bytes) (end : ℕ) (here : new end x ≡ None) (others : (i : ℕ) (m : Bytes) → ((i ≡ end) → (m ≡ x) → ⊥) → new i m ≡ mid i m) where

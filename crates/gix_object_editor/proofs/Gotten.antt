@@ -5,7 +5,9 @@ use Rattle.gix_object_entries.specs.Mode.{is_tree_value}
 use Rattle.gix_object_editor.specs.declared.tree.editor.node.NodeId.{NodeId}
 use Rattle.gix_object_editor.specs.declared.tree.editor.node.Slot.{Slot}
 use Rattle.gix_object_editor.specs.Files.{Bytes, Path, Leaf, Trees, is_null, through, leaf_of, tree_under, unless_tree, files_of_entry}
-use Rattle.gix_object_editor.specs.Nodes.{Slots, child_or, child_of, leaf_in, entry_in, entry_at, files_of_slot, files_of_node, Way, onto, LeadsTo}
+use Rattle.gix_object_editor.specs.Nodes.{Slots, child_or, child_of, leaf_in, entry_in, entry_at, slot_entry, entry_from, files_of_slot, files_of_node, Way, onto, LeadsTo}
+use Rattle.gix_object_editor.proofs.Entered.{none_met}
+use Rattle.gix_object_editor.proofs.Standing.{child_entry, entry_below as entry_down}
 use Rattle.gix_object_editor.proofs.Edits.{entry_of}
 use Rattle.gix_object_editor.proofs.Folders.{below_base}
 use Rattle.gix_object_editor.proofs.Ways.{down}
@@ -99,3 +101,24 @@ got_below trees slots base j p item leads e some gone = elim (got_there trees sl
   | inl file ↦ inl (same_below trees slots base j p item leads e ∙ file)
   | inr opened ↦ inr (opened.0, subst (λ q. LeadsTo slots q opened.0 []) (below_base leads.0 base p leads.2) opened.1)
 ]
+
+-- ---- it is the entry that stands there
+
+pub got_entry : (trees : Trees) (slots : Slots) (p : Path) (i : ℕ) (item : Item) → entry_at slots i p ≡ Some item → entry_from none_met trees slots i p ≡ Some (leaf_of item)
+got_entry trees slots [] i item e = absurd (cc e)
+got_entry trees slots (name ∷ []) i item e = by_slot (slots i name) e
+  where
+    by_slot : (o : Option Slot) → entry_in name o ≡ Some item → through o (slot_entry none_met trees slots []) ≡ Some (leaf_of item)
+    by_slot None h = absurd (cc h)
+    by_slot (Some s) h = ap Some (sym (item_leaf name s item h))
+got_entry trees slots (name ∷ next ∷ rest) i item e = by_child (λ c h. got_entry trees slots (next ∷ rest) c item h) (child_of (slots i name)) refl e
+  where
+    by_child : ((c : ℕ) → entry_at slots c (next ∷ rest) ≡ Some item → entry_from none_met trees slots c (next ∷ rest) ≡ Some (leaf_of item)) → (o : Option ℕ) → child_of (slots i name) ≡ o
+        → through o (λ c. entry_at slots c (next ∷ rest)) ≡ Some item → through (slots i name) (slot_entry none_met trees slots (next ∷ rest)) ≡ Some (leaf_of item)
+    by_child deeper None link h = absurd (cc h)
+    by_child deeper (Some c) link h = child_entry none_met trees slots next rest (slots i name) c link ∙ deeper c h
+
+pub got_entry_below : (trees : Trees) (slots : Slots) (base : Path) (j : ℕ) (p : Path) (item : Item) → LeadsTo slots base j [] → entry_at slots j p ≡ Some item → entry_from none_met trees slots 0 (base ++ p) ≡ Some (leaf_of item)
+got_entry_below trees slots base j [] item leads e = absurd (cc e)
+got_entry_below trees slots base j (n ∷ rest) item leads e =
+    ap (entry_from none_met trees slots 0) (sym (below_base leads.0 base (n ∷ rest) leads.2)) ∙ entry_down none_met trees slots leads.0 j n rest leads.1 ∙ got_entry trees slots (n ∷ rest) j item e

@@ -14,7 +14,8 @@ use Rattle.gix_object_find.specs.Table.{Table}
 use Rattle.gix_object_editor.specs.declared.tree.editor.node.Slot.{Slot}
 use Rattle.gix_object_editor.specs.Files.{Bytes, Path, Leaf, is_null, leaf_of, named, NamesAreFull}
 use Rattle.gix_object_editor.specs.declared.tree.editor.node.Node.{Node}
-use Rattle.gix_object_editor.specs.Nodes.{Slots, slot_in, slots_of, leaf_in, IsRung, StandsFor}
+use Rattle.gix_object_editor.specs.Nodes.{Slots, slot_in, slots_of, leaf_in, StandsFor}
+use Rattle.gix_object_editor.specs.Laid.{IsRung}
 use Rattle.gix_object_editor.proofs.Loaded.{entries_stand}
 use Rattle.gix_object_editor.specs.Entries.{Property, EachHas, PassesDown, HoldsTree, MayStand, MayStandMade, ItemsHave, made_leaf}
 use Rattle.gix_object_editor.proofs.Paths.{same_name, name_itself, by_test}

@@ -7,7 +7,9 @@ use Rattle.std.proofs.lemmas.Bool.{cases_lt}
 use Rattle.gix_object_editor.specs.declared.tree.editor.node.Node.{Node}
 use Rattle.gix_object_editor.specs.declared.tree.editor.node.Slot.{Slot}
 use Rattle.gix_object_editor.specs.Files.{Bytes, Path, Trees, behind, through, files_of_entry, put, put_at}
-use Rattle.gix_object_editor.specs.Nodes.{Slots, slots_of, child_or, child_of, leaf_in, files_of_slot, files_of_node, IsForest, IsFolderAt, IsOnly, IsRung, Way, onto, LeadsTo, IsPutIn}
+use Rattle.gix_object_editor.specs.Nodes.{Slots, slots_of, child_or, child_of, leaf_in, files_of_slot, files_of_node, slot_entry, entry_from, IsForest, IsFolderAt, Way, onto, LeadsTo, IsPutIn}
+use Rattle.gix_object_editor.specs.Laid.{IsOnly, IsRung, laid, laid_at}
+use Rattle.gix_object_editor.specs.Entries.{made_leaf}
 use Rattle.gix_object_editor.specs.Marks.{Mark, Marks, mark_below, rung_parent, AreMarksKept, AreOnPath}
 use Rattle.gix_object_editor.proofs.Opening.{same_through, linked_more, at_or_off}
 use Rattle.gix_object_editor.proofs.Paths.{same_name, name_itself, by_test, onto-append}
@@ -15,6 +17,9 @@ use Rattle.gix_object_editor.proofs.Slots.{none_past}
 use Rattle.gix_object_editor.proofs.Walked.{names, names_length}
 use Rattle.gix_object_editor.proofs.Ways.{child_files, child_no_file, puts, grafts, way_kept, way_above}
 use Rattle.gix_object_editor.proofs.Edits.{less_forest}
+use Rattle.gix_object_editor.proofs.Standing.{child_entry}
+use Rattle.gix_object_editor.proofs.Entered.{none_met, closed_entry, laid_entries}
+use Rattle.gix_hash.specs.Id.{id_of}
 
 -- nodes behind the others change no file
 pub front_files : (trees : Trees) (slots new : Slots) (bound : ℕ) → IsForest slots bound → ((i : ℕ) (m : Bytes) → i < bound → new i m ≡ slots i m)
@@ -32,14 +37,15 @@ rung_kept slots new first names s n k front lt r = record {
   slot = r.slot;
   only = (front (first + k) (get_or names k []) lt ∙ r.only.0, λ m apart. front (first + k) m lt ∙ r.only.1 m apart);
   leads = r.leads;
+  folder = r.folder;
   ends = r.ends;
 }
 
 pub one_rung_more : (names : Path) (slots new : Slots) (first n i : ℕ) (s rung : Slot) → n ≡ first + i → ((j : ℕ) (m : Bytes) → j < n → new j m ≡ slots j m)
     → new n (get_or names i []) ≡ Some rung → ((m : Bytes) → m ≢ get_or names i [] → new n m ≡ None)
-    → (suc i < length names → child_of (Some rung) ≡ Some (suc n)) → (suc i ≡ length names → rung ≡ s)
+    → (suc i < length names → child_of (Some rung) ≡ Some (suc n)) → (suc i < length names → leaf_in rung ≡ made_leaf (id_of s.oid).kind) → (suc i ≡ length names → rung ≡ s)
     → ((k : ℕ) → k < i → IsRung slots first names s k) → (k : ℕ) → k < i + 1 → IsRung new first names s k
-one_rung_more names slots new first n i s rung at front stands apart leads ends before k lt = elim (cases_lt k i) [
+one_rung_more names slots new first n i s rung at front stands apart leads folder ends before k lt = elim (cases_lt k i) [
   | inl less ↦ let inside : first + k < n = omega arith in rung_kept slots new first names s n k front inside (before k less)
   | inr le ↦
       let same : i ≡ k = omega arith in
@@ -47,6 +53,7 @@ one_rung_more names slots new first n i s rung at front stands apart leads ends 
         slot = rung;
         only = subst (λ j. IsOnly new j (get_or names i []) rung) at (stands, apart);
         leads = λ inner. leads inner ∙ ap (λ j. Some (suc j)) at;
+        folder = folder;
         ends = ends;
       })
 ]
@@ -82,6 +89,7 @@ module _ (trees : Trees) (new : Slots) (s : Slot) (closed : s.child ≡ None) wh
         slot = r.slot;
         only = subst (λ i. IsOnly new i (get_or (next ∷ more) k []) r.slot) at r.only;
         leads = λ lt. let less : suc (suc k) < length (name ∷ next ∷ more) = omega arith in r.leads less ∙ ap (λ i. Some (suc i)) at;
+        folder = λ lt. let less : suc (suc k) < length (name ∷ next ∷ more) = omega (arith, lt) in r.folder less;
         ends = λ e. r.ends (ap suc e);
       }
 
@@ -102,6 +110,43 @@ module _ (trees : Trees) (new : Slots) (s : Slot) (closed : s.child ≡ None) wh
       first_rung name (next ∷ more) n r.slot r.only m (k ∷ rest) (
       child_files trees new k rest (Some r.slot) (suc (n + 0)) (r.leads two)
       ∙ ladder_files (next ∷ more) (suc (n + 0)) later (λ j lt. let less : suc j < length (name ∷ next ∷ more) = omega arith in next_rung name next more n j (rungs (suc j) less)) k rest)
+
+  -- ---- its entries
+
+  first_entry : (name : Bytes) (names : Path) (n : ℕ) (slot : Slot) → IsOnly new (n + 0) name slot → (m : Bytes) (rest : Path)
+      → slot_entry none_met trees new rest slot ≡ laid trees (leaf_in s) names rest
+      → entry_from none_met trees new n (m ∷ rest) ≡ laid trees (leaf_in s) (name ∷ names) (m ∷ rest)
+  first_entry name names n slot only m rest below =
+      let at : n ≡ n + 0 = omega arith in
+      elim (by_test (bytes_eq name m)) [
+        | inl t ↦
+            let same : name ≡ m = same_name name m t in
+            ap (λ i. through (new i m) (slot_entry none_met trees new rest)) at ∙ ap (λ k. through (new (n + 0) k) (slot_entry none_met trees new rest)) (sym same)
+            ∙ ap (λ o. through o (slot_entry none_met trees new rest)) only.0 ∙ below
+            ∙ sym (ap (λ b. if b then laid trees (leaf_in s) names rest else None) t)
+        | inr f ↦
+            let apart : m ≢ name = λ same. let yes : bytes_eq name m ≡ true = ap (bytes_eq name) same ∙ name_itself name in cc in
+            ap (λ i. through (new i m) (slot_entry none_met trees new rest)) at ∙ ap (λ o. through o (slot_entry none_met trees new rest)) (only.1 m apart)
+            ∙ sym (ap (λ b. if b then laid trees (leaf_in s) names rest else None) f)
+      ]
+
+  pub ladder_entries : (names : Path) (n : ℕ) → 0 < length names → ((k : ℕ) → k < length names → IsRung new n names s k) → (m : Bytes) (rest : Path)
+      → entry_from none_met trees new n (m ∷ rest) ≡ laid trees (leaf_in s) names (m ∷ rest)
+  ladder_entries [] n some rungs m rest = absurd (omega arith)
+  ladder_entries (name ∷ []) n some rungs m rest =
+      let r = rungs 0 some in
+      first_entry name [] n r.slot r.only m rest (ap (slot_entry none_met trees new rest) (r.ends refl) ∙ closed_entry trees new s closed rest)
+  ladder_entries (name ∷ next ∷ more) n some rungs m [] =
+      let r = rungs 0 some in
+      let two : 1 < length (name ∷ next ∷ more) = omega arith in
+      first_entry name (next ∷ more) n r.slot r.only m [] (ap Some (r.folder two))
+  ladder_entries (name ∷ next ∷ more) n some rungs m (k ∷ rest) =
+      let r = rungs 0 some in
+      let two : 1 < length (name ∷ next ∷ more) = omega arith in
+      let later : 0 < length (next ∷ more) = omega arith in
+      first_entry name (next ∷ more) n r.slot r.only m (k ∷ rest) (
+      child_entry none_met trees new k rest (Some r.slot) (suc (n + 0)) (r.leads two)
+      ∙ ladder_entries (next ∷ more) (suc (n + 0)) later (λ j lt. let less : suc j < length (name ∷ next ∷ more) = omega arith in next_rung name next more n j (rungs (suc j) less)) k rest)
 
 -- the way down a ladder
 pub ladder_end : (new : Slots) (s : Slot) (closed : s.child ≡ None) (names : Path) (n : ℕ) (way : Path) → Way new way n → 0 < length names → ((k : ℕ) → k < length names → IsRung new n names s k)
@@ -242,6 +287,7 @@ module _ (slots mid : Slots) (bound more : ℕ) (ok : IsForest slots bound) (nam
           slot = r.slot;
           only = (others (bound + k) (get_or names k []) (λ e _. off e) ∙ r.only.0, λ m apart. others (bound + k) m (λ e _. off e) ∙ r.only.1 m apart);
           leads = r.leads;
+          folder = r.folder;
           ends = r.ends;
         }
 
@@ -262,6 +308,24 @@ module _ (slots mid : Slots) (bound more : ℕ) (ok : IsForest slots bound) (nam
         ∙ ap (λ x. put_at trees (leaf_in s) (behind (onto way (name ∷ next ∷ rest)) q) (if is_some (behind q (onto way (name ∷ next ∷ rest))) then None else x))
         (front_files trees slots mid bound ok front q 0 root)
 
+    is_linked : child_of (new at name) ≡ Some bound
+    is_linked = ap child_of stands ∙ linked
+
+    pub linked_entries : leaf_in top ≡ made_leaf (id_of s.oid).kind → (trees : Trees) (way : Path) → Way slots way at
+        → (q : Path) → entry_from none_met trees new 0 q ≡ laid_at trees (leaf_in s) names (behind (onto way (name ∷ [])) q) (entry_from none_met trees slots 0 q)
+    linked_entries made trees way reached q =
+        laid_entries trees slots new bound ok at name way reached (λ i m lt off. others i m off ∙ front i m lt) (leaf_in s) names below_name q
+      where
+        empty_not : (names : Path) → 0 < length names → laid trees (leaf_in s) names [] ≡ Some (made_leaf (id_of s.oid).kind)
+        empty_not [] lt = absurd (omega (arith, lt))
+        empty_not (n ∷ ns) lt = refl
+
+        below_name : (rest : Path) → through (new at name) (slot_entry none_met trees new rest) ≡ laid trees (leaf_in s) names rest
+        below_name [] = ap (λ o. through o (slot_entry none_met trees new [])) stands ∙ ap Some made ∙ sym (empty_not names some)
+        below_name (m ∷ rest) =
+            child_entry none_met trees new m rest (new at name) bound is_linked
+            ∙ ladder_entries trees new s closed names bound some (λ k lt. rung_stays k (rungs k lt)) m rest
+
     pub linked_end : (way : Path) → Way slots way at → IsPutIn new (onto way (name ∷ names)) (bound + (length names - 1))
     linked_end way reached =
         let same : (i : ℕ) (m : Bytes) → i < at → new i m ≡ slots i m = λ i m lt.
@@ -269,9 +333,6 @@ module _ (slots mid : Slots) (bound more : ℕ) (ok : IsForest slots bound) (nam
         others i m (λ e _. absurd (omega arith)) ∙ front i m less in
         let down : Way new way at = way_above slots new bound at ok same way at (omega arith) reached in
         ladder_end new s closed names bound (name ∷ way) (at, down, ap child_of stands ∙ linked) some (λ k lt. rung_stays k (rungs k lt))
-
-    is_linked : child_of (new at name) ≡ Some bound
-    is_linked = ap child_of stands ∙ linked
 
     rung_mark : (state : Bool) (now : Marks) → ((k : ℕ) → k < length names → now (bound + k) ≡ mark_below (rung_parent at bound k) state) → (i : ℕ) → bound ≤ i → i < more → now i ≡ mark_below (rung_parent at bound (i - bound)) state
     rung_mark state now made i le lt =
@@ -376,6 +437,12 @@ module _ (old mid new : List Node) (ok : IsForest (slots_of old) (length old)) (
       parts.0 parts.1 (ap names tail_is ∙ parts.3) plain_here trees way reached q
       ∙ ap (λ p. put trees (onto way p) (leaf_in s) (files_of_node trees (slots_of old) 0) q) (sym is)
 
+  pub hung_entries : leaf_in top ≡ made_leaf (id_of s.oid).kind → (trees : Trees) (way : Path) → Way (slots_of old) way at
+      → (q : Path) → entry_from none_met trees (slots_of new) 0 q ≡ laid_at trees (leaf_in s) (names tail) (behind (onto way (name ∷ [])) q) (entry_from none_met trees (slots_of old) 0 q)
+  hung_entries made trees way reached q =
+      linked_entries (slots_of old) (slots_of mid) (length old) (length mid) ok (names tail) s closed front rungs_named long past (slots_of new) at name top below some stands linked others
+      made trees way reached q
+
   pub hung_end : (k : ℕ) → suc k ≡ length mid → (way : Path) → Way (slots_of old) way at → IsPutIn (slots_of new) (onto way (names path)) k
   hung_end k end way reached =
       let parts = rest_names path two in
@@ -405,6 +472,11 @@ module _ (old mid new : List Node) (ok : IsForest (slots_of old) (length old)) (
 
 -- ---- one name alone
 
+pub none_behind : (path : List (Bor (List ℕ))) → length path ≡ 1 → names (drop 1 path) ≡ []
+none_behind [] e = absurd (omega arith)
+none_behind (p ∷ []) e = refl
+none_behind (p ∷ q ∷ path) e = absurd (omega arith)
+
 lone_name : (path : List (Bor (List ℕ))) → length path ≡ 1 → names path ≡ get_or (names path) 0 [] ∷ []
 lone_name [] e = absurd (omega arith)
 lone_name (p ∷ []) e = refl
@@ -424,6 +496,12 @@ module _ (old new : List Node) (ok : IsForest (slots_of old) (length old)) (path
       let is : names path ≡ name ∷ [] = lone_name path one ∙ ap (λ n. n ∷ []) name_is in
       puts trees (slots_of old) (slots_of new) (length old) ok at name way reached others s stands closed q
       ∙ ap (λ p. put trees (onto way p) (leaf_in s) (files_of_node trees (slots_of old) 0) q) (sym is)
+
+  pub put_entries : (trees : Trees) (way : Path) → Way (slots_of old) way at
+      → (q : Path) → entry_from none_met trees (slots_of new) 0 q ≡ laid_at trees (leaf_in s) [] (behind (onto way (name ∷ [])) q) (entry_from none_met trees (slots_of old) 0 q)
+  put_entries trees way reached q =
+      laid_entries trees (slots_of old) (slots_of new) (length old) ok at name way reached (λ i m lt off. others i m off) (leaf_in s) []
+      (λ rest. ap (λ o. through o (slot_entry none_met trees (slots_of new) rest)) stands ∙ closed_entry trees (slots_of new) s closed rest) q
 
   pub put_end : (way : Path) → Way (slots_of old) way at → IsPutIn (slots_of new) (onto way (names path)) at
   put_end way reached =

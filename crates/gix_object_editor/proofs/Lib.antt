@@ -22,3 +22,5 @@ pub mod Leafs
 pub mod Cuts
 pub mod Gotten
 pub mod Standing
+pub mod Entered
+pub mod Raised

@@ -103,7 +103,7 @@ same_child_entry : (blocked : Leaf → Option Leaf) (trees : Trees) (slots new :
 same_child_entry blocked trees slots new None m more x h = refl
 same_child_entry blocked trees slots new (Some c) m more x h = h c.0 refl
 
-same_entries : (blocked : Leaf → Option Leaf) (trees : Trees) (slots new : Slots) (rest : Path) (o : Option Slot) → ((c : ℕ) → child_of o ≡ Some c → entry_from blocked trees new c rest ≡ entry_from blocked trees slots c rest)
+pub same_entries : (blocked : Leaf → Option Leaf) (trees : Trees) (slots new : Slots) (rest : Path) (o : Option Slot) → ((c : ℕ) → child_of o ≡ Some c → entry_from blocked trees new c rest ≡ entry_from blocked trees slots c rest)
     → through o (slot_entry blocked trees new rest) ≡ through o (slot_entry blocked trees slots rest)
 same_entries blocked trees slots new rest None h = refl
 same_entries blocked trees slots new [] (Some u) h = refl
@@ -198,6 +198,8 @@ opened_none honest table slots bound ok = record {
   links = λ i m c e. e;
   files = λ h trees has q i lt. refl;
   entries = λ h trees has blocked q i lt. refl;
+  leaves = λ i m s lt is. (s, is, refl);
+  fresh = λ i m s c is link. inl (ap child_of is ∙ link);
 }
 
 pub opened_same : (honest : Type 0) (table : Table) (old new : Slots) (bound more : ℕ) → IsForest old bound → bound ≡ more → ((i : ℕ) (m : Bytes) → new i m ≡ old i m) → IsOpened honest table old new bound more
@@ -211,7 +213,32 @@ opened_then honest table a b c k l m first second = record {
   links = λ i n d e. second.links i n d (first.links i n d e);
   files = λ h trees has q i lt. let f = first.longer in let less : i < l = omega arith in second.files h trees has q i less ∙ first.files h trees has q i lt;
   entries = λ h trees has blocked q i lt. let f = first.longer in let less : i < l = omega arith in second.entries h trees has blocked q i less ∙ first.entries h trees has blocked q i lt;
+  leaves = λ i n s lt is.
+      let f = first.longer in
+      let less : i < l = omega arith in
+      let one = first.leaves i n s lt is in
+      let two = second.leaves i n one.0 less one.1 in
+      (two.0, two.1, two.2 ∙ one.2);
+  fresh = λ i n t d is link. elim (second.fresh i n t d is link) [
+    | inr tree ↦ inr tree
+    | inl before ↦ by_slot i n t d is before (b i n) refl
+  ];
 }
+  where
+    one_slot : (s t : Slot) → Some s ≡ Some t → s ≡ t
+    one_slot s t e = cc
+
+    by_slot : (i : ℕ) (n : Bytes) (t : Slot) (d : ℕ) → c i n ≡ Some t → child_of (b i n) ≡ Some d → (o : Option Slot) → b i n ≡ o → (child_of (a i n) ≡ Some d) ⊎ (leads_on (leaf_in t) ≡ true)
+    by_slot i n t d is before None there = absurd (cc (sym (ap child_of there) ∙ before))
+    by_slot i n t d is before (Some s) there = elim (first.fresh i n s d there (sym (ap child_of there) ∙ before)) [
+      | inl old ↦ inl old
+      | inr tree ↦
+          let up : i < d = first.forest.forward i n d before in
+          let in_it : d < l = first.forest.within i n d before in
+          let less : i < l = omega (arith, up, in_it) in
+          let kept = second.leaves i n s less there in
+          inr (ap (λ u. leads_on (leaf_in u)) (one_slot t kept.0 (sym is ∙ kept.1)) ∙ ap leads_on kept.2 ∙ tree)
+    ]
 
 -- one tree more, from the slot of a folder
 pub opened_one : (honest : Type 0) (table : Table) (slots new : Slots) (bound more : ℕ) → IsForest slots bound → more ≡ suc bound
@@ -232,8 +259,32 @@ opened_one honest table slots new bound more ok next j name s t lt stood folder 
   entries = λ h trees has blocked q i less.
       let tree = loaded h in
       opens_entries blocked trees slots new bound ok j name s t tree.0 stood folder (tree.2 trees has) stands linked leaf tree.1 agree q i less;
+  leaves = λ i m u less is. elim (at_or_off i j m name) [
+    | inl x ↦
+        let at : slots i m ≡ Some s = ap (λ k. slots k m) x.0 ∙ ap (slots j) x.1 ∙ stood in
+        (t, ap (λ k. new k m) x.0 ∙ ap (new j) x.1 ∙ stands, leaf ∙ ap leaf_in (one_slot s u (sym at ∙ is)))
+    | inr off ↦ (u, agree i m less off ∙ is, refl)
+  ];
+  fresh = λ i m u c is link. elim (cases_order i bound) [
+    | inr (inl less) ↦ elim (at_or_off i j m name) [
+      | inl x ↦
+          let at : new i m ≡ Some t = ap (λ k. new k m) x.0 ∙ ap (new j) x.1 ∙ stands in
+          inr (ap (λ v. leads_on (leaf_in v)) (one_slot u t (sym is ∙ at)) ∙ ap leads_on leaf ∙ names_it)
+      | inr off ↦ inl (ap child_of (sym (agree i m less off) ∙ is) ∙ link)
+    ]
+    | inl same ↦
+        let none : child_of (new i m) ≡ None = ap (λ k. child_of (new k m)) same ∙ fresh m in
+        absurd (cc (sym none ∙ ap child_of is ∙ link))
+    | inr (inr above) ↦ absurd (cc (sym (past i m above) ∙ is))
+  ];
 }
   where
+    one_slot : (s t : Slot) → Some s ≡ Some t → s ≡ t
+    one_slot s t e = cc
+
+    names_it : leads_on (leaf_in s) ≡ true
+    names_it = ap (λ b. b && not (is_null (leaf_in s).id)) folder.is_tree ∙ ap not folder.isnt_null
+
     wider : IsForest slots (suc bound)
     wider = let le : bound ≤ suc bound = omega arith in fewer slots slots bound (suc bound) ok le (λ i n c e. e)
 

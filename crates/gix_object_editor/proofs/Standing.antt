@@ -21,16 +21,16 @@ module _ (blocked : Leaf → Option Leaf) (trees : Trees) (slots : Slots) where
   child_entry_by name rest None i x e = absurd (cc e)
   child_entry_by name rest (Some c) i x e = let same : c.0 ≡ i = cc in ap (λ k. entry_from blocked trees slots k (name ∷ rest)) same
 
-  child_entry : (name : Bytes) (rest : Path) (o : Option Slot) (i : ℕ) → child_of o ≡ Some i → through o (slot_entry blocked trees slots (name ∷ rest)) ≡ entry_from blocked trees slots i (name ∷ rest)
+  pub child_entry : (name : Bytes) (rest : Path) (o : Option Slot) (i : ℕ) → child_of o ≡ Some i → through o (slot_entry blocked trees slots (name ∷ rest)) ≡ entry_from blocked trees slots i (name ∷ rest)
   child_entry name rest None i e = absurd (cc e)
   child_entry name rest (Some s) i e = child_entry_by name rest s.child i (entry_into blocked trees (name ∷ rest) (leaf_in s)) e
 
-  entry_below : (way : Path) (i : ℕ) (name : Bytes) (rest : Path) → Way slots way i → entry_from blocked trees slots 0 (onto way (name ∷ rest)) ≡ entry_from blocked trees slots i (name ∷ rest)
+  pub entry_below : (way : Path) (i : ℕ) (name : Bytes) (rest : Path) → Way slots way i → entry_from blocked trees slots 0 (onto way (name ∷ rest)) ≡ entry_from blocked trees slots i (name ∷ rest)
   entry_below [] i name rest w = ap (λ k. entry_from blocked trees slots k (name ∷ rest)) w
   entry_below (n ∷ way) i name rest w = entry_below way w.0 n (name ∷ rest) w.1 ∙ child_entry name rest (slots w.0 n) i w.2
 
   -- what is met below what is no folder
-  blocked_entry : (s : Slot) (n : Bytes) (left : Path) → s.child ≡ None → leads_on (leaf_in s) ≡ false → slot_entry blocked trees slots (n ∷ left) s ≡ blocked (leaf_in s)
+  pub blocked_entry : (s : Slot) (n : Bytes) (left : Path) → s.child ≡ None → leads_on (leaf_in s) ≡ false → slot_entry blocked trees slots (n ∷ left) s ≡ blocked (leaf_in s)
   blocked_entry s n left closed plain =
       ap (λ o. child_or o (λ c. entry_from blocked trees slots c (n ∷ left)) (entry_into blocked trees (n ∷ left) (leaf_in s))) closed
       ∙ ap (λ b. if b then through (trees (leaf_in s).id) (λ items. through (named n items) (λ item. entry_into blocked trees left (leaf_of item))) else blocked (leaf_in s)) plain
@@ -45,7 +45,7 @@ module _ (blocked : Leaf → Option Leaf) (trees : Trees) (slots : Slots) where
 
 -- ---- slots below a way
 
-slot_below : (slots : Slots) (way : Path) (i : ℕ) (name : Bytes) (rest : Path) → Way slots way i → slot_over slots 0 (onto way (name ∷ rest)) ≡ slot_over slots i (name ∷ rest)
+pub slot_below : (slots : Slots) (way : Path) (i : ℕ) (name : Bytes) (rest : Path) → Way slots way i → slot_over slots 0 (onto way (name ∷ rest)) ≡ slot_over slots i (name ∷ rest)
 slot_below slots [] i name rest w = ap (λ k. slot_over slots k (name ∷ rest)) w
 slot_below slots (n ∷ way) i name rest w = slot_below slots way w.0 n (name ∷ rest) w.1 ∙ ap (λ o. through o (λ c. slot_over slots c (name ∷ rest))) w.2
 

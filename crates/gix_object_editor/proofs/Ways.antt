@@ -44,13 +44,13 @@ down trees slots (n ∷ way) i name rest w =
     down trees slots way w.0 n (name ∷ rest) w.1 ∙ child_files trees slots name rest (slots w.0 n) i w.2
 
 -- the first names of a beginning
-same_first : (m n : Bytes) (x tail t : Path) → behind (m ∷ x) (n ∷ tail) ≡ Some t → m ≡ n
+pub same_first : (m n : Bytes) (x tail t : Path) → behind (m ∷ x) (n ∷ tail) ≡ Some t → m ≡ n
 same_first m n x tail t e = elim (by_test (bytes_eq m n)) [
   | inl is ↦ same_name m n is
   | inr isnt ↦ let none : None ≡ Some t = ap (λ b. if b then behind x tail else None) (sym isnt) ∙ e in absurd (cc none)
 ]
 
-after_first : (m n : Bytes) (x tail t : Path) → behind (m ∷ x) (n ∷ tail) ≡ Some t → behind x tail ≡ Some t
+pub after_first : (m n : Bytes) (x tail t : Path) → behind (m ∷ x) (n ∷ tail) ≡ Some t → behind x tail ≡ Some t
 after_first m n x tail t e = elim (by_test (bytes_eq m n)) [
   | inl is ↦ ap (λ b. if b then behind x tail else None) (sym is) ∙ e
   | inr isnt ↦ let none : None ≡ Some t = ap (λ b. if b then behind x tail else None) (sym isnt) ∙ e in absurd (cc none)

@@ -10,7 +10,7 @@ use Rattle.gix_object_editor.specs.declared.tree.editor.error.Error.TheVariants.
 use Rattle.gix_object_editor.specs.Asked.{StopsAt}
 use Rattle.gix_object_editor.specs.Files.{Path, Trees, HasStored, SameFiles, NamesAreFull}
 use Rattle.gix_object_editor.specs.Nodes.{slots_of, LeadsTo}
-use Rattle.gix_object_editor.specs.Editor.{files_of, LeadsInto, EditFault, IsChanged, IsAsRead, asked_by}
+use Rattle.gix_object_editor.specs.Editor.{files_of, LeadsInto, EditFault, IsChanged, IsAsRead, entry_over, asked_by}
 
 -- the cursor stands at the opened tree at this path's end
 abbrev pub StandsAt : {S : Type 0} → Cursor S → Path → Type 0
@@ -21,6 +21,8 @@ pub record IsLeft {S : Type 0} (honest may_fail : Type 0) (table : Table) (path 
     (old left : Editor S) (error : Error) : Type 0 where
   pub files : honest → (trees : Trees) → HasStored table trees
       → SameFiles (files_of trees left) (files_of trees old)
+  pub entries : honest → (trees : Trees) → HasStored table trees
+      → SameFiles (entry_over trees left) (entry_over trees old)
   pub as_read : honest → (trees : Trees) → HasStored table trees → IsAsRead trees old
       → IsAsRead trees left
   pub still : (tree : Path) → IsChanged left tree → IsChanged old tree

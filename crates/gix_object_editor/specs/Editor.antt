@@ -1,7 +1,8 @@
 -- An editor as its files.
-use Rattle.std.specs.Prelude.{ℕ, ◌≡◌, ◌≢◌, false, List, [], ◌∷◌, ◌++◌, map, Option, Some, None, Result, OnOk, OnErr, IsTrue, ⊤}
+use Rattle.std.specs.Prelude.{ℕ, ◌≡◌, ◌≢◌, ◌⊎◌, true, false, List, [], ◌∷◌, ◌++◌, map, Option, Some, None, Result, OnOk, OnErr, IsTrue, ⊤}
 use Rattle.std.specs.Borrow.{Bor}
 use Rattle.gix_hash.specs.Id.{Id, id_of}
+use Rattle.gix_hash.specs.declared.kind.Kind.{Kind}
 use Rattle.gix_hash.specs.declared.object_id.ObjectId.{ObjectId}
 use Rattle.gix_object_entries.specs.Mode.{kind_value, is_tree_value}
 use Rattle.gix_object_entries.specs.declared.tree.mode.EntryKind.{EntryKind}
@@ -10,10 +11,10 @@ use Rattle.gix_object_editor.specs.declared.tree.editor.node.Slot.{Slot}
 use Rattle.gix_object_editor.specs.declared.tree.editor.state.Editor.{Editor}
 use Rattle.gix_object_editor.specs.declared.tree.editor.error.Error.{Error}
 use Rattle.gix_object_editor.specs.declared.tree.editor.error.Error.TheVariants.{EmptyPathComponent, FindExistingObject, CannotRemoveNonLeaf, MalformedTree, Memory}
-use Rattle.gix_object_editor.specs.Files.{Bytes, Path, Leaf, FileMap, Trees, HasStored, NamesAreFull}
+use Rattle.gix_object_editor.specs.Files.{Bytes, Path, Leaf, FileMap, Trees, HasStored, NamesAreFull, behind, leads_on, entry_into}
 use Rattle.gix_object_editor.specs.Nodes.{slots_of, slot_over, entry_from, files_of_node, LeadsTo, AreFilled}
 use Rattle.gix_object_editor.specs.Marks.{marks_of, IsMade, IsChangedIn, AreAsRead}
-use Rattle.gix_object_editor.specs.Entries.{Property, EachHas}
+use Rattle.gix_object_editor.specs.Entries.{Property, EachHas, made_leaf}
 use Rattle.gix_object_editor.specs.Refusals.{OpeningFault}
 use Rattle.gix_object_editor.specs.Asked.{unopened_into}
 
@@ -46,10 +47,56 @@ entry_over trees editor = entry_from (λ leaf. None) trees (slots_of editor.node
 abbrev pub entry_met : {S : Type 0} → Trees → Editor S → Path → Option Leaf
 entry_met trees editor = entry_from (λ leaf. Some leaf) trees (slots_of editor.nodes.items) 0
 
--- a folder stands at the path that a cursor made, and nothing was put into it
+-- a folder that a cursor made stands at the path, and nothing was put into it: its entry has the null id, and no edit changed its tree
 abbrev pub IsMadeAt : {S : Type 0} → Editor S → Path → Type 0
 IsMadeAt editor path = (s : Slot) × (slot_over (slots_of editor.nodes.items) 0 path ≡ Some s)
     × IsMade (marks_of editor.nodes.items) s
+
+-- ---- entries that an edit leaves as they were
+
+abbrev pub IsTreeEntry : Option Leaf → Type 0
+IsTreeEntry None = ⊥
+IsTreeEntry (Some leaf) = leads_on leaf ≡ true
+
+-- a folder stands at the path: a tree was opened there, or the entry names one
+abbrev pub HasFolderAt : {S : Type 0} → Trees → Editor S → Path → Type 0
+HasFolderAt trees editor path = IsOpenedAt editor path ⊎ IsTreeEntry (entry_over trees editor path)
+
+-- what stands at the second path is in no way of the first: where it lies on it, or is its end, it is a folder
+abbrev pub IsInNoWay : {S : Type 0} → Trees → Editor S → Path → Path → Type 0
+IsInNoWay trees editor path q = (rest : Path) → q ++ rest ≡ path → HasFolderAt trees editor q
+
+-- each entry stays, but for those in the way of the path
+abbrev pub KeepsFolders : {S : Type 0} → Trees → Path → Editor S → Editor S → Type 0
+KeepsFolders trees path old new = (q : Path) → IsInNoWay trees old path q
+    → entry_over trees new q ≡ entry_over trees old q
+
+-- each entry stays, but for those in the way of the path, at its end and below it
+abbrev pub KeepsEntries : {S : Type 0} → Trees → Path → Editor S → Editor S → Type 0
+KeepsEntries trees path old new = (q : Path) → behind path q ≡ None
+    → IsInNoWay trees old path q → entry_over trees new q ≡ entry_over trees old q
+
+-- the entry at the path is this one, or, below it, the one to which the names lead that are left
+abbrev pub PutsEntry : {S : Type 0} → Trees → Path → Leaf → Editor S → Type 0
+PutsEntry trees path leaf editor = (rest : Path)
+    → entry_over trees editor (path ++ rest) ≡ entry_into (λ l. None) trees rest leaf
+
+-- on the way to the path, and at its end, what was no folder is one that was made, with the null id
+abbrev pub MakesFolders : {S : Type 0} → Trees → Kind → Path → Editor S → Editor S → Type 0
+MakesFolders trees kind path old new = (q rest : Path) → q ++ rest ≡ path
+    → (HasFolderAt trees old q → ⊥) → entry_over trees new q ≡ Some (made_leaf kind)
+
+-- the same on the way alone
+abbrev pub MakesFoldersAbove : {S : Type 0} → Trees → Kind → Path → Editor S → Editor S → Type 0
+MakesFoldersAbove trees kind path old new = (q : Path) (name : Bytes) (rest : Path)
+    → q ++ name ∷ rest ≡ path → (HasFolderAt trees old q → ⊥)
+    → entry_over trees new q ≡ Some (made_leaf kind)
+
+-- nothing stands at the path's end, nor on the way to it where no folder stood
+abbrev pub ClearsEntries : {S : Type 0} → Trees → Path → Editor S → Editor S → Type 0
+ClearsEntries trees path old new = (entry_over trees new path ≡ None)
+    × ((q rest : Path) → q ++ rest ≡ path → (HasFolderAt trees old q → ⊥)
+    → entry_over trees new q ≡ None)
 
 -- each entry of the editor's opened trees has the property, also where a tree was opened for it
 abbrev pub EachEntryHas : {S : Type 0} → Property → Editor S → Type 0

@@ -94,6 +94,12 @@ files_of_tree trees items [] = None
 files_of_tree trees items (name ∷ rest) = through (named name items)
     (λ item. files_of_entry trees rest (leaf_of item))
 
+-- the entry to which names lead in a tree
+abbrev pub entry_of_tree : Trees → List Item → FileMap
+entry_of_tree trees items [] = None
+entry_of_tree trees items (name ∷ rest) = through (named name items)
+    (λ item. entry_into (λ leaf. None) trees rest (leaf_of item))
+
 -- the entry has a file: itself, or one below it
 abbrev pub HasFile : Trees → Leaf → Type 0
 HasFile trees leaf = (rest : Path) × (file : Leaf) × (files_of_entry trees rest leaf ≡ Some file)

@@ -7,6 +7,7 @@ pub mod Editor
 pub mod Writing
 pub mod Written
 pub mod Entries
+pub mod Laid
 pub mod Below
 pub mod Lending
 pub mod Cursor

@@ -1,5 +1,5 @@
 -- Opened trees as numbered nodes, and the files that they stand for.
-use Rattle.std.specs.Prelude.{ℕ, zero, suc, ◌≡◌, ◌≢◌, ◌<◌, ◌≤◌, ◌+◌, length, slice_index_or, List, [], ◌∷◌, ◌++◌, Option, Some, None, Vec, ⊤, true, false}
+use Rattle.std.specs.Prelude.{ℕ, zero, suc, ◌≡◌, ◌<◌, ◌≤◌, ◌⊎◌, List, [], ◌∷◌, ◌++◌, Option, Some, None, Vec, ⊤, true, false}
 use Rattle.std.specs.Map.{lookup}
 use Rattle.std.specs.BTreeMap.{is_at}
 use Rattle.std.specs.Cmp.Lexicographic.{slice_cmp}
@@ -159,7 +159,7 @@ pub record IsStoppedAt (slots : Slots) (path : Path) (id : Id) : Type 0 where
   pub unopened : IsUnopened slot
   pub id_is : id_of slot.oid ≡ id
 
--- some trees were opened, and no file and no entry changed
+-- some trees were opened, each for an entry that names it, and no file and no entry changed
 pub record IsOpened (honest : Type 0) (table : Table) (old new : Slots)
     (bound more : ℕ) : Type 0 where
   pub longer : bound ≤ more
@@ -171,19 +171,10 @@ pub record IsOpened (honest : Type 0) (table : Table) (old new : Slots)
   pub entries : honest → (trees : Trees) → HasStored table trees → (blocked : Leaf → Option Leaf)
       → (q : Path) (i : ℕ) → i < bound
       → entry_from blocked trees new i q ≡ entry_from blocked trees old i q
-
--- ---- trees with one slot each
-
--- the node has this slot alone
-abbrev pub IsOnly : Slots → ℕ → Bytes → Slot → Type 0
-IsOnly slots n name s = (slots n name ≡ Some s) × ((m : Bytes) → m ≢ name → slots n m ≡ None)
-
--- of nodes one behind the other, each with the slot of one name alone, this one: it leads to the next node, or is the last's
-pub record IsRung (slots : Slots) (first : ℕ) (names : Path) (last : Slot) (k : ℕ) : Type 0 where
-  pub slot : Slot
-  pub only : IsOnly slots (first + k) (slice_index_or names k []) slot
-  pub leads : suc k < length names → child_of (Some slot) ≡ Some (suc (first + k))
-  pub ends : suc k ≡ length names → slot ≡ last
+  pub leaves : (i : ℕ) (m : Bytes) (s : Slot) → i < bound → old i m ≡ Some s
+      → (t : Slot) × (new i m ≡ Some t) × (leaf_in t ≡ leaf_in s)
+  pub fresh : (i : ℕ) (m : Bytes) (s : Slot) (c : ℕ) → new i m ≡ Some s → child_of (Some s) ≡ Some c
+      → (child_of (old i m) ≡ Some c) ⊎ (leads_on (leaf_in s) ≡ true)
 
 -- what leads to a tree from this number on has the null id
 abbrev pub AreNull : Slots → ℕ → Type 0

@@ -79,11 +79,8 @@ def some_files(git, chance, names, most):
     return files
 
 
-def random_row(git, chance):
-    names = chance.sample(NAMES, chance.choice([2, 3, 5]))
-    files = some_files(git, chance, names, 12)
-    root = git.tree(files)
-    edits, answers, more = [], [], []
+def random_edits(git, chance, names, files, edits, answers, more):
+    """Edits of these files, one after another, which are answered as they are then."""
     for _ in range(chance.randrange(1, 8)):
         path = some_path(chance, names)
         what = chance.choice(["put", "put", "put", "null", "tree", "remove", "leaf", "write"])
@@ -116,6 +113,31 @@ def random_row(git, chance):
             answers.append(f"{git.tree(files)} known+")
             continue
         answers.append("ok")
+    return files
+
+
+def random_row(git, chance):
+    names = chance.sample(NAMES, chance.choice([2, 3, 5]))
+    files = some_files(git, chance, names, 12)
+    root = git.tree(files)
+    edits, answers, more = [], [], []
+    files = random_edits(git, chance, names, files, edits, answers, more)
+    row(git, root, more, edits + ["write"], answers + [f"{git.tree(files)} known+"])
+
+
+def root_row(git, chance):
+    """Edits of one tree, and then of others."""
+    names = chance.sample(NAMES, chance.choice([2, 3, 5]))
+    files = some_files(git, chance, names, 12)
+    root = git.tree(files)
+    edits, answers, more = [], [], []
+    for _ in range(chance.choice([1, 2])):
+        random_edits(git, chance, names, files, edits, answers, more)
+        files = some_files(git, chance, names, 12)
+        more.append(git.tree(files))
+        edits.append(f"root:{git.content(more[-1]).hex() or '-'}")
+        answers.append("ok")
+    files = random_edits(git, chance, names, files, edits, answers, more)
     row(git, root, more, edits + ["write"], answers + [f"{git.tree(files)} known+"])
 
 
@@ -209,6 +231,32 @@ def unchanged_rows(git, nested):
     row(git, nested, [], [null(a, f, m), "written"], ["ok", "2"])
 
 
+def root_rows(git):
+    """A new root: nothing is left of what was edited, opened or counted before."""
+    x, y = git.blobs[0], git.blobs[1]
+    a, b, c, e, f, g = (name.encode() for name in "abcefg")
+    first = git.tree({(a, b, e): ("100644", x), (a, f): ("100644", y), (g,): ("100755", x)})
+    second = git.tree({(a, b, c): ("100755", y), (f,): ("120000", x)})
+    set_root = lambda tree: f"root:{git.content(tree).hex() or '-'}"
+    get, deep = lambda *path: "get:" + path_word(path), upsert((a, b, c), "100644", x)
+    row(git, first, [second], [deep, "lookups", set_root(second), "lookups", get(a, b, c), get(f), "written", "write"], ["ok", "2 asked 2", "ok", "0 asked 2", "none", f"120000 {x}", "1", f"{second} known+"])
+    row(git, first, [second], [set_root(second), deep, "lookups", "written", "write"], ["ok", "ok", "2 asked 2", "3", f"{git.tree({(a, b, c): ('100644', x), (f,): ('120000', x)})} known+"])
+    row(git, first, [], [deep, set_root(first), "written", deep, "lookups", "write"], ["ok", "ok", "1", "ok", "2 asked 4", f"{git.tree({(a, b, c): ('100644', x), (a, b, e): ('100644', x), (a, f): ('100644', y), (g,): ('100755', x)})} known+"])
+    row(git, first, [], [set_root(git.empty), get(a), "written", "write", deep, "write"], ["ok", "none", "1", f"{git.empty} known+", "ok", f"{git.tree({(a, b, c): ('100644', x)})} known+"])
+
+
+def failing_rows(git):
+    """A tree for which an error is answered ends what is handed out, and the files are as they were."""
+    x, y = git.blobs[0], git.blobs[1]
+    a, b, c, e, f = (name.encode() for name in "abcef")
+    root = git.tree({(a, b, e): ("100644", x), (a, f): ("100644", y)})
+    edited = git.tree({(a, b, c): ("100644", x), (a, b, e): ("100644", x), (a, f): ("100644", y)})
+    deep = upsert((a, b, c), "100644", x)
+    for most in range(3):
+        row(git, root, [], [deep, f"failing:{most}", "write"], ["ok", f"Out {most}", f"{edited} known+"])
+    row(git, root, [], [deep, "failing:3", "failing:1", "written"], ["ok", f"{edited} 3", "Out 1", "3"])
+
+
 def odd_rows(git, content, refusal):
     """Edits through a folder `d` whose content is no well-formed tree, each in an editor of its own."""
     x = git.blobs[0]
@@ -254,6 +302,10 @@ for kind in git_repository.LENGTH:
     count_rows(git)
     for _ in range(60):
         cursor_row(git, chance)
+    root_rows(git)
+    failing_rows(git)
+    for _ in range(40):
+        root_row(git, chance)
 
 with open("stdin", "w") as lines, open("stdout", "w") as answers:
     for line, answer in rows:

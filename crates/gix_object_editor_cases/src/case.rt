@@ -34,13 +34,18 @@ pub fn read_bytes(alloc: Global, word: &str) -> Option<Vec<u8>> {
 /// What the first three words of a line give.
 pub fn read_case(alloc: Global, kind: &str, root: &str, trees: &str) -> Option<Case> {
     let kind = read_kind(kind)?;
-    let content = read_bytes(alloc, root)?;
-    let root = TreeRef::from_bytes(alloc, content.as_slice(), kind).ok()?;
     Some(Case {
         kind,
-        root: root.into_owned().ok()?,
+        root: read_tree(alloc, kind, root)?,
         trees: read_trees(alloc, kind, trees)?,
     })
+}
+
+/// The tree of this content.
+pub fn read_tree(alloc: Global, kind: Kind, word: &str) -> Option<Tree> {
+    let content = read_bytes(alloc, word)?;
+    let tree = TreeRef::from_bytes(alloc, content.as_slice(), kind).ok()?;
+    tree.into_owned().ok()
 }
 
 // Trees, with commas between them; none for `-`.

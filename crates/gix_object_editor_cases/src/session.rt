@@ -1,10 +1,10 @@
 //! The edits of a line, one after another.
 
-use crate::case::{Case, read_case, read_entry_kind, read_id, read_path};
+use crate::case::{Case, read_case, read_entry_kind, read_id, read_path, read_tree};
 use crate::page::Page;
 use crate::store::{Row, Trees, row_of};
 use gix_hash::{Kind, ObjectId};
-use gix_object_editor::tree::editor::{Cursor, Editor, Error};
+use gix_object_editor::tree::editor::{Cursor, Editor, Error, write};
 use gix_object_entries::Tree;
 use gix_object_entries::tree::EntryRef;
 use std::alloc::{AllocError, Global};
@@ -31,6 +31,10 @@ fn edit(alloc: Global, line: &str, page: &mut Page) -> Option<()> {
     Some(())
 }
 
+// That a tree isn't kept.
+#[derive(Drop)]
+struct Refusal;
+
 // One edit, or one question.
 fn act(
     alloc: Global,
@@ -49,8 +53,29 @@ fn act(
         "write" => write(alloc, kind, editor, page),
         "written" => count_written(alloc, kind, editor, page),
         _ if word.starts_with("at:") => at_cursor(alloc, kind, editor, word, page),
+        _ if word.starts_with("root:") => set_root(alloc, kind, editor, word, page),
+        _ if word.starts_with("failing:") => write_failing(alloc, kind, editor, word, page),
         _ => at_path(alloc, editor, word, page),
     }
+}
+
+// Another tree to edit.
+fn set_root(
+    alloc: Global,
+    kind: Kind,
+    editor: &mut Editor<Trees>,
+    word: &str,
+    page: &mut Page,
+) -> Option<()> {
+    let mut parts = word.split(':');
+    parts.next()?;
+    let root = read_tree(alloc, kind, parts.next()?)?;
+    if !root.is_well_formed() {
+        return None;
+    }
+    editor.set_root(alloc, &root).ok()?;
+    page.word("ok");
+    Some(())
 }
 
 // An edit or a question of a path.
@@ -165,6 +190,37 @@ fn count_written(alloc: Global, kind: Kind, editor: &Editor<Trees>, page: &mut P
     );
     root.ok()?;
     page.value(count);
+    Some(())
+}
+
+// The error that is answered for the tree behind so many, and how many calls were made.
+fn write_failing(
+    alloc: Global,
+    kind: Kind,
+    editor: &Editor<Trees>,
+    word: &str,
+    page: &mut Page,
+) -> Option<()> {
+    let mut parts = word.split(':');
+    parts.next()?;
+    let most: u64 = parts.next()?.parse().ok()?;
+    let mut calls: u64 = 0;
+    let root = editor.write(
+        alloc,
+        &mut |tree: &Tree| -> Result<ObjectId, Refusal> {
+            if calls >= most {
+                return Err(Refusal);
+            }
+            calls = calls.saturating_add(1);
+            id_of_tree(alloc, kind, tree).map_err(|_| Refusal)
+        },
+    );
+    match root {
+        Ok(id) => page.value(id),
+        Err(write::Error::Out(Refusal)) => page.word("Out"),
+        Err(write::Error::Memory) => page.word("Memory"),
+    }
+    page.value(calls);
     Some(())
 }
 

@@ -4,9 +4,9 @@ ghost use Rattle.std.specs.Prelude.{◌≡◌, ◌≤◌, ◌+◌, ◌⊎◌, le
 ghost use Rattle.std.specs.Borrow.{sem};
 ghost use Rattle.gix_hash.specs.Id.{id_of};
 ghost use Rattle.gix_object_entries.specs.Entry.{Item, item_of, own_item};
-ghost use Rattle.gix_object_editor.specs.Files.{Path, Leaf, Trees, is_null, leaf_of, HasStored, SameFiles, NamesAreFull, HasNoneBelow, HasSomeBelow, no_trees, removed, put, files_of_tree};
+ghost use Rattle.gix_object_editor.specs.Files.{Path, Leaf, Trees, is_null, leaf_of, HasStored, SameFiles, NamesAreFull, HasNoneBelow, HasSomeBelow, no_trees, removed, put, files_of_tree, entry_of_tree};
 ghost use Rattle.gix_object_editor.specs.Nodes.{slots_of, entry_at};
-ghost use Rattle.gix_object_editor.specs.Editor.{files_of, names_of, leaf_of_kind, LeadsThrough, LeadsInto, EditFault, LeafFault, IsFilled, IsFolder, IsChanged, ChangesNone, entry_over, entry_met, IsMadeAt, IsAsRead, IsAbove, IsOpenedAt, EachEntryHas, IsNonLeaf, asked_by, ErrOverStored, OkOverStored, OverStored};
+ghost use Rattle.gix_object_editor.specs.Editor.{files_of, names_of, leaf_of_kind, LeadsThrough, LeadsInto, EditFault, LeafFault, IsFilled, IsFolder, IsChanged, ChangesNone, entry_over, entry_met, IsMadeAt, KeepsEntries, PutsEntry, MakesFoldersAbove, ClearsEntries, IsAsRead, IsAbove, IsOpenedAt, EachEntryHas, IsNonLeaf, asked_by, ErrOverStored, OkOverStored, OverStored};
 ghost use Rattle.gix_object_editor.specs.Asked.{front_of, Asks};
 ghost use Rattle.gix_object_editor.specs.declared.tree.editor.error.Error.TheVariants.{EmptyPathComponent};
 ghost use Rattle.gix_object_editor.specs.Entries.{Property, PassesDown, MayStand, ItemsHave};
@@ -48,6 +48,9 @@ impl<S: Find> Editor<S> {
         ensures files { IfOk result (λ editor. (trees : Trees)
             → SameFiles (files_of trees editor) (files_of_tree trees
             (map own_item root.now.entries.items))) }
+        ensures entries { IfOk result (λ editor. (trees : Trees)
+            → SameFiles (entry_over trees editor) (entry_of_tree trees
+            (map own_item root.now.entries.items))) }
         ensures store { IfOk result (λ editor. editor.store ≡ store) }
         ensures each { IfOk result (λ editor. (has : Property)
             → ItemsHave has (map own_item root.now.entries.items) → EachEntryHas has editor) }
@@ -69,6 +72,9 @@ impl<S: Find> Editor<S> {
         ensures files { OnOk result ((trees : Trees)
             → SameFiles (files_of trees self.new)
             (files_of_tree trees (map own_item root.now.entries.items))) }
+        ensures entries { OnOk result ((trees : Trees)
+            → SameFiles (entry_over trees self.new)
+            (entry_of_tree trees (map own_item root.now.entries.items))) }
         ensures each { OnOk result ((has : Property)
             → ItemsHave has (map own_item root.now.entries.items) → EachEntryHas has self.new) }
         ensures as_read { OnOk result ((trees : Trees) → IsAsRead trees self.new) }
@@ -106,6 +112,8 @@ impl<S: Find> Editor<S> {
         ensures file { (trees : Trees) (leaf : Leaf) (item : Item)
             → files_of trees self.now (names_of path.now) ≡ Some leaf
             → option_map item_of result ≡ Some item → leaf_of item ≡ leaf }
+        ensures stands { (trees : Trees) (item : Item) → option_map item_of result ≡ Some item
+            → entry_over trees self.now (names_of path.now) ≡ Some (leaf_of item) }
         ensures there { (trees : Trees) (item : Item) → option_map item_of result ≡ Some item
             → is_null item.id ≡ false → trees item.id ≡ None
             → (files_of trees self.now (names_of path.now) ≡ Some (leaf_of item))
@@ -125,6 +133,12 @@ impl<S: Find> Editor<S> {
         ensures unchanged { ErrOverStored (S.is_honest self.old.store)
             (S.table self.old.store) result
             (λ trees. SameFiles (files_of trees self.new) (files_of trees self.old)) }
+        ensures entries { OkOverStored (S.is_honest self.old.store) (S.table self.old.store) result
+            (λ trees. SameFiles (entry_over trees self.new)
+            (removed (names_of path.now) (entry_over trees self.old))) }
+        ensures same_entries { ErrOverStored (S.is_honest self.old.store)
+            (S.table self.old.store) result
+            (λ trees. SameFiles (entry_over trees self.new) (entry_over trees self.old)) }
         ensures named { OnOk result (NamesAreFull (names_of path.now)) }
         ensures refused { IfErr result (EditFault (S.is_honest self.old.store)
             (S.may_fail self.old.store) (S.table self.old.store) (names_of path.now)
@@ -168,6 +182,12 @@ impl<S: Find> Editor<S> {
         ensures unchanged { ErrOverStored (S.is_honest self.old.store)
             (S.table self.old.store) result
             (λ trees. SameFiles (files_of trees self.new) (files_of trees self.old)) }
+        ensures entries { OkOverStored (S.is_honest self.old.store) (S.table self.old.store) result
+            (λ trees. SameFiles (entry_over trees self.new)
+            (removed (names_of path.now) (entry_over trees self.old))) }
+        ensures same_entries { ErrOverStored (S.is_honest self.old.store)
+            (S.table self.old.store) result
+            (λ trees. SameFiles (entry_over trees self.new) (entry_over trees self.old)) }
         ensures named { OnOk result (NamesAreFull (names_of path.now)) }
         ensures refused { IfErr result (LeafFault (S.is_honest self.old.store)
             (S.may_fail self.old.store) (S.table self.old.store) (names_of path.now)
@@ -218,6 +238,20 @@ impl<S: Find> Editor<S> {
         ensures unchanged { ErrOverStored (S.is_honest self.old.store)
             (S.table self.old.store) result
             (λ trees. SameFiles (files_of trees self.new) (files_of trees self.old)) }
+        ensures entries { OkOverStored (S.is_honest self.old.store) (S.table self.old.store) result
+            (λ trees. KeepsEntries trees (names_of path.now) self.old self.new) }
+        ensures entry { OkOverStored (S.is_honest self.old.store) (S.table self.old.store) result
+            (λ trees. is_null (id_of id) ≡ false
+            → PutsEntry trees (names_of path.now) (leaf_of_kind kind id) self.new) }
+        ensures folders { OkOverStored (S.is_honest self.old.store) (S.table self.old.store) result
+            (λ trees. is_null (id_of id) ≡ false
+            → MakesFoldersAbove trees (id_of id).kind (names_of path.now) self.old self.new) }
+        ensures gone { OkOverStored (S.is_honest self.old.store) (S.table self.old.store) result
+            (λ trees. is_null (id_of id) ≡ true
+            → ClearsEntries trees (names_of path.now) self.old self.new) }
+        ensures same_entries { ErrOverStored (S.is_honest self.old.store)
+            (S.table self.old.store) result
+            (λ trees. SameFiles (entry_over trees self.new) (entry_over trees self.old)) }
         ensures named { OnOk result (NamesAreFull (names_of path.now)) }
         ensures refused { IfErr result (EditFault (S.is_honest self.old.store)
             (S.may_fail self.old.store) (S.table self.old.store) (names_of path.now)
@@ -230,10 +264,6 @@ impl<S: Find> Editor<S> {
             (λ trees. IsAsRead trees self.old → IsAsRead trees self.new) }
         ensures changed { (tree : Path) → IsChanged self.new tree → IsChanged self.old tree
             ⊎ IsAbove tree (names_of path.now) }
-        ensures same { S.is_honest self.old.store → (trees : Trees)
-            → HasStored (S.table self.old.store) trees
-            → files_of trees self.old (names_of path.now) ≡ Some (leaf_of_kind kind id)
-            → OnOk result ((tree : Path) → IsChanged self.new tree → IsChanged self.old tree) }
         ensures nothing { OverStored (S.is_honest self.old.store) (S.table self.old.store)
             (λ trees. is_null (id_of id) ≡ true
             → entry_met trees self.old (names_of path.now) ≡ None

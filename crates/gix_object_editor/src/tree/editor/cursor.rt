@@ -6,7 +6,7 @@ ghost use Rattle.gix_hash.specs.Id.{id_of};
 ghost use Rattle.gix_object_entries.specs.Entry.{Item, item_of};
 ghost use Rattle.gix_object_editor.specs.Files.{Path, Leaf, Trees, is_null, leaf_of, HasStored, SameFiles, Begins, NamesAreFull, HasNoneBelow, HasSomeBelow, no_trees, removed, put, cleared};
 ghost use Rattle.gix_object_editor.specs.Nodes.{slots_of, entry_at};
-ghost use Rattle.gix_object_editor.specs.Editor.{files_of, names_of, leaf_of_kind, LeadsThrough, LeadsInto, EditFault, LeafFault, IsFilled, IsFolder, IsChanged, ChangesNone, entry_over, entry_met, IsMadeAt, IsAsRead, IsAbove, IsOpenedAt, EachEntryHas, IsNonLeaf, asked_by, ErrOverStored, OkOverStored, OverStored};
+ghost use Rattle.gix_object_editor.specs.Editor.{files_of, names_of, leaf_of_kind, LeadsThrough, LeadsInto, EditFault, LeafFault, IsFilled, IsFolder, IsChanged, ChangesNone, entry_over, entry_met, IsMadeAt, KeepsEntries, KeepsFolders, PutsEntry, MakesFolders, MakesFoldersAbove, ClearsEntries, HasFolderAt, IsAsRead, IsAbove, IsOpenedAt, EachEntryHas, IsNonLeaf, asked_by, ErrOverStored, OkOverStored, OverStored};
 ghost use Rattle.gix_object_editor.specs.Asked.{front_of, Asks, AsksAll};
 ghost use Rattle.gix_object_editor.specs.declared.tree.editor.error.Error.TheVariants.{EmptyPathComponent};
 ghost use Rattle.gix_object_editor.specs.Entries.{Property, PassesDown, MayStand, MayStandMade};
@@ -53,6 +53,12 @@ impl<S: Find> Editor<S> {
             → IfOk result (λ cursor. (trees : Trees) → HasStored (S.table self.old.store) trees
             → SameFiles (files_of trees cursor.editor.now)
             (cleared (names_of path.now) (files_of trees self.old))) }
+        ensures entries { S.is_honest self.old.store
+            → IfOk result (λ cursor. (trees : Trees) → HasStored (S.table self.old.store) trees
+            → KeepsFolders trees (names_of path.now) self.old cursor.editor.now) }
+        ensures folders { S.is_honest self.old.store
+            → IfOk result (λ cursor. (trees : Trees) → HasStored (S.table self.old.store) trees
+            → MakesFolders trees hash (names_of path.now) self.old cursor.editor.now) }
         ensures named { OnOk result (NamesAreFull (names_of path.now)) }
         ensures each { S.is_honest self.old.store
             → IfOk result (λ cursor. (has : Property) → PassesDown (S.table self.old.store) has
@@ -66,6 +72,10 @@ impl<S: Find> Editor<S> {
         ensures nothing { S.is_honest self.old.store
             → IfOk result (λ cursor. (trees : Trees) → HasStored (S.table self.old.store) trees
             → entry_met trees self.old (names_of path.now) ≡ None
+            → ChangesNone self.old cursor.editor.now) }
+        ensures stood { S.is_honest self.old.store
+            → IfOk result (λ cursor. (trees : Trees) → HasStored (S.table self.old.store) trees
+            → HasFolderAt trees self.old (names_of path.now)
             → ChangesNone self.old cursor.editor.now) }
         ensures counted { IfOk result
             (λ cursor. cursor.editor.now.lookups ≤ self.old.lookups + length path.now) }
@@ -92,6 +102,10 @@ impl<'c, S: Find> Cursor<'c, S> {
             → (trees : Trees) (leaf : Leaf) (item : Item)
             → files_of trees self.now.editor.now (base ++ names_of path.now) ≡ Some leaf
             → option_map item_of result ≡ Some item → leaf_of item ≡ leaf }
+        ensures stands { (base : Path) → StandsAt self.now base → (trees : Trees) (item : Item)
+            → option_map item_of result ≡ Some item
+            → entry_over trees self.now.editor.now (base ++ names_of path.now) ≡ Some
+            (leaf_of item) }
         ensures there { (base : Path) → StandsAt self.now base → (trees : Trees) (item : Item)
             → option_map item_of result ≡ Some item → is_null item.id ≡ false
             → trees item.id ≡ None
@@ -113,6 +127,15 @@ impl<'c, S: Find> Cursor<'c, S> {
             (λ trees. SameFiles (files_of trees self.new.editor.now)
             (files_of trees self.old.editor.now)) }
         ensures stands { (base : Path) → StandsAt self.old base → StandsAt self.new base }
+        ensures entries { (base : Path) → StandsAt self.old base
+            → OkOverStored (S.is_honest self.old.editor.now.store)
+            (S.table self.old.editor.now.store) result
+            (λ trees. SameFiles (entry_over trees self.new.editor.now)
+            (removed (base ++ names_of path.now) (entry_over trees self.old.editor.now))) }
+        ensures same_entries { ErrOverStored (S.is_honest self.old.editor.now.store)
+            (S.table self.old.editor.now.store) result
+            (λ trees. SameFiles (entry_over trees self.new.editor.now)
+            (entry_over trees self.old.editor.now)) }
         ensures named { OnOk result (NamesAreFull (names_of path.now)) }
         ensures refused { (base : Path) → StandsAt self.old base
             → IfErr result (EditFault (S.is_honest self.old.editor.now.store)
@@ -169,6 +192,15 @@ impl<'c, S: Find> Cursor<'c, S> {
             (λ trees. SameFiles (files_of trees self.new.editor.now)
             (files_of trees self.old.editor.now)) }
         ensures stands { (base : Path) → StandsAt self.old base → StandsAt self.new base }
+        ensures entries { (base : Path) → StandsAt self.old base
+            → OkOverStored (S.is_honest self.old.editor.now.store)
+            (S.table self.old.editor.now.store) result
+            (λ trees. SameFiles (entry_over trees self.new.editor.now)
+            (removed (base ++ names_of path.now) (entry_over trees self.old.editor.now))) }
+        ensures same_entries { ErrOverStored (S.is_honest self.old.editor.now.store)
+            (S.table self.old.editor.now.store) result
+            (λ trees. SameFiles (entry_over trees self.new.editor.now)
+            (entry_over trees self.old.editor.now)) }
         ensures named { OnOk result (NamesAreFull (names_of path.now)) }
         ensures refused { (base : Path) → StandsAt self.old base
             → IfErr result (LeafFault (S.is_honest self.old.editor.now.store)
@@ -231,6 +263,33 @@ impl<'c, S: Find> Cursor<'c, S> {
             (λ trees. SameFiles (files_of trees self.new.editor.now)
             (files_of trees self.old.editor.now)) }
         ensures stands { (base : Path) → StandsAt self.old base → StandsAt self.new base }
+        ensures entries { (base : Path) → StandsAt self.old base
+            → OkOverStored (S.is_honest self.old.editor.now.store)
+            (S.table self.old.editor.now.store) result
+            (λ trees. KeepsEntries trees (base ++ names_of path.now) self.old.editor.now
+            self.new.editor.now) }
+        ensures entry { (base : Path) → StandsAt self.old base
+            → OkOverStored (S.is_honest self.old.editor.now.store)
+            (S.table self.old.editor.now.store) result
+            (λ trees. is_null (id_of id) ≡ false
+            → PutsEntry trees (base ++ names_of path.now) (leaf_of_kind kind id)
+            self.new.editor.now) }
+        ensures folders { (base : Path) → StandsAt self.old base
+            → OkOverStored (S.is_honest self.old.editor.now.store)
+            (S.table self.old.editor.now.store) result
+            (λ trees. is_null (id_of id) ≡ false
+            → MakesFoldersAbove trees (id_of id).kind (base ++ names_of path.now)
+            self.old.editor.now self.new.editor.now) }
+        ensures gone { (base : Path) → StandsAt self.old base
+            → OkOverStored (S.is_honest self.old.editor.now.store)
+            (S.table self.old.editor.now.store) result
+            (λ trees. is_null (id_of id) ≡ true
+            → ClearsEntries trees (base ++ names_of path.now) self.old.editor.now
+            self.new.editor.now) }
+        ensures same_entries { ErrOverStored (S.is_honest self.old.editor.now.store)
+            (S.table self.old.editor.now.store) result
+            (λ trees. SameFiles (entry_over trees self.new.editor.now)
+            (entry_over trees self.old.editor.now)) }
         ensures named { OnOk result (NamesAreFull (names_of path.now)) }
         ensures refused { (base : Path) → StandsAt self.old base
             → IfErr result (EditFault (S.is_honest self.old.editor.now.store)
@@ -248,13 +307,6 @@ impl<'c, S: Find> Cursor<'c, S> {
         ensures changed { (base : Path) → StandsAt self.old base → (tree : Path)
             → IsChanged self.new.editor.now tree
             → IsChanged self.old.editor.now tree ⊎ IsAbove tree (base ++ names_of path.now) }
-        ensures same { (base : Path) → StandsAt self.old base
-            → S.is_honest self.old.editor.now.store
-            → (trees : Trees) → HasStored (S.table self.old.editor.now.store) trees
-            → files_of trees self.old.editor.now (base ++ names_of path.now) ≡ Some
-            (leaf_of_kind kind id)
-            → OnOk result ((tree : Path) → IsChanged self.new.editor.now tree
-            → IsChanged self.old.editor.now tree) }
         ensures nothing { (base : Path) → StandsAt self.old base
             → OverStored (S.is_honest self.old.editor.now.store) (S.table self.old.editor.now.store)
             (λ trees. is_null (id_of id) ≡ true

@@ -4,7 +4,7 @@ ghost use Rattle.std.specs.Prelude.{◌≡◌, ◌<◌, ◌≤◌, ◌+◌, ◌�
 ghost use Rattle.gix_hash.specs.Id.{id_of};
 ghost use Rattle.gix_object_editor.specs.Files.{Path, Trees, is_null, HasStored, SameFiles, Begins, NamesAreFull, HasNoneBelow, removed, put, cleared};
 ghost use Rattle.gix_object_editor.specs.Nodes.{slots_of, Way, onto, LeadsTo};
-ghost use Rattle.gix_object_editor.specs.Editor.{files_of, names_of, leaf_of_kind, LeadsThrough, LeadsInto, EditFault, LeafFault, IsFilled, IsFolder, IsChanged, ChangesNone, entry_over, entry_met, IsMadeAt, IsOpenedAt, IsAsRead, IsAbove, EachEntryHas, ErrOverStored, OkOverStored, OverStored};
+ghost use Rattle.gix_object_editor.specs.Editor.{files_of, names_of, leaf_of_kind, LeadsThrough, LeadsInto, EditFault, LeafFault, IsFilled, IsFolder, IsChanged, ChangesNone, entry_over, entry_met, IsMadeAt, KeepsEntries, KeepsFolders, PutsEntry, MakesFolders, MakesFoldersAbove, ClearsEntries, HasFolderAt, IsOpenedAt, IsAsRead, IsAbove, EachEntryHas, ErrOverStored, OkOverStored, OverStored};
 ghost use Rattle.gix_object_editor.specs.Asked.{front_of, unopened_into, Asks};
 ghost use Rattle.gix_object_editor.specs.Entries.{Property, PassesDown, MayStand, MayStandMade};
 ghost use Rattle.gix_object_editor.specs.declared.tree.editor.error.Error.TheVariants.{EmptyPathComponent};
@@ -40,6 +40,13 @@ impl<S: Find> Editor<S> {
         ensures kept { (way : Path) → Way (slots_of self.old.nodes.items) way from.0
             → Way (slots_of self.new.nodes.items) way from.0 }
         ensures within { from.0 < length self.new.nodes.items }
+        ensures entries { (way : Path) → Way (slots_of self.old.nodes.items) way from.0
+            → OkOverStored (S.is_honest self.old.store) (S.table self.old.store) result
+            (λ trees. SameFiles (entry_over trees self.new)
+            (removed (onto way (names_of path.now)) (entry_over trees self.old))) }
+        ensures same_entries { ErrOverStored (S.is_honest self.old.store)
+            (S.table self.old.store) result
+            (λ trees. SameFiles (entry_over trees self.new) (entry_over trees self.old)) }
         ensures named { OnOk result (NamesAreFull (names_of path.now)) }
         ensures refused { (way : Path) → Way (slots_of self.old.nodes.items) way from.0
             → IfErr result (EditFault (S.is_honest self.old.store) (S.may_fail self.old.store)
@@ -107,6 +114,13 @@ impl<S: Find> Editor<S> {
         ensures kept { (way : Path) → Way (slots_of self.old.nodes.items) way from.0
             → Way (slots_of self.new.nodes.items) way from.0 }
         ensures within { from.0 < length self.new.nodes.items }
+        ensures entries { (way : Path) → Way (slots_of self.old.nodes.items) way from.0
+            → OkOverStored (S.is_honest self.old.store) (S.table self.old.store) result
+            (λ trees. SameFiles (entry_over trees self.new)
+            (removed (onto way (names_of path.now)) (entry_over trees self.old))) }
+        ensures same_entries { ErrOverStored (S.is_honest self.old.store)
+            (S.table self.old.store) result
+            (λ trees. SameFiles (entry_over trees self.new) (entry_over trees self.old)) }
         ensures named { OnOk result (NamesAreFull (names_of path.now)) }
         ensures refused { (way : Path) → Way (slots_of self.old.nodes.items) way from.0
             → IfErr result (LeafFault (S.is_honest self.old.store) (S.may_fail self.old.store)
@@ -184,6 +198,25 @@ impl<S: Find> Editor<S> {
         ensures kept { (way : Path) → Way (slots_of self.old.nodes.items) way from.0
             → Way (slots_of self.new.nodes.items) way from.0 }
         ensures within { from.0 < length self.new.nodes.items }
+        ensures entries { (way : Path) → Way (slots_of self.old.nodes.items) way from.0
+            → OkOverStored (S.is_honest self.old.store) (S.table self.old.store) result
+            (λ trees. KeepsEntries trees (onto way (names_of path.now)) self.old self.new) }
+        ensures entry { (way : Path) → Way (slots_of self.old.nodes.items) way from.0
+            → OkOverStored (S.is_honest self.old.store) (S.table self.old.store) result
+            (λ trees. is_null (id_of id) ≡ false
+            → PutsEntry trees (onto way (names_of path.now)) (leaf_of_kind kind id) self.new) }
+        ensures folders { (way : Path) → Way (slots_of self.old.nodes.items) way from.0
+            → OkOverStored (S.is_honest self.old.store) (S.table self.old.store) result
+            (λ trees. is_null (id_of id) ≡ false
+            → MakesFoldersAbove trees (id_of id).kind (onto way (names_of path.now)) self.old
+            self.new) }
+        ensures gone { (way : Path) → Way (slots_of self.old.nodes.items) way from.0
+            → OkOverStored (S.is_honest self.old.store) (S.table self.old.store) result
+            (λ trees. is_null (id_of id) ≡ true
+            → ClearsEntries trees (onto way (names_of path.now)) self.old self.new) }
+        ensures same_entries { ErrOverStored (S.is_honest self.old.store)
+            (S.table self.old.store) result
+            (λ trees. SameFiles (entry_over trees self.new) (entry_over trees self.old)) }
         ensures named { OnOk result (NamesAreFull (names_of path.now)) }
         ensures refused { (way : Path) → Way (slots_of self.old.nodes.items) way from.0
             → IfErr result (EditFault (S.is_honest self.old.store) (S.may_fail self.old.store)
@@ -205,11 +238,6 @@ impl<S: Find> Editor<S> {
         ensures changed { (way : Path) → Way (slots_of self.old.nodes.items) way from.0
             → (tree : Path) → IsChanged self.new tree
             → IsChanged self.old tree ⊎ IsAbove tree (onto way (names_of path.now)) }
-        ensures same { (way : Path) → Way (slots_of self.old.nodes.items) way from.0
-            → S.is_honest self.old.store → (trees : Trees)
-            → HasStored (S.table self.old.store) trees
-            → files_of trees self.old (onto way (names_of path.now)) ≡ Some (leaf_of_kind kind id)
-            → OnOk result ((tree : Path) → IsChanged self.new tree → IsChanged self.old tree) }
         ensures nothing { (way : Path) → Way (slots_of self.old.nodes.items) way from.0
             → OverStored (S.is_honest self.old.store) (S.table self.old.store)
             (λ trees. is_null (id_of id) ≡ true
@@ -270,6 +298,13 @@ impl<S: Find> Editor<S> {
         ensures leads { IfOk result (λ end. LeadsTo (slots_of self.new.nodes.items)
             (names_of path.now) end.0 []) }
         ensures within { IfOk result (λ end. end.0 < length self.new.nodes.items) }
+        ensures entries { OkOverStored (S.is_honest self.old.store) (S.table self.old.store) result
+            (λ trees. KeepsFolders trees (names_of path.now) self.old self.new) }
+        ensures folders { OkOverStored (S.is_honest self.old.store) (S.table self.old.store) result
+            (λ trees. MakesFolders trees hash (names_of path.now) self.old self.new) }
+        ensures same_entries { ErrOverStored (S.is_honest self.old.store)
+            (S.table self.old.store) result
+            (λ trees. SameFiles (entry_over trees self.new) (entry_over trees self.old)) }
         ensures named { OnOk result (NamesAreFull (names_of path.now)) }
         ensures refused { IfErr result (EditFault (S.is_honest self.old.store)
             (S.may_fail self.old.store) (S.table self.old.store) (names_of path.now)
@@ -291,6 +326,9 @@ impl<S: Find> Editor<S> {
             ⊎ Begins tree (names_of path.now) }
         ensures nothing { OverStored (S.is_honest self.old.store) (S.table self.old.store)
             (λ trees. entry_met trees self.old (names_of path.now) ≡ None
+            → OnOk result (ChangesNone self.old self.new)) }
+        ensures stood { OverStored (S.is_honest self.old.store) (S.table self.old.store)
+            (λ trees. HasFolderAt trees self.old (names_of path.now)
             → OnOk result (ChangesNone self.old self.new)) }
         ensures still { OnErr result ((tree : Path) → IsChanged self.new tree
             → IsChanged self.old tree) }

@@ -226,6 +226,9 @@ pub(crate) fn folder_below<S: Find>(
         → EachHas has (slots_of nodes.old.items) → EachHas has (slots_of nodes.new.items) }
     ensures found { IfOk result (IsFolderAt (slots_of nodes.new.items) at.0
         (slice_index_or (map (λ n. n.now) names.now) 0 [])) }
+    ensures blocked { length names.now ≡ 1 → IfOk result (λ found. found ≡ None
+        → IsNoFolder (slots_of nodes.new.items at.0
+        (slice_index_or (map (λ n. n.now) names.now) 0 []))) }
     ensures last { IfOk result (λ found. IsSome found → length names.now ≡ 1) }
     ensures same { 1 < length names.now → (i : ℕ) (m : Bytes)
         → slots_of nodes.new.items i m ≡ slots_of nodes.old.items i m }

@@ -1,14 +1,15 @@
 //! Putting an entry below an opened tree, in folders that are made for it.
 
-ghost use Rattle.std.specs.Prelude.{◌≡◌, ◌≢◌, ◌<◌, ◌≤◌, ◌+◌, ◌++◌, ◌∷◌, ◌⊎◌, ℕ, length, map, slice_index_or, IfOk, OnOk, OnErr, Some, None, [], true};
+ghost use Rattle.std.specs.Prelude.{◌≡◌, ◌≢◌, ◌<◌, ◌≤◌, ◌+◌, ◌++◌, ◌∷◌, ◌⊎◌, ℕ, length, map, drop, slice_index_or, IfOk, OnOk, OnErr, Some, None, [], true};
 ghost use Rattle.std.specs.List.{All, Contains};
 ghost use Rattle.gix_hash.specs.Id.{id_of};
 ghost use Rattle.gix_object_editor.specs.declared.tree.editor.node.Slot.{Slot};
-ghost use Rattle.gix_object_editor.specs.Files.{Bytes, Path, Trees, SameFiles, is_null, put, cleared};
+ghost use Rattle.gix_object_editor.specs.Files.{Bytes, Path, Trees, SameFiles, is_null, put, cleared, behind};
 ghost use Rattle.gix_object_editor.specs.Asked.{front_of};
 ghost use Rattle.gix_object_editor.specs.Entries.{Property, EachHas, MayStand, MayStandMade, made_leaf};
 ghost use Rattle.gix_object_editor.specs.Marks.{mark_of, marks_of, mark_below, rung_parent, AreMarksKept, AreOnPath};
-ghost use Rattle.gix_object_editor.specs.Nodes.{slot_in, slots_of, child_of, leaf_in, files_of_node, Way, onto, AreNull, IsForest, IsFolderAt, IsRung, IsPutIn, LeadsTo};
+ghost use Rattle.gix_object_editor.specs.Nodes.{slot_in, slots_of, child_of, leaf_in, files_of_node, Way, onto, AreNull, IsForest, IsFolderAt, IsPutIn, LeadsTo, entry_from};
+ghost use Rattle.gix_object_editor.specs.Laid.{IsRung, laid_at, made_at};
 
 use crate::tree::editor::node::{Node, NodeId, Slot, put_at, take_at};
 use gix_hash::{Kind, ObjectId};
@@ -39,6 +40,12 @@ pub(crate) fn graft(
         → SameFiles (files_of_node trees (slots_of nodes.new.items) 0)
         (put trees (onto way (map (λ n. n.now) names.now)) (leaf_in slot)
         (files_of_node trees (slots_of nodes.old.items) 0))) }
+    ensures entries { OnOk result ((trees : Trees) (way : Path)
+        → Way (slots_of nodes.old.items) way at.0 → (q : Path)
+        → entry_from (λ l. None) trees (slots_of nodes.new.items) 0 q
+        ≡ laid_at trees (leaf_in slot) (map (λ n. n.now) (drop 1 names.now))
+        (behind (onto way (slice_index_or (map (λ n. n.now) names.now) 0 [] ∷ [])) q)
+        (entry_from (λ l. None) trees (slots_of nodes.old.items) 0 q)) }
     ensures end { IfOk result (λ end. (way : Path) → Way (slots_of nodes.old.items) way at.0
         → IsPutIn (slots_of nodes.new.items) (onto way (map (λ n. n.now) names.now)) end.0) }
     ensures within { IfOk result (λ end. end.0 < length nodes.new.items) }
@@ -103,6 +110,12 @@ pub(crate) fn make_folders(
         → SameFiles (files_of_node trees (slots_of nodes.new.items) 0)
         (cleared (onto way (map (λ n. n.now) names.now))
         (files_of_node trees (slots_of nodes.old.items) 0))) }
+    ensures entries { OnOk result ((trees : Trees) (way : Path)
+        → Way (slots_of nodes.old.items) way at.0 → (q : Path)
+        → entry_from (λ l. None) trees (slots_of nodes.new.items) 0 q
+        ≡ made_at hash (map (λ n. n.now) (drop 1 names.now))
+        (behind (onto way (slice_index_or (map (λ n. n.now) names.now) 0 [] ∷ [])) q)
+        (entry_from (λ l. None) trees (slots_of nodes.old.items) 0 q)) }
     ensures leads { IfOk result (λ end. (way : Path) → Way (slots_of nodes.old.items) way at.0
         → LeadsTo (slots_of nodes.new.items) (onto way (map (λ n. n.now) names.now)) end.0 []) }
     ensures within { IfOk result (λ end. end.0 < length nodes.new.items) }
@@ -155,6 +168,12 @@ fn hang(
         → SameFiles (files_of_node trees (slots_of nodes.new.items) 0)
         (put trees (onto way (map (λ n. n.now) names.now)) (leaf_in slot)
         (files_of_node trees (slots_of nodes.old.items) 0))) }
+    ensures entries { OnOk result ((trees : Trees) (way : Path)
+        → Way (slots_of nodes.old.items) way at.0 → (q : Path)
+        → entry_from (λ l. None) trees (slots_of nodes.new.items) 0 q
+        ≡ laid_at trees (leaf_in slot) (map (λ n. n.now) (drop 1 names.now))
+        (behind (onto way (slice_index_or (map (λ n. n.now) names.now) 0 [] ∷ [])) q)
+        (entry_from (λ l. None) trees (slots_of nodes.old.items) 0 q)) }
     ensures end { IfOk result (λ end. (way : Path) → Way (slots_of nodes.old.items) way at.0
         → IsPutIn (slots_of nodes.new.items) (onto way (map (λ n. n.now) names.now)) end.0) }
     ensures within { IfOk result (λ end. end.0 < length nodes.new.items) }

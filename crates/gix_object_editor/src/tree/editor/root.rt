@@ -2,8 +2,8 @@
 
 ghost use Rattle.std.specs.Prelude.{◌≡◌, ℕ, [], length, map, IfOk, None, false};
 ghost use Rattle.gix_object_entries.specs.Entry.{own_item};
-ghost use Rattle.gix_object_editor.specs.Files.{Bytes, Path, Trees, named, files_of_tree};
-ghost use Rattle.gix_object_editor.specs.Nodes.{slot_in, slots_of, child_of, files_of_node, StandsFor, IsForest};
+ghost use Rattle.gix_object_editor.specs.Files.{Bytes, Path, Trees, named, files_of_tree, entry_of_tree};
+ghost use Rattle.gix_object_editor.specs.Nodes.{slot_in, slots_of, child_of, files_of_node, entry_from, StandsFor, IsForest};
 ghost use Rattle.gix_object_editor.specs.Entries.{Property, EachHas, ItemsHave};
 ghost use Rattle.gix_object_editor.specs.Marks.{marks_of, AreMarked};
 ghost use Rattle.gix_object_entries.specs.WellFormed.{IsWellFormed};
@@ -26,6 +26,9 @@ pub(crate) fn opened_root(alloc: Global, root: &Tree) -> Result<Vec<Node>, Alloc
         → EachHas has (slots_of nodes.items)) }
     ensures files { IfOk result (λ nodes. (trees : Trees) (q : Path)
         → files_of_node trees (slots_of nodes.items) 0 q ≡ files_of_tree trees
+        (map own_item root.now.entries.items) q) }
+    ensures entries { IfOk result (λ nodes. (trees : Trees) (q : Path)
+        → entry_from (λ l. None) trees (slots_of nodes.items) 0 q ≡ entry_of_tree trees
         (map own_item root.now.entries.items) q) }
 {
     let mut node = node_of(alloc, root)?;

@@ -7,7 +7,7 @@ use Rattle.gix_object_editor.specs.declared.tree.editor.node.Slot.{Slot}
 use Rattle.gix_object_editor.specs.Files.{Bytes, leads_on, named}
 use Rattle.gix_object_editor.specs.Nodes.{slots_of, slot_in, leaf_in, child_of, StandsFor, IsUnopened}
 use Rattle.gix_object_editor.proofs.Loaded.{not_null, null_by_test, no_child}
-use Rattle.gix_object_editor.proofs.Opening.{opened_one, opened_same, as_function}
+use Rattle.gix_object_editor.proofs.Opening.{opened_one, opened_same, opened_none, as_function}
 use Rattle.gix_object_editor.specs.Marks.{marks_of}
 use Rattle.gix_object_editor.proofs.Kept.{opened_each}
 use Rattle.gix_object_editor.proofs.Marked.{marks_one, read_one, read_same}
@@ -177,3 +177,15 @@ returns-in_err-attach-clause-opened g c =
     let no : is_ok c.attach.result ≡ false = search rules in
     let len : length old ≡ length new = search rules in
     opened_same _ _ (slots_of old) (slots_of new) (length old) (length new) c.requires.forest len c.in_err-attach.ensures.err
+
+pub returns-in_default-clause-opened : goal.returns-in_default-clause-opened
+returns-in_default-clause-opened g c = opened_none _ _ (slots_of c.args.nodes.now.items) (length c.args.nodes.now.items) c.requires.forest
+
+pub returns-then-is_some-clause-opened : goal.returns-then-is_some-clause-opened
+returns-then-is_some-clause-opened g c = opened_none _ _ (slots_of c.args.nodes.now.items) (length c.args.nodes.now.items) c.requires.forest
+
+pub returns-then-not-is_tree-clause-opened : goal.returns-then-not-is_tree-clause-opened
+returns-then-not-is_tree-clause-opened g c = opened_none _ _ (slots_of c.args.nodes.now.items) (length c.args.nodes.now.items) c.requires.forest
+
+pub returns-in_err-tree-clause-opened : goal.returns-in_err-tree-clause-opened
+returns-in_err-tree-clause-opened g c = opened_none _ _ (slots_of c.args.nodes.now.items) (length c.args.nodes.now.items) c.requires.forest

@@ -119,3 +119,13 @@ returns-in_default-clause-before g c = λ m k link.
     let more = c.in_ok-child.ensures.opened.forest in
     let same : length c.open.new.nodes.items ≡ length c.names.nodes.items = c.in_ok-child.ensures.unopened c.in_default.is in
     walk_before (length c.args.nodes.now.items) (length c.names.nodes.items) c.names.at.0 k (more.forward c.names.at.0 m k link) (subst (λ b. k < b) same (more.within c.names.at.0 m k link)) c.names.invariant.last
+
+pub returns-in_err-child-clause-opened : goal.returns-in_err-child-clause-opened
+returns-in_err-child-clause-opened g c =
+    opened_then _ _ (slots_of c.args.nodes.now.items) (slots_of c.names.nodes.items) (slots_of c.open.new.nodes.items) (length c.args.nodes.now.items) (length c.names.nodes.items) (length c.open.new.nodes.items)
+    c.names.invariant.opened c.in_err-child.ensures.opened
+
+pub returns-in_default-clause-opened : goal.returns-in_default-clause-opened
+returns-in_default-clause-opened g c =
+    opened_then _ _ (slots_of c.args.nodes.now.items) (slots_of c.names.nodes.items) (slots_of c.open.new.nodes.items) (length c.args.nodes.now.items) (length c.names.nodes.items) (length c.open.new.nodes.items)
+    c.names.invariant.opened c.in_ok-child.ensures.opened

@@ -1,13 +1,15 @@
-use Rattle.std.proofs.Common.{Some, None, ℕ, List, ◌≡◌, ◌∙◌, ◌<◌, ◌≤◌, ap, sym, subst, arith, length, map, []}
+use Rattle.std.proofs.Common.{Some, None, ℕ, List, ◌≡◌, ◌∙◌, ◌<◌, ◌≤◌, ap, sym, subst, ◌∷◌, arith, length, map, drop, get_or, []}
 use Rattle.std.specs.Borrow.{Bor}
 use Rattle.std.proofs.lemmas.Result.{err_from_is_err_and}
 use Rattle.std.proofs.lemmas.List.{get_or-map, length-take}
 use Rattle.gix_object_editor.specs.declared.tree.editor.node.Node.{Node}
-use Rattle.gix_object_editor.specs.Files.{Bytes}
-use Rattle.gix_object_editor.specs.Nodes.{slots_of, leaf_in, files_of_node, child_of, onto, IsForest, IsPutIn}
+use Rattle.gix_object_editor.specs.Files.{Bytes, behind}
+use Rattle.gix_object_editor.specs.Nodes.{slots_of, leaf_in, files_of_node, child_of, onto, entry_from, IsForest, IsPutIn}
+use Rattle.gix_object_editor.specs.Laid.{laid_at}
+use Rattle.gix_object_editor.proofs.Entered.{none_met}
 use Rattle.gix_object_editor.proofs.Slots.{back, all_slots, cut_back, none_past}
 use Rattle.gix_object_editor.proofs.Opening.{fewer}
-use Rattle.gix_object_editor.proofs.Ladder.{put_forest, put_files, put_end, put_marks}
+use Rattle.gix_object_editor.proofs.Ladder.{put_forest, put_files, put_end, put_marks, put_entries, none_behind}
 use Rattle.gix_object_editor.specs.Marks.{marks_of, AreMarksKept, AreOnPath}
 use Rattle.gix_object_editor.proofs.Changes.{none_on_path}
 use Rattle.gix_object_editor.specs.Entries.{EachHas}
@@ -182,3 +184,22 @@ returns-then-names-eq1-clause-rungs c = λ i m s le is.
 
 pub returns-then-names-eq1-clause-null : goal.returns-then-names-eq1-clause-null
 returns-then-names-eq1-clause-null c = λ more. absurd (omega (arith, more))
+
+pub returns-then-names-eq1-clause-entries : goal.returns-then-names-eq1-clause-entries
+returns-then-names-eq1-clause-entries c = λ trees way reached q.
+    let old = c.args.nodes.now.items in
+    let new = c.put_at.new.nodes in
+    let path = c.args.names.now in
+    let n : c.args.nodes.now.len ≡ length new = omega (arith, c.put_at.auto.nodes, c.as_mut_slice.ensures.len) in
+    let same_len : length new ≡ length old = omega (arith, c.args.nodes.now.ok.0) in
+    let one : length path ≡ 1 = omega arith in
+    let some : 0 < length path = omega arith in
+    let d : Bor (List ℕ) = record { ref_ptr = (0, 0); now = [] } in
+    let name : List ℕ = (get_or path 0 d).now in
+    let name_is : get_or (map (λ x. x.now) path) 0 [] ≡ name = get_or-map (λ (x : Bor (List ℕ)). x.now) path 0 d [] some in
+    let stood = entry_from none_met trees (slots_of old) 0 q in
+    ap (λ (ns : List Node). entry_from none_met trees (slots_of ns) 0 q) (back c.args.nodes.now.len new _ n)
+    ∙ put_entries old new c.requires.forest path one c.args.slot c.requires.unopened same_len c.args.at.0 name name_is c.in_ok-put_at.ensures.here
+    (λ i m off. c.in_ok-put_at.ensures.others i m off ∙ ap (λ ns. slots_of ns i m) c.as_mut_slice.ensures.value) trees way reached q
+    ∙ ap (λ p. laid_at trees (leaf_in c.args.slot) p (behind (onto way (name ∷ [])) q) stood) (sym (none_behind path one))
+    ∙ ap (λ m. laid_at trees (leaf_in c.args.slot) (map (λ x. x.now) (drop 1 path)) (behind (onto way (m ∷ [])) q) stood) (sym name_is)

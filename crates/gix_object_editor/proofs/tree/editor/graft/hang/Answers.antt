@@ -1,11 +1,14 @@
-use Rattle.std.proofs.Common.{ℕ, inl, inr, get_or, List, Some, None, rules, ◌≡◌, ◌∙◌, ◌<◌, ◌≤◌, ◌+◌, ◌-◌, suc, map, ap, sym, subst, arith, length, drop, take, []}
+use Rattle.std.proofs.Common.{ℕ, inl, inr, get_or, List, Some, None, rules, ◌≡◌, ◌∙◌, ◌<◌, ◌≤◌, ◌+◌, ◌-◌, ◌∷◌, suc, map, ap, sym, subst, arith, length, drop, take, []}
 use Rattle.std.specs.Borrow.{Bor}
 use Rattle.std.proofs.lemmas.Result.{err_from_is_err_and}
 use Rattle.std.proofs.lemmas.List.{get_or-map, length-drop, take_all}
 use Rattle.gix_object_editor.specs.declared.tree.editor.node.Node.{Node}
-use Rattle.gix_object_editor.specs.Nodes.{slots_of, leaf_in, files_of_node, child_or, onto, AreNull, IsForest, IsPutIn}
+use Rattle.gix_object_editor.specs.Nodes.{slots_of, leaf_in, files_of_node, child_or, onto, entry_from, AreNull, IsForest, IsPutIn}
+use Rattle.gix_object_editor.specs.Files.{behind}
+use Rattle.gix_object_editor.specs.Laid.{laid_at}
+use Rattle.gix_object_editor.proofs.Entered.{none_met}
 use Rattle.gix_object_editor.proofs.Slots.{back, all_slots, none_past}
-use Rattle.gix_object_editor.proofs.Ladder.{hung_forest, hung_files, hung_end, hung_marks, hung_ways}
+use Rattle.gix_object_editor.proofs.Ladder.{hung_forest, hung_files, hung_entries, hung_end, hung_marks, hung_ways}
 use Rattle.gix_object_editor.specs.Marks.{marks_of, AreMarksKept, AreOnPath}
 use Rattle.std.specs.List.{Contains}
 use Rattle.gix_object_editor.specs.Entries.{EachHas}
@@ -215,3 +218,28 @@ returns-clause-null c = λ null.
     subst (λ (ns : List Node). AreNull (slots_of ns) (length old)) (sym (back c.push_ladder.new.nodes.len new _ n))
     (hung_null (slots_of old) (slots_of mid) (slots_of new) (length old) c.args.at.0 _ _ (map (λ x. x.now) (take (length path - 1) (drop 1 path))) (leaf_in c.args.slot) c.requires.forest c.in_ok-push_ladder.ensures.front
     c.in_ok-push_ladder.ensures.leaves null c.in_ok-put_at.ensures.here c.folder.ensures.leaf (λ i m off. c.in_ok-put_at.ensures.others i m off ∙ ap (λ ns. slots_of ns i m) c.as_mut_slice.ensures.value))
+
+pub returns-clause-entries : goal.returns-clause-entries
+returns-clause-entries c = λ trees way reached q.
+    let old = c.args.nodes.now.items in
+    let mid = c.push_ladder.new.nodes.items in
+    let new = c.put_at.new.nodes in
+    let path = c.args.names.now in
+    let n : c.push_ladder.new.nodes.len ≡ length new = omega (arith, c.put_at.auto.nodes, c.as_mut_slice.ensures.len) in
+    let tail : List (Bor (List ℕ)) = take (length path - 1) (drop 1 path) in
+    let less : length (drop 1 path) ≤ length path - 1 = omega (arith, length-drop 1 path) in
+    let tail_is : tail ≡ drop 1 path = take_all (length path - 1) (drop 1 path) less in
+    let len : length mid ≡ length old + length tail = c.in_ok-push_ladder.ensures.len in
+    let same_len : length new ≡ length mid = omega (arith, c.push_ladder.new.nodes.ok.0) in
+    let some : 0 < length path = omega arith in
+    let d : Bor (List ℕ) = record { ref_ptr = (0, 0); now = [] } in
+    let name : List ℕ = (get_or path 0 d).now in
+    let name_is : get_or (map (λ x. x.now) path) 0 [] ≡ name = get_or-map (λ (x : Bor (List ℕ)). x.now) path 0 d [] some in
+    let stood = entry_from none_met trees (slots_of old) 0 q in
+    ap (λ (ns : List Node). entry_from none_met trees (slots_of ns) 0 q) (back c.push_ladder.new.nodes.len new _ n)
+    ∙ hung_entries old mid new c.requires.forest path tail c.requires.named tail_is c.args.slot _ c.requires.unopened c.in_ok-push_ladder.ensures.front
+    c.in_ok-push_ladder.ensures.rungs len same_len c.args.at.0 name name_is c.requires.within c.in_ok-put_at.ensures.here
+    (ap (λ o. child_or o (λ d. Some d) None) c.folder.ensures.linked ∙ ap (λ k. Some k) (search rules))
+    (λ i m off. c.in_ok-put_at.ensures.others i m off ∙ ap (λ ns. slots_of ns i m) c.as_mut_slice.ensures.value) c.folder.ensures.leaf trees way reached q
+    ∙ ap (λ (xs : List (Bor (List ℕ))). laid_at trees (leaf_in c.args.slot) (map (λ x. x.now) xs) (behind (onto way (name ∷ [])) q) stood) tail_is
+    ∙ ap (λ m. laid_at trees (leaf_in c.args.slot) (map (λ x. x.now) (drop 1 path)) (behind (onto way (m ∷ [])) q) stood) (sym name_is)

@@ -1,4 +1,4 @@
-use Rattle.std.proofs.Common.{ℕ, inl, inr, List, ◌≡◌, ◌∙◌, ◌<◌, ◌++◌, ◌∷◌, [], ap, sym, subst, arith, rules, length, true, get_or}
+use Rattle.std.proofs.Common.{ℕ, inl, inr, List, ◌≡◌, ◌∙◌, ◌<◌, ◌++◌, ◌∷◌, [], ap, sym, subst, arith, rules, length, true, get_or, drop, None, if◌then◌else◌}
 use Rattle.std.specs.Prelude.{is_ok}
 use Rattle.gix_object_editor.specs.declared.tree.editor.node.Node.{Node}
 use Rattle.gix_hash.specs.Id.{id_of}
@@ -9,13 +9,17 @@ use Rattle.gix_object_editor.specs.Entries.{EachHas, MayStand, made_leaf}
 use Rattle.gix_object_editor.proofs.Asking.{front_pushed}
 use Rattle.gix_object_editor.proofs.Kept.{unless_empty, may_stand_more, each_more_has, made_each}
 use Rattle.gix_object_editor.specs.Files.{Bytes, Path, Leaf, is_null, put}
-use Rattle.gix_object_editor.specs.Nodes.{slots_of, files_of_node, child_of, onto, AreNull, IsForest, LeadsTo, IsPutIn}
+use Rattle.gix_object_editor.specs.Nodes.{slots_of, files_of_node, entry_from, child_of, onto, AreNull, IsForest, LeadsTo, IsPutIn}
+use Rattle.gix_object_editor.specs.Laid.{laid_at, made_at}
+use Rattle.gix_object_editor.specs.Files.{behind}
+use Rattle.gix_object_editor.proofs.Entered.{none_met, made_then, names_drop}
+use Rattle.std.specs.Prelude.{is_some}
 use Rattle.gix_object_editor.proofs.Paths.{onto-append}
 use Rattle.gix_object_editor.proofs.Cuts.{null_itself}
 use Rattle.gix_object_editor.proofs.Slots.{back}
 use Rattle.gix_object_editor.proofs.Edits.{less_forest}
 use Rattle.gix_object_editor.proofs.Walked.{names, names_length}
-use Rattle.gix_object_editor.proofs.Folders.{names_pushed, none_below, made_leads, made_files, taken_link, taken_marks, taken_ways, two_long, same_first_name}
+use Rattle.gix_object_editor.proofs.Folders.{names_pushed, none_below, made_leads, made_files, taken_entries, taken_link, taken_marks, taken_ways, two_long, same_first_name}
 use Rattle.gix_object_editor.specs.Marks.{marks_of, AreMarksKept, AreOnPath}
 use Rattle.gix_object_editor.proofs.tree.editor.graft.make_folders.Goals as goal
 
@@ -177,3 +181,30 @@ returns-clause-null c =
     let null : is_null (id_of c.null.result) ≡ true = ap is_null c.null.ensures ∙ null_itself c.args.hash in
     subst (λ (ns : List Node). AreNull (slots_of ns) (length old)) (sym (back c.graft.new.nodes.len new _ n))
     (λ i m s k is link le. c.in_ok-end.ensures.null two null i m s k (sym (taken_link (slots_of mid) (slots_of new) [] c.in_ok-end.end.0 c.take_at.ensures.here others i m k (ap child_of is ∙ link)) ∙ is) link le)
+
+pub returns-clause-entries : goal.returns-clause-entries
+returns-clause-entries c = λ trees way reached q.
+    let old = c.args.nodes.now.items in
+    let mid = c.graft.new.nodes.items in
+    let new = c.take_at.new.nodes in
+    let path = c.args.names.now in
+    let xs = c.as_slice.result.now in
+    let n : c.graft.new.nodes.len ≡ length new = omega (arith, c.take_at.auto.nodes, c.as_mut_slice.ensures.len) in
+    let others : (i : ℕ) (m : Bytes) → ((i ≡ c.in_ok-end.end.0) → (m ≡ []) → ⊥) → slots_of new i m ≡ slots_of mid i m = λ i m off.
+    c.take_at.ensures.others i m off ∙ ap (λ ns. slots_of ns i m) c.as_mut_slice.ensures.value in
+    let ok : is_ok c.push.result ≡ true = search rules in
+    let same : c.in_ok-path.path.items ≡ path = search rules in
+    let longer : names xs ≡ names path ++ [] ∷ [] =
+    ap names c.as_slice.ensures.value ∙ names_pushed _ c.in_ok-path.path.items c.push.new.self.items _ ok c.push.ensures.items ∙ ap (λ ys. names ys ++ [] ∷ []) same in
+    let whole : onto way (names xs) ≡ onto way (names path) ++ [] ∷ [] = ap (onto way) longer ∙ onto-append way (names path) ([] ∷ []) in
+    let put_in = subst (λ p. IsPutIn (slots_of mid) p c.in_ok-end.end.0) whole (c.in_ok-end.ensures.end way reached) in
+    let leaf : Leaf = record { mode = mode_of c.from.result; id = id_of c.null.result } in
+    let made : leaf ≡ made_leaf c.args.hash = search rules in
+    let some : 0 < length (names path) = omega (arith, names_length path) in
+    let stood = λ (r : Path). entry_from none_met trees (slots_of old) 0 r in
+    ap (λ (ns : List Node). entry_from none_met trees (slots_of ns) 0 q) (back c.graft.new.nodes.len new _ n)
+    ∙ taken_entries (slots_of mid) (slots_of new) (length mid) c.graft.ensures.forest (onto way (names path)) [] c.in_ok-end.end.0 put_in c.take_at.ensures.here others trees q
+    ∙ made_then trees leaf way (names path) (names xs) longer some stood q _
+    (c.in_ok-end.ensures.entries trees way reached q ∙ ap (λ p. laid_at trees leaf p (behind (onto way (get_or (names xs) 0 [] ∷ [])) q) (stood q)) (names_drop xs))
+    ∙ ap (λ (l : Leaf). made_at l.id.kind (drop 1 (names path)) (behind (onto way (get_or (names path) 0 [] ∷ [])) q) (stood q)) made
+    ∙ ap (λ p. made_at c.args.hash p (behind (onto way (get_or (names path) 0 [] ∷ [])) q) (stood q)) (sym (names_drop path))

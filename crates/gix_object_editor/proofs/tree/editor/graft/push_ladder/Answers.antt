@@ -73,6 +73,10 @@ loop-i-preserved c =
                 ap (λ (r : Slot). child_of (Some r)) w.rung-is ∙ ap (λ o. child_or o (λ d. Some d) None) w.folder-rung.ensures.linked ∙ ap (λ k. Some k) next
             | else-i-names w ↦ absurd (omega (arith, w.if-i-names.false))
           ])
+          (λ inner. elim c.if-i-names.branch [
+            | then-i-names w ↦ ap leaf_in w.rung-is ∙ w.folder-rung.ensures.leaf
+            | else-i-names w ↦ absurd (omega (arith, w.if-i-names.false))
+          ])
           (λ end. elim c.if-i-names.branch [
             | then-i-names w ↦ absurd (omega (arith, w.if-i-names.true))
             | else-i-names w ↦ w.rung-is

@@ -1,6 +1,7 @@
 use Rattle.std.proofs.Common.{Some, ◌≤◌, ◌⊎◌, ℕ, ◌≡◌, ◌<◌, ◌+◌, length, map}
 use Rattle.gix_object_editor.specs.Files.{Bytes}
-use Rattle.gix_object_editor.specs.Nodes.{slots_of, leaf_in, IsRung}
+use Rattle.gix_object_editor.specs.Nodes.{slots_of, leaf_in}
+use Rattle.gix_object_editor.specs.Laid.{IsRung}
 use Rattle.std.specs.List.{Contains}
 use Rattle.gix_hash.specs.Id.{id_of}
 use Rattle.gix_object_editor.specs.declared.tree.editor.node.Slot.{Slot}

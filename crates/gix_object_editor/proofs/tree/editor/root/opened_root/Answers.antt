@@ -3,7 +3,8 @@ use Rattle.std.specs.Prelude.{is_ok}
 use Rattle.gix_object_entries.specs.Entry.{own_item}
 use Rattle.gix_object_editor.specs.declared.tree.editor.node.Node.{Node}
 use Rattle.gix_object_editor.specs.Files.{named}
-use Rattle.gix_object_editor.specs.Nodes.{slots_of, slot_in, child_of, files_of_node, StandsFor, IsForest}
+use Rattle.gix_object_editor.specs.Nodes.{slots_of, slot_in, child_of, files_of_node, entry_from, StandsFor, IsForest}
+use Rattle.gix_object_editor.proofs.Entered.{none_met, tree_entries}
 use Rattle.gix_object_editor.specs.Marks.{Mark, marks_of, AreMarked}
 use Rattle.gix_object_editor.specs.Entries.{EachHas}
 use Rattle.gix_object_editor.proofs.Kept.{one_each}
@@ -63,3 +64,11 @@ returns-clause-each c = λ has items.
     subst (λ (ns : List Node). EachHas has (slots_of ns)) (sym pushed)
     (one_each node (map own_item c.args.root.now.entries.items) has
     (λ m. subst (λ o. StandsFor o (named m (map own_item c.args.root.now.entries.items))) (sym (c.place.ensures.slots m)) (c.in_ok-node.ensures m)) items)
+
+pub returns-clause-entries : goal.returns-clause-entries
+returns-clause-entries c = λ trees q.
+    let node = c.place.new.self in
+    let ok : is_ok c.push.result ≡ true = search rules in
+    let pushed : c.push.new.self.items ≡ node ∷ [] =
+    c.push.ensures.items ∙ ap (λ b. if b then c.new-nodes.result.items ++ node ∷ [] else c.new-nodes.result.items) ok ∙ ap (λ (xs : List Node). xs ++ node ∷ []) c.new-nodes.ensures.items in
+    ap (λ (ns : List Node). entry_from none_met trees (slots_of ns) 0 q) pushed ∙ tree_entries trees (slots_of (node ∷ [])) 0 (map own_item c.args.root.now.entries.items) (λ m. subst (λ o. StandsFor o (named m (map own_item c.args.root.now.entries.items))) (sym (c.place.ensures.slots m)) (c.in_ok-node.ensures m)) q

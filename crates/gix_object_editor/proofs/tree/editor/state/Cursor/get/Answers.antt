@@ -2,7 +2,7 @@ use Rattle.std.proofs.Common.{◌∙◌, ap, sym}
 use Rattle.gix_object_editor.specs.Editor.{names_of}
 use Rattle.gix_object_editor.specs.Nodes.{slots_of, entry_at}
 use Rattle.gix_object_editor.proofs.Walked.{names}
-use Rattle.gix_object_editor.proofs.Gotten.{got_below, got_file_below}
+use Rattle.gix_object_editor.proofs.Gotten.{got_below, got_file_below, got_entry_below}
 use Rattle.gix_object_editor.proofs.Folders.{entry_below}
 use Rattle.gix_object_editor.proofs.tree.editor.state.Cursor.get.Goals as goal
 
@@ -22,3 +22,9 @@ returns-clause-there g c = λ base stands trees item is some gone.
     let slots = slots_of c.args.self.now.editor.now.nodes.items in
     let got = sym (c.entry_from.ensures ∙ ap (λ ns. entry_at (slots_of ns) c.args.self.now.at.0 (names c.args.path.now)) c.as_slice.ensures.value) ∙ is in
     got_below trees slots base c.args.self.now.at.0 (names_of c.args.path.now) item stands got some gone
+
+pub returns-clause-stands : goal.returns-clause-stands
+returns-clause-stands g c = λ base stands trees item is.
+    let slots = slots_of c.args.self.now.editor.now.nodes.items in
+    let got = sym (c.entry_from.ensures ∙ ap (λ ns. entry_at (slots_of ns) c.args.self.now.at.0 (names c.args.path.now)) c.as_slice.ensures.value) ∙ is in
+    got_entry_below trees slots base c.args.self.now.at.0 (names_of c.args.path.now) item stands got

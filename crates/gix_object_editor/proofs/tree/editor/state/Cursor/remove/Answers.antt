@@ -36,3 +36,8 @@ returns-clause-nothing g c = λ base stands honest trees has none.
 pub returns-clause-made : goal.returns-clause-made
 returns-clause-made g c = λ base stands made.
     c.remove_from.ensures.made stands.0 stands.1 (subst (IsMadeAt c.args.self.now.editor.now) (sym (below_base stands.0 base (names_of c.args.path.now) stands.2)) made)
+
+pub returns-clause-entries : goal.returns-clause-entries
+returns-clause-entries g c = λ base stands honest.
+    subst (λ p. OnOk c.remove_from.result ((trees : Trees) → HasStored (g.S.Lookup.table c.args.self.now.editor.now.store) trees → SameFiles (entry_over trees c.remove_from.new.self) (removed p (entry_over trees c.args.self.now.editor.now))))
+    (below_base stands.0 base (names_of c.args.path.now) stands.2) (c.remove_from.ensures.entries stands.0 stands.1 honest)

@@ -12,6 +12,7 @@ returns-in_err-at g c =
         λ w. tt,
         record {
           files = c.in_err-at.ensures.unchanged;
+          entries = c.in_err-at.ensures.same_entries;
           as_read = c.in_err-at.ensures.as_read;
           still = c.in_err-at.ensures.still;
           fault = c.in_err-at.ensures.refused;
@@ -25,11 +26,14 @@ returns-in_err-at g c =
         left = tt;
         stands = tt;
         cleared = λ honest. tt;
+        entries = λ honest. tt;
+        folders = λ honest. tt;
         named = tt;
         each = λ honest. tt;
         as_read = λ honest. tt;
         changed = tt;
         nothing = λ honest. tt;
+        stood = λ honest. tt;
         counted = tt;
         asked = λ honest. tt;
         store = tt;

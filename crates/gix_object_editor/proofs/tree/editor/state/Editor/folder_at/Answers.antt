@@ -2,16 +2,20 @@ use Rattle.std.proofs.Common.{◌≢◌, ℕ, List, ◌⊎◌, ◌++◌, inl, in
 use Rattle.std.specs.Prelude.{is_some}
 use Rattle.std.proofs.lemmas.Result.{err_from_is_err_and}
 use Rattle.std.proofs.lemmas.List.{length-drop, get_or-map}
+use Rattle.std.proofs.lemmas.Bool.{cases_eq}
 use Rattle.gix_hash.specs.Id.{id_of}
 use Rattle.gix_object_editor.specs.Editor.{names_of, LeadsInto, IsChanged}
 use Rattle.gix_object_editor.specs.Files.{Begins, behind, cleared}
-use Rattle.gix_object_editor.specs.Nodes.{slots_of, child_of, files_of_node, onto, LeadsTo, IsFolderAt, IsNoFolder, IsForest, Way}
+use Rattle.gix_object_editor.specs.Nodes.{slots_of, child_of, files_of_node, entry_from, onto, LeadsTo, IsFolderAt, IsNoFolder, IsForest, Way}
 use Rattle.gix_object_editor.specs.declared.tree.editor.node.Node.{Node}
 use Rattle.gix_object_editor.specs.Marks.{Mark, marks_of, AreMarked, AreMarkedBut, AreMarkedUp, AreMarksKept, AreAsRead, AreOnPath, IsChangedIn}
 use Rattle.gix_object_editor.proofs.Slots.{back, none_past}
 use Rattle.gix_object_editor.proofs.Paths.{onto-append, by_test}
 use Rattle.gix_object_editor.proofs.Cuts.{made_as_read, made_hollow, same_marks, both_longer, none_of, more_names}
 use Rattle.gix_object_editor.proofs.Standing.{graft_links, nothing_there, name_left}
+use Rattle.gix_object_editor.proofs.Entered.{none_met, made_keeps, no_folder_at_end, rest_dropped}
+use Rattle.gix_object_editor.proofs.Raised.{made_folders, stood_folders}
+use Rattle.gix_object_editor.specs.Laid.{made_at}
 use Rattle.gix_object_editor.proofs.Ways.{way_above}
 use Rattle.gix_object_editor.proofs.Marked.{opened_marked, grafted_marked, read_same, marks_then}
 use Rattle.gix_object_editor.proofs.Changes.{opened_changed, failed_changed, graft_as_read, graft_changed, opened_same_changed, SameChanged, one_more_left, begins}
@@ -500,3 +504,161 @@ returns-in_ok-made-in-None-clause-nothing g c = λ honest trees has none tree.
     (subst (λ f. SameChanged (slots_of old) (marks_of old) f (marks_of fin)) (sym same_slots) (subst (SameChanged (slots_of old) (marks_of old) (slots_of mk)) (sym same)
     (opened_same_changed (slots_of old) (slots_of mk) (marks_of old) (marks_of mk) (length old) (length mk) c.args.self.now.forest c.make_folders.ensures.forest all
     (λ k m d e. links k m d (opened.links k m d e)))) tree)
+
+-- ---- the entries
+
+pub returns-in_err-at-clause-same_entries : goal.returns-in_err-at-clause-same_entries
+returns-in_err-at-clause-same_entries g c = λ honest.
+    let p = err_from_is_err_and c.from_residual-in_err-at.result c.from_residual-in_err-at.ensures.1 in
+    rw p.1 (λ trees has q. c.in_err-at.ensures.opened.entries honest trees has none_met q 0 c.args.self.now.forest.rooted)
+
+pub returns-in_err-found-clause-same_entries : goal.returns-in_err-found-clause-same_entries
+returns-in_err-found-clause-same_entries g c = λ honest.
+    let p = err_from_is_err_and c.from_residual-in_err-found.result c.from_residual-in_err-found.ensures.1 in
+    let old = c.args.self.now.nodes.items in
+    let mid = c.walk.new.nodes.items in
+    let new = c.folder_below.new.nodes.items in
+    let opened = opened_then _ _ (slots_of old) (slots_of mid) (slots_of new) (length old) (length mid) (length new) c.in_ok-at.ensures.opened c.in_err-found.ensures.opened in
+    rw p.1 (λ trees has q. opened.entries honest trees has none_met q 0 c.args.self.now.forest.rooted)
+
+pub returns-in_err-made-in-None-clause-same_entries : goal.returns-in_err-made-in-None-clause-same_entries
+returns-in_err-made-in-None-clause-same_entries g c = λ honest.
+    let p = err_from_is_err_and c.from_residual-in_err-made-in-None.result c.from_residual-in_err-made-in-None.ensures.1 in
+    let old = c.args.self.now.nodes.items in
+    let mid = c.walk.new.nodes.items in
+    let new = c.folder_below.new.nodes.items in
+    let mk = c.make_folders.new.nodes.items in
+    let opened = opened_then _ _ (slots_of old) (slots_of mid) (slots_of new) (length old) (length mid) (length new) c.in_ok-at.ensures.opened c.in_ok-found.ensures.opened in
+    rw p.1 (λ trees has q.
+    ap (λ f. entry_from none_met trees f 0 q) (as_function (slots_of mk) (slots_of new) c.in_err-made-in-None.ensures.err)
+    ∙ opened.entries honest trees has none_met q 0 c.args.self.now.forest.rooted)
+
+pub returns-in-Some-clause-entries : goal.returns-in-Some-clause-entries
+returns-in-Some-clause-entries g c = λ honest trees has q free.
+    let old = c.args.self.now.nodes.items in
+    let mid = c.walk.new.nodes.items in
+    let new = c.folder_below.new.nodes.items in
+    let opened = opened_then _ _ (slots_of old) (slots_of mid) (slots_of new) (length old) (length mid) (length new) c.in_ok-at.ensures.opened c.in_ok-found.ensures.opened in
+    opened.entries honest trees has none_met q 0 c.args.self.now.forest.rooted
+
+pub returns-in_ok-made-in-None-clause-stood : goal.returns-in_ok-made-in-None-clause-stood
+returns-in_ok-made-in-None-clause-stood g c = λ honest trees has stands.
+    let path = c.args.path.now in
+    let i = c.in_ok-at.depth in
+    let at = c.in_ok-at.at.0 in
+    let lt : i < length path = c.in_ok-at.ensures.within.1 in
+    let old = c.args.self.now.nodes.items in
+    let mid = c.walk.new.nodes.items in
+    let new = c.folder_below.new.nodes.items in
+    let left = take (length path - i) (drop i path) in
+    let cut : left ≡ drop i path = rest_is path i in
+    let n = length-drop i path in
+    let opened = opened_then _ _ (slots_of old) (slots_of mid) (slots_of new) (length old) (length mid) (length new) c.in_ok-at.ensures.opened c.in_ok-found.ensures.opened in
+    let leads = leads_kept (slots_of mid) (slots_of new) (names path) at (names (drop i path)) c.in_ok-found.ensures.opened.links (c.in_ok-at.ensures.leads [] refl) in
+    let first : get_or (names left) 0 [] ≡ get_or (names path) i [] = ap (λ p. get_or (names p) 0 []) cut ∙ first_left path i lt in
+    let plain : IsNoFolder (slots_of new at (get_or (names path) i [])) = elim (cases_eq (i + 1) (length path)) [
+      | inl last ↦ subst (λ m. IsNoFolder (slots_of new at m)) first (c.in_ok-found.ensures.blocked (omega (arith, last, ap length cut, n)) c.in-None.is)
+      | inr not_last ↦
+          let more : i + 1 < length path = omega (arith, lt, not_last) in
+          subst IsNoFolder (sym (c.in_ok-found.ensures.same (omega (arith, more, ap length cut, n)) at (get_or (names path) i []))) (c.in_ok-at.ensures.blocked more)
+    ] in
+    absurd (no_folder_at_end _ _ (slots_of old) (slots_of new) (length old) (length new) c.args.self.now.forest opened (names path) at (get_or (names path) i []) (names (drop (i + 1) path)) (names (drop i path))
+    leads (name_left path i lt) honest trees has plain stands)
+
+pub returns-in-Some-clause-stood : goal.returns-in-Some-clause-stood
+returns-in-Some-clause-stood g c = λ honest trees has stands.
+    let old = c.args.self.now.nodes.items in
+    let mid = c.walk.new.nodes.items in
+    let new = c.folder_below.new.nodes.items in
+    let both = marks_then false (slots_of old) (slots_of mid) (slots_of new) (marks_of old) (marks_of mid) (marks_of new) (length old) (length mid) (length new)
+    c.in_ok-at.ensures.opened.longer c.in_ok-found.ensures.opened.longer c.in_ok-at.ensures.marks c.in_ok-found.ensures.marks in
+    opened_same_changed (slots_of old) (slots_of new) (marks_of old) (marks_of new) (length old) (length new) c.args.self.now.forest c.in_ok-found.ensures.opened.forest both
+    (λ i m k e. c.in_ok-found.ensures.opened.links i m k (c.in_ok-at.ensures.opened.links i m k e))
+
+pub returns-in_ok-made-in-None-clause-entries : goal.returns-in_ok-made-in-None-clause-entries
+returns-in_ok-made-in-None-clause-entries g c = λ honest trees has q free.
+    let path = c.args.path.now in
+    let i = c.in_ok-at.depth in
+    let at = c.in_ok-at.at.0 in
+    let lt : i < length path = c.in_ok-at.ensures.within.1 in
+    let old = c.args.self.now.nodes.items in
+    let mid = c.walk.new.nodes.items in
+    let new = c.folder_below.new.nodes.items in
+    let left = take (length path - i) (drop i path) in
+    let cut : left ≡ drop i path = rest_is path i in
+    let n = length-drop i path in
+    let opened = opened_then _ _ (slots_of old) (slots_of mid) (slots_of new) (length old) (length mid) (length new) c.in_ok-at.ensures.opened c.in_ok-found.ensures.opened in
+    let leads = leads_kept (slots_of mid) (slots_of new) (names path) at (names (drop i path)) c.in_ok-found.ensures.opened.links (c.in_ok-at.ensures.leads [] refl) in
+    let first : get_or (names left) 0 [] ≡ get_or (names path) i [] = ap (λ p. get_or (names p) 0 []) cut ∙ first_left path i lt in
+    let plain : IsNoFolder (slots_of new at (get_or (names path) i [])) = elim (cases_eq (i + 1) (length path)) [
+      | inl last ↦ subst (λ m. IsNoFolder (slots_of new at m)) first (c.in_ok-found.ensures.blocked (omega (arith, last, ap length cut, n)) c.in-None.is)
+      | inr not_last ↦
+          let more : i + 1 < length path = omega (arith, lt, not_last) in
+          subst IsNoFolder (sym (c.in_ok-found.ensures.same (omega (arith, more, ap length cut, n)) at (get_or (names path) i []))) (c.in_ok-at.ensures.blocked more)
+    ] in
+    let later : names (drop 1 left) ≡ names (drop (i + 1) path) = ap (λ p. names (drop 1 p)) cut ∙ rest_dropped path i in
+    let mk = c.make_folders.new.nodes.items in
+    let fin = c.mark_where.new.nodes in
+    let len : c.make_folders.new.nodes.len ≡ length fin = omega (arith, c.mark_where.auto.nodes, c.as_mut_slice.ensures.len) in
+    let whole = back c.make_folders.new.nodes.len fin _ len in
+    let same_slots : slots_of fin ≡ slots_of mk = as_function (slots_of fin) (slots_of mk) (λ k m. c.mark_where.ensures.slots k m ∙ ap (λ (ns : List Node). slots_of ns k m) c.as_mut_slice.ensures.value) in
+    let stood = entry_from none_met trees (slots_of new) 0 q in
+    let makes = c.in_ok-made-in-None.ensures.entries trees leads.0 leads.1 q
+    ∙ ap (λ m. made_at c.args.hash (names (drop 1 left)) (behind (onto leads.0 (m ∷ [])) q) stood) first
+    ∙ ap (λ p. made_at c.args.hash p (behind (onto leads.0 (get_or (names path) i [] ∷ [])) q) stood) later in
+    ap (λ (ns : List Node). entry_from none_met trees (slots_of ns) 0 q) whole
+    ∙ ap (λ f. entry_from none_met trees f 0 q) same_slots
+    ∙ made_keeps _ _ (slots_of old) (slots_of new) (length old) (length new) c.args.self.now.forest opened (names path) at (get_or (names path) i []) (names (drop (i + 1) path)) (names (drop i path))
+    leads (name_left path i lt) honest trees has q free (slots_of mk) c.args.hash plain makes
+
+pub returns-in_ok-made-in-None-clause-folders : goal.returns-in_ok-made-in-None-clause-folders
+returns-in_ok-made-in-None-clause-folders g c = λ honest trees has q t on apart.
+    let path = c.args.path.now in
+    let i = c.in_ok-at.depth in
+    let at = c.in_ok-at.at.0 in
+    let lt : i < length path = c.in_ok-at.ensures.within.1 in
+    let old = c.args.self.now.nodes.items in
+    let mid = c.walk.new.nodes.items in
+    let new = c.folder_below.new.nodes.items in
+    let left = take (length path - i) (drop i path) in
+    let cut : left ≡ drop i path = rest_is path i in
+    let opened = opened_then _ _ (slots_of old) (slots_of mid) (slots_of new) (length old) (length mid) (length new) c.in_ok-at.ensures.opened c.in_ok-found.ensures.opened in
+    let both = marks_then false (slots_of old) (slots_of mid) (slots_of new) (marks_of old) (marks_of mid) (marks_of new) (length old) (length mid) (length new)
+    c.in_ok-at.ensures.opened.longer c.in_ok-found.ensures.opened.longer c.in_ok-at.ensures.marks c.in_ok-found.ensures.marks in
+    let leads = leads_kept (slots_of mid) (slots_of new) (names path) at (names (drop i path)) c.in_ok-found.ensures.opened.links (c.in_ok-at.ensures.leads [] refl) in
+    let first : get_or (names left) 0 [] ≡ get_or (names path) i [] = ap (λ p. get_or (names p) 0 []) cut ∙ first_left path i lt in
+    let later : names (drop 1 left) ≡ names (drop (i + 1) path) = ap (λ p. names (drop 1 p)) cut ∙ rest_dropped path i in
+    let mk = c.make_folders.new.nodes.items in
+    let fin = c.mark_where.new.nodes in
+    let len : c.make_folders.new.nodes.len ≡ length fin = omega (arith, c.mark_where.auto.nodes, c.as_mut_slice.ensures.len) in
+    let whole = back c.make_folders.new.nodes.len fin _ len in
+    let same_slots : slots_of fin ≡ slots_of mk = as_function (slots_of fin) (slots_of mk) (λ k m. c.mark_where.ensures.slots k m ∙ ap (λ (ns : List Node). slots_of ns k m) c.as_mut_slice.ensures.value) in
+    let stood = entry_from none_met trees (slots_of new) 0 q in
+    let makes = c.in_ok-made-in-None.ensures.entries trees leads.0 leads.1 q
+    ∙ ap (λ m. made_at c.args.hash (names (drop 1 left)) (behind (onto leads.0 (m ∷ [])) q) stood) first
+    ∙ ap (λ p. made_at c.args.hash p (behind (onto leads.0 (get_or (names path) i [] ∷ [])) q) stood) later in
+    ap (λ (ns : List Node). entry_from none_met trees (slots_of ns) 0 q) whole
+    ∙ ap (λ f. entry_from none_met trees f 0 q) same_slots
+    ∙ made_folders _ _ (slots_of old) (slots_of new) (length old) (length new) c.args.self.now.forest opened (names path) at (get_or (names path) i []) (names (drop (i + 1) path)) (names (drop i path))
+    leads (name_left path i lt) honest trees has (marks_of old) (marks_of new) both (slots_of mk) c.args.hash q t on apart makes
+
+pub returns-in-Some-clause-folders : goal.returns-in-Some-clause-folders
+returns-in-Some-clause-folders g c = λ honest trees has q t on apart.
+    let path = c.args.path.now in
+    let i = c.in_ok-at.depth in
+    let at = c.in_ok-at.at.0 in
+    let old = c.args.self.now.nodes.items in
+    let mid = c.walk.new.nodes.items in
+    let new = c.folder_below.new.nodes.items in
+    let left = names (take (length path - i) (drop i path)) in
+    let leads : LeadsTo (slots_of new) (names path) at left =
+    subst (LeadsTo (slots_of new) (names path) at) (sym (ap names (rest_is path i)))
+    (leads_kept (slots_of mid) (slots_of new) (names path) at (names (drop i path)) c.in_ok-found.ensures.opened.links (c.in_ok-at.ensures.leads [] refl)) in
+    let one : length (take (length path - i) (drop i path)) ≡ 1 = c.in_ok-found.ensures.last (search rules) in
+    let lone : left ≡ get_or left 0 [] ∷ [] = lone_rest left (names_length (take (length path - i) (drop i path)) ∙ one) in
+    let found = folder_found (slots_of new) at (get_or left 0 []) c.in_ok-found.found c.in-Some.folder c.in-Some.is c.in_ok-found.ensures.found in
+    let there = folder_leads (slots_of new) (names path) at (get_or left 0 []) c.in-Some.folder.0 (subst (LeadsTo (slots_of new) (names path) at) lone leads) found in
+    let opened = opened_then _ _ (slots_of old) (slots_of mid) (slots_of new) (length old) (length mid) (length new) c.in_ok-at.ensures.opened c.in_ok-found.ensures.opened in
+    let both = marks_then false (slots_of old) (slots_of mid) (slots_of new) (marks_of old) (marks_of mid) (marks_of new) (length old) (length mid) (length new)
+    c.in_ok-at.ensures.opened.longer c.in_ok-found.ensures.opened.longer c.in_ok-at.ensures.marks c.in_ok-found.ensures.marks in
+    absurd (apart (stood_folders _ _ (slots_of old) (slots_of new) (length old) (length new) c.args.self.now.forest opened honest trees has (marks_of old) (marks_of new) both (names path) there.0 c.in-Some.folder.0 there.1 there.2 q t on))

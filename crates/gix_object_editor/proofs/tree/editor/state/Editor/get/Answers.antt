@@ -1,7 +1,7 @@
 use Rattle.std.proofs.Common.{[], refl, sym, ap, ◌∙◌}
 use Rattle.gix_object_editor.specs.Editor.{names_of}
 use Rattle.gix_object_editor.specs.Nodes.{slots_of, entry_at}
-use Rattle.gix_object_editor.proofs.Gotten.{got_file, got_there}
+use Rattle.gix_object_editor.proofs.Gotten.{got_file, got_there, got_entry}
 use Rattle.gix_object_editor.proofs.tree.editor.state.Editor.get.Goals as goal
 
 pub returns-clause-answer : goal.returns-clause-answer
@@ -14,3 +14,7 @@ returns-clause-file g c = λ trees leaf item stands is.
 pub returns-clause-there : goal.returns-clause-there
 returns-clause-there g c = λ trees item is some gone.
     got_there trees (slots_of c.args.self.now.nodes.items) (names_of c.args.path.now) 0 [] item refl (sym (returns-clause-answer g c) ∙ is) some gone
+
+pub returns-clause-stands : goal.returns-clause-stands
+returns-clause-stands g c = λ trees item is.
+    got_entry trees (slots_of c.args.self.now.nodes.items) (names_of c.args.path.now) 0 item (sym (returns-clause-answer g c) ∙ is)

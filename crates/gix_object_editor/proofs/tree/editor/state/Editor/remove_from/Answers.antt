@@ -1,14 +1,16 @@
-use Rattle.std.proofs.Common.{ℕ, ◌⊎◌, inl, true, false, drop, refl, None, [], ◌≡◌, ◌∙◌, ◌<◌, ◌+◌, ap, sym, subst, arith, length}
+use Rattle.std.proofs.Common.{ℕ, ◌⊎◌, inl, true, false, drop, refl, None, [], ◌∷◌, ◌≡◌, ◌∙◌, ◌<◌, ◌+◌, List, ap, sym, subst, arith, length, get_or}
+use Rattle.std.specs.Borrow.{Bor}
 use Rattle.std.proofs.lemmas.Result.{err_from_is_err_and}
 use Rattle.gix_object_editor.specs.declared.tree.editor.state.Editor.{Editor}
-use Rattle.gix_object_editor.specs.Editor.{files_of, names_of, LeadsThrough}
-use Rattle.gix_object_editor.specs.Nodes.{slots_of, files_of_node, child_of, onto, Way, LeadsTo, IsForest}
+use Rattle.gix_object_editor.specs.Editor.{files_of, entry_over, names_of, LeadsThrough}
+use Rattle.gix_object_editor.specs.Nodes.{slots_of, entry_from, files_of_node, child_of, onto, Way, LeadsTo, IsForest}
 use Rattle.gix_object_editor.specs.Editor.{IsChanged, IsAsRead, IsAbove, EachEntryHas}
 use Rattle.gix_object_editor.specs.Files.{Bytes}
 use Rattle.gix_object_editor.specs.Marks.{marks_of, AreMarked, AreAsRead, IsMarkedFor, IsIdle, IsChangedIn}
 use Rattle.gix_object_editor.proofs.Marked.{opened_marked}
 use Rattle.gix_object_editor.proofs.Changes.{opened_changed, cut_as_read, cut_changed, cut_unmarked, opened_same_changed}
 use Rattle.gix_object_editor.proofs.Standing.{nothing_idle, made_there}
+use Rattle.gix_object_editor.proofs.Entered.{none_met, cut_entries, removes_entries, removes_no_entries}
 use Rattle.gix_object_editor.specs.Entries.{EachHas}
 use Rattle.gix_object_editor.proofs.Kept.{cut_each}
 use Rattle.gix_object_editor.proofs.Slots.{back}
@@ -240,4 +242,41 @@ returns-clause-made g c = λ way w made tree.
       | else-depth-path t ↦
           subst (λ (e : Editor _). (IsChanged e tree → IsChanged c.args.self.now tree) × (IsChanged c.args.self.now tree → IsChanged e tree)) (sym t.self-is)
           (opened_same_changed (slots_of old) (slots_of walked) (marks_of old) (marks_of walked) (length old) (length walked) c.args.self.now.forest c.in_ok-at.ensures.opened.forest c.in_ok-at.ensures.marks c.in_ok-at.ensures.opened.links tree)
+    ]
+
+-- ---- the entries
+
+pub returns-in_err-at-clause-same_entries : goal.returns-in_err-at-clause-same_entries
+returns-in_err-at-clause-same_entries g c = λ honest.
+    let p = err_from_is_err_and c.from_residual-in_err-at.result c.from_residual-in_err-at.ensures.1 in
+    rw p.1 (λ trees has q. c.in_err-at.ensures.opened.entries honest trees has none_met q 0 c.args.self.now.forest.rooted)
+
+pub returns-clause-entries : goal.returns-clause-entries
+returns-clause-entries g c = λ way w honest trees has q.
+    let old = c.args.self.now.nodes.items in
+    let walked = c.walk.new.nodes.items in
+    let path = c.args.path.now in
+    let i = c.in_ok-at.depth in
+    let at = c.in_ok-at.at.0 in
+    let d : Bor (List ℕ) = record { ref_ptr = (0, 0); now = [] } in
+    let name : List ℕ = (get_or path i d).now in
+    elim c.if-depth-path.branch [
+      | then-depth-path t ↦
+          let mid = c.walk.new.nodes.items in
+          let new = t.cut.new.nodes in
+          let n : c.walk.new.nodes.len ≡ length new = omega (arith, t.cut.auto.nodes, t.as_mut_slice.ensures.len) in
+          let opened = c.in_ok-at.ensures.opened in
+          let leads = (c.in_ok-at.ensures.leads way w) in
+          ap (λ (e : Editor _). entry_over trees e q) t.self-is
+          ∙ ap (λ ns. entry_from none_met trees (slots_of ns) 0 q) (back c.walk.new.nodes.len new _ n)
+          ∙ removes_entries _ _ (slots_of old) (slots_of mid) (length old) (length mid) c.args.self.now.forest opened (onto way (names path)) at name [] (names (drop i path))
+          leads (last_name path i d t.if-depth-path.true) honest trees has (slots_of new) refl
+          (λ r. cut_entries trees (slots_of mid) (slots_of new) (length mid) c.in_ok-at.ensures.opened.forest at name leads.0 leads.1
+          (λ j m lt off. t.cut.ensures.others j m off ∙ ap (λ ns. slots_of ns j m) t.as_mut_slice.ensures.value) t.cut.ensures.here r) q
+      | else-depth-path t ↦
+          let lt : i + 1 < length path = omega (arith, c.in_ok-at.ensures.within.1, t.if-depth-path.false) in
+          let left = two_names path i lt in
+          ap (λ (e : Editor _). entry_over trees e q) t.self-is
+          ∙ removes_no_entries _ _ (slots_of old) (slots_of walked) (length old) (length walked) c.args.self.now.forest c.in_ok-at.ensures.opened (onto way (names path)) at (get_or (names path) i []) (left.0 ∷ left.1) (names (drop i path))
+          (c.in_ok-at.ensures.leads way w) left.2 honest trees has (c.in_ok-at.ensures.blocked lt) left.0 left.1 refl q
     ]

@@ -27,3 +27,6 @@ returns-clause-nothing g c = c.remove_leaf_from.ensures.nothing [] refl
 
 pub returns-clause-made : goal.returns-clause-made
 returns-clause-made g c = c.remove_leaf_from.ensures.made [] refl
+
+pub returns-clause-entries : goal.returns-clause-entries
+returns-clause-entries g c = c.remove_leaf_from.ensures.entries [] refl

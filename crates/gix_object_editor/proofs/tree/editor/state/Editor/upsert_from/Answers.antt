@@ -1,4 +1,4 @@
-use Rattle.std.proofs.Common.{refl, Some, List, ◌⊎◌, inl, true, false, ℕ, Bool, ◌≡◌, ◌≢◌, ◌∙◌, ◌<◌, ◌+◌, ◌-◌, ap, sym, subst, arith, length, drop, take, None, get_or, []}
+use Rattle.std.proofs.Common.{refl, Some, List, ◌⊎◌, inl, true, false, ℕ, Bool, ◌≡◌, ◌≢◌, ◌∙◌, ◌<◌, ◌+◌, ◌-◌, ap, sym, subst, arith, length, drop, take, None, get_or, [], ◌∷◌, ◌++◌}
 use Rattle.std.proofs.lemmas.List.{length-drop, get_or-map}
 use Rattle.gix_hash.specs.Id.{id_of}
 use Rattle.gix_object_entries.specs.Mode.{kind_value}
@@ -14,13 +14,16 @@ use Rattle.gix_object_editor.proofs.Slots.{back}
 use Rattle.gix_object_editor.proofs.Marked.{opened_marked, grafted_marked, read_same}
 use Rattle.gix_object_editor.proofs.Changes.{opened_changed, failed_changed, graft_as_read, graft_changed, some_left, cut_as_read, cut_changed_on, cut_unmarked, opened_same_changed}
 use Rattle.gix_object_editor.proofs.Standing.{nothing_idle, made_there, already_there, name_left, last_left}
-use Rattle.gix_object_editor.proofs.Cuts.{nulls_at, not_null_file, more_names}
+use Rattle.gix_object_editor.proofs.Entered.{none_met, cut_entries, cut_keeps, laid_keeps, rest_dropped}
+use Rattle.gix_object_editor.proofs.Raised.{laid_stands, already_stands, cut_gone, cut_way, laid_folders, none_above, none_after}
+use Rattle.gix_object_editor.specs.Laid.{laid_at}
+use Rattle.gix_object_editor.proofs.Cuts.{nulls_at, more_names}
 use Rattle.gix_object_editor.proofs.WrittenEntries.{null_test}
-use Rattle.gix_object_editor.specs.Files.{Bytes, Leaf, put, is_null}
+use Rattle.gix_object_editor.specs.Files.{Bytes, Path, Leaf, put, is_null, behind, removed, entry_into}
 use Rattle.std.proofs.lemmas.Result.{err_from_is_err_and}
 use Rattle.gix_object_editor.specs.Editor.{names_of, leaf_of_kind, LeadsThrough}
-use Rattle.gix_object_editor.specs.Nodes.{slots_of, files_of_node, child_of, onto, LeadsTo, IsFolderAt, IsForest, IsNoFolder, IsEntry, Way}
-use Rattle.gix_object_editor.proofs.Edits.{rest_is, first_left, upserts_at, same_entry, stopped_tree, edit_fault, less_forest}
+use Rattle.gix_object_editor.specs.Nodes.{slots_of, files_of_node, entry_from, child_of, onto, LeadsTo, IsFolderAt, IsForest, IsNoFolder, IsEntry, Way}
+use Rattle.gix_object_editor.proofs.Edits.{rest_is, first_left, upserts_at, stopped_tree, edit_fault, less_forest}
 use Rattle.gix_object_editor.proofs.Ladder.{put_files}
 use Rattle.gix_object_editor.proofs.Asking.{through_asked, through_stops, some_all}
 use Rattle.gix_object_editor.proofs.Walked.{names, names_step}
@@ -254,10 +257,6 @@ pub returns-then-stands_already-clause-changed : goal.returns-then-stands_alread
 returns-then-stands_already-clause-changed g c = λ way w tree is. inl (opened_changed (slots_of c.args.self.now.nodes.items) (slots_of c.walk.new.nodes.items) (marks_of c.args.self.now.nodes.items) (marks_of c.walk.new.nodes.items)
     (length c.args.self.now.nodes.items) (length c.walk.new.nodes.items) c.in_ok-at.ensures.opened.forest c.in_ok-at.ensures.marks tree is.0 is.1 is.2)
 
-pub returns-then-stands_already-clause-same : goal.returns-then-stands_already-clause-same
-returns-then-stands_already-clause-same g c = λ way w honest trees has stands tree is. opened_changed (slots_of c.args.self.now.nodes.items) (slots_of c.walk.new.nodes.items) (marks_of c.args.self.now.nodes.items) (marks_of c.walk.new.nodes.items)
-    (length c.args.self.now.nodes.items) (length c.walk.new.nodes.items) c.in_ok-at.ensures.opened.forest c.in_ok-at.ensures.marks tree is.0 is.1 is.2
-
 pub returns-then-stands_already-clause-each : goal.returns-then-stands_already-clause-each
 returns-then-stands_already-clause-each g c = λ honest has down fit each. c.in_ok-at.ensures.each honest has down each
 
@@ -278,23 +277,6 @@ returns-in_err-graft-clause-asked g c =
 
 pub returns-clause-asked : goal.returns-clause-asked
 returns-clause-asked g c = λ honest trees has. through_asked (g.S.Lookup.table c.args.self.now.store) trees (slots_of c.args.self.now.nodes.items) (slots_of c.walk.new.nodes.items) c.args.from.0 c.in_ok-at.at.0 c.args.path.now c.in_ok-at.depth c.args.self.now.lookups c.walk.new.lookups c.walk.new.lookups c.in_ok-at.ensures.within.1 (c.in_ok-at.ensures.asked honest trees has) (c.in_ok-at.ensures.asked_all honest trees has)
-
-pub returns-clause-same : goal.returns-clause-same
-returns-clause-same g c = λ way w honest trees has stands tree is.
-    let path = c.args.path.now in
-    let i = c.in_ok-at.depth in
-    let at = c.in_ok-at.at.0 in
-    let mid = c.walk.new.nodes.items in
-    let left = take (length path - i) (drop i path) in
-    let cut : left ≡ drop i path = rest_is path i in
-    let leads = subst (LeadsTo (slots_of mid) (onto way (names path)) at) (sym (ap names cut)) (c.in_ok-at.ensures.leads way w) in
-    let leaf : Leaf = record { mode = mode_of c.from.result; id = id_of c.args.id } in
-    let same : leaf ≡ leaf_of_kind c.args.kind c.args.id =
-    ap (λ (v : ℕ). let l : Leaf = record { mode = record { value = v; padded = c.from.result.padded }; id = id_of c.args.id } in l) c.from.ensures.0
-    ∙ ap (λ (b : Bool). let l : Leaf = record { mode = record { value = kind_value c.args.kind; padded = b }; id = id_of c.args.id } in l) c.from.ensures.1 in
-    let there = same_entry trees (slots_of mid) (onto way (names path)) at path i left leaf c.in_ok-at.ensures.within.1 cut leads c.in_ok-at.ensures.stopped
-    (c.in_ok-at.ensures.opened.files honest trees has (onto way (names path)) 0 c.args.self.now.forest.rooted ∙ stands ∙ ap Some (sym same)) in
-    absurd (c.stands_already.ensures.otherwise c.if-stands_already.false there.0 (subst (λ (ns : List Node). IsEntry (slots_of ns at (get_or (names left) 0 [])) leaf) (sym c.as_slice.ensures.value) there.1))
 
 pub returns-in_err-graft-clause-unchanged : goal.returns-in_err-graft-clause-unchanged
 returns-in_err-graft-clause-unchanged g c = λ honest.
@@ -386,12 +368,6 @@ returns-then-is_null-clause-changed g c = λ way w tree.
     (λ is. cut_changed_on (slots_of old) (slots_of mid) (marks_of old) (marks_of mid) (length old) (length mid) c.in_ok-at.ensures.opened.forest c.in_ok-at.ensures.marks (slots_of new) (marks_of new) c.in_ok-at.at.0 _
     c.cut.ensures.here (λ j m off. c.cut.ensures.others j m off ∙ ap (λ ns. slots_of ns j m) before) marks (onto way (names_of path)) (names (drop i path)) (names (drop (i + 1) path))
     (c.in_ok-at.ensures.leads way w) (names_step path i _ c.in_ok-at.ensures.within.1) tree is.0 is.1 is.2)
-
-pub returns-then-is_null-clause-same : goal.returns-then-is_null-clause-same
-returns-then-is_null-clause-same g c = λ way w honest trees has stands.
-    let null : is_null (id_of c.args.id) ≡ true = null_test (id_of c.args.id) c.is_null.result c.is_null.ensures ∙ c.if-is_null.true in
-    let isnt = not_null_file trees (slots_of c.args.self.now.nodes.items) (onto way (names_of c.args.path.now)) 0 (leaf_of_kind c.args.kind c.args.id) stands in
-    absurd (cc (sym null ∙ isnt))
 
 pub returns-then-is_null-clause-each : goal.returns-then-is_null-clause-each
 returns-then-is_null-clause-each g c = λ honest has down fit each.
@@ -499,3 +475,218 @@ returns-clause-already g c = λ way w honest trees has some is closed.
     let one : length left ≡ 1 = omega (arith, last_left path i lt there.0, ap length cut, length-drop i path) in
     let entry = subst (λ m. IsEntry (slots_of mid at m) leaf) (sym (ap (λ p. get_or (names p) 0 []) cut ∙ first_left path i lt)) there.1 in
     absurd (c.stands_already.ensures.otherwise c.if-stands_already.false one (subst (λ (ns : List Node). IsEntry (slots_of ns at (get_or (names left) 0 [])) leaf) (sym c.as_slice.ensures.value) entry))
+
+-- ---- the entries
+
+pub returns-in_err-at-clause-same_entries : goal.returns-in_err-at-clause-same_entries
+returns-in_err-at-clause-same_entries g c = λ honest.
+    let p = err_from_is_err_and c.from_residual-in_err-at.result c.from_residual-in_err-at.ensures.1 in
+    rw p.1 (λ trees has q. c.in_err-at.ensures.opened.entries honest trees has none_met q 0 c.args.self.now.forest.rooted)
+
+pub returns-in_err-graft-clause-same_entries : goal.returns-in_err-graft-clause-same_entries
+returns-in_err-graft-clause-same_entries g c = λ honest.
+    let p = err_from_is_err_and c.from_residual-in_err-graft.result c.from_residual-in_err-graft.ensures.1 in
+    let mid = c.walk.new.nodes.items in
+    let gr = c.graft.new.nodes.items in
+    rw p.1 (λ trees has q.
+    ap (λ f. entry_from none_met trees f 0 q) (as_function (slots_of gr) (slots_of mid) c.in_err-graft.ensures.err)
+    ∙ c.in_ok-at.ensures.opened.entries honest trees has none_met q 0 c.args.self.now.forest.rooted)
+
+pub returns-then-is_null-clause-entries : goal.returns-then-is_null-clause-entries
+returns-then-is_null-clause-entries g c = λ way w honest trees has q apart free.
+    let path = c.args.path.now in
+    let i = c.in_ok-at.depth in
+    let at = c.in_ok-at.at.0 in
+    let old = c.args.self.now.nodes.items in
+    let mid = c.walk.new.nodes.items in
+    let new = c.cut.new.nodes in
+    let n : c.walk.new.nodes.len ≡ length new = omega (arith, c.cut.auto.nodes, c.as_mut_slice.ensures.len) in
+    let lt : i < length path = c.in_ok-at.ensures.within.1 in
+    let d : Bor (List ℕ) = record { ref_ptr = (0, 0); now = [] } in
+    let name : List ℕ = (get_or path i d).now in
+    let name_is : get_or (names path) i [] ≡ name = get_or-map (λ (x : Bor (List ℕ)). x.now) path i d [] lt in
+    let leads = c.in_ok-at.ensures.leads way w in
+    ap (λ (ns : List Node). entry_from none_met trees (slots_of ns) 0 q) (back c.walk.new.nodes.len new _ n)
+    ∙ cut_keeps _ _ (slots_of old) (slots_of mid) (length old) (length mid) c.args.self.now.forest c.in_ok-at.ensures.opened (onto way (names path)) at name (names (drop (i + 1) path)) (names (drop i path))
+    leads (names_step path i d lt) honest trees has q free (slots_of new)
+    (λ some. subst (λ m. IsNoFolder (slots_of mid at m)) name_is (c.in_ok-at.ensures.blocked (more_names path (i + 1) some))) apart
+    (cut_entries trees (slots_of mid) (slots_of new) (length mid) c.in_ok-at.ensures.opened.forest at name leads.0 leads.1
+    (λ j m less off. c.cut.ensures.others j m off ∙ ap (λ ns. slots_of ns j m) c.as_mut_slice.ensures.value) c.cut.ensures.here q)
+
+pub returns-then-stands_already-clause-entries : goal.returns-then-stands_already-clause-entries
+returns-then-stands_already-clause-entries g c = λ way w honest trees has q apart free. c.in_ok-at.ensures.opened.entries honest trees has none_met q 0 c.args.self.now.forest.rooted
+
+pub returns-clause-entries : goal.returns-clause-entries
+returns-clause-entries g c = λ way w honest trees has q apart free.
+    let path = c.args.path.now in
+    let i = c.in_ok-at.depth in
+    let at = c.in_ok-at.at.0 in
+    let old = c.args.self.now.nodes.items in
+    let mid = c.walk.new.nodes.items in
+    let gr = c.graft.new.nodes.items in
+    let fin = c.mark_changed.new.nodes in
+    let n : c.graft.new.nodes.len ≡ length fin = omega (arith, c.mark_changed.auto.nodes, c.as_mut_slice-2.ensures.len) in
+    let whole = back c.graft.new.nodes.len fin _ n in
+    let same_slots : slots_of fin ≡ slots_of gr = as_function (slots_of fin) (slots_of gr) (λ j m. c.mark_changed.ensures.slots j m ∙ ap (λ (ns : List Node). slots_of ns j m) c.as_mut_slice-2.ensures.value) in
+    let lt : i < length path = c.in_ok-at.ensures.within.1 in
+    let left = take (length path - i) (drop i path) in
+    let cut : left ≡ drop i path = rest_is path i in
+    let leaf : Leaf = record { mode = mode_of c.from.result; id = id_of c.args.id } in
+    let leads = c.in_ok-at.ensures.leads way w in
+    let first : get_or (names left) 0 [] ≡ get_or (names path) i [] = ap (λ p. get_or (names p) 0 []) cut ∙ first_left path i lt in
+    let later : names (drop 1 left) ≡ names (drop (i + 1) path) = ap (λ p. names (drop 1 p)) cut ∙ rest_dropped path i in
+    let stood = entry_from none_met trees (slots_of mid) 0 q in
+    let puts = c.in_ok-graft.ensures.entries trees leads.0 leads.1 q
+    ∙ ap (λ m. laid_at trees leaf (names (drop 1 left)) (behind (onto leads.0 (m ∷ [])) q) stood) first
+    ∙ ap (λ p. laid_at trees leaf p (behind (onto leads.0 (get_or (names path) i [] ∷ [])) q) stood) later in
+    ap (λ (ns : List Node). entry_from none_met trees (slots_of ns) 0 q) whole
+    ∙ ap (λ f. entry_from none_met trees f 0 q) same_slots
+    ∙ laid_keeps _ _ (slots_of old) (slots_of mid) (length old) (length mid) c.args.self.now.forest c.in_ok-at.ensures.opened (onto way (names path)) at (get_or (names path) i []) (names (drop (i + 1) path)) (names (drop i path))
+    leads (name_left path i lt) honest trees has q free (slots_of gr) leaf
+    (λ more. c.in_ok-at.ensures.blocked (more_names path (i + 1) more)) apart puts
+
+-- ---- the entry that is put, and the folders on the way to it
+
+pub returns-then-is_null-clause-entry : goal.returns-then-is_null-clause-entry
+returns-then-is_null-clause-entry g c = λ way w honest trees has some.
+    let null : is_null (id_of c.args.id) ≡ true = null_test (id_of c.args.id) c.is_null.result c.is_null.ensures ∙ c.if-is_null.true in
+    absurd (cc (sym null ∙ some))
+
+pub returns-then-is_null-clause-folders : goal.returns-then-is_null-clause-folders
+returns-then-is_null-clause-folders g c = λ way w honest trees has some.
+    let null : is_null (id_of c.args.id) ≡ true = null_test (id_of c.args.id) c.is_null.result c.is_null.ensures ∙ c.if-is_null.true in
+    absurd (cc (sym null ∙ some))
+
+pub returns-then-is_null-clause-gone : goal.returns-then-is_null-clause-gone
+returns-then-is_null-clause-gone g c = λ way w honest trees has null.
+    let path = c.args.path.now in
+    let i = c.in_ok-at.depth in
+    let at = c.in_ok-at.at.0 in
+    let old = c.args.self.now.nodes.items in
+    let mid = c.walk.new.nodes.items in
+    let new = c.cut.new.nodes in
+    let n : c.walk.new.nodes.len ≡ length new = omega (arith, c.cut.auto.nodes, c.as_mut_slice.ensures.len) in
+    let lt : i < length path = c.in_ok-at.ensures.within.1 in
+    let d : Bor (List ℕ) = record { ref_ptr = (0, 0); now = [] } in
+    let name : List ℕ = (get_or path i d).now in
+    let leads = c.in_ok-at.ensures.leads way w in
+    let cuts : (q : Path) → entry_from none_met trees (slots_of new) 0 q ≡ removed (onto leads.0 (name ∷ [])) (entry_from none_met trees (slots_of mid) 0) q =
+    cut_entries trees (slots_of mid) (slots_of new) (length mid) c.in_ok-at.ensures.opened.forest at name leads.0 leads.1
+    (λ j m less off. c.cut.ensures.others j m off ∙ ap (λ ns. slots_of ns j m) c.as_mut_slice.ensures.value) c.cut.ensures.here in
+    let whole = back c.walk.new.nodes.len new _ n in (
+      ap (λ (ns : List Node). entry_from none_met trees (slots_of ns) 0 (onto way (names path))) whole
+          ∙ cut_gone _ _ (slots_of old) (slots_of mid) (length old) (length mid) c.args.self.now.forest c.in_ok-at.ensures.opened (onto way (names path)) at name (names (drop (i + 1) path)) (names (drop i path))
+          leads (names_step path i d lt) honest trees has (slots_of new) (cuts (onto way (names path))),
+      λ q t on apart. ap (λ (ns : List Node). entry_from none_met trees (slots_of ns) 0 q) whole
+          ∙ cut_way _ _ (slots_of old) (slots_of mid) (length old) (length mid) c.args.self.now.forest c.in_ok-at.ensures.opened (onto way (names path)) at name (names (drop (i + 1) path)) (names (drop i path))
+          leads (names_step path i d lt) honest trees has (marks_of old) (marks_of mid) c.in_ok-at.ensures.marks (slots_of new) q t on apart (cuts q),
+    )
+
+pub returns-then-stands_already-clause-entry : goal.returns-then-stands_already-clause-entry
+returns-then-stands_already-clause-entry g c = λ way w honest trees has some r.
+    let path = c.args.path.now in
+    let i = c.in_ok-at.depth in
+    let at = c.in_ok-at.at.0 in
+    let lt : i < length path = c.in_ok-at.ensures.within.1 in
+    let old = c.args.self.now.nodes.items in
+    let mid = c.walk.new.nodes.items in
+    let left = take (length path - i) (drop i path) in
+    let cut : left ≡ drop i path = rest_is path i in
+    let leads = c.in_ok-at.ensures.leads way w in
+    let so = c.stands_already.ensures.so c.if-stands_already.true in
+    let last : names (drop (i + 1) path) ≡ [] = none_after path i (omega (arith, so.0, lt, ap length cut, length-drop i path)) in
+    let leaf : Leaf = record { mode = mode_of c.from.result; id = id_of c.args.id } in
+    let same : leaf ≡ leaf_of_kind c.args.kind c.args.id =
+    ap (λ (v : ℕ). let l : Leaf = record { mode = record { value = v; padded = c.from.result.padded }; id = id_of c.args.id } in l) c.from.ensures.0
+    ∙ ap (λ (b : Bool). let l : Leaf = record { mode = record { value = kind_value c.args.kind; padded = b }; id = id_of c.args.id } in l) c.from.ensures.1 in
+    let first : get_or (names left) 0 [] ≡ get_or (names path) i [] = ap (λ p. get_or (names p) 0 []) cut ∙ first_left path i lt in
+    let there : IsEntry (slots_of mid at (get_or (names path) i [])) leaf =
+    subst (λ m. IsEntry (slots_of mid at m) leaf) first (subst (λ (ns : List Node). IsEntry (slots_of ns at (get_or (names left) 0 [])) leaf) c.as_slice.ensures.value so.1) in
+    already_stands _ _ (slots_of old) (slots_of mid) (length old) (length mid) c.args.self.now.forest c.in_ok-at.ensures.opened (onto way (names path)) at (get_or (names path) i []) (names (drop (i + 1) path)) (names (drop i path))
+    leads (name_left path i lt) honest trees has leaf r last there ∙ ap (entry_into none_met trees r) same
+
+pub returns-then-stands_already-clause-folders : goal.returns-then-stands_already-clause-folders
+returns-then-stands_already-clause-folders g c = λ way w honest trees has some q n t on apart.
+    let path = c.args.path.now in
+    let i = c.in_ok-at.depth in
+    let at = c.in_ok-at.at.0 in
+    let lt : i < length path = c.in_ok-at.ensures.within.1 in
+    let old = c.args.self.now.nodes.items in
+    let mid = c.walk.new.nodes.items in
+    let left = take (length path - i) (drop i path) in
+    let cut : left ≡ drop i path = rest_is path i in
+    let leads = c.in_ok-at.ensures.leads way w in
+    let so = c.stands_already.ensures.so c.if-stands_already.true in
+    let last : names (drop (i + 1) path) ≡ [] = none_after path i (omega (arith, so.0, lt, ap length cut, length-drop i path)) in
+    absurd (none_above _ _ (slots_of old) (slots_of mid) (length old) (length mid) c.args.self.now.forest c.in_ok-at.ensures.opened (onto way (names path)) at (get_or (names path) i []) (names (drop (i + 1) path)) (names (drop i path))
+    leads (name_left path i lt) honest trees has (marks_of old) (marks_of mid) c.in_ok-at.ensures.marks last q n t on apart)
+
+pub returns-then-stands_already-clause-gone : goal.returns-then-stands_already-clause-gone
+returns-then-stands_already-clause-gone g c = λ way w honest trees has null.
+    let some : is_null (id_of c.args.id) ≡ false = null_test (id_of c.args.id) c.is_null.result c.is_null.ensures ∙ c.if-is_null.false in
+    absurd (cc (sym null ∙ some))
+
+pub returns-clause-entry : goal.returns-clause-entry
+returns-clause-entry g c = λ way w honest trees has some r.
+    let path = c.args.path.now in
+    let i = c.in_ok-at.depth in
+    let at = c.in_ok-at.at.0 in
+    let old = c.args.self.now.nodes.items in
+    let mid = c.walk.new.nodes.items in
+    let gr = c.graft.new.nodes.items in
+    let fin = c.mark_changed.new.nodes in
+    let n : c.graft.new.nodes.len ≡ length fin = omega (arith, c.mark_changed.auto.nodes, c.as_mut_slice-2.ensures.len) in
+    let whole = back c.graft.new.nodes.len fin _ n in
+    let same_slots : slots_of fin ≡ slots_of gr = as_function (slots_of fin) (slots_of gr) (λ j m. c.mark_changed.ensures.slots j m ∙ ap (λ (ns : List Node). slots_of ns j m) c.as_mut_slice-2.ensures.value) in
+    let lt : i < length path = c.in_ok-at.ensures.within.1 in
+    let left = take (length path - i) (drop i path) in
+    let cut : left ≡ drop i path = rest_is path i in
+    let leaf : Leaf = record { mode = mode_of c.from.result; id = id_of c.args.id } in
+    let leads = c.in_ok-at.ensures.leads way w in
+    let first : get_or (names left) 0 [] ≡ get_or (names path) i [] = ap (λ p. get_or (names p) 0 []) cut ∙ first_left path i lt in
+    let later : names (drop 1 left) ≡ names (drop (i + 1) path) = ap (λ p. names (drop 1 p)) cut ∙ rest_dropped path i in
+    let puts : (q : Path) → entry_from none_met trees (slots_of gr) 0 q ≡ laid_at trees leaf (names (drop (i + 1) path)) (behind (onto leads.0 (get_or (names path) i [] ∷ [])) q) (entry_from none_met trees (slots_of mid) 0 q) =
+    λ q. c.in_ok-graft.ensures.entries trees leads.0 leads.1 q
+    ∙ ap (λ m. laid_at trees leaf (names (drop 1 left)) (behind (onto leads.0 (m ∷ [])) q) (entry_from none_met trees (slots_of mid) 0 q)) first
+    ∙ ap (λ p. laid_at trees leaf p (behind (onto leads.0 (get_or (names path) i [] ∷ [])) q) (entry_from none_met trees (slots_of mid) 0 q)) later in
+    let same : leaf ≡ leaf_of_kind c.args.kind c.args.id =
+    ap (λ (v : ℕ). let l : Leaf = record { mode = record { value = v; padded = c.from.result.padded }; id = id_of c.args.id } in l) c.from.ensures.0
+    ∙ ap (λ (b : Bool). let l : Leaf = record { mode = record { value = kind_value c.args.kind; padded = b }; id = id_of c.args.id } in l) c.from.ensures.1 in
+    ap (λ (ns : List Node). entry_from none_met trees (slots_of ns) 0 (onto way (names path) ++ r)) whole
+    ∙ ap (λ f. entry_from none_met trees f 0 (onto way (names path) ++ r)) same_slots
+    ∙ laid_stands _ _ (slots_of old) (slots_of mid) (length old) (length mid) c.args.self.now.forest c.in_ok-at.ensures.opened (onto way (names path)) at (get_or (names path) i []) (names (drop (i + 1) path)) (names (drop i path))
+    leads (name_left path i lt) honest trees has (slots_of gr) leaf r (puts (onto way (names path) ++ r))
+    ∙ ap (entry_into none_met trees r) same
+
+pub returns-clause-folders : goal.returns-clause-folders
+returns-clause-folders g c = λ way w honest trees has some q m t on apart.
+    let path = c.args.path.now in
+    let i = c.in_ok-at.depth in
+    let at = c.in_ok-at.at.0 in
+    let old = c.args.self.now.nodes.items in
+    let mid = c.walk.new.nodes.items in
+    let gr = c.graft.new.nodes.items in
+    let fin = c.mark_changed.new.nodes in
+    let n : c.graft.new.nodes.len ≡ length fin = omega (arith, c.mark_changed.auto.nodes, c.as_mut_slice-2.ensures.len) in
+    let whole = back c.graft.new.nodes.len fin _ n in
+    let same_slots : slots_of fin ≡ slots_of gr = as_function (slots_of fin) (slots_of gr) (λ j m. c.mark_changed.ensures.slots j m ∙ ap (λ (ns : List Node). slots_of ns j m) c.as_mut_slice-2.ensures.value) in
+    let lt : i < length path = c.in_ok-at.ensures.within.1 in
+    let left = take (length path - i) (drop i path) in
+    let cut : left ≡ drop i path = rest_is path i in
+    let leaf : Leaf = record { mode = mode_of c.from.result; id = id_of c.args.id } in
+    let leads = c.in_ok-at.ensures.leads way w in
+    let first : get_or (names left) 0 [] ≡ get_or (names path) i [] = ap (λ p. get_or (names p) 0 []) cut ∙ first_left path i lt in
+    let later : names (drop 1 left) ≡ names (drop (i + 1) path) = ap (λ p. names (drop 1 p)) cut ∙ rest_dropped path i in
+    let puts : (q : Path) → entry_from none_met trees (slots_of gr) 0 q ≡ laid_at trees leaf (names (drop (i + 1) path)) (behind (onto leads.0 (get_or (names path) i [] ∷ [])) q) (entry_from none_met trees (slots_of mid) 0 q) =
+    λ q. c.in_ok-graft.ensures.entries trees leads.0 leads.1 q
+    ∙ ap (λ m. laid_at trees leaf (names (drop 1 left)) (behind (onto leads.0 (m ∷ [])) q) (entry_from none_met trees (slots_of mid) 0 q)) first
+    ∙ ap (λ p. laid_at trees leaf p (behind (onto leads.0 (get_or (names path) i [] ∷ [])) q) (entry_from none_met trees (slots_of mid) 0 q)) later in
+    ap (λ (ns : List Node). entry_from none_met trees (slots_of ns) 0 q) whole
+    ∙ ap (λ f. entry_from none_met trees f 0 q) same_slots
+    ∙ laid_folders _ _ (slots_of old) (slots_of mid) (length old) (length mid) c.args.self.now.forest c.in_ok-at.ensures.opened (onto way (names path)) at (get_or (names path) i []) (names (drop (i + 1) path)) (names (drop i path))
+    leads (name_left path i lt) honest trees has (marks_of old) (marks_of mid) c.in_ok-at.ensures.marks (slots_of gr) leaf q m t on apart (puts q)
+
+pub returns-clause-gone : goal.returns-clause-gone
+returns-clause-gone g c = λ way w honest trees has null.
+    let some : is_null (id_of c.args.id) ≡ false = null_test (id_of c.args.id) c.is_null.result c.is_null.ensures ∙ c.if-is_null.false in
+    absurd (cc (sym null ∙ some))
