@@ -75,6 +75,7 @@ pub mod file {
     /// References in files of their own.
     pub mod loose {
         pub use gix_ref_format::loose::Reference;
+        pub use gix_ref_store::store::file::loose::LogExt;
 
         /// The texts of such files.
         pub mod reference {
@@ -87,7 +88,7 @@ pub mod file {
         }
     }
 
-    pub use gix_ref_store::store::file::{FolderError, Refused, Store};
+    pub use gix_ref_store::store::file::{FolderError, ReferenceExt, Refused, Store};
 }
 
 /// Packed references.

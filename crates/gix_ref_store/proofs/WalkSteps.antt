@@ -1,5 +1,5 @@
 -- What one name of a folder adds to a walk below it.
-use Rattle.std.proofs.Common.{◌≡◌, ◌⊎◌, inl, inr, ℕ, zero, suc, Vec, ◌+◌, ◌<◌, ◌≤◌, Bool, true, false, ◌&&◌, ◌||◌, List, [], ◌∷◌, ◌++◌, length, map, Option, Some, None, refl, sym, ◌∙◌, ap, subst, arith, length-append, append_assoc}
+use Rattle.std.proofs.Common.{◌≡◌, ◌⊎◌, inl, inr, ℕ, zero, suc, Vec, ◌+◌, ◌<◌, ◌≤◌, Bool, true, false, ◌&&◌, List, [], ◌∷◌, ◌++◌, length, map, Option, Some, None, refl, sym, ◌∙◌, ap, subst, arith, length-append, append_assoc}
 use Rattle.std.specs.Prelude.{IsTrue, IsSome, is_some, nat_le, nat_lt, codes}
 use Rattle.std.specs.List.{list_all, slice_split, after_last}
 use Rattle.std.specs.declared.alloc.Global.{Global}
@@ -8,8 +8,6 @@ use borrow.Author.Tests.{ltb-true, ltb-false, leb-true}
 use Rattle.std.specs.FinMap.{get}
 use Rattle.std.proofs.Math.ListN.{get_or}
 use Rattle.gix_object_lines.specs.NameTest.{begins, ends, is_full_name, is_capital, is_capitals}
-use Rattle.gix_object_lines.proofs.NameTests.{begins-Decides}
-use Rattle.gix_ref_name.proofs.FrontLemmas.{begins_some}
 use Rattle.gix_ref_file.specs.declared.files.Place.{Place}
 use Rattle.gix_ref_file.specs.declared.files.Place.TheVariants as places
 use Rattle.gix_ref_file.specs.Tree.{Tree, Node, file, folder, is_slash, is_component, is_path, parent, node_at, place_of, is_folder, bytes_of, names_at, IsRooted}
@@ -17,11 +15,11 @@ use Rattle.gix_ref_file.specs.Changes.{is_file_at}
 use Rattle.gix_ref_file.proofs.Below.{path_in_folder}
 use Rattle.gix_ref_store.specs.Places.{under}
 use Rattle.gix_ref_store.specs.Listings.{is_pseudo}
-use Rattle.gix_ref_store.specs.Walks.{has, Keeps, HasFile, Gathers, GathersBelow, may_lead_to}
+use Rattle.gix_ref_store.specs.Walks.{has, Keeps, HasFile, Gathers, GathersBelow}
 use Rattle.gix_ref_store.proofs.Descents.{IsAtOrBelow, on_way, is_found, listed_stands, folder_below}
 
 -- ---- beginnings
-split : (front path r s : List ℕ) → front ++ r ≡ path ++ s → ((t : List ℕ) × (path ≡ front ++ t)) ⊎ ((t : List ℕ) × (front ≡ path ++ t))
+pub split : (front path r s : List ℕ) → front ++ r ≡ path ++ s → ((t : List ℕ) × (path ≡ front ++ t)) ⊎ ((t : List ℕ) × (front ≡ path ++ t))
 split [] path r s is = inl (path, refl)
 split (f ∷ front) [] r s is = inr (f ∷ front, refl)
 split (f ∷ front) (p ∷ path) r s is = by_case (split front path r s (tails is))
@@ -36,36 +34,12 @@ split (f ∷ front) (p ∷ path) r s is = by_case (split front path r s (tails i
     by_case (inl (t, e)) = inl (t, λ i. sym (heads is) i ∷ e i)
     by_case (inr (t, e)) = inr (t, λ i. heads is i ∷ e i)
 
-or_left : (a b : Bool) → a ≡ true → (a || b) ≡ true
-or_left a b is = ap (λ x. x || b) is
-
-or_right : (a b : Bool) → b ≡ true → (a || b) ≡ true
-or_right true b is = refl
-or_right false b is = is
-
-leads : (front path name rest : List ℕ) → IsTrue (begins front name) → name ≡ path ++ rest → IsTrue (may_lead_to path front)
-leads front path name rest so is =
-    let b = (begins-Decides front name).0 so in
-    by_case (split front path b.0 rest (sym b.1 ∙ is))
-  where
-    by_case : ((t : List ℕ) × (path ≡ front ++ t)) ⊎ ((t : List ℕ) × (front ≡ path ++ t)) → IsTrue (may_lead_to path front)
-    by_case (inl (t, e)) = or_left (begins front path) (begins path front) (begins_some front path t e)
-    by_case (inr (t, e)) = or_right (begins front path) (begins path front) (begins_some path front t e)
-
-append_nil : (xs : List ℕ) → xs ≡ xs ++ []
-append_nil [] = refl
-append_nil (x ∷ xs) = ap (λ t. x ∷ t) (append_nil xs)
-
 and_right : (a b : Bool) → (a && b) ≡ true → b ≡ true
 and_right true b h = h
 and_right false b h = cc
 
-pub may_lead : (front path name : List ℕ) → IsTrue (begins front name) → IsAtOrBelow name path → IsTrue (may_lead_to path front)
-may_lead front path name so (inl is) = leads front path name [] so (is ∙ append_nil path)
-may_lead front path name so (inr (rest, is)) = leads front path name (47 ∷ rest) so is
-
 -- ---- below a base
-cancel : (front xs ys : List ℕ) → front ++ xs ≡ front ++ ys → xs ≡ ys
+pub cancel : (front xs ys : List ℕ) → front ++ xs ≡ front ++ ys → xs ≡ ys
 cancel [] xs ys is = is
 cancel (f ∷ front) xs ys is = cancel front xs ys (tails is)
   where
@@ -110,6 +84,10 @@ still_gathered tree base asked path old new keeps is name at it = keeps name (is
 abbrev pub HasFront : List ℕ → (List ℕ → Bool) → Type 0
 HasFront front asked = (name : List ℕ) → IsTrue (asked name) → IsTrue (begins front name)
 
+-- the test holds of each path at which a name that is asked for may stand, or below which it may
+abbrev pub IsLed : (List ℕ → Bool) → (List ℕ → Bool) → Type 0
+IsLed lead asked = (path name : List ℕ) → IsTrue (asked name) → IsAtOrBelow name path → IsTrue (lead path)
+
 file_stands : (tree : Tree) (path : List ℕ) → IsTrue (is_file_at tree path) → IsSome (get tree path)
 file_stands tree [] is = absurd (cc is)
 file_stands tree (b ∷ path) is = by_case (get tree (b ∷ path)) is
@@ -125,7 +103,7 @@ folder_above tree rooted path (b ∷ place) rest some is there =
     let w = on_way tree rooted b place (length path) path rest (omega arith) is (file_stands tree path there) in
     subst (λ q. IsTrue (is_folder (node_at tree q))) w.here (rooted w.step w.there).1
 
-module _ (tree : Tree) (rooted : IsRooted tree) (base front : List ℕ) (asked : List ℕ → Bool) (fronts : HasFront front asked) (path : List ℕ) (some : 0 < length path) (kind : Place) (kind_is : IsTrue (may_lead_to path front) → kind ≡ place_of (node_at tree (under base path))) (names : List (List ℕ)) where
+module _ (tree : Tree) (rooted : IsRooted tree) (base : List ℕ) (lead asked : List ℕ → Bool) (led : IsLed lead asked) (path : List ℕ) (some : 0 < length path) (kind : Place) (kind_is : IsTrue (lead path) → kind ≡ place_of (node_at tree (under base path))) (names : List (List ℕ)) where
   long : 0 < length (under base path)
   long = let n = nonempty base path some in omega (arith, ap length n.2)
 
@@ -140,7 +118,7 @@ module _ (tree : Tree) (rooted : IsRooted tree) (base front : List ℕ) (asked :
   folder_place (Some folder) h = refl
 
   at_kind : (name : List ℕ) → IsAtOrBelow (under base name) (under base path) → HasFile tree base asked name → kind ≡ place_of (node_at tree (under base path))
-  at_kind name at it = kind_is (may_lead front path name (fronts name it.asked_for) (without_base base name path at))
+  at_kind name at it = kind_is (led path name it.asked_for (without_base base name path at))
 
   here : (name : List ℕ) → under base name ≡ under base path → HasFile tree base asked name → (size : ℕ) × (kind ≡ places.File size)
   here name same it =

@@ -1,7 +1,7 @@
 -- What a walk over the files below a folder puts into a list of names.
-use Rattle.std.specs.Prelude.{ℕ, ◌≡◌, ◌⊎◌, Bool, ◌||◌, ◌∷◌, ◌++◌, List, IsTrue, IsSome}
+use Rattle.std.specs.Prelude.{ℕ, ◌≡◌, ◌⊎◌, Bool, ◌∷◌, ◌++◌, List, IsTrue, IsSome}
 use Rattle.std.specs.List.{list_any}
-use Rattle.gix_object_lines.specs.NameTest.{begins, is_full_name}
+use Rattle.gix_object_lines.specs.NameTest.{is_full_name}
 use Rattle.gix_ref_file.specs.Tree.{Tree, same_path}
 use Rattle.gix_ref_file.specs.declared.files.FileError.{FileError}
 use Rattle.gix_ref_file.specs.declared.files.FileError.TheVariants as files
@@ -46,10 +46,6 @@ GathersPlaces b tree asked names = (name : List ℕ) → IsTrue (is_file_at tree
 -- and all that have a record
 abbrev pub GathersRecords : List Record → (List ℕ → Bool) → List (List ℕ) → Type 0
 GathersRecords records asked names = (name : List ℕ) → IsSome (hit records name) → IsTrue (asked name) → IsTrue (has names name)
-
--- a name that begins so may stand at the path or below it
-abbrev pub may_lead_to : List ℕ → List ℕ → Bool
-may_lead_to path front = begins front path || begins path front
 
 -- a failed reading is told only where a reading may fail
 abbrev pub MayTell : Type 0 → Error → Type 0

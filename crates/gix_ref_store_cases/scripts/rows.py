@@ -483,7 +483,7 @@ for asked, answer in list(rows):
     if operation == "files" and rest.startswith("- - "):
         rows.append(("loose_iter " + rest, answer))
     if operation == "log":
-        rows.append(("reflog_exists " + rest, "false false" if answer == "none" else "true true"))
+        rows.append(("reflog_exists " + rest, "false false false" if answer == "none" else "true true true"))
     if operation == "all":
         rows.append(("force_refresh_packed_buffer " + rest, "packed broken" if answer == "packed broken" else "opened"))
 

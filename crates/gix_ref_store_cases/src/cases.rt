@@ -10,7 +10,7 @@ use crate::{files, packed};
 use gix_ref_file::MemoryFiles;
 use gix_ref_format::packed::FindError;
 use gix_ref_name::PartialNameRef;
-use gix_ref_store::store::file::{Store, find};
+use gix_ref_store::store::file::{ReferenceExt, Store, find};
 use gix_ref_store::{Options, Reference};
 use std::alloc::{AllocError, Global};
 

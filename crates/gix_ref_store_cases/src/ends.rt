@@ -5,7 +5,7 @@ use crate::objects::Objects;
 use gix_ref_file::MemoryFiles;
 use gix_ref_name::{FullNameRef, PartialNameRef};
 use gix_ref_store::Reference;
-use gix_ref_store::store::file::{LogPlatform, Store, peel};
+use gix_ref_store::store::file::{LogPlatform, ReferenceExt, Store, peel};
 use std::alloc::{AllocError, Global};
 
 // The reference that this one points to.
@@ -44,7 +44,7 @@ fn lines(
     store: &Store<MemoryFiles>,
     reference: &Reference,
 ) -> Result<String, AllocError> {
-    let mut log = reference.logs(alloc, store);
+    let mut log = reference.log_iter(alloc, store);
     let mut text = String::new(alloc);
     match log.all(alloc) {
         Ok(Some(lines)) => {

@@ -3,9 +3,11 @@
 use gix_hash::Kind;
 use gix_ref_file::MemoryFiles;
 use gix_ref_format::log::iter::Forward;
+use gix_ref_format::loose;
 use gix_ref_name::{FullNameRef, Target};
 use gix_ref_store::Reference;
-use gix_ref_store::store::file::Store;
+use gix_ref_store::store::file::loose::LogExt;
+use gix_ref_store::store::file::{ReferenceExt, Store};
 use std::alloc::{AllocError, Global};
 
 // The new id of each line, with a space behind it.
@@ -49,11 +51,11 @@ fn of_name(
     }
 }
 
-// The same of the log of a reference.
+// The same of the log of a loose reference.
 fn of_reference(
     alloc: Global,
     store: &Store<MemoryFiles>,
-    reference: &Reference,
+    reference: &loose::Reference,
 ) -> Result<String, AllocError> {
     let mut bytes = Vec::new(alloc);
     let mut text = match reference.log_iter(alloc, store, &mut bytes) {
@@ -78,20 +80,19 @@ fn of_reference(
     }
 }
 
-// Whether a name has a log, and whether a reference of the name has one.
+// Whether a name has a log, and whether a reference of the name has one, loose and whole.
 fn stand(
     alloc: Global,
     store: &Store<MemoryFiles>,
     name: FullNameRef<'_>,
-    reference: &Reference,
+    reference: loose::Reference,
 ) -> Result<String, AllocError> {
-    let of_name = match store.reflog_exists(alloc, name) {
-        Ok(stands) => stands,
-        Err(error) => return format!(in alloc; "{error}"),
-    };
-    match reference.log_exists(alloc, store) {
-        Ok(stands) => format!(in alloc; "{of_name} {stands}"),
-        Err(error) => format!(in alloc; "{error}"),
+    let of_name = store.reflog_exists(alloc, name);
+    let of_loose = reference.log_exists(alloc, store);
+    let of_whole = Reference::from(reference).log_exists(alloc, store);
+    match (of_name, of_loose, of_whole) {
+        (Ok(name), Ok(loose), Ok(whole)) => format!(in alloc; "{name} {loose} {whole}"),
+        (Err(error), ..) | (_, Err(error), _) | (.., Err(error)) => format!(in alloc; "{error}"),
     }
 }
 
@@ -105,14 +106,13 @@ pub fn log(
     let Ok(name) = FullNameRef::new(name.as_bytes()) else {
         return format!(in alloc; "no name");
     };
-    let reference = Reference {
+    let reference = loose::Reference {
         name: name.to_owned(alloc)?,
         target: Target::Object(Kind::Sha1.null()),
-        peeled: None,
     };
     match operation {
         "log" => of_name(alloc, store, name),
         "log_iter" => of_reference(alloc, store, &reference),
-        _ => stand(alloc, store, name, &reference),
+        _ => stand(alloc, store, name, reference),
     }
 }

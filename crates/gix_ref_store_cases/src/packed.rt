@@ -6,7 +6,7 @@ use gix_ref_file::MemoryFiles;
 use gix_ref_format::packed::Buffer;
 use gix_ref_name::PartialNameRef;
 use gix_ref_store::Reference;
-use gix_ref_store::store::file::{Store, peel};
+use gix_ref_store::store::file::{ReferenceExt, Store, peel};
 use std::alloc::{AllocError, Global};
 
 // The reference that this one points to.

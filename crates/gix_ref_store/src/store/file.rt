@@ -14,10 +14,12 @@ mod known;
 mod listing;
 pub mod log;
 mod logged;
+pub mod loose;
 mod packed;
 pub mod peel;
 mod place;
 mod pristine;
+mod raw_ext;
 mod search;
 mod walk;
 
@@ -26,6 +28,7 @@ pub use crate::store::file::init::{FolderError, Refused};
 pub use crate::store::file::listing::Platform;
 pub use crate::store::file::logged::Platform as LogPlatform;
 use crate::store::file::place::push_under;
+pub use crate::store::file::raw_ext::ReferenceExt;
 use gix_ref_file::Files;
 use std::alloc::{AllocError, Global};
 

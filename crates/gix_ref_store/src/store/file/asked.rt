@@ -5,7 +5,7 @@ ghost use Rattle.gix_object_lines.specs.NameTest.{is_full_name};
 ghost use Rattle.gix_ref_store.specs.Asks.{is_asked};
 ghost use Rattle.gix_ref_store.specs.Asks as spec;
 ghost use Rattle.gix_ref_store.specs.Listings as listings;
-ghost use Rattle.gix_ref_store.specs.Walks.{Keeps, BringsAsked, MayStop, may_lead_to, has};
+ghost use Rattle.gix_ref_store.specs.Walks.{Keeps, BringsAsked, MayStop, has};
 
 use crate::store::file::init::is_below;
 use crate::store::file::iter::Error;
@@ -42,17 +42,23 @@ impl Asked<'_> {
 
     // Whether names that are asked for may stand at this path of a file or below it.
     pub(crate) fn may_stand_at(self, alloc: Global, path: &[u8]) -> Result<bool, AllocError>
-        ensures { IfOk result (λ may.
-            IsTrue (may_lead_to path.now self.entry.front.now) → IsTrue may) }
+        ensures { IfOk result (λ may. IsTrue (spec.leads self.entry path.now) → IsTrue may) }
     {
-        if leads_to(path, self.front) {
+        if self.leads(path) {
             return Ok(true);
         }
         if !self.composes {
             return Ok(false);
         }
         let composed = precompose_unicode(alloc, path)?;
-        Ok(leads_to(composed.as_bytes(), self.front))
+        Ok(self.leads(composed.as_bytes()))
+    }
+
+    // The same of a path as the store knows it.
+    fn leads(self, path: &[u8]) -> bool
+        ensures { result ≡ spec.leads self.entry path.now }
+    {
+        self.fits(path) || is_below(path, self.front)
     }
 
     // Puts the name of a file or of a record in, as the store knows it, where it is asked for.
@@ -81,11 +87,4 @@ fn is_within(folder: &[u8], name: &[u8]) -> bool
     ensures { result ≡ listings.is_within folder.now name.now }
 {
     name == folder || is_below(folder, name) || (folder.ends_with(b"/") && name.starts_with(folder))
-}
-
-// Whether a name that begins so may stand at this path or below it.
-fn leads_to(path: &[u8], front: &[u8]) -> bool
-    ensures { result ≡ may_lead_to path.now front.now }
-{
-    path.starts_with(front) || front.starts_with(path)
 }

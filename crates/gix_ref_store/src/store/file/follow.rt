@@ -1,12 +1,10 @@
 //! Following symbolic references.
 
-ghost use Rattle.std.specs.Prelude.{◌≡◌, IfErr, IfSome, MatchResult, unwrap_or};
-ghost use Rattle.gix_hash.specs.Id.{id_of};
-ghost use Rattle.gix_ref_name.specs.Targets.{target_view};
+ghost use Rattle.std.specs.Prelude.{◌≡◌, IfErr, MatchResult, unwrap_or};
 ghost use Rattle.gix_ref_store.specs.Finds.{reading_of, OnExisting};
 ghost use Rattle.gix_ref_store.specs.Finds as finds;
-ghost use Rattle.gix_ref_store.specs.Follows.{EndsAt, EndsBy, FollowsTo, FollowFault, TellsExisting, IsGiven, CantOpen, MayTell, follow, follow_from};
-ghost use Rattle.gix_ref_store.specs.Lookups.{reads_now, reads_with};
+ghost use Rattle.gix_ref_store.specs.Follows.{EndsBy, FollowFault, TellsExisting, IsGiven, CantOpen, MayTell, follow, follow_from};
+ghost use Rattle.gix_ref_store.specs.Lookups.{reads_now};
 ghost use Rattle.gix_ref_store.specs.Searches.{reads_in};
 ghost use Rattle.gix_ref_store.specs.Stores.{base_of};
 ghost use Rattle.gix_ref_store.specs.declared.store.file.follow.Error.TheVariants.{Memory};
@@ -17,7 +15,6 @@ use crate::store::file::search::Search;
 use crate::store::file::{Store, find};
 use gix_hash::ObjectId;
 use gix_ref_file::Files;
-use gix_ref_format::packed::Buffer;
 use gix_ref_name::{FullName, Target};
 use std::alloc::{AllocError, AllocFailed, Global};
 use thiserror::Error;
@@ -58,105 +55,8 @@ impl<T: Drop> From<AllocFailed<T>> for Error {
     }
 }
 
-impl Reference {
-    /// The reference that this one points to; `None` where it points to an object. `NotFound` where no reference has the name,
-    /// and `PackedOpen` where the packed references can't be opened, which is done first.
-    pub fn follow<F: Files>(
-        &self,
-        alloc: Global,
-        store: &Store<F>,
-    ) -> Option<Result<Reference, ExistingError>>
-        ensures followed { F.is_honest store.now.files
-            → let tree = (F.history store.now.files).tree in
-            FollowsTo (CantOpen (base_of store.now) tree) (reads_now store.now tree)
-            (target_view self.now.target) result }
-        ensures failed { IfSome result (λ next. IfErr next
-            (OnExisting (Unit {0}) (finds.MayTell F.reading_may_fail))) }
-    {
-        let Target::Symbolic(name) = &self.target else {
-            return None;
-        };
-        Some(named_in(alloc, store, name))
-    }
-
-    /// The reference that this one points to, as `follow` has it, with these packed references; without any, `None`, only those
-    /// with files of their own are found.
-    pub fn follow_packed<F: Files>(
-        &self,
-        alloc: Global,
-        store: &Store<F>,
-        packed: Option<&Buffer>,
-    ) -> Option<Result<Reference, ExistingError>>
-        ensures followed { F.is_honest store.now.files
-            → let read = reads_with store.now (F.history store.now.files).tree packed.entry in
-            FollowsTo IsGiven read (target_view self.now.target) result }
-        ensures failed { IfSome result (λ next. IfErr next
-            (OnExisting (Unit {0}) (finds.MayTell F.reading_may_fail))) }
-    {
-        let search = Search {
-            alloc,
-            store,
-            packed,
-        };
-        match &self.target {
-            Target::Object(_) => None,
-            Target::Symbolic(name) => Some(named(&search, name)),
-        }
-    }
-
-    /// The id of the object that this reference points to, over at most 5 names of others: `DepthLimitExceeded` where there are
-    /// more, `Cycle` where one of them is met again, and `Follow` with `NotFound` where no reference has it.
-    pub fn follow_to_object_packed<F: Files>(
-        &self,
-        alloc: Global,
-        store: &Store<F>,
-        packed: Option<&Buffer>,
-    ) -> Result<ObjectId, Error>
-        ensures followed { F.is_honest store.now.files
-            → let read = reads_with store.now (F.history store.now.files).tree packed.entry in
-            let end = follow_from read self.now in
-            MatchResult result (λ id. EndsAt (id_of id) end) (FollowFault IsGiven end) }
-        ensures failed { IfErr result (MayTell F.reading_may_fail) }
-    {
-        let search = Search {
-            alloc,
-            store,
-            packed,
-        };
-        let (id, _) = end_from(&search, self)?;
-        Ok(id)
-    }
-
-    /// The same id; and the reference becomes the last of those on the way, which points to the object itself. After an error it
-    /// is as it was.
-    pub fn follow_to_object_in_place_packed<F: Files>(
-        &mut self,
-        alloc: Global,
-        store: &Store<F>,
-        packed: Option<&Buffer>,
-    ) -> Result<ObjectId, Error>
-        ensures followed { F.is_honest store.now.files
-            → let read = reads_with store.now (F.history store.now.files).tree packed.entry in
-            let end = follow_from read self.old in
-            MatchResult result (λ id. EndsBy self.new id end) (FollowFault IsGiven end) }
-        ensures refused { IfErr result (λ _. self.new ≡ self.old) }
-        ensures failed { IfErr result (MayTell F.reading_may_fail) }
-    {
-        let search = Search {
-            alloc,
-            store,
-            packed,
-        };
-        let (id, end) = end_from(&search, self)?;
-        if let Some(end) = end {
-            *self = end;
-        }
-        Ok(id)
-    }
-}
-
 // The reference of a full name, which must stand, with the packed references as they are now.
-fn named_in<F: Files>(
+pub(crate) fn named_in<F: Files>(
     alloc: Global,
     store: &Store<F>,
     name: &FullName,
@@ -189,7 +89,10 @@ fn named_in<F: Files>(
 }
 
 // The reference of a full name, which must stand.
-fn named<F: Files>(search: &Search<'_, '_, F>, name: &FullName) -> Result<Reference, ExistingError>
+pub(crate) fn named<F: Files>(
+    search: &Search<'_, '_, F>,
+    name: &FullName,
+) -> Result<Reference, ExistingError>
     ensures told { F.is_honest search.now.store.now.files
         → let read = reads_in (F.history search.now.store.now.files).tree search.now in
         TellsExisting IsGiven read name.now result }

@@ -119,7 +119,7 @@ impl<F: Files> Store<F> {
     }
 
     /// The same of those whose names begin so, by their bytes: `refs/heads/fe` lists `refs/heads/feature`, and `refs/heads/a/` what
-    /// stands below `refs/heads/a` alone. No folder is listed in which none of them can stand.
+    /// stands below `refs/heads/a` alone. Below `refs` no folder is listed in which none of them can stand.
     pub fn iter_prefixed_packed<'s, 'p>(
         &'s self,
         alloc: Global,
@@ -142,8 +142,8 @@ impl<F: Files> Store<F> {
     }
 
     /// The reference of this name, and those whose names stand below it, by components as `git for-each-ref` takes them:
-    /// `refs/heads/a` lists itself and `refs/heads/a/b`, and not `refs/heads/ab`; with a slash at its end it lists what begins so. No
-    /// folder is listed in which none of them can stand.
+    /// `refs/heads/a` lists itself and `refs/heads/a/b`, and not `refs/heads/ab`; with a slash at its end it lists what begins so.
+    /// Below `refs` no folder is listed in which none of them can stand.
     pub fn iter_within_packed<'s, 'p>(
         &'s self,
         alloc: Global,

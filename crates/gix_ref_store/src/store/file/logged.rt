@@ -1,15 +1,12 @@
 //! The logs of references.
 
-ghost use Rattle.std.specs.Prelude.{◌≡◌, [], None, is_some, length, IfErr, IfOk, IfSome, IsSome, IsErrOf, option_map};
+ghost use Rattle.std.specs.Prelude.{IfErr, IfOk, IfSome, option_map};
 ghost use Rattle.gix_ref_name.specs.Names.{name_of};
 ghost use Rattle.gix_ref_format.specs.LogForward.{lines_of};
 ghost use Rattle.gix_ref_format.specs.LogReverse.{stand_of};
 ghost use Rattle.gix_ref_store.specs.Logs.{ReadsForward, ReadsBackward, BackFault, MayTell, log_text};
 ghost use Rattle.gix_ref_store.specs.LogReaders.{IsBegun, IsOfLog};
-ghost use Rattle.gix_ref_store.specs.declared.store.file.log.Error.TheVariants.{Io};
-ghost use Rattle.gix_ref_format.specs.declared.log.iter.error.IoError.TheVariants.{NoBuffer};
 
-use crate::reference::Reference;
 use crate::store::file::Store;
 use crate::store::file::log::{Error, LogFile};
 use gix_ref_file::Files;
@@ -29,7 +26,7 @@ pub struct Platform<'s, 'n, F: Files> {
 }
 
 impl<'s, F: Files> Platform<'s, '_, F> {
-    /// The lines from the beginning, as `Store::reflog_iter` has them, or why it has none.
+    /// The lines from the beginning, as `Store::reflog_iter` has them, or why it has none. The log may be read again afterwards.
     pub fn all(&mut self, alloc: Global) -> Result<Option<Forward<'_>>, Error>
         ensures lines { F.is_honest self.old.store.now.files
             → let tree = (F.history self.old.store.now.files).tree in
@@ -57,67 +54,5 @@ impl<'s, F: Files> Platform<'s, '_, F> {
         self.buffer.resize(BUFFER_SIZE, 0)?;
         self.store
             .reflog_iter_rev(alloc, self.name, self.buffer.as_mut_slice())
-    }
-}
-
-impl Reference {
-    /// Whether the reference has a log. `Io` where a reading failed.
-    pub fn log_exists<F: Files>(&self, alloc: Global, store: &Store<F>) -> Result<bool, Error>
-        ensures exists { F.is_honest store.now.files
-            → let text = log_text store.now (F.history store.now.files).tree self.now.name in
-            IfOk result (λ found. found ≡ is_some text) }
-        ensures failed { IfErr result (MayTell F.reading_may_fail) }
-    {
-        store.reflog_exists(alloc, self.name.as_ref())
-    }
-
-    /// The reference's log, to be read from either end.
-    pub fn logs<'s, F: Files>(&self, alloc: Global, store: &'s Store<F>) -> Platform<'s, '_, F>
-        ensures store { result.store.now ≡ store.now }
-        ensures name { name_of result.name ≡ self.now.name }
-    {
-        Platform {
-            store,
-            name: self.name.as_ref(),
-            buffer: Vec::new(alloc),
-        }
-    }
-
-    /// Reads the reference's log from its beginning, as `Store::reflog_iter` does; `None` where it has none.
-    pub fn log_iter<'b, F: Files>(
-        &self,
-        alloc: Global,
-        store: &Store<F>,
-        buffer: &'b mut Vec<u8>,
-    ) -> Result<Option<Forward<'b>>, Error>
-        ensures lines { F.is_honest store.now.files
-            → let text = log_text store.now (F.history store.now.files).tree self.now.name in
-            IfOk result (λ found. ReadsForward text (option_map lines_of found)) }
-        ensures failed { IfErr result (MayTell F.reading_may_fail) }
-    {
-        store.reflog_iter(alloc, self.name.as_ref(), buffer)
-    }
-
-    /// Reads the reference's log from its end, as `Store::reflog_iter_rev` does; `None` where it has none. An empty buffer is
-    /// `NoBuffer`.
-    pub fn log_iter_rev<'s, 'b, F: Files>(
-        &self,
-        alloc: Global,
-        store: &'s Store<F>,
-        buffer: &'b mut [u8],
-    ) -> Result<Option<Reverse<'b, LogFile<'s, F>>>, Error>
-        ensures lines { F.is_honest store.now.files
-            → let text = log_text store.now (F.history store.now.files).tree self.now.name in
-            IfOk result (λ found. ReadsBackward text (option_map stand_of found)) }
-        ensures file { F.is_honest store.now.files
-            → IfOk result (λ found. IfSome found (IsOfLog store.now self.now.name)) }
-        ensures begun { IfOk result (λ found. IfSome found (IsBegun (length buffer.old))) }
-        ensures empty { buffer.old ≡ [] → IfOk result (λ found. found ≡ None) }
-        ensures unbuffered { F.is_honest store.now.files → IsErrOf result (Io NoBuffer)
-            → IsSome (log_text store.now (F.history store.now.files).tree self.now.name) }
-        ensures failed { IfErr result (BackFault F.reading_may_fail (¬ F.is_honest store.now.files)
-            (buffer.old ≡ [])) }
-    {
-        store.reflog_iter_rev(alloc, self.name.as_ref(), buffer)
     }
 }

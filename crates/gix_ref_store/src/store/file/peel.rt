@@ -1,28 +1,23 @@
 //! Peeling references: the objects that they stand for in the end, behind names and tags.
 
-ghost use Rattle.std.specs.Prelude.{◌≡◌, IfErr, IfOk, IfSome, IsSome, OnOk, Contains, MatchOption, MatchResult, Some, option_map, unwrap_or};
+ghost use Rattle.std.specs.Prelude.{◌≡◌, IfErr, IfOk, IsSome, Contains, MatchOption, MatchResult, Some, unwrap_or};
 ghost use Rattle.std.specs.List.{list_any};
 ghost use Rattle.gix_hash.specs.Id.{id_of};
 ghost use Rattle.gix_hash.specs.Order.{id_eq};
-ghost use Rattle.gix_ref_name.specs.Targets.{ToObject, target_view};
-ghost use Rattle.gix_ref_store.specs.Follows.{IsGiven, CantOpen};
-ghost use Rattle.gix_ref_store.specs.Peels.{TagNames, IsPlain, PeelsTo, TagFault, StepFault, Peels, PeelFault, MayTell, IsPeeled};
-ghost use Rattle.gix_ref_store.specs.Lookups.{reads_now, reads_with};
+ghost use Rattle.gix_ref_store.specs.Follows.{IsGiven};
+ghost use Rattle.gix_ref_store.specs.Peels.{TagNames, IsPlain, PeelsTo, TagFault, StepFault, Peels, PeelFault, MayTell};
 ghost use Rattle.gix_ref_store.specs.Searches.{reads_in};
-ghost use Rattle.gix_ref_store.specs.Stores.{base_of};
 ghost use Rattle.gix_ref_store.specs.declared.store.file.peel.Error.TheVariants.{FollowToObject, Find, Memory};
 
 use crate::reference::Reference;
-use crate::store::file::Store;
 use crate::store::file::find::{self, ExistingError};
 use crate::store::file::follow::{self, end_from};
 use crate::store::file::search::Search;
 use gix_hash::ObjectId;
 use gix_object_find::{Find, find as object};
 use gix_ref_file::Files;
-use gix_ref_format::packed::{Buffer, buffer};
-use gix_ref_name::Target;
-use std::alloc::{AllocError, AllocFailed, Global};
+use gix_ref_format::packed::buffer;
+use std::alloc::{AllocFailed, Global};
 use thiserror::Error;
 
 /// Why no object is found that a reference stands for.
@@ -80,112 +75,8 @@ impl<T: Drop> From<AllocFailed<T>> for Error {
     }
 }
 
-impl Reference {
-    /// The id of the object that the reference stands for in the end: the one that its packed record tells; else names of others
-    /// are followed to an object, as `follow_to_object_packed` does, and tags to what they name. `NotFound` where no object stands
-    /// under an id on the way, or a tag that names none or leads back to itself. Packed references are opened first.
-    pub fn peel_to_id<F: Files, T: Find>(
-        &self,
-        alloc: Global,
-        store: &Store<F>,
-        objects: &T,
-    ) -> Result<ObjectId, Error>
-        ensures peeled { F.is_honest store.now.files → T.is_honest objects.now
-            → let tree = (F.history store.now.files).tree in let read = reads_now store.now tree in
-            MatchResult result (λ id. IsPeeled read (T.table objects.now) self.now (id_of id))
-            (PeelFault (CantOpen (base_of store.now) tree) read (T.table objects.now) self.now) }
-        ensures failed { IfErr result (MayTell F.reading_may_fail (T.may_fail objects.now)) }
-    {
-        match store.open_packed_buffer(alloc)? {
-            Some(packed) => self.peel_to_id_packed(alloc, store, objects, Some(&packed)),
-            None => self.peel_to_id_packed(alloc, store, objects, None),
-        }
-    }
-
-    /// The same id with these packed references; without any, `None`, only references with files of their own are found.
-    pub fn peel_to_id_packed<F: Files, T: Find>(
-        &self,
-        alloc: Global,
-        store: &Store<F>,
-        objects: &T,
-        packed: Option<&Buffer>,
-    ) -> Result<ObjectId, Error>
-        ensures peeled { F.is_honest store.now.files → T.is_honest objects.now
-            → let read = reads_with store.now (F.history store.now.files).tree packed.entry in
-            MatchResult result (λ id. IsPeeled read (T.table objects.now) self.now (id_of id))
-            (PeelFault IsGiven read (T.table objects.now) self.now) }
-        ensures failed { IfErr result (MayTell F.reading_may_fail (T.may_fail objects.now)) }
-    {
-        let search = Search {
-            alloc,
-            store,
-            packed,
-        };
-        let (id, _) = peeled_end(&search, self, objects)?;
-        Ok(id)
-    }
-
-    /// The same id as `peel_to_id` has; and the reference becomes the last of those on the way, and points to the object of the
-    /// id, which it also tells as peeled. After an error it is as it was.
-    pub fn peel_to_id_in_place<F: Files, T: Find>(
-        &mut self,
-        alloc: Global,
-        store: &Store<F>,
-        objects: &T,
-    ) -> Result<ObjectId, Error>
-        ensures peeled { F.is_honest store.now.files → T.is_honest objects.now
-            → let tree = (F.history store.now.files).tree in let read = reads_now store.now tree in
-            MatchResult result
-            (λ id. Peels read (T.table objects.now) self.old self.new.name (id_of id))
-            (PeelFault (CantOpen (base_of store.now) tree) read (T.table objects.now) self.old) }
-        ensures target { IfOk result (λ id. target_view self.new.target ≡ ToObject (id_of id)) }
-        ensures told { IfOk result (λ id. self.new.peeled ≡ Some id) }
-        ensures refused { IfErr result (λ _. self.new ≡ self.old) }
-        ensures failed { IfErr result (MayTell F.reading_may_fail (T.may_fail objects.now)) }
-    {
-        match store.open_packed_buffer(alloc)? {
-            Some(packed) => {
-                self.peel_to_id_in_place_packed(alloc, store, objects, Some(&packed))
-            }
-            None => self.peel_to_id_in_place_packed(alloc, store, objects, None),
-        }
-    }
-
-    /// The same with these packed references.
-    pub fn peel_to_id_in_place_packed<F: Files, T: Find>(
-        &mut self,
-        alloc: Global,
-        store: &Store<F>,
-        objects: &T,
-        packed: Option<&Buffer>,
-    ) -> Result<ObjectId, Error>
-        ensures peeled { F.is_honest store.now.files → T.is_honest objects.now
-            → let read = reads_with store.now (F.history store.now.files).tree packed.entry in
-            MatchResult result
-            (λ id. Peels read (T.table objects.now) self.old self.new.name (id_of id))
-            (PeelFault IsGiven read (T.table objects.now) self.old) }
-        ensures target { IfOk result (λ id. target_view self.new.target ≡ ToObject (id_of id)) }
-        ensures told { IfOk result (λ id. self.new.peeled ≡ Some id) }
-        ensures refused { IfErr result (λ _. self.new ≡ self.old) }
-        ensures failed { IfErr result (MayTell F.reading_may_fail (T.may_fail objects.now)) }
-    {
-        let search = Search {
-            alloc,
-            store,
-            packed,
-        };
-        let (id, end) = peeled_end(&search, self, objects)?;
-        if let Some(end) = end {
-            self.name = end.name;
-        }
-        self.target = Target::Object(id);
-        self.peeled = Some(id);
-        Ok(id)
-    }
-}
-
 // The object that a reference stands for, and the last reference on the way where it is another.
-fn peeled_end<F: Files, T: Find>(
+pub(crate) fn peeled_end<F: Files, T: Find>(
     search: &Search<'_, '_, F>,
     from: &Reference,
     objects: &T,

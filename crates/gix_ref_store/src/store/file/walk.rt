@@ -4,9 +4,9 @@ ghost use Rattle.std.specs.Prelude.{◌≡◌, ◌<◌, ◌⊎◌, ◌&&◌, ℕ
 ghost use Rattle.gix_object_lines.specs.NameTest.{is_full_name};
 ghost use Rattle.gix_ref_file.specs.Tree.{node_at, place_of};
 ghost use Rattle.gix_ref_store.specs.Places.{under};
-ghost use Rattle.gix_ref_store.specs.Asks.{is_asked};
+ghost use Rattle.gix_ref_store.specs.Asks.{is_asked, leads};
 ghost use Rattle.gix_ref_store.specs.Listings.{is_pseudo};
-ghost use Rattle.gix_ref_store.specs.Walks.{Keeps, BringsAsked, GathersBelow, Gathers, MayStop, has, may_lead_to};
+ghost use Rattle.gix_ref_store.specs.Walks.{Keeps, BringsAsked, GathersBelow, Gathers, MayStop, has};
 
 use crate::store::file::asked::Asked;
 use crate::store::file::iter::Error;
@@ -31,8 +31,8 @@ pub(crate) struct Walk<'a, F> {
 }
 
 impl<F: Files> Walk<'_, F> {
-    // Puts the names in that are asked for and have a file below this folder of names. It lists no folder in which none of them
-    // can stand.
+    // Puts the names in that are asked for and have a file below this folder of names. It goes into no folder in which none of
+    // them can stand.
     pub(crate) fn below(&self, folder: &[u8], names: &mut BTreeSet<FullName>) -> Result<(), Error>
         requires { 0 < length folder.now }
         ensures kept { Keeps names.old.keys names.new.keys }
@@ -60,7 +60,7 @@ impl<F: Files> Walk<'_, F> {
     fn kind_of(&self, path: &[u8]) -> Result<Place, Error>
         ensures kind { F.is_honest self.now.files.now
             → let tree = (F.history self.now.files.now).tree in
-            IfOk result (λ kind. IsTrue (may_lead_to path.now self.now.asked.front.now)
+            IfOk result (λ kind. IsTrue (leads self.now.asked path.now)
             → kind ≡ place_of (node_at tree (under self.now.base.now path.now))) }
         ensures failed { IfErr result (MayStop F.reading_may_fail) }
     {

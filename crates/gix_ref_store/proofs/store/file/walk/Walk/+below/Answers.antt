@@ -3,9 +3,9 @@ use Rattle.std.specs.Prelude.{IsTrue, nat_lt, nat_le}
 use Rattle.std.specs.declared.alloc.Global.{Global}
 use Rattle.gix_ref_file.specs.Tree.{node_at, place_of, names_at}
 use Rattle.gix_ref_store.specs.Places.{under}
-use Rattle.gix_ref_store.specs.Asks.{is_asked}
-use Rattle.gix_ref_store.specs.Walks.{may_lead_to, GathersBelow}
-use Rattle.gix_ref_store.proofs.AskLemmas.{asked_front}
+use Rattle.gix_ref_store.specs.Asks.{is_asked, leads}
+use Rattle.gix_ref_store.specs.Walks.{GathersBelow}
+use Rattle.gix_ref_store.proofs.AskLemmas.{asked_leads}
 use Rattle.gix_ref_store.proofs.NameSets.{keeps_on, brings_on}
 use Rattle.gix_ref_store.proofs.WalkSteps.{IsGathered, still_gathered, with_folder, with_file, with_absent, step_of, step_stands, one_more, all_gathered, map_length}
 use Rattle.gix_ref_store.proofs.store.file.walk.Walk.+below.Goals as goal
@@ -14,9 +14,9 @@ use Rattle.gix_ref_store.proofs.store.file.walk.Walk.+below.Goals.{in-Folder, th
 pub loop-name-preserved : goal.loop-name-preserved
 loop-name-preserved g t c =
     let base = c.args.self.now.base.now in
-    let front = c.args.self.now.asked.front.now in
+    let lead = leads c.args.self.now.asked in
     let asked = is_asked c.args.self.now.asked in
-    let fronts = asked_front c.args.self.now.asked in
+    let led = asked_leads c.args.self.now.asked in
     let place = c.in_ok-place.place.items in
     let path = c.in_ok-path.path.items in
     let xs = c.deref-name-items.result.now in
@@ -31,11 +31,11 @@ loop-name-preserved g t c =
           λ honest.
               let tree = (g.F.Files.history c.args.self.now.files.now).tree in
               let rooted = g.met.F.Files.rooted c.args.self.now.files.now honest in
-              let kind_is = subst (λ p. IsTrue (may_lead_to p front) → c.in_ok-kind_of.field-0 ≡ place_of (node_at tree (under base p))) c.deref-in-loop-name-2.ensures.value (c.in_ok-kind_of.ensures.kind honest) in
+              let kind_is = subst (λ p. IsTrue (lead p) → c.in_ok-kind_of.field-0 ≡ place_of (node_at tree (under base p))) c.deref-in-loop-name-2.ensures.value (c.in_ok-kind_of.ensures.kind honest) in
               let gathers = subst (λ p. GathersBelow tree base asked p w'.below.new.names.keys) w'.deref-in-Folder.ensures.value (w'.in_ok-below-in-Folder.ensures.all honest) in
               one_more (IsGathered tree base asked w'.below.new.names.keys) place (under base path) _ i
               (λ j less. still_gathered tree base asked _ before w'.below.new.names.keys w'.in_ok-below-in-Folder.ensures.kept (c.loop-name.invariant.2 honest j less))
-              step.at (with_folder tree rooted base front asked fronts path step.some c.in_ok-kind_of.field-0 kind_is w'.below.new.names.keys w.in-Folder.is gathers),
+              step.at (with_folder tree rooted base lead asked led path step.some c.in_ok-kind_of.field-0 kind_is w'.below.new.names.keys w.in-Folder.is gathers),
         )
         | else-is_deeper w' ↦ rw w'.names-is (
           c.loop-name.invariant.0,
@@ -43,7 +43,7 @@ loop-name-preserved g t c =
           λ honest.
               let tree = (g.F.Files.history c.args.self.now.files.now).tree in
               let rooted = g.met.F.Files.rooted c.args.self.now.files.now honest in
-              let kind_is = subst (λ p. IsTrue (may_lead_to p front) → c.in_ok-kind_of.field-0 ≡ place_of (node_at tree (under base p))) c.deref-in-loop-name-2.ensures.value (c.in_ok-kind_of.ensures.kind honest) in
+              let kind_is = subst (λ p. IsTrue (lead p) → c.in_ok-kind_of.field-0 ≡ place_of (node_at tree (under base p))) c.deref-in-loop-name-2.ensures.value (c.in_ok-kind_of.ensures.kind honest) in
               let names = ap (map (λ (name : Vec ℕ Global). name.items)) c.deref-name-items.ensures.value ∙ c.in_ok-list.ensures.names honest ∙ ap (names_at tree) c.deref.ensures.value in
               one_more (IsGathered tree base asked before) place (under base path) _ i (c.loop-name.invariant.2 honest)
               step.at (absurd (
@@ -58,10 +58,10 @@ loop-name-preserved g t c =
         λ honest.
             let tree = (g.F.Files.history c.args.self.now.files.now).tree in
             let rooted = g.met.F.Files.rooted c.args.self.now.files.now honest in
-            let kind_is = subst (λ p. IsTrue (may_lead_to p front) → c.in_ok-kind_of.field-0 ≡ place_of (node_at tree (under base p))) c.deref-in-loop-name-2.ensures.value (c.in_ok-kind_of.ensures.kind honest) in
+            let kind_is = subst (λ p. IsTrue (lead p) → c.in_ok-kind_of.field-0 ≡ place_of (node_at tree (under base p))) c.deref-in-loop-name-2.ensures.value (c.in_ok-kind_of.ensures.kind honest) in
             one_more (IsGathered tree base asked w.put.new.names.keys) place (under base path) _ i
             (λ j less. still_gathered tree base asked _ before w.put.new.names.keys w.in_ok-put-in-File.ensures.kept (c.loop-name.invariant.2 honest j less))
-            step.at (with_file tree rooted base front asked fronts path step.some c.in_ok-kind_of.field-0 kind_is w.put.new.names.keys _ w.in-File.is w.in_ok-put-in-File.ensures.there),
+            step.at (with_file tree rooted base lead asked led path step.some c.in_ok-kind_of.field-0 kind_is w.put.new.names.keys _ w.in-File.is w.in_ok-put-in-File.ensures.there),
       )
       | in-Absent w ↦ rw w.names-is (
         c.loop-name.invariant.0,
@@ -69,10 +69,10 @@ loop-name-preserved g t c =
         λ honest.
             let tree = (g.F.Files.history c.args.self.now.files.now).tree in
             let rooted = g.met.F.Files.rooted c.args.self.now.files.now honest in
-            let kind_is = subst (λ p. IsTrue (may_lead_to p front) → c.in_ok-kind_of.field-0 ≡ place_of (node_at tree (under base p))) c.deref-in-loop-name-2.ensures.value (c.in_ok-kind_of.ensures.kind honest) in
+            let kind_is = subst (λ p. IsTrue (lead p) → c.in_ok-kind_of.field-0 ≡ place_of (node_at tree (under base p))) c.deref-in-loop-name-2.ensures.value (c.in_ok-kind_of.ensures.kind honest) in
             let names = ap (map (λ (name : Vec ℕ Global). name.items)) c.deref-name-items.ensures.value ∙ c.in_ok-list.ensures.names honest ∙ ap (names_at tree) c.deref.ensures.value in
             one_more (IsGathered tree base asked before) place (under base path) _ i (c.loop-name.invariant.2 honest)
-            step.at (with_absent tree rooted base front asked fronts path step.some c.in_ok-kind_of.field-0 kind_is before w.in-Absent.is),
+            step.at (with_absent tree rooted base lead asked led path step.some c.in_ok-kind_of.field-0 kind_is before w.in-Absent.is),
       )
     ]
 

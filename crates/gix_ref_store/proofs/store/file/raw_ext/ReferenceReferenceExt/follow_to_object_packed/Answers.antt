@@ -1,7 +1,7 @@
 use Rattle.std.specs.Prelude.{unwrap_or, option_map}
 use Rattle.gix_hash.specs.Id.{id_of}
 use Rattle.gix_ref_store.specs.declared.reference.Reference.{Reference}
-use Rattle.gix_ref_store.proofs.reference.Reference.follow_to_object_packed.Goals as goal
+use Rattle.gix_ref_store.proofs.store.file.raw_ext.ReferenceReferenceExt.follow_to_object_packed.Goals as goal
 
 pub returns-clause-followed : goal.returns-clause-followed
 returns-clause-followed g c = λ honest.

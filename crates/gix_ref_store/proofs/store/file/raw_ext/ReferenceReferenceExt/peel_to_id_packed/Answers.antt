@@ -1,6 +1,6 @@
 use Rattle.std.specs.Prelude.{unwrap_or}
 use Rattle.gix_ref_store.specs.declared.reference.Reference.{Reference}
-use Rattle.gix_ref_store.proofs.reference.Reference.peel_to_id_packed.Goals as goal
+use Rattle.gix_ref_store.proofs.store.file.raw_ext.ReferenceReferenceExt.peel_to_id_packed.Goals as goal
 
 pub returns-clause-peeled : goal.returns-clause-peeled
 returns-clause-peeled g c = λ honest objects.
