@@ -8,11 +8,9 @@ use Rattle.gix_hash.specs.declared.kind.Kind.{Kind}
 use Rattle.std.specs.Prelude.{is_some}
 use Rattle.std.specs.Borrow.{Bor}
 use Rattle.gix_object_find.specs.Table.{Table}
-use Rattle.gix_object_entries.specs.Entry.{Item}
-use Rattle.gix_object_editor.specs.declared.tree.editor.node.NodeId.{NodeId}
 use Rattle.gix_object_editor.specs.declared.tree.editor.node.Slot.{Slot}
-use Rattle.gix_object_editor.specs.Files.{Bytes, Path, Leaf, Trees, HasStored, is_null, through, named, leaf_of, tree_under, unless_tree, files_of_entry, behind, put, put_at, cleared}
-use Rattle.gix_object_editor.specs.Nodes.{Slots, child_or, child_of, leaf_in, files_of_slot, files_of_node, Way, onto, LeadsTo, AreNull, IsForest, IsFolderAt, IsOpened}
+use Rattle.gix_object_editor.specs.Files.{Bytes, Path, Leaf, Trees, HasStored, is_null, through, behind, put, put_at, cleared}
+use Rattle.gix_object_editor.specs.Nodes.{Slots, child_of, leaf_in, files_of_slot, files_of_node, Way, onto, LeadsTo, AreNull, IsForest, IsFolderAt, IsOpened}
 use Rattle.gix_object_editor.specs.Marks.{Mark, Marks, AreAsRead}
 use Rattle.gix_object_editor.specs.Entries.{made_leaf}
 use Rattle.gix_object_editor.proofs.Filled.{null_none}

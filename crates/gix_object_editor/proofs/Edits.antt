@@ -4,7 +4,6 @@ use Rattle.std.specs.Prelude.{is_some}
 use Rattle.std.specs.Borrow.{Bor}
 use Rattle.std.proofs.lemmas.List.{get_or-map, length-drop, take_all}
 use Rattle.std.proofs.lemmas.List.Elements.{All-map}
-use Rattle.std.proofs.lemmas.Bool.{cases_eq}
 use Rattle.gix_object_entries.specs.Entry.{Item}
 use Rattle.gix_object_editor.specs.declared.tree.editor.node.NodeId.{NodeId}
 use Rattle.gix_hash.specs.Id.{Id, id_of}
@@ -15,7 +14,7 @@ use Rattle.gix_object_editor.specs.declared.tree.editor.error.Error.TheVariants.
 use Rattle.gix_object_editor.specs.Editor.{EditFault, LeafFault, IsFolder, IsTreeNamed, LeadsThrough, LeadsInto}
 use Rattle.gix_object_editor.specs.Refusals.{OpeningFault, FolderFault}
 use Rattle.gix_object_editor.specs.Files.{Bytes, Path, Leaf, FileMap, Trees, HasStored, HasNoneBelow, NamesAreFull, is_null, through, tree_under, unless_tree, files_of_entry, behind, removed, put, put_at}
-use Rattle.gix_object_editor.specs.Nodes.{Slots, IsEntry, child_or, child_of, leaf_in, files_of_slot, files_of_node, onto, Way, LeadsTo, IsFolderAt, IsStoppedAt, IsUnopened, AreFilled, IsForest, IsOpened}
+use Rattle.gix_object_editor.specs.Nodes.{Slots, child_or, child_of, leaf_in, files_of_slot, files_of_node, onto, Way, LeadsTo, IsFolderAt, IsStoppedAt, IsUnopened, AreFilled, IsForest, IsOpened}
 use Rattle.gix_object_editor.proofs.Ways.{down, removes, removes_nothing}
 use Rattle.gix_object_editor.proofs.Opening.{fewer, at_or_off}
 use Rattle.gix_object_editor.proofs.Paths.{onto-append}

@@ -4,6 +4,7 @@
 mod borrowed;
 mod case;
 mod data;
+mod entries;
 mod operations;
 mod owned;
 mod page;

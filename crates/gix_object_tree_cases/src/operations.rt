@@ -2,13 +2,14 @@
 
 use crate::case::{Case, read_case};
 use crate::page::Page;
-use crate::{borrowed, data, owned};
+use crate::{borrowed, data, entries, owned};
 use std::alloc::{AllocError, Global};
 
 fn write_answer(alloc: Global, operation: &str, case: &Case, page: &mut Page) {
     match operation {
         "loose" => borrowed::loose(alloc, case, page),
         "content" => borrowed::content(alloc, case, page),
+        "entries" => entries::entries(alloc, case, page),
         "give" => borrowed::give(alloc, case, page),
         "convert" => borrowed::convert(alloc, case, page),
         "own" => owned::own(alloc, case, page),

@@ -6,6 +6,7 @@ use gix_ref_format::log::iter::Forward;
 use gix_ref_format::loose;
 use gix_ref_name::{FullNameRef, Target};
 use gix_ref_store::Reference;
+use gix_ref_store::store::file::log::Error;
 use gix_ref_store::store::file::loose::LogExt;
 use gix_ref_store::store::file::{ReferenceExt, Store};
 use std::alloc::{AllocError, Global};
@@ -80,6 +81,14 @@ fn of_reference(
     }
 }
 
+// Whether there is a log, or why that isn't told.
+fn told(alloc: Global, stands: Result<bool, Error>) -> Result<String, AllocError> {
+    match stands {
+        Ok(stands) => format!(in alloc; "{stands}"),
+        Err(error) => format!(in alloc; "{error}"),
+    }
+}
+
 // Whether a name has a log, and whether a reference of the name has one, loose and whole.
 fn stand(
     alloc: Global,
@@ -87,13 +96,11 @@ fn stand(
     name: FullNameRef<'_>,
     reference: loose::Reference,
 ) -> Result<String, AllocError> {
-    let of_name = store.reflog_exists(alloc, name);
-    let of_loose = reference.log_exists(alloc, store);
-    let of_whole = Reference::from(reference).log_exists(alloc, store);
-    match (of_name, of_loose, of_whole) {
-        (Ok(name), Ok(loose), Ok(whole)) => format!(in alloc; "{name} {loose} {whole}"),
-        (Err(error), ..) | (_, Err(error), _) | (.., Err(error)) => format!(in alloc; "{error}"),
-    }
+    let of_name = told(alloc, store.reflog_exists(alloc, name))?;
+    let of_loose = told(alloc, reference.log_exists(alloc, store))?;
+    let whole = Reference::from(reference);
+    let of_whole = told(alloc, whole.log_exists(alloc, store))?;
+    format!(in alloc; "{of_name} {of_loose} {of_whole}")
 }
 
 /// What the operation tells of the log of a name, or of a reference of the name.

@@ -1,5 +1,6 @@
 //! Rows that the lines give, the graph that they make, and what is asked of it.
 
+use crate::infos;
 use crate::walks::{Asked, given};
 use gix_hash::ObjectId;
 use gix_traverse_commit::simple::{CommitTimeOrder, Sorting};
@@ -30,6 +31,7 @@ impl History {
         match word.len() {
             1 => self.made(alloc),
             2 => self.found(alloc, *word.get(1)?),
+            3 => infos::order(alloc, *word.get(1)?, *word.get(2)?),
             4 => self.walked(alloc, *word.get(1)?, *word.get(2)?, *word.get(3)?),
             5 => self.added(alloc, word),
             6 => self.given(alloc, word, Sorting::BreadthFirst),
@@ -150,8 +152,8 @@ fn words(alloc: Global, line: &str) -> Option<Vec<&str>> {
     Some(words)
 }
 
-// The id of a number, which is its last byte.
-fn id(number: u8) -> ObjectId {
+/// The id of a number, which is its last byte.
+pub fn id(number: u8) -> ObjectId {
     let mut bytes = [0u8; 20];
     bytes[19] = number;
     ObjectId::Sha1(bytes)
@@ -161,8 +163,8 @@ fn number(id: &ObjectId) -> u8 {
     id.as_bytes().last().copied().unwrap_or(0)
 }
 
-// The ids of numbers between commas; `-` is none.
-fn ids(alloc: Global, text: &str) -> Option<Vec<ObjectId>> {
+/// The ids of numbers between commas; `-` is none.
+pub fn ids(alloc: Global, text: &str) -> Option<Vec<ObjectId>> {
     let mut ids = Vec::new(alloc);
     if text != "-" {
         for part in text.split(',') {

@@ -2,6 +2,7 @@
 #![tactic(auto)]
 
 mod history;
+mod infos;
 mod walks;
 
 use crate::history::History;

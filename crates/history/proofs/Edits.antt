@@ -18,7 +18,8 @@ use Rattle.history_files.specs.declared.edits.Change.{Change}
 use Rattle.history_files.specs.declared.edits.Edit.{Edit as FileEdit}
 use Rattle.history_store.specs.Stores.{AreObjectsOf}
 use Rattle.history_store.specs.declared.object.NewObject.{NewObject}
-use Rattle.history_word.specs.Commands.{AreEdits, IsEdit, max_content}
+use Rattle.history_word.specs.Commands.{AreEdits, IsEdit}
+use Rattle.history_model.specs.Forms.{max_content}
 use Rattle.history_word.specs.declared.command.Edit.{Edit}
 use Rattle.history_word.specs.declared.command.Edit.TheVariants.{Put, Remove, RemoveFile}
 use Rattle.history.specs.CommitCauses.{is_long}

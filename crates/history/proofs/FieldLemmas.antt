@@ -6,7 +6,7 @@ use Rattle.history_model.specs.Bytes.{Bytes, begins, ends, has_byte, is_empty}
 use Rattle.history_model.specs.FileMap.{components, is_path}
 use Rattle.history_model.specs.Causes.{is_bad_path, is_bad_actor}
 use Rattle.history_model.specs.Forms.{is_actor_part}
-use Rattle.history_model.specs.Commands.{ActorLine as ActorOrder}
+use Rattle.history_model.specs.Commands as model
 use Rattle.history_word.specs.Commands.{IsActor}
 use Rattle.history_word.specs.declared.command.ActorLine.{ActorLine}
 use Rattle.history_word.specs.Fields.{Keeps}
@@ -101,7 +101,7 @@ turned true e = refl
 turned false e = cc
 
 -- of a good actor the name and the email are whole
-pub whole_actor : (actor : ActorLine) (order : ActorOrder) → IsActor actor order → is_bad_actor order ≡ false → (kept_bytes actor.name ≡ order.name) × (kept_bytes actor.email ≡ order.email)
+pub whole_actor : (actor : ActorLine) (order : model.ActorLine) → IsActor actor order → is_bad_actor order ≡ false → (kept_bytes actor.name ≡ order.name) × (kept_bytes actor.email ≡ order.email)
 whole_actor actor order is good =
     let parts = either_false (is_empty order.name || not (is_actor_part order.name)) (not (is_actor_part order.email)) good in
     let names = either_false (is_empty order.name) (not (is_actor_part order.name)) parts.0 in (

@@ -55,7 +55,8 @@ use Rattle.history.specs.Plans.{AddsTrees, IsMade, IsMove, IsPlan, Plans}
 use Rattle.history.specs.declared.causes.Times.{Times}
 use Rattle.history.specs.declared.planning.Plan.{Plan}
 use Rattle.history.specs.declared.stopped.Stopped.{Stopped}
-use Rattle.history.specs.declared.stopped.Stopped.TheVariants.{Refused, Fault as ByFault}
+use Rattle.history.specs.declared.stopped.Stopped.TheVariants.{Refused}
+use Rattle.history.specs.declared.stopped.Stopped.TheVariants as why
 use Rattle.history.proofs.Edits.{edits_alike, edits_same, objects_joined}
 use Rattle.history.proofs.FieldLemmas.{within, beyond}
 use Rattle.history.proofs.FirstCauses.{passed, here, refused_by_form, refused_by_name, refused_by_size, good_paths}
@@ -88,7 +89,7 @@ sizes_told blobs folders commit short =
 -- ---- refusals and faults
 
 -- a fault of reading is one of planning
-reading_planned : (MayFail : Type 0) (r : plain.Repository) (order : CommitCommand) (fault : Fault) → IsReadingFault MayFail (ByFault fault) → Plans MayFail r order (Err (ByFault fault))
+reading_planned : (MayFail : Type 0) (r : plain.Repository) (order : CommitCommand) (fault : Fault) → IsReadingFault MayFail (why.Fault fault) → Plans MayFail r order (Err (why.Fault fault))
 reading_planned MayFail r order Memory h = h
 reading_planned MayFail r order File h = h
 reading_planned MayFail r order IdTaken h = absurd h
@@ -116,7 +117,7 @@ module _ (r : plain.Repository) (order : CommitCommand) (o : IsOffered r) (w : H
     where
       by_case : (stopped : Stopped) → IsToldBy MayFail name_causes r order stopped → Plans MayFail r order (Err stopped)
       by_case (Refused cause) h = refused_by_name r order o w offered cause h
-      by_case (ByFault fault) h = reading_planned MayFail r order fault h
+      by_case (why.Fault fault) h = reading_planned MayFail r order fault h
 
   -- ---- paths
 
@@ -137,7 +138,7 @@ module _ (r : plain.Repository) (order : CommitCommand) (o : IsOffered r) (w : H
         subst (λ (cause : Cause). first_cause r (Commit order) ≡ Some cause) (sym h.0)
         (folder_refused good (sym (refused_alike (first_files r (parents_of r order)) (map kept_edit edits) (edits_of r order) (edits_alike r edits order.edits are good))
         ∙ ap (λ ids. some_refused (first_files r ids) (map kept_edit edits)) (sym same) ∙ h.1))
-    edits_planned MayFail edits are good ids same (ByFault fault) h = reading_planned MayFail r order fault h
+    edits_planned MayFail edits are good ids same (why.Fault fault) h = reading_planned MayFail r order fault h
 
     -- none is refused
     pub edits_pass : (MayFail : Type 0) (edits : List Edit) → AreEdits edits order.edits → list_any is_bad_path (paths_in (Commit order)) ≡ false
@@ -170,9 +171,9 @@ module _ (r : plain.Repository) (order : CommitCommand) (o : IsOffered r) (w : H
         → (old new : List NewObject) (stopped : Stopped) → AddsTrees old trees new (Err stopped) → Plans MayFail r order (Err stopped)
     trees_planned MayFail sound folders trees fresh are old new (Refused cause) told =
         subst (λ (cause : Cause). first_cause r (Commit order) ≡ Some cause) (sym told.0) (folders_refused (some_long r sound (new_commit r order).files folders trees fresh are told.1))
-    trees_planned MayFail sound folders trees fresh are old new (ByFault Memory) told = tt
-    trees_planned MayFail sound folders trees fresh are old new (ByFault File) told = absurd told
-    trees_planned MayFail sound folders trees fresh are old new (ByFault IdTaken) told = absurd told
+    trees_planned MayFail sound folders trees fresh are old new (why.Fault Memory) told = tt
+    trees_planned MayFail sound folders trees fresh are old new (why.Fault File) told = absurd told
+    trees_planned MayFail sound folders trees fresh are old new (why.Fault IdTaken) told = absurd told
 
     pub commit_refused : max_content < length (commit_content r.kind (new_commit r order)) → first_cause r (Commit order) ≡ Some TooLarge
     commit_refused large =
@@ -194,7 +195,7 @@ module _ (r : plain.Repository) (order : CommitCommand) (o : IsOffered r) (w : H
 
     -- where what is put or a tree has the null id
     pub null_planned : (MayFail : Type 0) (edits : List Edit) → AreEdits edits order.edits → (ids : List Id) → ids ≡ parents_of r order
-        → EditsFiles MayFail r ids (map kept_edit edits) (Ok None) → Plans MayFail r order (Err (ByFault IdTaken))
+        → EditsFiles MayFail r ids (map kept_edit edits) (Ok None) → Plans MayFail r order (Err (why.Fault IdTaken))
     null_planned MayFail edits are ids same null =
         may_take (null_taken r order (subst (λ made. HaveNull r.kind (first_files r (parents_of r order)) made) (edits_same r edits order.edits are (good_paths r order times h) h.contents)
         (subst (λ (ids : List Id). HaveNull r.kind (first_files r ids) (map kept_edit edits)) same null)))

@@ -5,8 +5,9 @@ ghost use Rattle.history_model.specs.Bytes.{Bytes, is_empty};
 ghost use Rattle.history_model.specs.Forms.{is_actor_part};
 ghost use Rattle.history_model.specs.Causes.{is_bad_actor};
 ghost use Rattle.history_model.specs.Meaning.{read_actor};
-ghost use Rattle.history_model.specs.Commands.{ActorLine as ActorOrder};
-ghost use Rattle.history_word.specs.Commands.{IsActor, max_actor_part};
+ghost use Rattle.history_model.specs.Commands as model;
+ghost use Rattle.history_model.specs.Forms.{max_actor_part};
+ghost use Rattle.history_word.specs.Commands.{IsActor};
 ghost use Rattle.history_word.specs.Fields.{Keeps};
 ghost use Rattle.history_store.specs.Formats.{actor_of};
 ghost use Rattle.history.specs.CommitCauses.{IsTime, ReadsTime};
@@ -38,21 +39,21 @@ fn is_email(field: &Field) -> bool
 
 /// Whether the name and the email can stand in an actor's line. The email may be empty.
 pub(crate) fn has_good_names(line: &ActorLine) -> bool
-    ensures { (order : ActorOrder) → IsActor line.now order → result ≡ not (is_bad_actor order) }
+    ensures { (order : model.ActorLine) → IsActor line.now order → result ≡ not (is_bad_actor order) }
 {
     is_name(&line.name) && is_email(&line.email)
 }
 
 /// When the actor acted, where both words can stand in an actor's line.
 pub(crate) fn time_of(line: &ActorLine) -> Option<Time>
-    ensures { (order : ActorOrder) → IsActor line.now order → ReadsTime order result }
+    ensures { (order : model.ActorLine) → IsActor line.now order → ReadsTime order result }
 {
     parse_time(&line.seconds, &line.offset)
 }
 
 /// The actor of a line, who acted at this time; `None` where the parts can't stand in an actor's line.
 pub(crate) fn actor_at(line: ActorLine, time: Time) -> Option<Actor>
-    ensures { (order : ActorOrder) → IsActor line order → IsFalse (is_bad_actor order)
+    ensures { (order : model.ActorLine) → IsActor line order → IsFalse (is_bad_actor order)
         → IsTime order time
         → MatchOption result ⊥ (λ actor. actor_of actor ≡ read_actor order) }
 {

@@ -26,11 +26,9 @@ use crate::words::WordReading;
 use gix_hash::ObjectId;
 use gix_ref_file::Files;
 use history_model::Cause;
+use history_model::limits::MAX_PARENTS;
 use history_word::{CommitCommand, Expect};
 use std::alloc::{AllocError, Global};
-
-/// The most parents of a commit.
-const MAX_PARENTS: usize = 64;
 
 /// The name that a commit moves, what it holds, and the commit's parents.
 #[derive(Drop)]

@@ -2,13 +2,14 @@
 
 ghost use Rattle.std.specs.Prelude.{◌≡◌, IsFalse, IsTrue, List, MatchResult, None};
 ghost use Rattle.std.specs.List.{list_any, flat_map};
-ghost use Rattle.history_model.specs.Forms.{title};
+ghost use Rattle.history_model.specs.Forms.{max_content, title};
 ghost use Rattle.history_model.specs.Causes.{is_bad_title, is_bad_path};
 ghost use Rattle.history_model.specs.CommandParts.{contents_in, edit_paths, put_contents};
 ghost use Rattle.history_model.specs.declared.Cause.TheVariants.{BadPath};
 ghost use Rattle.history_model.specs.Repository as plain;
-ghost use Rattle.history_model.specs.Commands.{Commit, CommitCommand as CommitOrder, EditLine};
-ghost use Rattle.history_word.specs.Commands.{AreEdits, IsActor, IsEdit, max_content};
+ghost use Rattle.history_model.specs.Commands as model;
+ghost use Rattle.history_model.specs.Commands.{Commit, EditLine};
+ghost use Rattle.history_word.specs.Commands.{AreEdits, IsActor, IsEdit};
 ghost use Rattle.history_word.specs.Fields.{Keeps};
 ghost use Rattle.history.specs.CommitCauses.{AreTimes, first_among, is_long, path_causes};
 
@@ -16,10 +17,8 @@ use crate::actors::{has_good_names, time_of};
 use crate::fields::{is_bad_path, is_too_long, kept};
 use gix_object::lines::Time;
 use history_model::Cause;
+use history_model::limits::MAX_TITLE;
 use history_word::{ActorLine, Edit, Field};
-
-/// The most bytes of a title.
-const MAX_TITLE: usize = 1_024;
 
 /// When the two actors of a commit acted.
 #[derive(Clone, Copy)]
@@ -105,7 +104,7 @@ pub(crate) fn read_times(
     message: &Field,
     has_long_content: bool,
 ) -> Result<Times, Cause>
-    ensures { (r : plain.Repository) (order : CommitOrder)
+    ensures { (r : plain.Repository) (order : model.CommitCommand)
         → IsActor author.now order.author → IsActor committer.now order.committer
         → Keeps max_content message.now order.message
         → has_long_content ≡ list_any is_long (contents_in (Commit order))

@@ -3,7 +3,7 @@
 ghost use Rattle.std.specs.Prelude.{◌≡◌, ℕ, length, nat_lt};
 ghost use Rattle.history_model.specs.Bytes.{Bytes};
 ghost use Rattle.history_model.specs.Causes.{is_bad_path};
-ghost use Rattle.history_word.specs.Commands.{max_path};
+ghost use Rattle.history_model.specs.Forms.{max_path};
 ghost use Rattle.history_word.specs.Fields.{Keeps};
 ghost use Rattle.history.specs.Fields.{kept_bytes};
 

@@ -2,7 +2,7 @@
 
 ghost use Rattle.std.specs.Prelude.{◌≡◌, MatchResult, None, Some};
 ghost use Rattle.history_model.specs.Forms.{is_name, is_private};
-ghost use Rattle.history_model.specs.Commands.{CommitCommand as CommitOrder};
+ghost use Rattle.history_model.specs.Commands as model;
 ghost use Rattle.history_model.specs.Repository as plain;
 ghost use Rattle.history.specs.CommitCauses.{form_cause, IsNamed, Tests, name_form_causes};
 ghost use Rattle.history.specs.Stands.{Stands};
@@ -12,13 +12,9 @@ use crate::stopped::Stopped;
 use gix_object::lines::is_full_name;
 use gix_ref_file::Files;
 use history_model::Cause;
+use history_model::limits::MAX_NAME;
+use history_store::HEAD;
 use std::alloc::Global;
-
-/// The word, and the name in commands, that stands for HEAD's branch.
-pub(crate) const HEAD: &[u8] = b"HEAD";
-
-/// The most bytes of a name.
-const MAX_NAME: usize = 1_024;
 
 /// Whether a repository may hold the name, or one working tree may: a full name below `refs/`, in UTF-8.
 fn is_name(name: &[u8]) -> bool
@@ -56,7 +52,7 @@ fn test_name(name: &[u8]) -> Result<(), Cause>
 impl<F: Files> Repository<F> {
     /// The name that a `commit` moves: HEAD stands for its branch, and any other is one that a repository may hold.
     pub(crate) fn name_of(&self, alloc: Global, name: &[u8]) -> Result<Vec<u8>, Stopped>
-        ensures { (r : plain.Repository) (order : CommitOrder)
+        ensures { (r : plain.Repository) (order : model.CommitCommand)
             → Stands F.is_honest F.history self.now r → name.now ≡ order.name
             → Tests F.reading_may_fail name_form_causes r order (IsNamed r order) result }
     {

@@ -19,13 +19,11 @@ use crate::stopped::Stopped;
 use gix_hash::ObjectId;
 use gix_ref_file::Files;
 use history_files::EditedTree;
+use history_model::limits::MAX_CONTENT;
 use history_model::{Cause, Fault};
 use history_store::{Actor, LogEntry, NewObject, ObjectKind, commit_bytes, plain_commit};
 use history_word::CommitCommand;
 use std::alloc::{AllocError, Global};
-
-/// The most bytes of a file's content, and of any object's.
-const MAX_CONTENT: usize = 16_777_216;
 
 /// What a commit is to store, and how its name is to move.
 #[derive(Drop)]

@@ -141,8 +141,9 @@ impl<F: Files> Repository<F> {
     ghost use Rattle.std.specs.Prelude.{Option, Some, None};
     ghost use Rattle.history_model.specs.Repository as plain;
     ghost use Rattle.history_model.specs.Words.{ReadsAs, word_reading};
-    ghost use Rattle.history_model.specs.Commands.{Show as ShowOf};
-    ghost use Rattle.history_word.specs.Commands.{IsPath, max_path};
+    ghost use Rattle.history_model.specs.Commands as model;
+    ghost use Rattle.history_model.specs.Forms.{max_path};
+    ghost use Rattle.history_word.specs.Commands.{IsPath};
     ghost use Rattle.history_word.specs.Fields.{Keeps};
     ghost use Rattle.std.specs.FinMap.{get};
     ghost use Rattle.history_model.specs.Objects.{StoredBytes};
@@ -153,7 +154,7 @@ impl<F: Files> Repository<F> {
     fn show_commit(&self, alloc: Global, id: &ObjectId) -> Result<Vec<u8>, Stopped>
         ensures { (r : plain.Repository) (word : Bytes) → Serves F.is_honest F.history self.now r
             → word_reading r word ≡ ReadsAs (id_of id.now)
-            → AnswersReading F.reading_may_fail r (ShowOf word None) result }
+            → AnswersReading F.reading_may_fail r (model.Show word None) result }
     {
         let commit = self.read_commit(alloc, id)?;
         Ok(commit_text(alloc, id, &commit)?)
@@ -175,7 +176,7 @@ impl<F: Files> Repository<F> {
         ensures { (r : plain.Repository) (word bytes : Bytes)
             → Serves F.is_honest F.history self.now r
             → word_reading r word ≡ ReadsAs (id_of id.now) → Keeps max_path path.now bytes
-            → AnswersReading F.reading_may_fail r (ShowOf word (Some bytes)) result }
+            → AnswersReading F.reading_may_fail r (model.Show word (Some bytes)) result }
     {
         if is_bad_path(path) {
             return Err(Stopped::Refused(Cause::BadPath));
@@ -192,7 +193,7 @@ impl<F: Files> Repository<F> {
     pub(crate) fn show(&self, alloc: Global, command: &Show) -> Result<Vec<u8>, Stopped>
         ensures { (r : plain.Repository) (path : Option Bytes)
             → Serves F.is_honest F.history self.now r → IsPath command.now.path path
-            → AnswersReading F.reading_may_fail r (ShowOf command.now.word.items path) result }
+            → AnswersReading F.reading_may_fail r (model.Show command.now.word.items path) result }
     {
         let id = self.commit_of(alloc, &command.word)?;
         match &command.path {

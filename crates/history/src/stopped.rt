@@ -2,7 +2,7 @@
 
 ghost use Rattle.std.specs.Prelude.{◌≡◌};
 ghost use Rattle.history_model.specs.declared.Fault.TheVariants.{Memory};
-ghost use Rattle.history.specs.declared.stopped.Stopped.TheVariants.{Refused, Fault as ByFault};
+ghost use Rattle.history.specs.declared.stopped.Stopped.TheVariants as why;
 ghost use Rattle.history.specs.Faults.{file_fault, put_fault, read_fault};
 
 use gix_ref_file::FileError;
@@ -19,7 +19,7 @@ pub(crate) enum Stopped {
 }
 
 impl From<Cause> for Stopped {
-    ghost from_gives = { λ cause stopped. stopped ≡ Refused cause };
+    ghost from_gives = { λ cause stopped. stopped ≡ why.Refused cause };
 
     fn from(cause: Cause) -> Stopped {
         Stopped::Refused(cause)
@@ -27,7 +27,7 @@ impl From<Cause> for Stopped {
 }
 
 impl From<Fault> for Stopped {
-    ghost from_gives = { λ fault stopped. stopped ≡ ByFault fault };
+    ghost from_gives = { λ fault stopped. stopped ≡ why.Fault fault };
 
     fn from(fault: Fault) -> Stopped {
         Stopped::Fault(fault)
@@ -35,7 +35,7 @@ impl From<Fault> for Stopped {
 }
 
 impl From<AllocError> for Stopped {
-    ghost from_gives = { λ _ stopped. stopped ≡ ByFault Memory };
+    ghost from_gives = { λ _ stopped. stopped ≡ why.Fault Memory };
 
     fn from(_: AllocError) -> Stopped {
         Stopped::Fault(Fault::Memory)
@@ -43,7 +43,7 @@ impl From<AllocError> for Stopped {
 }
 
 impl<T: Drop> From<AllocFailed<T>> for Stopped {
-    ghost from_gives = { λ _ stopped. stopped ≡ ByFault Memory };
+    ghost from_gives = { λ _ stopped. stopped ≡ why.Fault Memory };
 
     fn from(_: AllocFailed<T>) -> Stopped {
         Stopped::Fault(Fault::Memory)
@@ -51,7 +51,7 @@ impl<T: Drop> From<AllocFailed<T>> for Stopped {
 }
 
 impl From<FileError> for Stopped {
-    ghost from_gives = { λ error stopped. stopped ≡ ByFault (file_fault error) };
+    ghost from_gives = { λ error stopped. stopped ≡ why.Fault (file_fault error) };
 
     fn from(error: FileError) -> Stopped {
         Stopped::Fault(match error {
@@ -62,7 +62,7 @@ impl From<FileError> for Stopped {
 }
 
 impl From<ReadError> for Stopped {
-    ghost from_gives = { λ error stopped. stopped ≡ ByFault (read_fault error) };
+    ghost from_gives = { λ error stopped. stopped ≡ why.Fault (read_fault error) };
 
     fn from(error: ReadError) -> Stopped {
         Stopped::Fault(match error {
@@ -73,7 +73,7 @@ impl From<ReadError> for Stopped {
 }
 
 impl From<PutMadeError> for Stopped {
-    ghost from_gives = { λ error stopped. stopped ≡ ByFault (put_fault error) };
+    ghost from_gives = { λ error stopped. stopped ≡ why.Fault (put_fault error) };
 
     fn from(error: PutMadeError) -> Stopped {
         Stopped::Fault(match error {

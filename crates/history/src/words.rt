@@ -10,12 +10,13 @@ ghost use Rattle.history.specs.Bases.{reads_as};
 ghost use Rattle.history.specs.Readings.{commit_in, reading_of};
 ghost use Rattle.gix_hash.specs.Id.{id_of};
 
-use crate::naming::{HEAD, is_private};
+use crate::naming::is_private;
 use crate::repository::Repository;
 use crate::stopped::Stopped;
 use gix_hash::ObjectId;
 use gix_ref_file::Files;
 use history_model::Cause;
+use history_store::HEAD;
 use std::alloc::{AllocError, Global};
 
 /// What a word reads as.

@@ -66,4 +66,5 @@ pub enum End {
 }
 
 pub mod laws;
+pub mod limits;
 pub mod rows;

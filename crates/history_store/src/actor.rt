@@ -9,11 +9,8 @@ use gix_object::ByteString;
 use gix_object::lines::{self, ActorRef, Time, read_actor, read_time, write_actor_parts};
 use gix_object_lines::cut::split_once;
 use gix_object_lines::decimal::read_unsigned;
+use history_model::limits::{MAX_ACTOR_PART, MAX_SECONDS};
 use std::alloc::{AllocError, Global};
-
-const MAX_PART: usize = 512;
-
-const MAX_SECONDS: u64 = 9_223_372_036_854_775_807;
 
 /// The author or committer of a commit, or whoever moved a name. A name isn't empty; neither it nor the email begins or ends with
 /// a space, has more than 512 bytes or holds `<`, `>`, a zero byte, a tab or an end of line. The time is since 1970, its offset
@@ -124,7 +121,7 @@ pub fn is_actor_part(part: &[u8]) -> bool
     if part.ends_with(b" ") {
         return false;
     }
-    part.len() <= MAX_PART
+    part.len() <= MAX_ACTOR_PART
 }
 
 // Whether it holds a byte that no name and no email holds.

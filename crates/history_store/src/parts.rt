@@ -10,7 +10,8 @@ ghost use Rattle.history_store.specs.Parts.{may_hold_folder, IsClear, IsClearBel
 use gix_ref_file::{FileError, Files, Place};
 use std::alloc::{AllocError, Global};
 
-const MAX_PATH: usize = 4096;
+// The most bytes of a path of files.
+const MAX_PATH: usize = 4_096;
 
 /// One of the two parts that a repository is kept in.
 #[derive(Clone, Copy, PartialEq, Eq, Debug)]

@@ -22,10 +22,8 @@ use crate::written::{Named, named_by};
 use gix_hash::ObjectId;
 use gix_object::{FindHeader, Kind as ObjectKind, find};
 use gix_ref_file::Files;
+use history_model::limits::MAX_CONTENT;
 use std::alloc::{AllocError, Global};
-
-// The most bytes of a content.
-const MAX_CONTENT: usize = 16_777_216;
 
 /// Why a content isn't put as an object. The ids that are known are then as before.
 #[derive(Clone, Copy, PartialEq, Eq, Debug, thiserror::Error)]

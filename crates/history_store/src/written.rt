@@ -15,9 +15,6 @@ use std::alloc::{AllocError, Global};
 use tags::named_by_tag;
 use trees::named_by_tree;
 
-// The most bytes of a title.
-const MAX_TITLE: usize = 1_024;
-
 /// An object that another one names, and the kind that it must be of.
 #[derive(Clone, Copy)]
 pub(crate) struct Named {

@@ -1,10 +1,6 @@
-//! New repositories, and runs over them.
+//! A run of a commit of one file and of what reads it, with what Git's ids make of it.
 
-use gix_ref_file::{Files, MemoryFiles};
-use history::{Bytes, Collected, End, Kind, Repository, RunError, run};
-use history_in_memory::{answer_stream, new_repository};
-use std::alloc::{AllocError, Global};
-use std::process::Abort;
+use history::Kind;
 
 /// The kinds of digest.
 pub const KINDS: [Kind; 2] = [Kind::Sha1, Kind::Sha256];
@@ -24,69 +20,15 @@ impl ByKind {
     }
 }
 
-/// The commit of the first row, behind its first line.
-pub const SIGNED: &[u8] =
-    b"author 1 3 1 +0000\nA\na@b\ncommitter 1 3 1 +0000\nA\na@b\nmessage 3\none\nend\n";
+pub const INPUT: &[u8] =
+    b"commit refs/heads/main new\nput file 1 5\na\nhello\nauthor 1 3 1 +0000\nA\na@b\ncommitter 1 3 1 +0000\nA\na@b\nmessage 3\none\nend\nfiles main\nshow main path 1\na\n";
 
-/// What answers the commit of no files.
-pub const NO_FILES_COMMITTED: ByKind = ByKind {
-    sha1: b"ok commit d39b036c797dcd9c0210b66a094ee846a3bc4fd9\n",
-    sha256: b"ok commit e7bb05180b0f928d95627a881ccd1c97107b1469dcc6d258215c5dfabfaea513\n",
+pub const LISTED: ByKind = ByKind {
+    sha1: b"ok files 1\nfile b6fc4c620b67d95f953a5c1c1230aaab5db5a1b0 1\na\n",
+    sha256: b"ok files 1\nfile 8aec4e4876f854f688d0ebfc8f37598f38e5fd6903cccc850ca36591175aeb60 1\na\n",
 };
 
-/// The texts, one behind the other.
-pub fn joined(alloc: Global, parts: &[&[u8]]) -> Result<Vec<u8>, AllocError> {
-    let mut text = Vec::new(alloc);
-    for part in parts {
-        text.extend_from_slice(part)?;
-    }
-    Ok(text)
-}
-
-/// A new repository in memory.
-pub fn fresh(rt: &impl Abort, alloc: Global, kind: Kind) -> Repository<MemoryFiles> {
-    match new_repository(alloc, kind) {
-        Ok(repository) => repository,
-        Err(_) => panic!(rt; "not opened"),
-    }
-}
-
-/// What a run over the input writes.
-pub fn answered<F: Files>(
-    alloc: Global,
-    repository: &mut Repository<F>,
-    input: &[u8],
-) -> (Collected, Result<End, RunError>) {
-    let mut reader = Bytes::new(input);
-    let mut writer = Collected::new(alloc);
-    let end = run(alloc, &mut reader, &mut writer, repository);
-    (writer, end)
-}
-
-/// Whether a run over the input, in this repository, ends at its end and writes just this.
-pub fn replies<F: Files>(
-    alloc: Global,
-    repository: &mut Repository<F>,
-    input: &[u8],
-    wanted: &[u8],
-) -> bool {
-    let (writer, ended) = answered(alloc, repository, input);
-    ended == Ok(End::Input) && writer.as_slice() == wanted
-}
-
-/// Whether a run over the input, in this repository, accepts one commit and ends.
-pub fn commits<F: Files>(alloc: Global, repository: &mut Repository<F>, input: &[u8]) -> bool {
-    let (writer, ended) = answered(alloc, repository, input);
-    ended == Ok(End::Input) && writer.as_slice().starts_with(b"ok commit ")
-}
-
-/// Stops where a run over the input, in a new repository of this kind, doesn't write just this or ends otherwise.
-pub fn answers(rt: &impl Abort, alloc: Global, kind: Kind, input: &[u8], wanted: &[u8], end: End) {
-    match answer_stream(alloc, kind, input) {
-        Ok(answer) => {
-            assert!(rt; answer.end == end);
-            assert!(rt; answer.written.as_slice() == wanted);
-        }
-        Err(_) => panic!(rt; "not answered"),
-    }
-}
+pub const REPLIES: ByKind = ByKind {
+    sha1: b"ok commit 66685e2ab14c48f6b22dfeca748179d40cfc74f0\nok files 1\nfile b6fc4c620b67d95f953a5c1c1230aaab5db5a1b0 1\na\nok show content file b6fc4c620b67d95f953a5c1c1230aaab5db5a1b0 5\nhello\n",
+    sha256: b"ok commit 81c6fcd6b041c1d6f5e62076e03094f5af903b3e3a10c1860742675b69f1184b\nok files 1\nfile 8aec4e4876f854f688d0ebfc8f37598f38e5fd6903cccc850ca36591175aeb60 1\na\nok show content file 8aec4e4876f854f688d0ebfc8f37598f38e5fd6903cccc850ca36591175aeb60 5\nhello\n",
+};

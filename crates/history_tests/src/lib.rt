@@ -1,31 +1,9 @@
-//! Tests of `history`: outside vectors, printed texts, limits, and faults at each call, with each kind of digest.
+//! Tests of `history` that no line of a case can say: memory that is ample, and writers that fail.
 #![tactic(auto)]
 
 #[cfg(test)]
 mod common;
 #[cfg(test)]
-mod faults;
+mod memory;
 #[cfg(test)]
-mod limits;
-#[cfg(test)]
-mod names;
-#[cfg(test)]
-mod nested;
-#[cfg(test)]
-mod object_store;
-#[cfg(test)]
-mod opening;
-#[cfg(test)]
-mod parts;
-#[cfg(test)]
-mod readings;
-#[cfg(test)]
-mod refusals;
-#[cfg(test)]
-mod rows;
-#[cfg(test)]
-mod stops;
-#[cfg(test)]
-mod stored;
-#[cfg(test)]
-mod streams;
+mod writers;

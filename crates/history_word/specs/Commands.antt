@@ -3,6 +3,7 @@ use Rattle.std.specs.Prelude.{◌≡◌, ℕ, ⊤, List, map, Option, Some, None
 use Rattle.std.specs.List.{AllZip}
 use Rattle.history_model.specs.Bytes.{Bytes}
 use Rattle.history_model.specs.Commands as model
+use Rattle.history_model.specs.Forms.{max_path, max_actor_part, max_content}
 use Rattle.history_model.specs.Stops.{is_changing}
 use Rattle.history_word.specs.Fields.{Keeps}
 use Rattle.history_word.specs.declared.command.Field.{Field}
@@ -16,16 +17,6 @@ use Rattle.history_word.specs.declared.command.Command.{Command}
 use Rattle.history_word.specs.declared.command.Command.TheVariants as command
 use Rattle.history_word.specs.declared.reader.Reading.{Reading}
 use Rattle.history_word.specs.declared.reader.Reading.TheVariants as reading
-
--- the most bytes of a path, of a name or an email, and of a content or a message
-abbrev pub max_path : ℕ
-max_path = 4096
-
-abbrev pub max_actor_part : ℕ
-max_actor_part = 512
-
-abbrev pub max_content : ℕ
-max_content = 16777216
 
 abbrev pub IsExpect : Expect → model.Expect → Type 0
 IsExpect Any model.Any = ⊤

@@ -8,7 +8,8 @@ use Rattle.history_model.specs.Lines as lines
 use Rattle.history_model.specs.LineTable as table
 use Rattle.history_model.specs.TableRuns as runs
 use Rattle.history_word.specs.Fields.{Keeps}
-use Rattle.history_word.specs.Commands.{IsExpect, IsEdit, AreEdits, IsActor, IsPath, max_content}
+use Rattle.history_word.specs.Commands.{IsExpect, IsEdit, AreEdits, IsActor, IsPath}
+use Rattle.history_model.specs.Forms.{max_content}
 use Rattle.history_word.specs.declared.command.Edit.{Edit}
 use Rattle.history_word.specs.declared.command.Expect.{Expect}
 use Rattle.history_word.specs.declared.heading.Role.{Role}

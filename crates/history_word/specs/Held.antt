@@ -1,6 +1,7 @@
 -- The part of an array that is held, and lines in it.
 use Rattle.std.specs.Prelude.{◌≡◌, ℕ, ◌-◌, ◌<◌, ◌≤◌, List, length, take, drop, slice_index, IsFalse}
 use Rattle.history_model.specs.Bytes.{has_byte}
+use Rattle.history_model.specs.Spelling.{max_line}
 
 -- what stands from start to end
 unfoldable pub held : ℕ → ℕ → List ℕ → List ℕ
@@ -12,7 +13,7 @@ IsUnbroken bytes = IsFalse (has_byte 10 bytes)
 
 -- a line of n bytes stands first, within the limit
 pub record IsLineOf (n : ℕ) (bytes : List ℕ) : Type 0 where
-  pub short : n ≤ 4096
+  pub short : n ≤ max_line
   pub within : n < length bytes
   pub ends : slice_index bytes n ≡ 10
   pub whole : IsUnbroken (take n bytes)

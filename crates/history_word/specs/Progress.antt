@@ -1,7 +1,7 @@
 -- Where what came goes on with no part of a command, and for which cause.
-use Rattle.std.specs.Prelude.{◌≡◌, ◌≢◌, ℕ, ◌<◌, ◌≤◌, List, [], ◌∷◌, ◌++◌, length, take, slice_index, Some}
+use Rattle.std.specs.Prelude.{◌≡◌, ◌≢◌, ℕ, ◌<◌, ◌≤◌, List, [], ◌∷◌, ◌++◌, ◌+◌, length, take, slice_index, Some}
 use Rattle.history_model.specs.Bytes.{Bytes}
-use Rattle.history_model.specs.Spelling.{Part, parts_text}
+use Rattle.history_model.specs.Spelling.{Part, parts_text, max_line}
 use Rattle.history_model.specs.Grammar.{HasRestCause}
 use Rattle.history_model.specs.LineTable.{Place}
 use Rattle.history_model.specs.TableRuns.{Progress, run_from, StopsAt}
@@ -11,8 +11,8 @@ use Rattle.history_word.specs.Held.{IsUnbroken}
 
 -- no line ends where one should
 abbrev pub IsEndless : Bytes → Cause → Type 0
-IsEndless bytes Truncated = IsUnbroken bytes × (length bytes ≤ 4096)
-IsEndless bytes LineTooLong = (4096 < length bytes) × IsUnbroken (take 4097 bytes)
+IsEndless bytes Truncated = IsUnbroken bytes × (length bytes ≤ max_line)
+IsEndless bytes LineTooLong = (max_line < length bytes) × IsUnbroken (take (max_line + 1) bytes)
 IsEndless bytes _ = ⊥
 
 -- where a field of this size should stand, the bytes end, or no line feed follows it

@@ -3,16 +3,15 @@
 ghost use Rattle.std.specs.Prelude.{◌≡◌, ◌≢◌, ◌-◌, ◌^◌, ◌+◌, ◌<◌, ◌≤◌, ◌⊎◌, true, [], length, take, drop, IfOk, OnErr, IfSome, IfNone};
 ghost use Rattle.std.specs.Bool.{MatchBool};
 ghost use Rattle.std.specs.Io.KnownBytes.{IsAtEnd};
+ghost use Rattle.history_model.specs.Spelling.{max_line};
 ghost use Rattle.history_word.specs.Held.{held, IsUnbroken, IsLineOf};
 
 use crate::streams::{Broken, Source};
+use history_model::limits::MAX_LINE;
 use memchr::memchr;
 
 /// How many bytes a buffer has room for.
 const ROOM: usize = 8_192;
-
-/// How many bytes a line may have, without its line feed.
-pub(crate) const MAX_LINE: usize = 4_096;
 
 /// The count of readings after this reading, which gave so many bytes. One that gave none isn't counted, since a run makes it
 /// last; but the last that a `u64` counts is, whatever it gave.
@@ -31,7 +30,7 @@ fn counted(before: u64, reading: u64, count: usize) -> u64
 /// Bytes that were read from a source and not taken yet.
 #[derive(Debug, Drop)]
 pub struct Buffer {
-    bytes: [u8; 8_192],
+    bytes: [u8; ROOM],
     start: usize,
     end: usize,
     /// How many of the unread bytes were looked at and found to be no line feed.
@@ -54,7 +53,7 @@ impl Buffer {
         ensures fresh { readings_made result ≡ 0 }
     {
         Buffer {
-            bytes: [0; 8_192],
+            bytes: [0; ROOM],
             start: 0,
             end: 0,
             scanned: 0,
@@ -98,7 +97,7 @@ impl Buffer {
     /// No byte is looked at twice, however few come at a time.
     pub(crate) fn line(&mut self) -> Option<usize>
         ensures found { IfSome result (λ n. IsLineOf n (unread self.new)) }
-        ensures none { IfNone result (IsUnbroken (take 4097 (unread self.new))) }
+        ensures none { IfNone result (IsUnbroken (take (max_line + 1) (unread self.new))) }
         ensures same { unread self.new ≡ unread self.old }
         ensures readings { readings_made self.new ≡ readings_made self.old }
         ensures work { work self.new ≡ work self.old }

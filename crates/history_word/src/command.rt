@@ -1,19 +1,11 @@
 //! The commands of the program, as they are read.
 
 use history_model::FileKind;
+use history_model::limits::MAX_TITLE;
 use std::alloc::{AllocError, Global};
 
-/// The most bytes that a path may have.
-pub(crate) const MAX_PATH: u64 = 4_096;
-
-/// The most bytes that an actor's name or email may have.
-pub(crate) const MAX_ACTOR_PART: u64 = 512;
-
-/// The most bytes that a file's content or a message may have.
-pub(crate) const MAX_CONTENT: u64 = 16_777_216;
-
 /// How many of its first bytes are kept of a field that is over its limit: they decide whether a title is one.
-pub(crate) const MAX_KEPT: usize = 1_025;
+pub(crate) const MAX_KEPT: usize = MAX_TITLE + 1;
 
 /// A field of a command.
 #[derive(Debug, Drop)]
@@ -97,10 +89,10 @@ impl Field {
     ghost use Rattle.history_word.specs.Fields.{KeepsFront};
 
     /// A field of this size, of which nothing has come yet.
-    pub(crate) fn new(alloc: Global, size: u64, limit: u64) -> Self
+    pub(crate) fn new(alloc: Global, size: u64, limit: usize) -> Self
         ensures { KeepsFront limit size result [] }
     {
-        if size <= limit {
+        if size <= limit as u64 {
             Field::Whole(Vec::new(alloc))
         } else {
             Field::TooLong(Vec::new(alloc))

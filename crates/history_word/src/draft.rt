@@ -3,9 +3,10 @@
 ghost use Rattle.std.specs.Prelude.{◌≡◌, [], ◌∷◌, ◌++◌, None, Some, IfSome, MatchOption};
 ghost use Rattle.history_model.specs.Bytes.{Bytes};
 ghost use Rattle.history_model.specs.Commands as model;
+ghost use Rattle.history_model.specs.Forms.{max_path, max_actor_part, max_content};
 ghost use Rattle.history_model.specs.Stops.{is_changing};
 ghost use Rattle.history_word.specs.Fields.{Keeps};
-ghost use Rattle.history_word.specs.Commands.{IsExpect, IsEdit, IsActor, IsCommit, StandsFor, max_path, max_actor_part, max_content};
+ghost use Rattle.history_word.specs.Commands.{IsExpect, IsEdit, IsActor, IsCommit, StandsFor};
 ghost use Rattle.history_word.specs.Drafts.{IsCommitDraft, IsDraft, with_parent, with_actor, with_edit, with_message};
 
 use crate::command::{ActorLine, Command, CommitCommand, Edit, Expect, Field, Put, Show};

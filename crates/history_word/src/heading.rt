@@ -3,6 +3,7 @@
 ghost use Rattle.std.specs.Prelude.{◌≡◌, ◌∷◌, ◌≤◌, length, IfSome, IfNone, OnSome, IsTrue};
 ghost use Rattle.history_model.specs.Lines.{ParentHeading, RemoveHeading, RemoveFileHeading, MessageHeading, EndHeading, FilesHeading};
 ghost use Rattle.history_model.specs.LineTable.{heading_of, expect_of, end_of_words, word_of_words, size_of_words, commit_of_words, put_of_words, actor_of_words, show_of_words};
+ghost use Rattle.history_model.specs.Spelling.{max_line};
 ghost use Rattle.history_model.specs.TableRuns.{IsLineAt};
 ghost use Rattle.history_word.specs.Held.{IsUnbroken};
 ghost use Rattle.history_word.specs.Lines.{split_words};
@@ -254,7 +255,7 @@ fn said(alloc: Global, line: &[u8]) -> Option<Heading>
 /// What the line says, which comes without its line feed.
 pub(crate) fn parse(alloc: Global, line: &[u8]) -> Option<Heading>
     requires whole { IsUnbroken line.now }
-    requires short { length line.now ≤ 4096 }
+    requires short { length line.now ≤ max_line }
     ensures found { IfSome result (λ heading. IsLine heading line.now) }
     ensures none { IfNone result ((place : Place) → ¬ (IsLineAt (place_of place) line.now)) }
 {

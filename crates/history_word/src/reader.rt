@@ -17,13 +17,14 @@ ghost use Rattle.history_word.specs.Reading.{Reads};
 ghost use Rattle.history_word.specs.Taking.{AsksForMore};
 ghost use Rattle.history_word.specs.declared.reader.Stop.TheVariants.{Broken as broken};
 
-use crate::buffer::{Buffer, MAX_LINE};
-use crate::command::{Command, Edit, Field, MAX_ACTOR_PART, MAX_CONTENT, MAX_PATH};
+use crate::buffer::Buffer;
+use crate::command::{Command, Edit, Field};
 use crate::draft::{Draft, actor_line, put};
 use crate::heading::{EditHeading, Heading, parse};
 use crate::place::Place;
 use crate::streams::{Broken, Source};
 use history_model::Cause;
+use history_model::limits::{MAX_ACTOR_PART, MAX_CONTENT, MAX_LINE, MAX_PATH};
 use std::alloc::Global;
 
 /// Why no command was read.
@@ -100,7 +101,7 @@ fn read_field<R: Source>(
     buffer: &mut Buffer,
     source: &mut R,
     size: u64,
-    limit: u64,
+    limit: usize,
 ) -> Result<Option<Field>, Stop>
     ensures { Reads R.left R.has_failed R.readings source.old buffer.old source.new buffer.new
         (λ field taken. (bytes : Bytes) × (length bytes ≡ size) × (taken ≡ line bytes)

@@ -10,13 +10,12 @@ ghost use Rattle.history_store.specs.Ids.{is_one_of};
 ghost use Rattle.history_store.specs.Written.{NamesByCommit, NamesByParts, Naming, naming_of};
 
 use crate::commit::commit_of;
-use crate::written::{MAX_TITLE, Named, title};
+use crate::written::{Named, title};
 use gix_hash::{Kind, ObjectId};
 use gix_object::decode::Error;
 use gix_object::{Commit, CommitRef, Kind as ObjectKind};
+use history_model::limits::{MAX_PARENTS, MAX_TITLE};
 use std::alloc::{AllocError, Global};
-
-const MAX_PARENTS: usize = 64;
 
 /// The objects that a commit's content names; `None` where it isn't in written form.
 pub(crate) fn named_by_commit(

@@ -8,14 +8,13 @@ ghost use Rattle.history_store.specs.Written.{AreLines, AreTagParts, NamesByTag,
 
 use crate::actor::Actor;
 use crate::id_text::parse_lower_hex;
-use crate::written::{MAX_TITLE, Named, title};
+use crate::written::{Named, title};
 use gix_hash::Kind;
 use gix_object::Kind as ObjectKind;
 use gix_object::lines::is_partial_name;
 use gix_object_lines::cut::{split_once, strip_prefix};
+use history_model::limits::{MAX_NAME, MAX_TITLE};
 use std::alloc::{AllocError, Global};
-
-const MAX_NAME: usize = 1_024;
 
 // Where tags stand.
 const TAGS: &[u8] = b"refs/tags/";

@@ -1,5 +1,5 @@
 use Rattle.std.proofs.Common.{sym, subst}
-use Rattle.history_word.specs.Commands.{max_actor_part}
+use Rattle.history_model.specs.Forms.{max_actor_part}
 use Rattle.history_word.specs.Fields.{Keeps}
 use Rattle.history.proofs.FieldLemmas.{no_part}
 use Rattle.history.proofs.actors.is_email.Goals as goal

@@ -1,6 +1,6 @@
 use Rattle.std.proofs.Common.{sym, subst, ◌∙◌, ap, not, ◌&&◌}
 use Rattle.history_model.specs.Bytes.{is_empty}
-use Rattle.history_word.specs.Commands.{max_actor_part}
+use Rattle.history_model.specs.Forms.{max_actor_part}
 use Rattle.history_word.specs.Fields.{Keeps}
 use Rattle.history.proofs.FieldLemmas.{no_part, never_both}
 use Rattle.history.proofs.actors.is_name.Goals as goal

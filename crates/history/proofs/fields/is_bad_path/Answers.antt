@@ -4,7 +4,7 @@ use Rattle.std.proofs.lemmas.Iterator.Search.{any_from_yields_List}
 use Rattle.std.proofs.lemmas.Iterator.Splits.{YieldsList-from_slice_split}
 use Rattle.history_model.specs.Bytes.{Bytes, has_byte, is_empty}
 use Rattle.history_model.specs.FileMap.{components}
-use Rattle.history_word.specs.Commands.{max_path}
+use Rattle.history_model.specs.Forms.{max_path}
 use Rattle.history_word.specs.Fields.{Keeps}
 use Rattle.history.proofs.FieldLemmas.{bad_within, bad_beyond}
 use Rattle.history.proofs.fields.is_bad_path.Goals as goal

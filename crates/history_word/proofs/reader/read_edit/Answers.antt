@@ -5,7 +5,8 @@ use Rattle.history_model.specs.Commands as model
 use Rattle.history_model.specs.LineTable as table
 use Rattle.history_model.specs.Bytes.{Bytes}
 use Rattle.history_word.specs.Fields.{Keeps}
-use Rattle.history_word.specs.Commands.{IsEdit, max_path}
+use Rattle.history_word.specs.Commands.{IsEdit}
+use Rattle.history_model.specs.Forms.{max_path}
 use Rattle.history_word.specs.declared.command.Field.{Field}
 use Rattle.history_word.specs.declared.command.Edit.{Edit}
 use Rattle.history_word.specs.declared.command.Edit.TheVariants.{Remove, RemoveFile}

@@ -16,7 +16,7 @@ use Rattle.gix_hash.specs.Id.{null_id, id_of}
 use Rattle.history_model.specs.Repository.{HoldsCommit}
 use Rattle.history_model.specs.Wholeness.{IsSound}
 use Rattle.history_model.proofs.OfferedReads.{parents_are_commits}
-use Rattle.history_model.specs.Commands.{Commit as CommitOf}
+use Rattle.history_model.specs.Commands as commands
 use Rattle.history_model.specs.declared.Cause.TheVariants.{BadActor, BadPath, TooLarge}
 use Rattle.gix_hash.specs.declared.kind.Kind.{Kind}
 use Rattle.history_files.specs.Editing.{AreEdited}
@@ -30,7 +30,8 @@ use Rattle.history.specs.Files.{AreChangesOf, AreReadAs, EditsFiles, kept_edit}
 use Rattle.history.specs.Plans.{AddsTrees, IsMade, Plans}
 use Rattle.history.specs.declared.editing.PathChange.{PathChange}
 use Rattle.history.specs.declared.stopped.Stopped.{Stopped}
-use Rattle.history.specs.declared.stopped.Stopped.TheVariants.{Refused, Fault as ByFault}
+use Rattle.history.specs.declared.stopped.Stopped.TheVariants.{Refused}
+use Rattle.history.specs.declared.stopped.Stopped.TheVariants as why
 use Rattle.history_files.specs.declared.trees.EditedFiles.{EditedFiles}
 use Rattle.history_model.specs.declared.Fault.TheVariants.{File, IdTaken}
 use Rattle.history.proofs.Edits.{edits_same, have_paths}
@@ -71,7 +72,7 @@ returns-in_err-edited g c = λ r order asked.
     let base = c.in_ok-base.ensures r order asked in
     let edits = c.args.command.edits.items in
     let paths_of : AreEdits c.deref.result.now order.edits = subst (λ (es : List Edit). AreEdits es order.edits) (sym c.deref.ensures.value) is.edits in
-    let good : list_any is_bad_path (paths_in (CommitOf order)) ≡ false = c.in_ok-test_paths.ensures order.edits paths_of in
+    let good : list_any is_bad_path (paths_in (commands.Commit order)) ≡ false = c.in_ok-test_paths.ensures order.edits paths_of in
     let kind_is = c.kind.ensures ∙ h.stands.objects_kind in
     let made = map kept_edit edits in
     let changes : AreReadAs r.kind c.in_ok-changes.changes made = subst (λ (k : Kind). AreReadAs k c.in_ok-changes.changes made) kind_is c.in_ok-changes.ensures in
@@ -94,7 +95,7 @@ returns-in_err-times g c = λ r order asked.
     let base = c.in_ok-base.ensures r order asked in
     let edits = c.args.command.edits.items in
     let paths_of : AreEdits c.deref.result.now order.edits = subst (λ (es : List Edit). AreEdits es order.edits) (sym c.deref.ensures.value) is.edits in
-    let good : list_any is_bad_path (paths_in (CommitOf order)) ≡ false = c.in_ok-test_paths.ensures order.edits paths_of in
+    let good : list_any is_bad_path (paths_in (commands.Commit order)) ≡ false = c.in_ok-test_paths.ensures order.edits paths_of in
     let kind_is = c.kind.ensures ∙ h.stands.objects_kind in
     let made = map kept_edit edits in
     let changes : AreReadAs r.kind c.in_ok-changes.changes made = subst (λ (k : Kind). AreReadAs k c.in_ok-changes.changes made) kind_is c.in_ok-changes.ensures in
@@ -105,7 +106,7 @@ returns-in_err-times g c = λ r order asked.
     let told : EditsFiles g.F.Files.reading_may_fail r ids made c.edited.result = c.edited.ensures r made h hold are (have_paths edits order.edits is.edits good) in
     let given : EditsFiles g.F.Files.reading_may_fail r ids made (Ok c.in_ok-edited.edited) = subst (λ (x : Result (Option EditedFiles) Stopped). EditsFiles g.F.Files.reading_may_fail r ids made x) c.in_ok-edited.was told in
     let free = edits_pass r order h.stage.offered w ours base.0 g.F.Files.reading_may_fail edits is.edits good ids same c.in_ok-edited.edited given in
-    let long : c.have_long_content-is_long.result ≡ list_any is_long (contents_in (CommitOf order)) = c.have_long_content-is_long.ensures order.edits (subst (λ (es : List Edit). AreEdits es order.edits) (sym c.deref-2.ensures.value) is.edits) in
+    let long : c.have_long_content-is_long.result ≡ list_any is_long (contents_in (commands.Commit order)) = c.have_long_content-is_long.ensures order.edits (subst (λ (es : List Edit). AreEdits es order.edits) (sym c.deref-2.ensures.value) is.edits) in
     let stopped = err_from_is_err_and c.from_residual-in_err-times.result c.from_residual-in_err-times.ensures.1 in
     refusal_planned g.F.Files.reading_may_fail r order c.in_err-times.field-0.0 c.from_residual-in_err-times.result (stopped.1 ∙ ap Err stopped.2)
     (refused_by_form r order h.stage.offered w ours c.in_err-times.field-0.0 base.0 (c.in_err-times.ensures r order is.author is.committer is.message long free))
@@ -119,7 +120,7 @@ returns-in_err-edited-2 g c = λ r order asked.
     let base = c.in_ok-base.ensures r order asked in
     let edits = c.args.command.edits.items in
     let paths_of : AreEdits c.deref.result.now order.edits = subst (λ (es : List Edit). AreEdits es order.edits) (sym c.deref.ensures.value) is.edits in
-    let good : list_any is_bad_path (paths_in (CommitOf order)) ≡ false = c.in_ok-test_paths.ensures order.edits paths_of in
+    let good : list_any is_bad_path (paths_in (commands.Commit order)) ≡ false = c.in_ok-test_paths.ensures order.edits paths_of in
     let kind_is = c.kind.ensures ∙ h.stands.objects_kind in
     let made = map kept_edit edits in
     let changes : AreReadAs r.kind c.in_ok-changes.changes made = subst (λ (k : Kind). AreReadAs k c.in_ok-changes.changes made) kind_is c.in_ok-changes.ensures in
@@ -130,11 +131,11 @@ returns-in_err-edited-2 g c = λ r order asked.
     let told : EditsFiles g.F.Files.reading_may_fail r ids made c.edited.result = c.edited.ensures r made h hold are (have_paths edits order.edits is.edits good) in
     let given : EditsFiles g.F.Files.reading_may_fail r ids made (Ok c.in_ok-edited.edited) = subst (λ (x : Result (Option EditedFiles) Stopped). EditsFiles g.F.Files.reading_may_fail r ids made x) c.in_ok-edited.was told in
     let free = edits_pass r order h.stage.offered w ours base.0 g.F.Files.reading_may_fail edits is.edits good ids same c.in_ok-edited.edited given in
-    let long : c.have_long_content-is_long.result ≡ list_any is_long (contents_in (CommitOf order)) = c.have_long_content-is_long.ensures order.edits (subst (λ (es : List Edit). AreEdits es order.edits) (sym c.deref-2.ensures.value) is.edits) in
+    let long : c.have_long_content-is_long.result ≡ list_any is_long (contents_in (commands.Commit order)) = c.have_long_content-is_long.ensures order.edits (subst (λ (es : List Edit). AreEdits es order.edits) (sym c.deref-2.ensures.value) is.edits) in
     let times = c.in_ok-times.ensures r order is.author is.committer is.message long free in
     let none = absent c.in_ok-edited.edited c.in_err-edited-2.field-0.0 IdTaken c.in_err-edited-2.ensures.value in
     let stopped = err_from_is_err_and c.from_residual-in_err-edited-2.result c.from_residual-in_err-edited-2.ensures.1 in
-    subst (Plans g.F.Files.reading_may_fail r order) (sym (stopped.1 ∙ ap Err (stopped.2 ∙ ap ByFault none.0)))
+    subst (Plans g.F.Files.reading_may_fail r order) (sym (stopped.1 ∙ ap Err (stopped.2 ∙ ap why.Fault none.0)))
     (null_planned r order h.stage.offered w ours c.in_ok-times.times times base.0 g.F.Files.reading_may_fail edits is.edits ids same
     (subst (λ (o : Option EditedFiles). EditsFiles g.F.Files.reading_may_fail r ids made (Ok o)) none.1 given))
 
@@ -147,7 +148,7 @@ returns-in_err-add_trees g c = λ r order asked.
     let base = c.in_ok-base.ensures r order asked in
     let edits = c.args.command.edits.items in
     let paths_of : AreEdits c.deref.result.now order.edits = subst (λ (es : List Edit). AreEdits es order.edits) (sym c.deref.ensures.value) is.edits in
-    let good : list_any is_bad_path (paths_in (CommitOf order)) ≡ false = c.in_ok-test_paths.ensures order.edits paths_of in
+    let good : list_any is_bad_path (paths_in (commands.Commit order)) ≡ false = c.in_ok-test_paths.ensures order.edits paths_of in
     let kind_is = c.kind.ensures ∙ h.stands.objects_kind in
     let made = map kept_edit edits in
     let changes : AreReadAs r.kind c.in_ok-changes.changes made = subst (λ (k : Kind). AreReadAs k c.in_ok-changes.changes made) kind_is c.in_ok-changes.ensures in
@@ -158,7 +159,7 @@ returns-in_err-add_trees g c = λ r order asked.
     let told : EditsFiles g.F.Files.reading_may_fail r ids made c.edited.result = c.edited.ensures r made h hold are (have_paths edits order.edits is.edits good) in
     let given : EditsFiles g.F.Files.reading_may_fail r ids made (Ok c.in_ok-edited.edited) = subst (λ (x : Result (Option EditedFiles) Stopped). EditsFiles g.F.Files.reading_may_fail r ids made x) c.in_ok-edited.was told in
     let free = edits_pass r order h.stage.offered w ours base.0 g.F.Files.reading_may_fail edits is.edits good ids same c.in_ok-edited.edited given in
-    let long : c.have_long_content-is_long.result ≡ list_any is_long (contents_in (CommitOf order)) = c.have_long_content-is_long.ensures order.edits (subst (λ (es : List Edit). AreEdits es order.edits) (sym c.deref-2.ensures.value) is.edits) in
+    let long : c.have_long_content-is_long.result ≡ list_any is_long (contents_in (commands.Commit order)) = c.have_long_content-is_long.ensures order.edits (subst (λ (es : List Edit). AreEdits es order.edits) (sym c.deref-2.ensures.value) is.edits) in
     let times = c.in_ok-times.ensures r order is.author is.committer is.message long free in
     let some : c.in_ok-edited.edited ≡ Some c.in_ok-edited-2.edited = c.in_ok-edited-2.ensures.ok_part in
     let so : AreEdited r.kind (first_files r (parents_of r order)) (edits_of r order) c.in_ok-edited-2.edited =
@@ -181,7 +182,7 @@ returns-in_err-commit g c = λ r order asked.
     let base = c.in_ok-base.ensures r order asked in
     let edits = c.args.command.edits.items in
     let paths_of : AreEdits c.deref.result.now order.edits = subst (λ (es : List Edit). AreEdits es order.edits) (sym c.deref.ensures.value) is.edits in
-    let good : list_any is_bad_path (paths_in (CommitOf order)) ≡ false = c.in_ok-test_paths.ensures order.edits paths_of in
+    let good : list_any is_bad_path (paths_in (commands.Commit order)) ≡ false = c.in_ok-test_paths.ensures order.edits paths_of in
     let kind_is = c.kind.ensures ∙ h.stands.objects_kind in
     let made = map kept_edit edits in
     let changes : AreReadAs r.kind c.in_ok-changes.changes made = subst (λ (k : Kind). AreReadAs k c.in_ok-changes.changes made) kind_is c.in_ok-changes.ensures in
@@ -192,7 +193,7 @@ returns-in_err-commit g c = λ r order asked.
     let told : EditsFiles g.F.Files.reading_may_fail r ids made c.edited.result = c.edited.ensures r made h hold are (have_paths edits order.edits is.edits good) in
     let given : EditsFiles g.F.Files.reading_may_fail r ids made (Ok c.in_ok-edited.edited) = subst (λ (x : Result (Option EditedFiles) Stopped). EditsFiles g.F.Files.reading_may_fail r ids made x) c.in_ok-edited.was told in
     let free = edits_pass r order h.stage.offered w ours base.0 g.F.Files.reading_may_fail edits is.edits good ids same c.in_ok-edited.edited given in
-    let long : c.have_long_content-is_long.result ≡ list_any is_long (contents_in (CommitOf order)) = c.have_long_content-is_long.ensures order.edits (subst (λ (es : List Edit). AreEdits es order.edits) (sym c.deref-2.ensures.value) is.edits) in
+    let long : c.have_long_content-is_long.result ≡ list_any is_long (contents_in (commands.Commit order)) = c.have_long_content-is_long.ensures order.edits (subst (λ (es : List Edit). AreEdits es order.edits) (sym c.deref-2.ensures.value) is.edits) in
     let times = c.in_ok-times.ensures r order is.author is.committer is.message long free in
     let some : c.in_ok-edited.edited ≡ Some c.in_ok-edited-2.edited = c.in_ok-edited-2.ensures.ok_part in
     let so : AreEdited r.kind (first_files r (parents_of r order)) (edits_of r order) c.in_ok-edited-2.edited =
@@ -230,7 +231,7 @@ returns g c = λ r order asked.
     let base = c.in_ok-base.ensures r order asked in
     let edits = c.args.command.edits.items in
     let paths_of : AreEdits c.deref.result.now order.edits = subst (λ (es : List Edit). AreEdits es order.edits) (sym c.deref.ensures.value) is.edits in
-    let good : list_any is_bad_path (paths_in (CommitOf order)) ≡ false = c.in_ok-test_paths.ensures order.edits paths_of in
+    let good : list_any is_bad_path (paths_in (commands.Commit order)) ≡ false = c.in_ok-test_paths.ensures order.edits paths_of in
     let kind_is = c.kind.ensures ∙ h.stands.objects_kind in
     let made = map kept_edit edits in
     let changes : AreReadAs r.kind c.in_ok-changes.changes made = subst (λ (k : Kind). AreReadAs k c.in_ok-changes.changes made) kind_is c.in_ok-changes.ensures in
@@ -241,7 +242,7 @@ returns g c = λ r order asked.
     let told : EditsFiles g.F.Files.reading_may_fail r ids made c.edited.result = c.edited.ensures r made h hold are (have_paths edits order.edits is.edits good) in
     let given : EditsFiles g.F.Files.reading_may_fail r ids made (Ok c.in_ok-edited.edited) = subst (λ (x : Result (Option EditedFiles) Stopped). EditsFiles g.F.Files.reading_may_fail r ids made x) c.in_ok-edited.was told in
     let free = edits_pass r order h.stage.offered w ours base.0 g.F.Files.reading_may_fail edits is.edits good ids same c.in_ok-edited.edited given in
-    let long : c.have_long_content-is_long.result ≡ list_any is_long (contents_in (CommitOf order)) = c.have_long_content-is_long.ensures order.edits (subst (λ (es : List Edit). AreEdits es order.edits) (sym c.deref-2.ensures.value) is.edits) in
+    let long : c.have_long_content-is_long.result ≡ list_any is_long (contents_in (commands.Commit order)) = c.have_long_content-is_long.ensures order.edits (subst (λ (es : List Edit). AreEdits es order.edits) (sym c.deref-2.ensures.value) is.edits) in
     let times = c.in_ok-times.ensures r order is.author is.committer is.message long free in
     let some : c.in_ok-edited.edited ≡ Some c.in_ok-edited-2.edited = c.in_ok-edited-2.ensures.ok_part in
     let so : AreEdited r.kind (first_files r (parents_of r order)) (edits_of r order) c.in_ok-edited-2.edited =
@@ -294,7 +295,7 @@ returns-in_err-author g c = λ r order asked.
     let base = c.in_ok-base.ensures r order asked in
     let edits = c.args.command.edits.items in
     let paths_of : AreEdits c.deref.result.now order.edits = subst (λ (es : List Edit). AreEdits es order.edits) (sym c.deref.ensures.value) is.edits in
-    let good : list_any is_bad_path (paths_in (CommitOf order)) ≡ false = c.in_ok-test_paths.ensures order.edits paths_of in
+    let good : list_any is_bad_path (paths_in (commands.Commit order)) ≡ false = c.in_ok-test_paths.ensures order.edits paths_of in
     let kind_is = c.kind.ensures ∙ h.stands.objects_kind in
     let made = map kept_edit edits in
     let changes : AreReadAs r.kind c.in_ok-changes.changes made = subst (λ (k : Kind). AreReadAs k c.in_ok-changes.changes made) kind_is c.in_ok-changes.ensures in
@@ -305,7 +306,7 @@ returns-in_err-author g c = λ r order asked.
     let told : EditsFiles g.F.Files.reading_may_fail r ids made c.edited.result = c.edited.ensures r made h hold are (have_paths edits order.edits is.edits good) in
     let given : EditsFiles g.F.Files.reading_may_fail r ids made (Ok c.in_ok-edited.edited) = subst (λ (x : Result (Option EditedFiles) Stopped). EditsFiles g.F.Files.reading_may_fail r ids made x) c.in_ok-edited.was told in
     let free = edits_pass r order h.stage.offered w ours base.0 g.F.Files.reading_may_fail edits is.edits good ids same c.in_ok-edited.edited given in
-    let long : c.have_long_content-is_long.result ≡ list_any is_long (contents_in (CommitOf order)) = c.have_long_content-is_long.ensures order.edits (subst (λ (es : List Edit). AreEdits es order.edits) (sym c.deref-2.ensures.value) is.edits) in
+    let long : c.have_long_content-is_long.result ≡ list_any is_long (contents_in (commands.Commit order)) = c.have_long_content-is_long.ensures order.edits (subst (λ (es : List Edit). AreEdits es order.edits) (sym c.deref-2.ensures.value) is.edits) in
     let times = c.in_ok-times.ensures r order is.author is.committer is.message long free in
     let actors = good_actors r order c.in_ok-times.times times in
     absurd (no_actor _ c.actor_at.result c.in_err-author.field-0.0 BadActor c.in_err-author.ensures.value (c.actor_at.ensures order.author is.author actors.0 times.author))
@@ -319,7 +320,7 @@ returns-in_err-committer g c = λ r order asked.
     let base = c.in_ok-base.ensures r order asked in
     let edits = c.args.command.edits.items in
     let paths_of : AreEdits c.deref.result.now order.edits = subst (λ (es : List Edit). AreEdits es order.edits) (sym c.deref.ensures.value) is.edits in
-    let good : list_any is_bad_path (paths_in (CommitOf order)) ≡ false = c.in_ok-test_paths.ensures order.edits paths_of in
+    let good : list_any is_bad_path (paths_in (commands.Commit order)) ≡ false = c.in_ok-test_paths.ensures order.edits paths_of in
     let kind_is = c.kind.ensures ∙ h.stands.objects_kind in
     let made = map kept_edit edits in
     let changes : AreReadAs r.kind c.in_ok-changes.changes made = subst (λ (k : Kind). AreReadAs k c.in_ok-changes.changes made) kind_is c.in_ok-changes.ensures in
@@ -330,7 +331,7 @@ returns-in_err-committer g c = λ r order asked.
     let told : EditsFiles g.F.Files.reading_may_fail r ids made c.edited.result = c.edited.ensures r made h hold are (have_paths edits order.edits is.edits good) in
     let given : EditsFiles g.F.Files.reading_may_fail r ids made (Ok c.in_ok-edited.edited) = subst (λ (x : Result (Option EditedFiles) Stopped). EditsFiles g.F.Files.reading_may_fail r ids made x) c.in_ok-edited.was told in
     let free = edits_pass r order h.stage.offered w ours base.0 g.F.Files.reading_may_fail edits is.edits good ids same c.in_ok-edited.edited given in
-    let long : c.have_long_content-is_long.result ≡ list_any is_long (contents_in (CommitOf order)) = c.have_long_content-is_long.ensures order.edits (subst (λ (es : List Edit). AreEdits es order.edits) (sym c.deref-2.ensures.value) is.edits) in
+    let long : c.have_long_content-is_long.result ≡ list_any is_long (contents_in (commands.Commit order)) = c.have_long_content-is_long.ensures order.edits (subst (λ (es : List Edit). AreEdits es order.edits) (sym c.deref-2.ensures.value) is.edits) in
     let times = c.in_ok-times.ensures r order is.author is.committer is.message long free in
     let actors = good_actors r order c.in_ok-times.times times in
     absurd (no_actor _ c.actor_at-2.result c.in_err-committer.field-0.0 BadActor c.in_err-committer.ensures.value (c.actor_at-2.ensures order.committer is.committer actors.1 times.committer))
@@ -344,7 +345,7 @@ returns-in_err-content g c = λ r order asked.
     let base = c.in_ok-base.ensures r order asked in
     let edits = c.args.command.edits.items in
     let paths_of : AreEdits c.deref.result.now order.edits = subst (λ (es : List Edit). AreEdits es order.edits) (sym c.deref.ensures.value) is.edits in
-    let good : list_any is_bad_path (paths_in (CommitOf order)) ≡ false = c.in_ok-test_paths.ensures order.edits paths_of in
+    let good : list_any is_bad_path (paths_in (commands.Commit order)) ≡ false = c.in_ok-test_paths.ensures order.edits paths_of in
     let kind_is = c.kind.ensures ∙ h.stands.objects_kind in
     let made = map kept_edit edits in
     let changes : AreReadAs r.kind c.in_ok-changes.changes made = subst (λ (k : Kind). AreReadAs k c.in_ok-changes.changes made) kind_is c.in_ok-changes.ensures in
@@ -355,7 +356,7 @@ returns-in_err-content g c = λ r order asked.
     let told : EditsFiles g.F.Files.reading_may_fail r ids made c.edited.result = c.edited.ensures r made h hold are (have_paths edits order.edits is.edits good) in
     let given : EditsFiles g.F.Files.reading_may_fail r ids made (Ok c.in_ok-edited.edited) = subst (λ (x : Result (Option EditedFiles) Stopped). EditsFiles g.F.Files.reading_may_fail r ids made x) c.in_ok-edited.was told in
     let free = edits_pass r order h.stage.offered w ours base.0 g.F.Files.reading_may_fail edits is.edits good ids same c.in_ok-edited.edited given in
-    let long : c.have_long_content-is_long.result ≡ list_any is_long (contents_in (CommitOf order)) = c.have_long_content-is_long.ensures order.edits (subst (λ (es : List Edit). AreEdits es order.edits) (sym c.deref-2.ensures.value) is.edits) in
+    let long : c.have_long_content-is_long.result ≡ list_any is_long (contents_in (commands.Commit order)) = c.have_long_content-is_long.ensures order.edits (subst (λ (es : List Edit). AreEdits es order.edits) (sym c.deref-2.ensures.value) is.edits) in
     let times = c.in_ok-times.ensures r order is.author is.committer is.message long free in
     let some : c.in_ok-edited.edited ≡ Some c.in_ok-edited-2.edited = c.in_ok-edited-2.ensures.ok_part in
     let so : AreEdited r.kind (first_files r (parents_of r order)) (edits_of r order) c.in_ok-edited-2.edited =

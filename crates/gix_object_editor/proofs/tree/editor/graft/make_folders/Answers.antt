@@ -1,4 +1,4 @@
-use Rattle.std.proofs.Common.{ℕ, inl, inr, List, ◌≡◌, ◌∙◌, ◌<◌, ◌++◌, ◌∷◌, [], ap, sym, subst, arith, rules, length, true, get_or, drop, None, if◌then◌else◌}
+use Rattle.std.proofs.Common.{ℕ, inl, inr, List, ◌≡◌, ◌∙◌, ◌<◌, ◌++◌, ◌∷◌, [], ap, sym, subst, arith, rules, length, true, get_or, drop}
 use Rattle.std.specs.Prelude.{is_ok}
 use Rattle.gix_object_editor.specs.declared.tree.editor.node.Node.{Node}
 use Rattle.gix_hash.specs.Id.{id_of}
@@ -13,7 +13,6 @@ use Rattle.gix_object_editor.specs.Nodes.{slots_of, files_of_node, entry_from, c
 use Rattle.gix_object_editor.specs.Laid.{laid_at, made_at}
 use Rattle.gix_object_editor.specs.Files.{behind}
 use Rattle.gix_object_editor.proofs.Entered.{none_met, made_then, names_drop}
-use Rattle.std.specs.Prelude.{is_some}
 use Rattle.gix_object_editor.proofs.Paths.{onto-append}
 use Rattle.gix_object_editor.proofs.Cuts.{null_itself}
 use Rattle.gix_object_editor.proofs.Slots.{back}

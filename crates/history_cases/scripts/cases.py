@@ -1,0 +1,402 @@
+#!/usr/bin/env python3
+"""Writes the cases of history. The answers are those of the plain repository of scripts/plain.py, which docs/PROTOCOL.md describes. The
+rows that stand first are written by hand with what they are refused for, and each commit and tree that they tell is one that git
+printed; behind them come commands by chance."""
+
+import random
+import sys
+from pathlib import Path
+
+sys.path.insert(0, str(Path(__file__).resolve().parents[3] / "scripts"))
+sys.path.insert(0, str(Path(__file__).resolve().parent))
+import by_git
+from case_words import word, write
+from plain import Plain
+
+ROWS = []
+KINDS = {"sha1": by_git.SHA1, "sha256": by_git.SHA256}
+SIGNED = b"author 1 3 %d +0000\nA\na@b\ncommitter 1 3 %d +0000\nA\na@b\nmessage %d\n%s\nend\n"
+ONE = SIGNED % (1, 1, 3, b"one")
+HEAD = b"ref: refs/heads/main\n"
+LIMIT = 2 ** 24
+
+
+class Long:
+    """So many of one byte, which a word needn't spell."""
+
+    def __init__(self, byte, count):
+        self.byte, self.count = byte, count
+
+
+def spelled(stream):
+    """The word of a stream, and its bytes."""
+    parts = stream if isinstance(stream, list) else [stream]
+    words = [f"{it.byte.decode()}*{it.count}" if isinstance(it, Long) else word(it) for it in parts]
+    return "+".join(words), b"".join(it.byte * it.count if isinstance(it, Long) else it for it in parts)
+
+
+def told(end, replies):
+    return f"{end}:{word(b''.join(reply for reply, _ in replies))}"
+
+
+def known(kind, text):
+    """Stops where a commit or a tree is told that git didn't print."""
+    for line in text.split(b"\n"):
+        if line.startswith((b"ok commit ", b"tree ")):
+            assert line.split()[-1].decode() in KINDS[kind], line
+
+
+def answer(stream, *causes, end="Input", kinds=KINDS):
+    """A stream over a new repository; its refusals are these, in order."""
+    text, data = spelled(stream)
+    for kind in kinds:
+        ended, replies = Plain(kind).run(data)
+        assert (ended, refusals(replies)) == (end, list(causes)), (ended, replies)
+        known(kind, b"".join(reply for reply, _ in replies))
+        ROWS.append((f"{kind} answer:{text}", told(ended, replies)))
+
+
+def refusals(replies):
+    return [reply.split()[1].decode() for reply, _ in replies if reply.startswith(b"refused")]
+
+
+def runs(*streams, by_git_alone=True):
+    """Streams, one after another, on one repository; a pair is one and what it is refused for, or nothing."""
+    for kind in KINDS:
+        plain, words, answers = Plain(kind), ["create", "open"], ["created", "opened"]
+        for stream, *causes in streams:
+            text, data = spelled(stream)
+            ended, replies = plain.run(data)
+            assert (ended, refusals(replies)) == ("Input", causes), (stream, ended, replies)
+            if by_git_alone:
+                known(kind, b"".join(reply for reply, _ in replies))
+            words.append(f"run:{text}")
+            answers.append(told(ended, replies))
+        ROWS.append((" ".join([kind, *words, "failed", "left"]), " ".join([*answers, "sound", left(plain)])))
+
+
+def listed(files):
+    """Files by their paths, in the order of a walk that goes into the last of the folders first."""
+    found, folders = [], [b""]
+    while folders:
+        folder = folders.pop()
+        front = folder + b"/" if folder else b""
+        inside = {path[len(front):].partition(b"/")[0] for path in files if path.startswith(front)}
+        for name in sorted(inside):
+            if front + name in files:
+                found.append(f" {word(front + name)}:{word(files[front + name])}")
+            else:
+                folders.append(front + name)
+    return "".join(found)
+
+
+def left(plain, objects=None, names=True):
+    """The files that stand for a repository, or for one with its first objects alone and without names."""
+    texts = list(plain.objects.items())[:objects]
+    stored = {b"objects/" + digits[:2] + b"/" + digits[2:]: text for digits, text in texts}
+    named = {b"HEAD": HEAD}
+    for name, digits in plain.names.items() if names else ():
+        named[name] = digits + b"\n"
+        named[b"logs/" + name] = plain.logs[name]
+    return f"objects{listed(stored)} names{listed(named)}"
+
+
+PUT_HELLO = b"commit refs/heads/main new\nput file 1 5\na\nhello\n" + ONE
+INPUT = PUT_HELLO + b"files main\nshow main path 1\na\n"
+
+
+def rows():
+    """Runs whose ids git printed."""
+    answer(INPUT)
+    for name, stream in [("first-commit", b"commit refs/heads/main new\n" + ONE + b"files main\nshow main\n"), ("hello-file", INPUT)]:
+        ROWS.append((f"sha1 {name}", told(*Plain("sha1").run(stream))))
+    answer(b"commit refs/heads/main new\n" + ONE + b"files main\nshow main\n")
+    answer(b"commit HEAD any\nput file 1 0\na\n\n" + ONE + b"files main\n")
+    # The second commit's parent is the first; it puts `a` anew, twice, and two files more, of the other kinds.
+    answer(PUT_HELLO + b"commit HEAD at main\nput link 1 1\nb\na\nput file 1 1\na\n1\nput file 1 1\na\n2\nput exec 2 0\na0\n\n" + ONE
+           + b"files refs/heads/main\nshow heads/main\nshow HEAD path 1\na\n")
+    answer(b"")
+    for stream, cause in [(b"commit refs/heads/main new\n", "Truncated"), (b"hello\n", "Syntax"), ([Long(b"x", 4097)], "LineTooLong"),
+                          ([Long(b"x", 4096), b"\n"], "Syntax")]:
+        answer(stream, cause, end="Refused")
+    for kind, hello in [("sha1", "b6fc4c620b67d95f953a5c1c1230aaab5db5a1b0"),
+                        ("sha256", "8aec4e4876f854f688d0ebfc8f37598f38e5fd6903cccc850ca36591175aeb60")]:
+        ROWS.append((f"{kind} put:hello", f"{hello} exists blob:hello first Malformed NotYet:objects/{hello[:2]}/{hello[2:]}"))
+
+
+def first_causes():
+    """Each cause, where it is the first that holds, and what a refusal leaves."""
+    answer(b"files HEAD\nshow HEAD\nfiles main\nshow refs/heads/main path 1\na\n",
+           "UnbornHead", "UnbornHead", "UnknownWord", "UnknownWord")
+    answer(b"commit HEAD at HEAD\n" + ONE + b"commit HEAD at main\n" + ONE, "UnbornHead", "UnknownWord")
+    first = b"commit refs/heads/main new\nput file 1 1\na\n1\n" + ONE
+    refused = [
+        (b"commit HEAD new\nput file 0 0\n\n\n" + ONE, "Taken"),
+        (b"commit HEAD any\nput file 1 1\na\n1\nput file 4 0\na//b\n\nauthor 0 3 1 +0000\n\na@b\n"
+         b"committer 1 3 1 +0000\nA\na@b\nmessage 3\none\nend\n", "BadPath"),
+        (b"commit HEAD any\nauthor 1 3 1 +0000\nA\na@b\ncommitter 1 4 01 +0000\nA\na@b \nmessage 3\none\nend\n", "BadActor"),
+        (b"commit HEAD any\nauthor 1 3 1 +0060\nA\na@b\ncommitter 1 3 1 +0000\nA\na@b\nmessage 0\n\nend\n", "BadTime"),
+        (b"commit HEAD any\nauthor 1 3 1 -0000\nA\na@b\ncommitter 1 3 1 +0000\nA\na@b\nmessage 3\none\nend\n", "BadTime"),
+        (b"commit HEAD any\nauthor 1 3 1 +0000\nA\na@b\ncommitter 1 3 1 +0000\nA\na@b\nmessage 4\n\none\nend\n", "BadMessage"),
+        (b"show main path 1\nb\n", "NoSuchPath")]
+    for command in refused:
+        runs((first,), command, (b"files main\n",))
+    runs((first,), *refused, (b"files main\n",))
+
+
+def branch(name, number, more=b""):
+    return b"commit %s\n" % name + more + SIGNED % (number, number, 1, b"%d" % number)
+
+
+def two_branches():
+    """Eight commits without files; the second follows the first, the last joins the two branches."""
+    m, s = b"refs/heads/m", b"refs/heads/s"
+    made = branch(m + b" new", 1) + branch(s + b" new", 2, b"parent m\n") + branch(m + b" any", 3) + branch(s + b" any", 4)
+    made += branch(m + b" any", 5) + branch(m + b" any", 6) + branch(s + b" any", 7) + branch(m + b" at m", 8, b"parent s\n")
+    made += b"files m\nshow m\nshow heads/s\n"
+    answer(made)
+    refused = [
+        (b"commit m at nosuch\n", "BadName"), (b"commit refs/heads/a..b at nosuch\n", "BadName"),
+        (b"commit refs/heads/\xff new\n", "BadName"), (b"commit refs/bisect/m at nosuch\n", "PrivateName"),
+        (b"commit refs/heads/m at HEAD\nparent nosuch\n", "UnknownWord"), (b"commit refs/heads/t at m\nparent HEAD\n", "UnbornHead"),
+        (b"commit refs/heads/m/x at m\n", "NoSuchName"), (b"commit refs/heads/m new\nparent m\n", "Taken"),
+        (b"commit refs/heads/m at s\nparent m\n", "NotExpected"),
+        (b"commit refs/heads/m/x any\nparent s\nparent s\n", "Collides"),
+        (b"commit refs/heads any\nput file 1 0\n/\n\n", "Collides"),
+        (b"commit refs/heads/m any\nparent m\nput file 1 0\n/\n\n", "DuplicateParent"),
+        # 65 words are too many parents, whether they name one commit or more.
+        (b"commit refs/heads/t new\n" + b"parent m\n" * 65, "TooManyParents")]
+    after = [(b"show refs/heads/t\n", "UnknownWord"), (b"files m\n",)]
+    for line, cause in refused:
+        runs((made,), (line + ONE, cause), *after)
+    runs((made,), *((line + ONE, cause) for line, cause in refused), *after)
+
+
+def removals():
+    """What stands is taken out, in the order of the edits; of what doesn't stand nothing is."""
+    runs((b"commit refs/heads/main new\nput file 1 1\na\n1\nput file 1 1\nb\n1\nput file 1 1\nc\n1\n" + ONE,),
+         (b"commit refs/heads/main any\nremove 1\nb\nremove 1\nd\nremove-file 1\nc\nput file 1 1\nc\n1\nremove-file 1\na\n"
+          b"remove 1\nx\n" + ONE,), (b"files main\n",), by_git_alone=False)
+
+
+def nested():
+    """Paths of several names: folders come, go, and give way to files."""
+    def signed(number, message):
+        return SIGNED % (number, number, len(message), message)
+
+    new, any_ = b"commit refs/heads/main new\n", b"commit refs/heads/main any\n"
+    paths = b"".join(b"show main path %d\n%s\n" % (len(it), it) for it in [b"a/b/d", b"a/b", b"a/b/x", b"f/x", b"a//b"])
+    answer(new + b"put file 5 1\na/b/c\n1\nput exec 5 1\na/b/d\n2\nput link 3 1\na/e\nc\nput file 1 1\nf\n3\n" + signed(1, b"one")
+           + b"files main\nshow main\n" + paths
+           + any_ + b"put file 5 1\nf/g/h\n4\nremove 3\na/b\nput file 4 1\na/b0\n5\nput file 3 1\na.b\n6\nremove 3\nq/r\n"
+           b"remove-file 3\na/e\n" + signed(2, b"two") + b"files main\nshow main\n"
+           + any_ + b"remove 5\nf/g/h\nremove 1\na\n" + signed(3, b"three") + b"files main\nshow main\n"
+           + any_ + b"put file 3 1\nx/y\n1\nremove 1\nx\nremove 3\na.b\n" + signed(4, b"four") + b"files main\nshow main\n",
+           "IsFolder", "NoSuchPath", "NoSuchPath", "BadPath")
+    first = new + b"put file 3 1\na/b\n1\n" + ONE
+    # A file takes the place of a folder; a folder whose last file goes, and what is left put alone; an order of paths.
+    answer(first + any_ + b"put file 1 1\na\n2\n" + ONE + b"files main\nshow main path 1\na\nshow main path 3\na/b\n", "NoSuchPath")
+    answer(new + b"put file 1 1\na\n1\nput file 3 1\nd/x\n1\n" + ONE + any_ + b"remove-file 3\nd/x\n" + ONE + b"show main\n")
+    answer(new + b"put file 1 1\na\n1\n" + ONE + b"show main\n")
+    answer(new + b"put file 2 1\na0\n1\nput file 3 1\na/c\n2\nput file 3 1\na.b\n3\n" + ONE + b"files main\nshow main\n")
+    # The refused commit stores nothing, its first content included.
+    runs((first,))
+    runs((first,), (any_ + b"put file 1 1\nz\n2\nremove-file 1\na\n" + ONE, "IsFolder"))
+    refused = [
+        (b"commit HEAD any\nremove-file 1\na\nput file 2 0\n/b\n\n" + ONE, "BadPath"),
+        (b"commit HEAD any\nremove-file 1\na\nauthor 0 3 1 +0000\n\na@b\ncommitter 1 3 1 +0000\nA\na@b\nmessage 3\none\nend\n",
+         "IsFolder"),
+        (b"commit HEAD any\nput file 3 1\nd/e\n1\nremove-file 1\nd\nauthor 1 3 1 +0000\nA\na@b\ncommitter 1 3 1 +0060\nA\na@b\n"
+         b"message 3\none\nend\n", "IsFolder")]
+    for command in refused:
+        runs((first,), command)
+    runs((first,), (any_ + b"remove 1\nq\nremove 5\na/b/c\n" + ONE + b"files main\n",))
+
+
+def limits():
+    """Limits, at their last value and one beyond."""
+    other = b"committer 1 0 1 +0000\nA\n\nmessage 1\nm\nend\n"
+    by = b"commit HEAD any\nauthor %d 0 %s\n%s\n\n" + other
+    latest = b"9223372036854775807"
+    runs(((by % (512, latest + b" -1259", b"n" * 512)),), ((by % (513, b"1 +0000", b"n" * 513)), "BadActor"),
+         ((by % (1, b"9223372036854775808 +0000", b"A")), "BadTime"), ((by % (1, b"1 +0060", b"A")), "BadTime"), by_git_alone=False)
+    saying = b"commit HEAD any\nauthor 1 0 1 +0000\nA\n\ncommitter 1 0 1 +0000\nA\n\nmessage %d\n"
+    runs(([saying % 1024, Long(b"t", 1024), b"\nend\n"],), ([saying % 1025, Long(b"t", 1025), b"\nend\n"], "BadMessage"),
+         by_git_alone=False)
+    putting = b"commit HEAD any\nput file %d %d\n"
+    runs(([putting % (4096, 0), Long(b"p", 4096), b"\n\n" + ONE],), ([putting % (4097, 0), Long(b"p", 4097), b"\n\n" + ONE], "BadPath"),
+         by_git_alone=False)
+    large = [putting % (1, LIMIT + 1), b"a\n", Long(b"c", LIMIT + 1), b"\n" + ONE + b"files main\n"]
+    for kind, blob in [("sha1", b"6cfb41404320ce6d1614f439e9aa656a15b03797"),
+                       ("sha256", b"7f71e07da5cd9cbe46b28e04b351d4fa1dc74f3df34a02688b8a2cfbe0524cb3")]:
+        plain, stream = Plain(kind), [putting % (1, LIMIT), b"a\n", Long(b"c", LIMIT), b"\n" + ONE]
+        first, second = plain.run(spelled(stream)[1]), plain.run(spelled(large)[1])
+        assert b"".join(it for it, _ in second[1]) == b"refused TooLarge\nok files 1\nfile %s 1\na\n" % blob
+        ROWS.append((f"{kind} create open run:{spelled(stream)[0]} run:{spelled(large)[0]}",
+                     f"created opened {told(*first)} {told(*second)}"))
+    # Whether a removal meets a folder is told before a content's length.
+    answer([putting % (3, LIMIT + 1), b"d/x\n", Long(b"c", LIMIT + 1), b"\nremove-file 1\nd\n" + ONE], "IsFolder", kinds=["sha1"])
+    # A long message is refused for its title where that is bad, and else for its length.
+    answer([saying % (LIMIT + 1), Long(b"m", LIMIT + 1), b"\nend\n"], "BadMessage")
+    answer([saying % (LIMIT + 1), b"t\n", Long(b"m", LIMIT - 1), b"\nend\n"], "TooLarge")
+    answer([saying % LIMIT, b"t\n", Long(b"m", LIMIT - 2), b"\nend\n"], "TooLarge")
+
+
+def opening():
+    """Folders that aren't opened, each for its cause, and empty ones in the way of the first commit."""
+    head = f"names:write:HEAD:{word(HEAD)}"
+    for kind in KINDS:
+        ROWS.append((f"{kind} {head} open", "done opened"))
+        ROWS.append((f"{kind} open", "NoHead"))
+        for text, cause in [(b"refs/heads/main\n", "BadHead"), (b"ref: refs/tags/main\n", "BadHead"),
+                            (b"ref: refs/heads/other\n", "NotYet:HEAD")]:
+            ROWS.append((f"{kind} names:write:HEAD:{word(text)} open", f"done {cause}"))
+        ROWS.append((f"{kind} {head} names:folder:hooks open", "done done Stray:hooks"))
+        ROWS.append((f"{kind} {head} names:write:packed-refs:- open", "done done NotYet:packed-refs"))
+        folders = ["refs", "refs/heads", "refs/heads/main", "refs/heads/main/x", "refs/heads/main/x/y", "refs/heads/main/z", "logs",
+                   "logs/refs", "logs/refs/heads", "logs/refs/heads/main", "logs/refs/heads/main/x"]
+        stream = b"commit refs/heads/main new\n" + ONE
+        plain = Plain(kind)
+        ended, replies = plain.run(stream)
+        known(kind, replies[0][0])
+        ROWS.append((" ".join([kind, head, *(f"names:folder:{it}" for it in folders), "open", f"run:{word(stream)}", "left"]),
+                     " ".join(["done"] * 12 + ["opened", told(ended, replies), left(plain)])))
+        # The parts that come back open no more: they hold a history.
+        plain = Plain(kind)
+        ended, replies = plain.run(INPUT)
+        first = sorted(plain.objects)[0].decode()
+        ROWS.append((f"{kind} create open run:{word(INPUT)} close open",
+                     f"created opened {told(ended, replies)} NotYet:objects/{first[:2]}/{first[2:]}"))
+
+
+FEW = b"commit refs/heads/main new\nput file 5 1\na/b/c\n1\nput file 1 1\nd\n2\n"
+MANY = (b"commit refs/heads/main new\nput file 5 1\na/b/c\n1\nput file 5 1\na/b/d\n2\nput exec 5 1\na/b/e\n3\nput link 3 1\na/f\n4\n"
+        b"put file 1 1\nd\n5\nput file 1 1\ng\n6\n")
+
+
+def readings():
+    """How many objects are read: the commit, the trees on the way, and no content but the one that is asked for."""
+    asked = [(b"show main\n", 1), (b"files main\n", 4), (b"show main path 5\na/b/c\n", 5), (b"show main path 1\nd\n", 3),
+             (b"show main path 3\na/b\n", 3), (b"show main path 5\na/b/x\n", 4)]
+    for kind in KINDS:
+        for commit in (FEW, MANY):
+            for command, count in asked:
+                ROWS.append((f"{kind} reads:{word(commit + ONE)}:{word(command)}", f"reads:{count}"))
+
+
+def readers():
+    """A reader that fails behind so many bytes: the commands that came whole are answered."""
+    for kind in KINDS:
+        ended, replies = Plain(kind).run(INPUT)
+        for room in range(len(INPUT) + 2):
+            whole = [(reply, end) for reply, end in replies if end <= room]
+            ROWS.append((f"{kind} create open drops:{room}:{word(INPUT)} failed",
+                         f"created opened {told(ended if room > len(INPUT) else 'Read', whole)} sound"))
+
+
+def each(limit, kind, words, answers):
+    ROWS.append((f"each:{limit} {kind} {words}", " | ".join(answers)))
+
+
+def faults():
+    """One call of either part fails, each in turn: the command that makes it tells so, and no other; a later run lists the files."""
+    fault, again = b"fault File\n", b"files main\n"
+    for kind in KINDS:
+        _, replies = Plain(kind).run(INPUT)
+        committed, listed_, content = (reply for reply, _ in replies)
+        ends = [f"created opened Input:{word(b''.join(first))} sound Input:{word(second)} sound" for first, second in [
+            ((committed, fault, content), listed_), ((committed, listed_, fault), listed_),
+            ((committed, listed_, content), fault), ((committed, listed_, content), listed_)]]
+        for part in ("objects", "names"):
+            each(60, kind, f"create {part}:fail:#:- open run:{word(INPUT)} failed run:{word(again)} failed",
+                 ["created File closed closed closed closed", f"created opened Fault:{word(fault)} failed Fault:- failed", *ends])
+
+
+def stops():
+    """A run of two commits that is stopped at each call: what recovery would leave is the repository before or after the command, with
+    the first of the objects that are on the way. A call that keeps what it was to write has made a change without bytes."""
+    stream = PUT_HELLO + b"commit refs/heads/main any\n" + SIGNED % (1, 1, 3, b"two")
+    fault = b"fault File\n"
+    for kind in KINDS:
+        plain, first = Plain(kind), Plain(kind)
+        _, replies = plain.run(stream)
+        first.run(PUT_HELLO)
+        known(kind, b"".join(reply for reply, _ in replies))
+        in_first = f"created opened Fault:{word(fault)} "
+        in_second = f"created opened Fault:{word(replies[0][0] + fault)} "
+        whole = f"created opened {told('Input', replies)} {left(plain)}"
+        closed = f"created File closed {left(plain, 0, False)}"
+        logged = left_logged(plain, first)
+        for kept in ["-", 0, 3, 20, 50, 1000]:
+            made = kept != "-"
+            in_objects = [in_first + left(plain, count, False) for count in range(4 if made else 3)]
+            in_objects += [in_second + left_with(plain, first, count) for count in ((3, 4) if made else (3,))]
+            in_names = [in_first + left(plain, 0, False), in_first + left(plain, 3, False)]
+            in_names += [in_first + left(first)] if made else []
+            in_names += [in_second + left_with(plain, first, 3), in_second + left_with(plain, first, 4), in_second + logged]
+            in_names += [in_second + left(plain)] if made else []
+            for part, answers in (("objects", in_objects), ("names", in_names)):
+                each(80, kind, f"create {part}:stop:#:{kept} open run:{word(stream)} left", [closed, *answers, whole])
+        creation(kind)
+
+
+def left_with(plain, first, count):
+    """The first so many objects of one repository, under the names of another."""
+    return left(plain, count).partition(" names")[0] + " names" + left(first).partition(" names")[2]
+
+
+def left_logged(plain, first):
+    """All objects, and the second line in the log of a name that stands as after the first commit."""
+    both = Plain(plain.kind)
+    both.objects, both.names, both.logs = plain.objects, first.names, plain.logs
+    return left(both)
+
+
+def creation(kind):
+    """A creation that is stopped at each call: nothing is left but its leftovers, or the new repository, and a second call finds it."""
+    none, made = "objects names", f"objects names{listed({b'HEAD': HEAD})}"
+    for kept in ["-", 0, 3, 20, 50, 1000]:
+        for part in ("objects", "names"):
+            renamed = [f"File {made} NotEmpty:HEAD"] if part == "names" and kept != "-" else []
+            each(20, kind, f"{part}:stop:#:{kept} create left create",
+                 [f"File {none} created", *renamed, f"created {made} NotEmpty:HEAD"])
+
+
+def by_chance(chance, kind):
+    """A few commands by chance, each in a run of its own, and all that stands then."""
+    plain, words, answers = Plain(kind), ["create", "open"], ["created", "opened"]
+    paths = [b"a", b"b", b"a/b", b"a/b/c", b"a.b", b"a0", b"d/e", b"\xff", b"a//b", b""]
+    names = [b"HEAD", b"refs/heads/main", b"refs/heads/x", b"refs/tags/v", b"refs/heads/x/y", b"x"]
+
+    def edit():
+        path, content = chance.choice(paths[:8] if chance.random() < 0.95 else paths), chance.choice([b"", b"1", b"two\n", b"\0"])
+        how = chance.choice([b"file", b"file", b"exec", b"link", b"remove", b"remove-file"])
+        if how.startswith(b"remove"):
+            return b"%s %d\n%s\n" % (how, len(path), path)
+        return b"put %s %d %d\n%s\n%s\n" % (how, len(path), len(content), path, content)
+
+    def command():
+        name = chance.choice([b"main", b"HEAD", b"refs/heads/x", b"v", b"heads/x"])
+        path = chance.choice(paths)
+        if chance.random() < 0.4:
+            return chance.choice([b"files %s\n" % name, b"show %s\n" % name, b"show %s path %d\n%s\n" % (name, len(path), path)])
+        expect = chance.choice([b"any", b"any", b"any", b"new", b"at " + name])
+        parents = b"".join(b"parent %s\n" % chance.choice([b"main", b"x", b"HEAD"]) for _ in range(chance.choice([0, 0, 0, 1, 2])))
+        edits = b"".join(edit() for _ in range(chance.randrange(4)))
+        number = chance.randrange(1, 10)
+        return b"commit %s %s\n" % (chance.choice(names), expect) + parents + edits + SIGNED % (number, number, 1, b"%d" % number)
+
+    for _ in range(chance.randrange(3, 9)):
+        stream = command()
+        words.append(f"run:{word(stream)}")
+        answers.append(told(*plain.run(stream)))
+    ROWS.append((" ".join([kind, *words, "failed", "left"]), " ".join([*answers, "sound", left(plain)])))
+
+
+if __name__ == "__main__":
+    for part in (rows, first_causes, two_branches, removals, nested, limits, opening, readings, readers, faults, stops):
+        part()
+    chance = random.Random(23)
+    for number in range(200):
+        by_chance(chance, list(KINDS)[number % 2])
+    write(Path(__file__), ROWS)

@@ -1,0 +1,245 @@
+"""The plain repository of docs/PROTOCOL.md, written once more: commands are read, refused or answered, with ids by hashlib. The cases
+of history have their answers from here, and from what git printed (scripts/cases.py)."""
+
+import hashlib
+import re
+
+MODES = {b"file": b"100644", b"exec": b"100755", b"link": b"120000"}
+LIMIT = 2 ** 24
+
+
+class Refused(Exception):
+    """A command that is refused, or a rest that is none."""
+
+
+def refuse_where(holds, cause):
+    if holds:
+        raise Refused(cause)
+
+
+class Reader:
+    """Commands in an input."""
+
+    def __init__(self, data):
+        self.data, self.at = data, 0
+
+    def line(self):
+        end = self.data.find(b"\n", self.at, self.at + 4097)
+        if end < 0:
+            raise Refused("LineTooLong" if len(self.data) - self.at > 4096 else "Truncated")
+        words = self.data[self.at:end].split(b" ")
+        self.at = end + 1
+        refuse_where(b"" in words, "Syntax")
+        return words
+
+    def field(self, length):
+        end = self.at + length
+        refuse_where(end >= len(self.data), "Truncated")
+        refuse_where(self.data[end:end + 1] != b"\n", "Syntax")
+        found, self.at = self.data[self.at:end], end + 1
+        return found
+
+    def fields(self, words):
+        refuse_where(any(not re.fullmatch(rb"0|[1-9]\d*", it) or int(it) >= 2 ** 64 for it in words), "Syntax")
+        return [self.field(int(it)) for it in words]
+
+    def command(self):
+        words = self.line()
+        if words[0] == b"files" and len(words) == 2:
+            return ("files", words[1])
+        if words[0] == b"show" and len(words) == 2:
+            return ("show", words[1], None)
+        if words[0] == b"show" and len(words) == 4 and words[2] == b"path":
+            return ("show", words[1], self.fields(words[3:])[0])
+        refuse_where(words[0] != b"commit" or len(words) not in (3, 4), "Syntax")
+        refuse_where((len(words) == 4) != (words[2] == b"at") or words[2] not in (b"at", b"any", b"new"), "Syntax")
+        return self.commit(words[1], words[2:])
+
+    def commit(self, name, expect):
+        parents, edits, words = [], [], self.line()
+        while words[0] == b"parent" and len(words) == 2:
+            parents.append(words[1])
+            words = self.line()
+        while True:
+            if words[0] == b"put" and len(words) == 4 and words[1] in MODES:
+                edits.append((words[1], *self.fields(words[2:])))
+            elif words[0] in (b"remove", b"remove-file") and len(words) == 2:
+                edits.append((words[0], *self.fields(words[1:])))
+            else:
+                break
+            words = self.line()
+        author, words = self.actor(b"author", words), self.line()
+        committer, words = self.actor(b"committer", words), self.line()
+        refuse_where(words[0] != b"message" or len(words) != 2, "Syntax")
+        message = self.fields(words[1:])[0]
+        refuse_where(self.line() != [b"end"], "Syntax")
+        return ("commit", name, expect, parents, edits, author, committer, message)
+
+    def actor(self, who, words):
+        refuse_where(words[0] != who or len(words) != 5, "Syntax")
+        return (*self.fields(words[1:3]), words[3], words[4])
+
+
+def is_name(name):
+    try:
+        name.decode()
+    except UnicodeDecodeError:
+        return False
+    parts = name.split(b"/")
+    bad = re.search(rb"[\0-\x20\x7f~^:?*\[\\]|\.\.|@\{", name) or name.endswith(b".") or not name.startswith(b"refs/")
+    return not bad and len(name) <= 1024 and not any(it == b"" or it.startswith(b".") or it.endswith(b".lock") for it in parts)
+
+
+def is_path(path):
+    return len(path) <= 4096 and b"\0" not in path and b"" not in path.split(b"/")
+
+
+def is_part(part):
+    return len(part) <= 512 and part.strip(b" ") == part and not re.search(rb"[<>\0\t\r\n]", part)
+
+
+def is_time(seconds, offset):
+    good = re.fullmatch(rb"0|[1-9]\d*", seconds) and int(seconds) < 2 ** 63 and re.fullmatch(rb"[+-]\d\d[0-5]\d", offset)
+    return bool(good) and offset != b"-0000"
+
+
+class Plain:
+    """A repository: objects by id, names, logs. HEAD is on `refs/heads/main`."""
+
+    def __init__(self, kind):
+        self.kind, self.objects, self.names, self.logs, self.commits = kind, {}, {}, {}, {}
+        self.null = b"0" * (40 if kind == "sha1" else 64)
+
+    def id(self, object, content):
+        text = b"%s %d\0" % (object, len(content)) + content
+        return hashlib.new(self.kind, text).hexdigest().encode(), text
+
+    def put(self, object, content):
+        refuse_where(len(content) > LIMIT, "TooLarge")
+        digits, text = self.id(object, content)
+        self.objects[digits] = text
+        return digits
+
+    def tree(self, files):
+        """Stores the trees of these files, from paths to modes and ids."""
+        entries, below = [], {}
+        for path, (mode, digits) in files.items():
+            first, slash, rest = path.partition(b"/")
+            if slash:
+                below.setdefault(first, {})[rest] = (mode, digits)
+            else:
+                entries.append((first, first, mode, digits))
+        entries += [(first + b"/", first, b"40000", self.tree(rest)) for first, rest in below.items()]
+        return self.put(b"tree", b"".join(b"%s %s\0" % (mode, name) + bytes.fromhex(digits.decode())
+                                          for _, name, mode, digits in sorted(entries)))
+
+    def resolve(self, word):
+        if word == b"HEAD":
+            refuse_where(b"refs/heads/main" not in self.names, "UnbornHead")
+            return self.names[b"refs/heads/main"]
+        names = [b"refs/%s", b"refs/tags/%s", b"refs/heads/%s", b"refs/remotes/%s", b"refs/remotes/%s/HEAD"]
+        for name in ([word] if word.startswith(b"refs/") else []) + [it % word for it in names]:
+            if name in self.names:
+                return self.names[name]
+        raise Refused("UnknownWord")
+
+    def resolved(self, words):
+        """The commits of some words: `UnknownWord` is told before `UnbornHead`."""
+        for word in words:
+            if word != b"HEAD":
+                self.resolve(word)
+        return [self.resolve(word) for word in words]
+
+    def commit(self, name, expect, parents, edits, author, committer, message):
+        name = b"refs/heads/main" if name == b"HEAD" else name
+        refuse_where(not is_name(name), "BadName")
+        refuse_where(name.startswith((b"refs/bisect/", b"refs/worktree/", b"refs/rewritten/")), "PrivateName")
+        *at, = self.resolved(expect[1:] + parents)
+        wanted, at = (at[0], at[1:]) if expect[1:] else (None, at)
+        stands = self.names.get(name)
+        refuse_where(wanted and not stands, "NoSuchName")
+        refuse_where(expect == [b"new"] and stands, "Taken")
+        refuse_where(wanted and wanted != stands, "NotExpected")
+        refuse_where(not stands and any((it + b"/").startswith(name + b"/") or (name + b"/").startswith(it + b"/")
+                                        for it in self.names), "Collides")
+        parents = ([stands] if stands else []) + at
+        refuse_where(len(parents) > 64, "TooManyParents")
+        refuse_where(len(set(parents)) < len(parents), "DuplicateParent")
+        refuse_where(any(not is_path(it[1]) for it in edits), "BadPath")
+        kept = dict(self.objects)
+        try:
+            return self.make(name, parents, edits, author, committer, message)
+        except Refused:
+            self.objects = kept
+            raise
+
+    def make(self, name, parents, edits, author, committer, message):
+        files = dict(self.commits[parents[0]]["files"]) if parents else {}
+        for kind, path, *content in edits:
+            below = [it for it in files if it.startswith(path + b"/")]
+            refuse_where(kind == b"remove-file" and below, "IsFolder")
+            above = [it for it in files if path.startswith(it + b"/")] if content else []
+            for gone in below + above + [path]:
+                files.pop(gone, None)
+            if content:
+                files[path] = (MODES[kind], self.id(b"blob", content[0])[0])
+        refuse_where(any(it[0] == b"" or not is_part(it[0]) or not is_part(it[1]) for it in (author, committer)), "BadActor")
+        refuse_where(any(not is_time(*it[2:]) for it in (author, committer)), "BadTime")
+        title = message.partition(b"\n")[0]
+        refuse_where(not title or len(title) > 1024 or re.search(rb"[\t\r\0]", title), "BadMessage")
+        for _, _, *content in edits:
+            for it in content:
+                self.put(b"blob", it)
+        lines = [b"tree " + self.tree(files)] + [b"parent " + it for it in parents]
+        lines += [b"%s %s <%s> %s %s" % (who, *actor) for who, actor in ((b"author", author), (b"committer", committer))]
+        found = self.put(b"commit", b"\n".join(lines) + b"\n\n" + message)
+        self.commits[found] = {"files": files, "tree": lines[0][5:], "parents": parents, "author": author, "committer": committer,
+                               "message": message}
+        before = self.names.get(name, self.null)
+        if found != before:
+            line = b"%s %s %s <%s> %s %s\t%s\n" % (before, found, *committer, title)
+            self.logs[name] = self.logs.get(name, b"") + line
+        self.names[name] = found
+        return b"ok commit %s\n" % found
+
+    def files(self, word):
+        files = self.commits[self.resolve(word)]["files"]
+        kinds = {mode: kind for kind, mode in MODES.items()}
+        lines = [b"%s %s %d\n%s\n" % (kinds[mode], digits, len(path), path) for path, (mode, digits) in sorted(files.items())]
+        return b"ok files %d\n" % len(files) + b"".join(lines)
+
+    def show(self, word, path):
+        found = self.resolve(word)
+        commit = self.commits[found]
+        if path is not None:
+            return self.content(commit["files"], path)
+        lines = [b"ok show commit " + found, b"tree " + commit["tree"], b"parents %d" % len(commit["parents"])]
+        lines += [b"parent " + it for it in commit["parents"]]
+        for who in ("author", "committer"):
+            name, email, seconds, offset = commit[who]
+            lines += [b"%s %d %d %s %s" % (who.encode(), len(name), len(email), seconds, offset), name, email]
+        return b"\n".join(lines + [b"message %d" % len(commit["message"]), commit["message"], b""])
+
+    def content(self, files, path):
+        refuse_where(not is_path(path), "BadPath")
+        refuse_where(any(it.startswith(path + b"/") for it in files), "IsFolder")
+        refuse_where(path not in files, "NoSuchPath")
+        mode, digits = files[path]
+        content = self.objects[digits].partition(b"\0")[2]
+        kind = {it: kind for kind, it in MODES.items()}[mode]
+        return b"ok show content %s %s %d\n%s\n" % (kind, digits, len(content), content)
+
+    def run(self, data):
+        """How the run ends, and the reply to each command, with where in the input the command ends."""
+        reader, replies = Reader(data), []
+        while reader.at < len(data):
+            try:
+                name, *parts = reader.command()
+            except Refused as cause:
+                return "Refused", replies + [(b"refused %s\n" % str(cause).encode(), len(data))]
+            try:
+                reply = getattr(self, name)(*parts)
+            except Refused as cause:
+                reply = b"refused %s\n" % str(cause).encode()
+            replies.append((reply, reader.at))
+        return "Input", replies

@@ -1,0 +1,136 @@
+//! A repository and its parts, and what words do with them.
+
+use crate::{face, files, runs};
+use case_words::{Page, Session, Trial, act_on, sound};
+use gix_ref_file::MemoryFiles;
+use history::{CreateError, Kind, OpenError, Repository, create};
+use std::alloc::Global;
+use std::mem;
+
+/// The two parts of a repository, or the repository that was opened from them; they have no files then.
+#[derive(Drop)]
+pub struct Store {
+    kind: Kind,
+    objects: Trial,
+    names: Trial,
+    opened: Option<Repository<Trial>>,
+}
+
+impl Session for Store {
+    fn begin(alloc: Global, first: &str) -> Option<Store> {
+        let kind = match first {
+            "sha1" => Kind::Sha1,
+            "sha256" => Kind::Sha256,
+            _ => return None,
+        };
+        Some(Store {
+            kind,
+            objects: sound(MemoryFiles::new(alloc)),
+            names: sound(MemoryFiles::new(alloc)),
+            opened: None,
+        })
+    }
+
+    fn act(&mut self, alloc: Global, word: &str, number: u64, page: &mut Page) -> Option<()> {
+        let (operation, rest) = word.split_once(':').unwrap_or((word, ""));
+        match operation {
+            "objects" => {
+                self.close();
+                act_on(alloc, &mut self.objects, rest, number, page)
+            }
+            "names" => {
+                self.close();
+                act_on(alloc, &mut self.names, rest, number, page)
+            }
+            "create" | "open" | "close" | "left" => {
+                self.change(alloc, operation, page);
+                Some(())
+            }
+            "failed" => {
+                self.show_failed(page);
+                Some(())
+            }
+            "run" | "drops" => match &mut self.opened {
+                Some(repository) => runs::run(alloc, repository, operation, rest, number, page),
+                None => {
+                    page.word("closed");
+                    Some(())
+                }
+            },
+            "put" => face::put(alloc, self.kind, rest, page),
+            _ => runs::answer(alloc, self.kind, operation, rest, page),
+        }
+    }
+}
+
+impl Store {
+    // Takes the parts back out of a repository that was opened.
+    fn close(&mut self) {
+        if let Some(repository) = mem::replace(&mut self.opened, None) {
+            let (objects, names) = repository.into_parts();
+            self.objects = objects;
+            self.names = names;
+        }
+    }
+
+    fn change(&mut self, alloc: Global, operation: &str, page: &mut Page) {
+        self.close();
+        match operation {
+            "create" => show_created(
+                create(alloc, &mut self.objects, &mut self.names, self.kind),
+                page,
+            ),
+            "open" => self.open(alloc, page),
+            "left" => {
+                files::show_objects(alloc, files::mend(alloc, &mut self.objects), page);
+                files::show_names(alloc, files::mend(alloc, &mut self.names), page);
+            }
+            _ => {}
+        }
+    }
+
+    fn open(&mut self, alloc: Global, page: &mut Page) {
+        let objects = mem::replace(&mut self.objects, sound(MemoryFiles::new(alloc)));
+        let names = mem::replace(&mut self.names, sound(MemoryFiles::new(alloc)));
+        match Repository::open(alloc, objects, names, self.kind) {
+            Ok(repository) => {
+                page.word("opened");
+                self.opened = Some(repository);
+            }
+            Err(refusal) => {
+                show_open_error(&refusal.error, page);
+                self.objects = refusal.objects;
+                self.names = refusal.names;
+            }
+        }
+    }
+
+    fn show_failed(&self, page: &mut Page) {
+        match &self.opened {
+            Some(repository) if repository.has_failed() => page.word("failed"),
+            Some(_) => page.word("sound"),
+            None => page.word("closed"),
+        }
+    }
+}
+
+fn show_created(created: Result<(), CreateError>, page: &mut Page) {
+    match created {
+        Ok(()) => page.word("created"),
+        Err(CreateError::NotEmpty(path)) => page.named("NotEmpty", &path),
+        Err(CreateError::File) => page.word("File"),
+        Err(CreateError::Memory) => page.word("Memory"),
+    }
+}
+
+/// Why a folder or a part isn't opened.
+pub fn show_open_error(error: &OpenError, page: &mut Page) {
+    match error {
+        OpenError::NoHead => page.word("NoHead"),
+        OpenError::BadHead => page.word("BadHead"),
+        OpenError::Stray(path) => page.named("Stray", path),
+        OpenError::NotYet(path) => page.named("NotYet", path),
+        OpenError::File => page.word("File"),
+        OpenError::Memory => page.word("Memory"),
+    }
+}

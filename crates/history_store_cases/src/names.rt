@@ -1,0 +1,44 @@
+//! Names that are read and moved.
+
+use crate::objects::show_id;
+use crate::session::Parts;
+use crate::values::read_entry;
+use case_words::{Page, read_bytes};
+use std::alloc::Global;
+
+/// Acts on the names part.
+pub fn act(
+    alloc: Global,
+    parts: &mut Parts,
+    operation: &str,
+    rest: &str,
+    page: &mut Page,
+) -> Option<()> {
+    let (name, entry) = rest.split_once(':').unwrap_or((rest, ""));
+    let name = read_bytes(alloc, name)?;
+    match operation {
+        "head" => match parts.names.head(alloc) {
+            Ok(Some(head)) => page.named("head", &head),
+            Ok(None) => page.word("none"),
+            Err(_) => page.word("failed"),
+        },
+        "name" => match parts.names.read(alloc, &name) {
+            Ok(Some(id)) => show_id("at", &id, page),
+            Ok(None) => page.word("none"),
+            Err(_) => page.word("failed"),
+        },
+        "collides" => match parts.names.collides(alloc, &name) {
+            Ok(true) => page.word("collides"),
+            Ok(false) => page.word("free"),
+            Err(_) => page.word("failed"),
+        },
+        _ => {
+            let entry = read_entry(alloc, entry)?;
+            match parts.names.move_name(alloc, &name, &entry) {
+                Ok(()) => page.word("moved"),
+                Err(_) => page.word("failed"),
+            }
+        }
+    }
+    Some(())
+}

@@ -1,0 +1,151 @@
+#!/usr/bin/env python3
+"""Writes the cases of history_word. The answers come from the grammar of commands in docs/PROTOCOL.md: what is read is the value that
+was spelled, a beginning of a command is `Truncated`, and for each line that is none the cause was written by hand."""
+
+import random
+import sys
+from pathlib import Path
+
+sys.path.insert(0, str(Path(__file__).resolve().parents[3] / "scripts"))
+from case_words import word, write
+
+ROWS = []
+
+
+def row(operation, text, answer, *more):
+    ROWS.append((" ".join([operation, text if isinstance(text, str) else word(text), *map(str, more)]), answer))
+
+
+def field(name, data, limit):
+    """A field that is kept whole, or the first 1,025 bytes of one over its limit."""
+    return f"{name}:{word(data)}" if len(data) <= limit else f"{name}:{word(data[:1025])}..."
+
+
+class Commit:
+    """A commit's value, its text, and its words."""
+
+    def __init__(self, name, expect, parents, edits, author, committer, message):
+        self.name, self.expect, self.parents, self.edits = name, expect, parents, edits
+        self.author, self.committer, self.message = author, committer, message
+
+    def text(self):
+        expect = b"at " + self.expect[1] if self.expect[0] == "at" else self.expect[0].encode()
+        lines = [b"commit %s %s" % (self.name, expect)] + [b"parent " + parent for parent in self.parents]
+        for kind, path, *content in self.edits:
+            if content:
+                lines += [b"put %s %d %d" % (kind.encode(), len(path), len(content[0])), path, content[0]]
+            else:
+                lines += [b"%s %d" % (kind.encode(), len(path)), path]
+        for who, (name, email, seconds, offset) in (("author", self.author), ("committer", self.committer)):
+            lines += [b"%s %d %d %s %s" % (who.encode(), len(name), len(email), seconds, offset), name, email]
+        return b"\n".join(lines + [b"message %d" % len(self.message), self.message, b"end", b""])
+
+    def words(self):
+        expect = "at:" + word(self.expect[1]) if self.expect[0] == "at" else self.expect[0]
+        found = ["commit:" + word(self.name), expect] + ["parent:" + word(parent) for parent in self.parents]
+        for kind, path, *content in self.edits:
+            found += [field(kind, path, 4096)] + ([field("content", content[0], 2 ** 24)] if content else [])
+        for who, (name, email, seconds, offset) in (("author", self.author), ("committer", self.committer)):
+            found += [field(who, name, 512), field("email", email, 512), "seconds:" + word(seconds), "offset:" + word(offset)]
+        return " ".join(found + [field("message", self.message, 2 ** 24)])
+
+
+A = (b"A", b"a@b", b"1", b"+0000")
+COMMIT = Commit(b"refs/heads/s", ("new",), [b"m", b"refs/heads/t"], [("file", b"a", b"hello"), ("remove", b"d"),
+                ("remove-file", b"d/x")], A, A, b"one")
+COMMIT_TEXT = (b"commit refs/heads/s new\nparent m\nparent refs/heads/t\nput file 1 5\na\nhello\nremove 1\nd\nremove-file 3\nd/x\n"
+               b"author 1 3 1 +0000\nA\na@b\ncommitter 1 3 1 +0000\nA\na@b\nmessage 3\none\nend\n")
+
+
+def commands():
+    assert COMMIT.text() == COMMIT_TEXT
+    text, words = COMMIT_TEXT, COMMIT.words()
+    row("read", text, f"more {words} end")
+    for end in range(len(text)):
+        row("read", text[:end], f"{'more' if end else 'end'} Truncated")
+    row("drops", text, f"more {words} end")
+    for good in range(len(text)):
+        row("drops", text, f"{'more' if good else 'broken'} Broken", good)
+    row("read", b"files main\n", "more files:main end")
+    row("read", b"show HEAD\n", "more show:HEAD end")
+    row("read", b"show HEAD path 2\na\n\n", f"more show:HEAD path:{word(b'a' + bytes([10]))} end")
+    row("stream", b"files main\nx", "more files:main more")
+    nobody = (b"", b"", b"s", b"o")
+    for expect in [("any",), ("new",), ("at", b"main")]:
+        commit = Commit(b"HEAD", expect, [], [], nobody, nobody, b"")
+        row("read", commit.text(), f"more {commit.words()} end")
+    row("write", b"ok files 0\n", "written:" + word(b"ok files 0\n"), "-")
+    row("write", b"ok", "written:ok")
+    row("write", b"ok ", "written:" + word(b"ok files 0\n"), word(b"files 0\n"))
+    row("write", b"", "written:-")
+
+
+def limits():
+    row("read", "x*4096", "more Truncated")
+    row("read", "x*4097", "more LineTooLong")
+    row("read", "x*4096+%0a+x", "more Syntax")
+    row("read", "files%20+x*4090+%0a", "more files:" + "x" * 4090 + " end")
+    row("read", "files%20+x*4091+%0a", "more LineTooLong")
+    row("read", "show%20a%20path%204096%0a+x*4096+%0a", "more show:a path:" + "x" * 4096 + " end")
+    row("read", "show%20a%20path%204097%0a+x*4096+%0a", "more Truncated")
+    row("read", "show%20a%20path%204097%0a+x*4096+%0a%0a", "more show:a path:" + "x" * 1025 + "... end")
+
+
+LINES = [
+    b"hello\n", b"\n", b" \n", b"files\n", b"files  main\n", b" files main\n", b"files main \n", b"files a b\n", b"end\n",
+    b"show a path\n", b"show a path 01\n", b"show a path +1\n", b"show a path 1a\n", b"show a path 18446744073709551616\n",
+    b"show a paths 1\n", b"show a path 1\nab\n", b"commit HEAD\n", b"commit HEAD newer\n", b"commit HEAD at\n",
+    b"commit HEAD new main\n", b"parent a\n", b"commit HEAD new\nparent\n", b"commit HEAD new\nparent a b\n",
+    b"commit HEAD new\nremove 0\n\nparent a\n", b"commit HEAD new\nremove\n", b"commit HEAD new\nremove 01\n",
+    b"commit HEAD new\nremove 1 1\n", b"commit HEAD new\nremove-files 1\n", b"commit HEAD new\nremove-file 1\nab\n",
+    b"commit HEAD new\nput text 1 1\n", b"commit HEAD new\ncommitter 1 1 1 1\n",
+    b"commit HEAD new\nauthor 0 0 s o\n\n\nput file 1 1\n",
+]
+# Where a line may stand, and the input ends behind it.
+BEGINNINGS = [b"commit nowhere new\n", b"commit at any\nparent parent\n",
+              b"commit HEAD new\nparent end\nremove 0\n\nremove-file 1\n\n\n", b"commit HEAD new\nremove 18446744073709551615\n",
+              b"show a path 18446744073709551615\n"]
+
+
+def lines():
+    for line in BEGINNINGS:
+        row("read", line, "more Truncated")
+    for line in LINES:
+        row("read", line, "more Syntax")
+    row("read", b"show a path 0\n\n", "more show:a path:- end")
+
+
+def by_chance(chance):
+    """A commit by chance, of which all is read, or which is cut, or has another command behind it."""
+    def data(longest):
+        return bytes(chance.choice([0, 9, 10, 32, 37, 43, 45, 47, 97, 98, 255]) for _ in range(chance.randrange(longest)))
+
+    def name():
+        return data(6).translate(None, b" \n") or b"x"
+
+    def edit():
+        kind = chance.choice(["file", "exec", "link", "remove", "remove-file"])
+        return (kind, data(9), *([data(30)] if kind in ("file", "exec", "link") else []))
+
+    expect = chance.choice([("any",), ("new",), ("at", name())])
+    actors = [(data(600 if chance.random() < 0.1 else 6), data(6), name(), name()) for _ in range(2)]
+    commit = Commit(name(), expect, [name() for _ in range(chance.randrange(4))], [edit() for _ in range(chance.randrange(5))],
+                    *actors, data(40))
+    how = chance.randrange(4)
+    if how == 0:
+        end = chance.randrange(1, len(commit.text()))
+        row("read", commit.text()[:end], "more Truncated")
+    elif how == 1:
+        row("stream", commit.text() + b"f", f"more {commit.words()} more")
+    else:
+        row("read" if how == 2 else "drops", commit.text(), f"more {commit.words()} end")
+
+
+if __name__ == "__main__":
+    commands()
+    limits()
+    lines()
+    chance = random.Random(23)
+    for _ in range(200):
+        by_chance(chance)
+    write(Path(__file__), ROWS)

@@ -1,0 +1,99 @@
+//! What was read, in words.
+
+use case_words::Page;
+use history_model::{Cause, FileKind};
+use history_word::{
+    ActorLine, Command, CommitCommand, Edit, Expect, Field, Put, Reading, Show, Stop,
+};
+
+/// What reading a command ended with.
+pub fn show_reading(reading: &Result<Reading, Stop>, page: &mut Page) {
+    match reading {
+        Ok(Reading::Command(command)) => show_command(command, page),
+        Ok(Reading::NoMemory { is_changing }) => {
+            page.word("memory:");
+            page.put(*is_changing);
+        }
+        Err(Stop::Broken) => page.word("Broken"),
+        Err(Stop::Refused(cause)) => page.word(cause_name(*cause)),
+    }
+}
+
+// A reader tells one of three causes.
+fn cause_name(cause: Cause) -> &'static str {
+    match cause {
+        Cause::Syntax => "Syntax",
+        Cause::Truncated => "Truncated",
+        Cause::LineTooLong => "LineTooLong",
+        _ => "other",
+    }
+}
+
+fn show_command(command: &Command, page: &mut Page) {
+    match command {
+        Command::Commit(commit) => show_commit(commit, page),
+        Command::Files(word) => page.named("files", word),
+        Command::Show(show) => show_show(show, page),
+    }
+}
+
+fn show_show(show: &Show, page: &mut Page) {
+    page.named("show", &show.word);
+    if let Some(path) = &show.path {
+        show_field("path", path, page);
+    }
+}
+
+fn show_commit(commit: &CommitCommand, page: &mut Page) {
+    page.named("commit", &commit.name);
+    match &commit.expect {
+        Expect::Any => page.word("any"),
+        Expect::New => page.word("new"),
+        Expect::At(word) => page.named("at", word),
+    }
+    for parent in &commit.parents {
+        page.named("parent", parent);
+    }
+    for edit in &commit.edits {
+        show_edit(edit, page);
+    }
+    show_actor("author", &commit.author, page);
+    show_actor("committer", &commit.committer, page);
+    show_field("message", &commit.message, page);
+}
+
+fn show_edit(edit: &Edit, page: &mut Page) {
+    match edit {
+        Edit::Put(put) => show_put(put, page),
+        Edit::Remove(path) => show_field("remove", path, page),
+        Edit::RemoveFile(path) => show_field("remove-file", path, page),
+    }
+}
+
+fn show_put(put: &Put, page: &mut Page) {
+    let kind = match put.kind {
+        FileKind::File => "file",
+        FileKind::Exec => "exec",
+        FileKind::Link => "link",
+    };
+    show_field(kind, &put.path, page);
+    show_field("content", &put.content, page);
+}
+
+fn show_actor(who: &str, actor: &ActorLine, page: &mut Page) {
+    show_field(who, &actor.name, page);
+    show_field("email", &actor.email, page);
+    page.named("seconds", &actor.seconds);
+    page.named("offset", &actor.offset);
+}
+
+// A field that was kept whole, or the beginning of one.
+fn show_field(name: &str, field: &Field, page: &mut Page) {
+    match field {
+        Field::Whole(bytes) => page.named(name, bytes),
+        Field::TooLong(bytes) => {
+            page.named(name, bytes);
+            page.text("...");
+        }
+    }
+}
