@@ -3,7 +3,7 @@ use Rattle.std.proofs.Common.{◌≡◌, ◌∙◌, ap, refl, sym, subst, ℕ, �
 use Rattle.std.specs.Prelude.{◌==◌, ◌⊎◌, codes}
 use Rattle.std.specs.Bool.{Decides}
 use Rattle.std.proofs.lemmas.Bool.Decides.{Decides-eqb, Decides-like, Decides-not, Decides-and, Decides-or}
-use Rattle.gix_object_lines.specs.PartialName.{BeginsWith}
+use Rattle.gix_object_lines.specs.Bytes.{BeginsWith}
 use Rattle.gix_object_signature.specs.Armor.{BeginsArmor}
 use Rattle.gix_object_signature.specs.declared.format.Format.{Format}
 use Rattle.gix_object_signature.specs.declared.format.Format.TheVariants.{OpenPgp, X509, Ssh}
@@ -11,7 +11,7 @@ use Rattle.gix_object_tag.specs.BodyTest.{begins_armor, has_later_armor, is_whol
 use Rattle.gix_object_tag.specs.Format.{IsWholeBody}
 use Rattle.gix_object_tag.specs.NameTest.{begins}
 use Rattle.gix_object_tag.specs.Signature.{IsArmored, IsSigned, IsUnsigned}
-use Rattle.gix_object_tag.proofs.NameTests.{begins-Decides}
+use Rattle.gix_object_lines.proofs.NameTests.{begins-Decides}
 
 -- ---- armors at the start, and behind
 

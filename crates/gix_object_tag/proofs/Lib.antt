@@ -1,11 +1,10 @@
 pub mod ArmorLemmas
 pub mod TagLemmas
-pub mod HexDigits
-pub mod NameTests
 pub mod PieceLemmas
 pub mod ReadBack
 pub mod ActorLines
-pub mod WholeLemmas
+pub mod Left
+pub mod Readings
 pub mod WholeReadings
 pub mod ToldParts
 pub mod SigningLemmas
@@ -15,3 +14,4 @@ pub mod OwnedReadBack
 pub mod ReadFormat
 pub mod BodyTests
 pub mod Accepted
+pub mod OnePart

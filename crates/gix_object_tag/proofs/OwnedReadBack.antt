@@ -1,18 +1,16 @@
 -- What is written of a tag that owns its parts spells it.
-use Rattle.std.proofs.Common.{◌≡◌, ◌∙◌, ap, refl, ℕ, Bool, true, false, ◌||◌, ◌&&◌, List, [], ◌∷◌, length, map, Option, Some, None}
-use Rattle.std.specs.Prelude.{FitsSigned, IfSome, if◌then◌else◌, nat_le, ◌-◌}
-use Rattle.std.specs.Char.{is_ascii_hexdigit}
+use Rattle.std.proofs.Common.{◌≡◌, refl, false, ◌||◌, length, Option, Some, None}
+use Rattle.std.specs.Prelude.{FitsSigned, IfSome}
 use Rattle.std.specs.Int.{w64}
-use Rattle.hex.specs.Hex.{hex_digit_value}
 use Rattle.gix_hash.specs.Id.{id_of}
 use Rattle.gix_hash.specs.Kind.{hex_len}
 use Rattle.gix_hash.specs.Spelling.{hex_text, IsHexOf}
-use Rattle.gix_object_lines.specs.HexLine.{is_hex}
 use Rattle.gix_object_lines.specs.Writes.{cause_of}
 use Rattle.gix_object_lines.specs.declared.lines.actor.Actor.{Actor}
+use Rattle.gix_object_lines.proofs.HexDigits.{digits_are_hex}
 use Rattle.gix_object_lines.proofs.TimeLemmas.{time_written}
 use Rattle.gix_object_tag.specs.Format.{TellsWhen}
-use Rattle.gix_object_tag.specs.OwnedText.{actor_of, parts_of_tag, is_bad_actor, is_bad_offset}
+use Rattle.gix_object_tag.specs.OwnedText.{own_person, own_parts, is_bad_actor, is_bad_offset}
 use Rattle.gix_object_tag.specs.Tag.{SpellsTag}
 use Rattle.gix_object_tag.specs.TagText.{is_marked, is_marked_tagger, tag_text, tag_refusal}
 use Rattle.gix_object_tag.specs.declared.tag.owned.Tag.{Tag}
@@ -21,31 +19,13 @@ use Rattle.gix_object_tag.specs.BodyTest.{is_whole_body}
 use Rattle.gix_object_tag.proofs.BodyTests.{is_whole_body-Decides}
 use Rattle.gix_object_tag.proofs.ReadBack.{or_left, passes, written_spells}
 
--- ---- digits
-
-one_of : (upper lower digit : Bool) (x y z d : ℕ) → (if upper then Some x else if lower then Some y else if digit then Some z else None) ≡ Some d → ((digit || upper) || lower) ≡ true
-one_of upper lower true x y z d e = refl
-one_of true lower false x y z d e = refl
-one_of false true false x y z d e = refl
-one_of false false false x y z d e = absurd cc
-
--- characters with values are digits
-digits_are_hex : (text digits : List ℕ) → IsHexOf text digits → is_hex text ≡ true
-digits_are_hex [] digits is = refl
-digits_are_hex (c ∷ text) [] is = absurd cc
-digits_are_hex (c ∷ text) (d ∷ digits) is =
-    let first : hex_digit_value c ≡ Some d = cc in
-    let rest : map hex_digit_value text ≡ map (λ (d : ℕ). Some d) digits = cc in
-    let digit : is_ascii_hexdigit c ≡ true = one_of (nat_le 65 c && nat_le c 70) (nat_le 97 c && nat_le c 102) (nat_le 48 c && nat_le c 57) (c - 55) (c - 87) (c - 48) d first in
-    ap (λ b. b && is_hex text) digit ∙ digits_are_hex text digits rest
-
 -- ---- taggers
 
-pub good_tagger : (tagger : Option Actor) → is_bad_actor tagger ≡ false → is_marked_tagger (actor_of tagger) ≡ false
+pub good_tagger : (tagger : Option Actor) → is_bad_actor tagger ≡ false → is_marked_tagger (own_person tagger) ≡ false
 good_tagger None e = refl
 good_tagger (Some actor) e = (or_left (is_marked actor.name || is_marked actor.email) (is_bad_offset actor.time.offset) e).0
 
-tells_when : (tagger : Option Actor) → IfSome tagger (λ actor. FitsSigned w64 actor.time.seconds) → is_bad_actor tagger ≡ false → TellsWhen (actor_of tagger)
+tells_when : (tagger : Option Actor) → IfSome tagger (λ actor. FitsSigned w64 actor.time.seconds) → is_bad_actor tagger ≡ false → TellsWhen (own_person tagger)
 tells_when None fits e = tt
 tells_when (Some actor) fits e =
     let both = or_left (is_marked actor.name || is_marked actor.email) (is_bad_offset actor.time.offset) e in
@@ -55,10 +35,10 @@ tells_when (Some actor) fits e =
 -- ---- the whole
 
 pub owned_spells : (tag : Tag) → length (hex_text (id_of tag.target).digits) ≡ hex_len (id_of tag.target).kind → IsHexOf (hex_text (id_of tag.target).digits) (id_of tag.target).digits
-    → IfSome tag.tagger (λ actor. FitsSigned w64 actor.time.seconds) → cause_of (tag_refusal (parts_of_tag tag) (is_bad_actor tag.tagger)) ≡ None
-    → SpellsTag (id_of tag.target).kind (tag_text (parts_of_tag tag)) (parts_of_tag tag)
+    → IfSome tag.tagger (λ actor. FitsSigned w64 actor.time.seconds) → cause_of (tag_refusal (own_parts tag) (is_bad_actor tag.tagger)) ≡ None
+    → SpellsTag (id_of tag.target).kind (tag_text (own_parts tag)) (own_parts tag)
 owned_spells tag whole spelled fits ok =
-    let parts = parts_of_tag tag in
+    let parts = own_parts tag in
     let pass = passes parts (is_bad_actor tag.tagger) (is_whole_body tag.message tag.pgp_signature) ok in
     written_spells (id_of tag.target).kind parts pass.1 (good_tagger tag.tagger pass.2) (record {
       target = (whole, digits_are_hex (hex_text (id_of tag.target).digits) (id_of tag.target).digits spelled);

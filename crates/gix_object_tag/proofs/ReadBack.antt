@@ -31,7 +31,7 @@ use Rattle.gix_object_lines.specs.TimeTest.{tells_time}
 use Rattle.gix_hash.specs.Kind.{hex_len}
 use Rattle.gix_object_tag.specs.BodyTest.{is_whole_body}
 use Rattle.gix_object_tag.proofs.BodyTests.{is_whole_body-Decides}
-use Rattle.gix_object_tag.proofs.NameTests.{is_partial-Decides}
+use Rattle.gix_object_lines.proofs.NameTests.{is_partial_name-Decides}
 
 -- ---- what isn't refused
 
@@ -69,7 +69,7 @@ name_is name true dashed e = refl
 name_is name false dashed e = absurd cc
 
 pub partial_name : (name : List ℕ) → name_fault name ≡ None → IsPartialName name
-partial_name name e = (is_partial-Decides name).0 (name_is name (is_partial name) (begins (codes "-") name) e)
+partial_name name e = (is_partial_name-Decides name).0 (name_is name (is_partial name) (begins (codes "-") name) e)
 
 -- a test that passes nowhere
 none_pass : (p q : ℕ → Bool) (text : List ℕ) → ((x : ℕ) → q x ≡ true → p x ≡ true) → list_any p text ≡ false → list_any q text ≡ false

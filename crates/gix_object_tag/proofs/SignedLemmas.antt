@@ -8,7 +8,7 @@ use Rattle.gix_object_lines.specs.declared.decode.Error.{Error}
 use Rattle.gix_object_signature.specs.declared.format.SignatureRef.{SignatureRef}
 use Rattle.gix_object_signature.specs.declared.signed.SignedData.{SignedData}
 use Rattle.gix_object_tag.specs.Format.{IsInFormat}
-use Rattle.gix_object_tag.specs.OwnedText.{parts_of_tag, is_bad_actor}
+use Rattle.gix_object_tag.specs.OwnedText.{own_parts, is_bad_actor}
 use Rattle.gix_object_tag.specs.Signature.{IsBare, IsSignedBy}
 use Rattle.gix_object_tag.specs.Signing.{IsTextToSign, TellsSigned, with_signature, write_fault}
 use Rattle.gix_object_tag.specs.Tag.{Parts, SpellsRest, Nothing, Body, SpellsTag}
@@ -29,11 +29,11 @@ unsigned kind input parts is bare = subst (λ o. IsSignedBy input o None) (sym (
 
 -- ---- the signed tag is read back
 
-signed_spells : (kind : hash.Kind) (tag : Tag) (signature : List ℕ) → write_fault tag ≡ None → IsInFormat kind (parts_of_tag (with_signature signature tag))
-    → SpellsTag kind (tag_text (parts_of_tag (with_signature signature tag))) (parts_of_tag (with_signature signature tag))
+signed_spells : (kind : hash.Kind) (tag : Tag) (signature : List ℕ) → write_fault tag ≡ None → IsInFormat kind (own_parts (with_signature signature tag))
+    → SpellsTag kind (tag_text (own_parts (with_signature signature tag))) (own_parts (with_signature signature tag))
 signed_spells kind tag signature fault format =
-    let pass = passes (parts_of_tag tag) (is_bad_actor tag.tagger) true fault in
-    written_spells kind (parts_of_tag (with_signature signature tag)) pass.1 (good_tagger tag.tagger pass.2) format
+    let pass = passes (own_parts tag) (is_bad_actor tag.tagger) true fault in
+    written_spells kind (own_parts (with_signature signature tag)) pass.1 (good_tagger tag.tagger pass.2) format
 
 tells : (input text signature : List ℕ) (found : Option (SignatureRef × SignedData)) → input ≡ text ++ signature → IsSignedBy input (Some signature) found → TellsSigned text signature found
 tells input text signature None whole h = absurd h
@@ -47,8 +47,8 @@ ok_tells input text signature (Ok found) whole h = tells input text signature fo
 ok_tells input text signature (Err error) whole h = h
 
 pub read_tells : (kind : hash.Kind) (written : List ℕ) (result : Result (Option (SignatureRef × SignedData)) Error) (tag : Tag) (text signature : List ℕ)
-    → ((parts : Parts) → SpellsTag kind written parts → IsOkAnd result (IsSignedBy written parts.signature)) → write_fault tag ≡ None → IsInFormat kind (parts_of_tag (with_signature signature tag))
+    → ((parts : Parts) → SpellsTag kind written parts → IsOkAnd result (IsSignedBy written parts.signature)) → write_fault tag ≡ None → IsInFormat kind (own_parts (with_signature signature tag))
     → IsTextToSign tag text → written ≡ text ++ signature → IsOkAnd result (TellsSigned text signature)
 read_tells kind written result tag text signature every fault format is whole =
-    let parts = parts_of_tag (with_signature signature tag) in
+    let parts = own_parts (with_signature signature tag) in
     ok_tells written text signature result whole (every parts (subst (λ t. SpellsTag kind t parts) (is signature ∙ sym whole) (signed_spells kind tag signature fault format)))

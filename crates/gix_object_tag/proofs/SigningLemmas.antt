@@ -10,7 +10,7 @@ use Rattle.gix_object_signature.specs.declared.run.RunError as run
 use Rattle.gix_object_signature.specs.declared.sign.Error.{Error}
 use Rattle.gix_object_signature.specs.declared.sign.Error.TheVariants.{Encode, Memory}
 use Rattle.gix_object_signature.specs.declared.sign.Options.{Options}
-use Rattle.gix_object_tag.specs.OwnedText.{parts_of_tag}
+use Rattle.gix_object_tag.specs.OwnedText.{own_parts}
 use Rattle.gix_object_tag.specs.Signing.{with_signature, parted, IsTextToSign, SignsTag, Unwritten, write_fault}
 use Rattle.gix_object_tag.specs.Signing as signing
 use Rattle.gix_object_tag.specs.TagText.{head_text, name_line, tagger_line, body_text, tag_text}
@@ -27,9 +27,9 @@ four_end a b c d d' back is =
     ap (λ t. a ++ (b ++ (c ++ t))) (append-nil d' ∙ is ∙ ap (λ t. t ++ back) (sym (append-nil d)))
     ∙ sym (append_assoc a (b ++ (c ++ (d ++ []))) back ∙ ap (λ t. a ++ t) (append_assoc b (c ++ (d ++ [])) back ∙ ap (λ t. b ++ t) (append_assoc c (d ++ []) back)))
 
-pub text_to_sign : (tag : Tag) (text : List ℕ) → text ≡ tag_text (parts_of_tag (with_signature [] tag)) → IsTextToSign tag text
+pub text_to_sign : (tag : Tag) (text : List ℕ) → text ≡ tag_text (own_parts (with_signature [] tag)) → IsTextToSign tag text
 text_to_sign tag text is signature =
-    let parts = parts_of_tag tag in
+    let parts = own_parts tag in
     let message = parted tag.pgp_signature tag.message in
     four_end (head_text parts.target (kind_word parts.target_kind)) (name_line parts.name) (tagger_line parts.tagger) (body_text message (Some [])) (body_text message (Some signature)) signature (body_ends message signature)
     ∙ ap (λ t. t ++ signature) (sym is)

@@ -1,26 +1,23 @@
 -- The tokens of a tag tell the parts that they are read from.
-use Rattle.std.proofs.Common.{◌≡◌, ◌∙◌, ap, refl, sym, subst, ℕ, true, false, List, [], ◌∷◌, ◌++◌, Option, Some, None, Ok}
+use Rattle.std.proofs.Common.{◌≡◌, ◌≢◌, ◌∙◌, ap, refl, sym, subst, ℕ, true, false, List, [], ◌∷◌, ◌++◌, Option, Some, None}
 use Rattle.std.specs.Prelude.{codes}
-use Rattle.bstr.specs.BStr.{bstr_bytes}
-use Rattle.bstr.specs.declared.bstr.BStr.{BStr}
+use Rattle.gix_hash.specs.Id.{Id}
 use Rattle.gix_hash.specs.declared.kind.Kind as hash
 use Rattle.gix_object_lines.specs.declared.kind.Kind.{Kind}
 use Rattle.gix_object_tag.specs.Tag as tag
 use Rattle.gix_object_tag.specs.Tag.{Parts, SpellsKind, SpellsName, SpellsTagger, SpellsRest, Nothing, SpellsTag}
-use Rattle.gix_object_tag.specs.Tokens.{Place, Stands, Steps, start}
-use Rattle.gix_object_tag.specs.Views.{tagger_of, text_of}
-use Rattle.gix_object_tag.specs.Whole.{IsFromTarget, IsFrom, Reads, TellsBody, NoBody, ABody, TellsTagger, NoTagger, ATagger, TellsParts, is_named}
-use Rattle.gix_object_tag.specs.declared.tag.ref_iter.Token.{Token}
-use Rattle.gix_object_tag.specs.declared.tag.ref_iter.Token.TheVariants.{Target, TargetKind, Name}
+use Rattle.gix_object_tag.specs.ReadingOn.{Reads}
+use Rattle.gix_object_tag.specs.Tokens.{Part, Target, TargetKind, Name, Tagger, Body, Place, IsPartAt, IsNext, stage_after, start}
+use Rattle.gix_object_tag.specs.Whole.{TellsBody, NoBody, ABody, TellsLast, NoTagger, ATagger, TellsParts}
 use Rattle.gix_object_tag.specs.declared.tag.ref_iter.Stage.{Stage}
-use Rattle.gix_object_tag.specs.declared.tag.ref_iter.Stage.TheVariants.{BeforeTarget, BeforeKind, BeforeName, BeforeTagger, BeforeBody}
-use Rattle.gix_object_tag.proofs.WholeLemmas.{step_on, end_named}
+use Rattle.gix_object_tag.specs.declared.tag.ref_iter.Stage.TheVariants as at
+use Rattle.gix_object_tag.proofs.Left.{IsFromTarget, IsFrom, is_named, step_on, end_named}
+use Rattle.gix_object_tag.proofs.OnePart.{at_target, at_kind, at_name, at_tagger, at_body}
 
 -- the part that stands at a place of this kind and stage
-placed : (kind : hash.Kind) (stage : Stage) (here next : Place) (token : Token) → here.kind ≡ kind → here.stage ≡ stage → Steps here (Some (Ok token)) next
-    → Stands kind stage here.input token next.stage next.input
-placed kind stage here next token same at steps =
-    subst (λ s. Stands kind s here.input token next.stage next.input) at (subst (λ k. Stands k here.stage here.input token next.stage next.input) same steps.2)
+placed : (kind : hash.Kind) (stage : Stage) (here next : Place) (part : Part) → here.kind ≡ kind → here.stage ≡ stage → IsNext here part next → IsPartAt kind stage here.input part next.input
+placed kind stage here next part same stood is =
+    subst (λ s. IsPartAt kind s here.input part next.input) stood (subst (λ k. IsPartAt k here.stage here.input part next.input) same is.1)
 
 -- a tag doesn't end before its name
 early : (kind : hash.Kind) (stage : Stage) (input : List ℕ) → is_named stage ≡ false → IsFrom kind stage input → input ≡ [] → ⊥
@@ -29,92 +26,91 @@ early kind stage input unnamed from empty = clash (sym unnamed ∙ end_named kin
     clash : false ≡ true → ⊥
     clash e = cc
 
-nothing_more : (here there : Place) (tokens : List Token) → here.input ≡ [] → Reads here tokens there → tokens ≡ []
+nothing_more : (here there : Place) (parts : List Part) → here.input ≡ [] → Reads here parts there → parts ≡ []
 nothing_more here there [] empty reads = refl
-nothing_more here there (token ∷ tokens) empty (next, steps, reads) = absurd (steps.0 empty)
+nothing_more here there (part ∷ parts) empty (next, is, reads) = absurd (is.0 empty)
 
 -- ---- behind the tagger
 
-abbrev BodyTold : List ℕ → List Token → Type 0
-BodyTold input tokens = (message : List ℕ) × (signature : Option (List ℕ)) × SpellsRest input message signature × TellsBody message signature tokens
+abbrev BodyTold : List ℕ → List Part → Type 0
+BodyTold input parts = (message : List ℕ) × (signature : Option (List ℕ)) × SpellsRest input message signature × TellsBody message signature parts
 
-told_body : (here there : Place) (tokens : List Token) → here.stage ≡ BeforeBody → Reads here tokens there → there.input ≡ [] → BodyTold here.input tokens
-told_body here there [] at reads end = ([], None, Nothing (ap (λ (p : Place). p.input) reads ∙ end) refl refl, NoBody refl refl refl)
-told_body here there (token ∷ more) at (next, steps, reads) end =
-    let is = placed here.kind BeforeBody here next token refl at steps in
-    let last = nothing_more next there more is.1 reads in
-    (bstr_bytes is.2.0, text_of is.2.1, is.2.3, ABody is.2.0 is.2.1 refl refl (ap (λ ts. token ∷ ts) last ∙ ap (λ t. t ∷ []) is.2.2))
+told_body : (here there : Place) (parts : List Part) → here.stage ≡ at.Body → Reads here parts there → there.input ≡ [] → BodyTold here.input parts
+told_body here there [] stood reads end = ([], None, Nothing (ap (λ (p : Place). p.input) reads ∙ end) refl refl, NoBody refl refl refl)
+told_body here there (part ∷ more) stood (next, next_is, reads) end =
+    let is = at_body here.kind here.input next.input part (placed here.kind at.Body here next part refl stood next_is) in
+    let last = nothing_more next there more is.4 reads in
+    (is.0, is.1, is.3, ABody (ap (λ ts. part ∷ ts) last ∙ ap (λ t. t ∷ []) is.2))
 
 -- ---- behind the name
 
-abbrev TaggerTold : List ℕ → List Token → Type 0
-TaggerTold input tokens =
+abbrev TaggerTold : List ℕ → List Part → Type 0
+TaggerTold input parts =
     (tagger : Option tag.Tagger) × (message : List ℕ) × (signature : Option (List ℕ)) × (after : List ℕ)
-    × SpellsTagger input tagger after × SpellsRest after message signature × TellsTagger tagger message signature tokens
+    × SpellsTagger input tagger after × SpellsRest after message signature × TellsLast tagger message signature parts
 
 no_tagger : (input rest : List ℕ) → input ≡ [] → input ≡ codes "tagger " ++ rest → ⊥
 no_tagger input rest empty begins = let clash : ◌≡◌ {A = List ℕ} [] (codes "tagger " ++ rest) = sym empty ∙ begins in cc
 
-told_tagger : (here there : Place) (tokens : List Token) → here.stage ≡ BeforeTagger → Reads here tokens there → there.input ≡ [] → TaggerTold here.input tokens
-told_tagger here there [] at reads end =
+told_tagger : (here there : Place) (parts : List Part) → here.stage ≡ at.Tagger → Reads here parts there → there.input ≡ [] → TaggerTold here.input parts
+told_tagger here there [] stood reads end =
     let empty = ap (λ (p : Place). p.input) reads ∙ end in
     (None, [], None, here.input, (refl, λ begins. no_tagger here.input begins.0 empty begins.1), Nothing empty refl refl, NoTagger refl refl refl refl)
-told_tagger here there (token ∷ more) at (next, steps, reads) end =
-    let is = placed here.kind BeforeTagger here next token refl at steps in
-    let body = told_body next there more is.0 reads end in
-    (tagger_of is.1.0, body.0, body.1, next.input, is.1.2, body.2, ATagger is.1.0 more refl (ap (λ t. t ∷ more) is.1.1) body.3)
+told_tagger here there (part ∷ more) stood (next, next_is, reads) end =
+    let is = at_tagger here.kind here.input next.input part (placed here.kind at.Tagger here next part refl stood next_is) in
+    let body = told_body next there more (next_is.2 ∙ ap stage_after is.1) reads end in
+    (is.0, body.0, body.1, next.input, is.2, body.2, ATagger more (ap (λ t. t ∷ more) is.1) body.3)
 
 -- ---- the lines before
 
-abbrev NameTold : List ℕ → List Token → Type 0
-NameTold input tokens = (name : BStr) × (after : List ℕ) × (more : List Token) × SpellsName input (bstr_bytes name) after × (tokens ≡ Name name ∷ more) × TaggerTold after more
+abbrev NameTold : List ℕ → List Part → Type 0
+NameTold input parts = (name : List ℕ) × (after : List ℕ) × (more : List Part) × SpellsName input name after × (parts ≡ Name name ∷ more) × TaggerTold after more
 
-told_name : (kind : hash.Kind) (here there : Place) (tokens : List Token) → here.stage ≡ BeforeName → IsFrom kind BeforeName here.input → Reads here tokens there → there.input ≡ []
-    → NameTold here.input tokens
-told_name kind here there [] at from reads end = absurd (early kind BeforeName here.input refl from (ap (λ (p : Place). p.input) reads ∙ end))
-told_name kind here there (token ∷ more) at from (next, steps, reads) end =
-    let is = placed here.kind BeforeName here next token refl at steps in
-    (is.1.0, next.input, more, is.1.2, ap (λ t. t ∷ more) is.1.1, told_tagger next there more is.0 reads end)
+told_name : (kind : hash.Kind) (here there : Place) (parts : List Part) → here.stage ≡ at.Name → IsFrom kind at.Name here.input → Reads here parts there → there.input ≡ []
+    → NameTold here.input parts
+told_name kind here there [] stood from reads end = absurd (early kind at.Name here.input refl from (ap (λ (p : Place). p.input) reads ∙ end))
+told_name kind here there (part ∷ more) stood from (next, next_is, reads) end =
+    let is = at_name here.kind here.input next.input part (placed here.kind at.Name here next part refl stood next_is) in
+    (is.0, next.input, more, is.2, ap (λ t. t ∷ more) is.1, told_tagger next there more (next_is.2 ∙ ap stage_after is.1) reads end)
 
-abbrev KindTold : List ℕ → List Token → Type 0
-KindTold input tokens = (target : Kind) × (after : List ℕ) × (more : List Token) × SpellsKind input target after × (tokens ≡ TargetKind target ∷ more) × NameTold after more
+abbrev KindTold : List ℕ → List Part → Type 0
+KindTold input parts = (target : Kind) × (after : List ℕ) × (more : List Part) × SpellsKind input target after × (parts ≡ TargetKind target ∷ more) × NameTold after more
 
-told_kind : (kind : hash.Kind) (here there : Place) (tokens : List Token) → here.kind ≡ kind → here.stage ≡ BeforeKind → IsFrom kind BeforeKind here.input → Reads here tokens there
-    → there.input ≡ [] → KindTold here.input tokens
-told_kind kind here there [] same at from reads end = absurd (early kind BeforeKind here.input refl from (ap (λ (p : Place). p.input) reads ∙ end))
-told_kind kind here there (token ∷ more) same at from (next, steps, reads) end =
-    let is = placed kind BeforeKind here next token same at steps in
-    let left = subst (λ s. IsFrom kind s next.input) is.0 (step_on kind BeforeKind here.input token next.stage next.input is from) in
-    (is.1.0, next.input, more, is.1.2, ap (λ t. t ∷ more) is.1.1, told_name kind next there more is.0 left reads end)
+told_kind : (kind : hash.Kind) (here there : Place) (parts : List Part) → here.kind ≡ kind → here.stage ≡ at.TargetKind → IsFrom kind at.TargetKind here.input → Reads here parts there
+    → there.input ≡ [] → KindTold here.input parts
+told_kind kind here there [] same stood from reads end = absurd (early kind at.TargetKind here.input refl from (ap (λ (p : Place). p.input) reads ∙ end))
+told_kind kind here there (part ∷ more) same stood from (next, next_is, reads) end =
+    let placed_is = placed kind at.TargetKind here next part same stood next_is in
+    let is = at_kind kind here.input next.input part placed_is in
+    let left = subst (λ p. IsFrom kind (stage_after p) next.input) is.1 (step_on kind at.TargetKind here.input part next.input placed_is from) in
+    (is.0, next.input, more, is.2, ap (λ t. t ∷ more) is.1, told_name kind next there more (next_is.2 ∙ ap stage_after is.1) left reads end)
 
-pub told_parts : (kind : hash.Kind) (input : List ℕ) (there : Place) (tokens : List Token) → IsFromTarget kind input → Reads (start kind input) tokens there → there.input ≡ []
-    → (parts : Parts) × SpellsTag kind input parts × TellsParts parts tokens
-told_parts kind input there [] from reads end = absurd (early kind BeforeTarget input refl from (ap (λ (p : Place). p.input) reads ∙ end))
-told_parts kind input there (token ∷ tokens) from (next, steps, reads) end =
-    let is : Stands kind BeforeTarget input token next.stage next.input = steps.2 in
-    let left = subst (λ s. IsFrom kind s next.input) is.0 (step_on kind BeforeTarget input token next.stage next.input is from) in
-    let target = told_kind kind next there tokens steps.1 is.0 left reads end in
+pub told_parts : (kind : hash.Kind) (input : List ℕ) (there : Place) (parts : List Part) → IsFromTarget kind input → Reads (start kind input) parts there → there.input ≡ []
+    → (told : Parts) × SpellsTag kind input told × TellsParts told parts
+told_parts kind input there [] from reads end = absurd (early kind at.Target input refl from (ap (λ (p : Place). p.input) reads ∙ end))
+told_parts kind input there (part ∷ parts) from (next, next_is, reads) end =
+    let is = at_target kind input next.input part next_is.1 in
+    let left = subst (λ p. IsFrom kind (stage_after p) next.input) is.1 (step_on kind at.Target input part next.input next_is.1 from) in
+    let target = told_kind kind next there parts next_is.3 (next_is.2 ∙ ap stage_after is.1) left reads end in
     let name = target.5 in
     let tagger = name.5 in (
-      record { target = is.1.1; target_kind = target.0; name = bstr_bytes name.0; tagger = tagger.0; message = tagger.1; signature = tagger.2 },
+      record { target = is.2.0; target_kind = target.0; name = name.0; tagger = tagger.0; message = tagger.1; signature = tagger.2 },
       record {
         after_target = next.input;
         after_kind = target.1;
         after_name = name.1;
         after_tagger = tagger.3;
-        target = is.1.3;
+        target = is.2.1;
         target_kind = target.3;
         name = name.3;
         tagger = tagger.4;
         rest = tagger.5;
       },
       record {
-        id = is.1.0;
-        name = name.0;
-        more = name.2;
-        in_order = ap (λ t. t ∷ tokens) is.1.2 ∙ ap (λ ts. Target is.1.0 ∷ ts) (target.4 ∙ ap (λ ts. TargetKind target.0 ∷ ts) name.4);
-        target = is.1.4;
-        named = refl;
-        later = tagger.6;
+        target = is.0;
+        last = name.2;
+        target_spelled = is.2.2;
+        in_order = ap (λ t. t ∷ parts) is.1 ∙ ap (λ ts. Target is.0 ∷ ts) (target.4 ∙ ap (λ ts. TargetKind target.0 ∷ ts) name.4);
+        last_told = tagger.6;
       },
     )

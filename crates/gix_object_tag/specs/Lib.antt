@@ -2,7 +2,9 @@ pub mod Signature
 pub mod Tag
 pub mod Views
 pub mod Faults
+pub mod TokenFaults
 pub mod Tokens
+pub mod ReadingOn
 pub mod NameTest
 pub mod BodyTest
 pub mod Pieces
@@ -12,3 +14,4 @@ pub mod Owned
 pub mod OwnedText
 pub mod Whole
 pub mod Signing
+pub mod Writable

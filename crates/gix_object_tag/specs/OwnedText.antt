@@ -8,17 +8,17 @@ use Rattle.gix_object_tag.specs.Tag.{Tagger, Parts}
 use Rattle.gix_object_tag.specs.TagText.{is_marked}
 use Rattle.gix_object_tag.specs.declared.tag.owned.Tag.{Tag}
 
-abbrev pub actor_of : Option Actor → Option Tagger
-actor_of None = None
-actor_of (Some actor) = Some (record { name = actor.name; email = actor.email; time = time_text actor.time })
+abbrev pub own_person : Option Actor → Option Tagger
+own_person None = None
+own_person (Some actor) = Some (record { name = actor.name; email = actor.email; time = time_text actor.time })
 
 -- the id's digits are written in lower case
-abbrev pub parts_of_tag : Tag → Parts
-parts_of_tag tag = record {
+abbrev pub own_parts : Tag → Parts
+own_parts tag = record {
   target = hex_text (id_of tag.target).digits;
   target_kind = tag.target_kind;
   name = tag.name;
-  tagger = actor_of tag.tagger;
+  tagger = own_person tag.tagger;
   message = tag.message;
   signature = tag.pgp_signature;
 }

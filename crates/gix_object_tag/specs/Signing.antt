@@ -17,7 +17,7 @@ use Rattle.gix_object_signature.specs.declared.sign.Error.TheVariants.{Encode, M
 use Rattle.gix_object_signature.specs.declared.sign.Options.{Options}
 use Rattle.gix_object_signature.specs.declared.signed.SignedData.{SignedData}
 use Rattle.gix_object_tag.specs.Owned.{IsTagOf, OwningFault}
-use Rattle.gix_object_tag.specs.OwnedText.{parts_of_tag, is_bad_actor}
+use Rattle.gix_object_tag.specs.OwnedText.{own_parts, is_bad_actor}
 use Rattle.gix_object_tag.specs.Tag.{Parts}
 use Rattle.gix_object_tag.specs.TagText.{tag_text, line_refusal}
 use Rattle.gix_object_tag.specs.declared.tag.owned.Tag.{Tag}
@@ -33,11 +33,11 @@ with_signature signature tag = record tag { message = parted tag.pgp_signature t
 
 -- what is written of the tag before its signature, whichever that is
 abbrev pub IsTextToSign : Tag → List ℕ → Type 0
-IsTextToSign tag text = (signature : List ℕ) → tag_text (parts_of_tag (with_signature signature tag)) ≡ text ++ signature
+IsTextToSign tag text = (signature : List ℕ) → tag_text (own_parts (with_signature signature tag)) ≡ text ++ signature
 
 -- why a line of the tag isn't written, if one isn't
 abbrev pub write_fault : Tag → Option write.Error
-write_fault tag = cause_of (line_refusal (parts_of_tag tag) (is_bad_actor tag.tagger))
+write_fault tag = cause_of (line_refusal (own_parts tag) (is_bad_actor tag.tagger))
 
 -- ---- signing
 

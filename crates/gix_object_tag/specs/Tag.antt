@@ -4,10 +4,9 @@ use Rattle.std.specs.Prelude.{ℕ, ◌≡◌, ◌≢◌, ◌⊎◌, List, [], �
 use Rattle.gix_hash.specs.Kind.{hex_len}
 use Rattle.gix_hash.specs.declared.kind.Kind as hash
 use Rattle.gix_object_lines.specs.Actor.{SpellsActor}
-use Rattle.gix_object_lines.specs.Bytes.{Lacks}
+use Rattle.gix_object_lines.specs.Bytes.{BeginsWith, Lacks}
 use Rattle.gix_object_lines.specs.HexLine.{hex_line, IsHex}
 use Rattle.gix_object_lines.specs.Kind.{kind_word}
-use Rattle.gix_object_lines.specs.PartialName.{BeginsWith}
 use Rattle.gix_object_lines.specs.declared.kind.Kind.{Kind}
 use Rattle.gix_object_tag.specs.Signature.{IsSigned, IsUnsigned}
 
@@ -26,10 +25,6 @@ pub record Parts : Type 0 where
   pub tagger : Option Tagger
   pub message : List ℕ
   pub signature : Option (List ℕ)
-
--- as many hexadecimal digits as an id of some kind has
-abbrev pub IsIdText : List ℕ → Type 0
-IsIdText digits = (kind : hash.Kind) × IsHex (hex_len kind) digits
 
 -- ---- the lines, each with the input that it begins and what follows it
 

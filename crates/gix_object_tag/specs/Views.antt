@@ -1,5 +1,6 @@
 -- What the values of the crate tell.
 use Rattle.std.specs.Prelude.{ℕ, List, Option, None, Some}
+use Rattle.std.specs.Option.{option_map}
 use Rattle.bstr.specs.BStr.{bstr_bytes}
 use Rattle.bstr.specs.declared.bstr.BStr.{BStr}
 use Rattle.gix_object_lines.specs.declared.lines.actor.ActorRef.{ActorRef}
@@ -11,8 +12,7 @@ tagger_of None = None
 tagger_of (Some actor) = Some (record { name = bstr_bytes actor.name; email = bstr_bytes actor.email; time = bstr_bytes actor.time })
 
 abbrev pub text_of : Option BStr → Option (List ℕ)
-text_of None = None
-text_of (Some text) = Some (bstr_bytes text)
+text_of text = option_map bstr_bytes text
 
 abbrev pub parts_of : TagRef → Parts
 parts_of tag = record {

@@ -2,7 +2,6 @@
 //! `gix-object` 0.64.
 #![tactic(auto)]
 
-mod id;
 pub mod laws;
 mod signature;
 pub mod tag;

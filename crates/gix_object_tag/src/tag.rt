@@ -1,10 +1,11 @@
 //! Tags.
 
-ghost use Rattle.std.specs.Prelude.{◌≡◌, IfOk, IfErr, IsOkAnd, MatchOption};
+ghost use Rattle.std.specs.Prelude.{◌≡◌, IsTrue, IfOk, IfErr, IsOkAnd, MatchOption};
 ghost use Rattle.bstr.specs.BStr.{bstr_bytes};
 ghost use Rattle.gix_hash.specs.Id.{id_of};
 ghost use Rattle.gix_hash.specs.Views.{IsHexOfId};
-ghost use Rattle.gix_object_tag.specs.Tag.{Parts, SpellsTag, IsIdText};
+ghost use Rattle.gix_object_lines.specs.HexLine.{is_id};
+ghost use Rattle.gix_object_tag.specs.Tag.{Parts, SpellsTag};
 ghost use Rattle.gix_object_tag.specs.Signature.{IsBare, IsSignatureOf};
 ghost use Rattle.gix_object_tag.specs.Views.{parts_of, text_of};
 ghost use Rattle.gix_object_tag.specs.Faults.{TagFault};
@@ -13,17 +14,17 @@ mod decode;
 mod owned;
 pub mod ref_iter;
 mod sign;
+mod spelling;
 mod write;
 mod write_owned;
 
-use crate::id::id_of_digits;
 pub use crate::tag::owned::Tag;
 pub use crate::tag::ref_iter::TagRefIter;
 use bstr::BStr;
 use gix_hash::ObjectId;
 use gix_object_lines::Kind;
 use gix_object_lines::decode::Error;
-use gix_object_lines::hex_line::read_hex_line;
+use gix_object_lines::hex_line::{id_of_digits, read_hex_line};
 use gix_object_lines::lines::ActorRef;
 use gix_object_signature::{Format, SignatureRef};
 
@@ -73,7 +74,7 @@ impl<'a> TagRef<'a> {
 
     /// The tagged object's id. The caller gives a tag whose target is an id's digits, as each that was read is.
     pub fn target(&self) -> ObjectId
-        requires { IsIdText (bstr_bytes self.now.target) }
+        requires { IsTrue (is_id (bstr_bytes self.now.target)) }
         ensures { IsHexOfId (bstr_bytes self.now.target) (id_of result) }
     {
         id_of_digits(self.target.as_bytes())

@@ -20,7 +20,7 @@ use Rattle.gix_object_commit.specs.OwnedText.{own_digits, own_person, own_field,
 use Rattle.gix_object_commit.specs.declared.commit.owned.Commit as owned_commit
 use Rattle.gix_object_commit_lines.specs.declared.header.ExtraHeader.{ExtraHeader}
 use Rattle.gix_object_tag.specs.Owned.{IsOwnTagger, IsTagOf}
-use Rattle.gix_object_tag.specs.OwnedText.{actor_of, parts_of_tag}
+use Rattle.gix_object_tag.specs.OwnedText.{own_person as own_tagger, own_parts as own_tag_parts}
 use Rattle.gix_object_tag.specs.Tag as tag
 use Rattle.gix_object_tag.specs.Tag.{Tagger}
 use Rattle.gix_object_tag.specs.declared.tag.owned.Tag as owned_tag
@@ -55,7 +55,7 @@ same_person person actor is kept =
     let time = same_time person.time actor.time is.time kept in
     λ i. record { name = is.name i; email = is.email i; time = time i }
 
-same_tagger : (tagger : Option Tagger) (actor : Option Actor) → IsOwnTagger tagger actor → IfSome tagger (λ tagger. IsTimeText tagger.time) → actor_of actor ≡ tagger
+same_tagger : (tagger : Option Tagger) (actor : Option Actor) → IsOwnTagger tagger actor → IfSome tagger (λ tagger. IsTimeText tagger.time) → own_tagger actor ≡ tagger
 same_tagger None None is kept = refl
 same_tagger None (Some actor) is kept = absurd is
 same_tagger (Some tagger) None is kept = absurd is
@@ -90,7 +90,7 @@ same_commit same_digits hex_len content parts own spells is kept =
     let headers = same_fields parts.headers own.extra_headers.items is.headers spells.headers in
     λ i. record { tree = tree i; parents = parents i; author = author i; committer = committer i; encoding = is.encoding i; headers = headers i; message = is.message i }
 
-same_tag : IsWrittenSo → (parts : tag.Parts) (own : owned_tag.Tag) → IsTagOf parts own → HasOwnTagTexts parts → parts_of_tag own ≡ parts
+same_tag : IsWrittenSo → (parts : tag.Parts) (own : owned_tag.Tag) → IsTagOf parts own → HasOwnTagTexts parts → own_tag_parts own ≡ parts
 same_tag same_digits parts own is kept =
     let target = same_digits parts.target (id_of own.target).digits is.target.spelled kept.target in
     let tagger = same_tagger parts.tagger own.tagger is.tagger kept.tagger in

@@ -12,7 +12,7 @@ use Rattle.gix_object_commit.specs.Writable as writable
 use Rattle.gix_object_commit.specs.Writing.{commit_refusal}
 use Rattle.gix_object_commit.specs.declared.commit.owned.Commit as owned_commit
 use Rattle.gix_object_tag.specs.NameTest.{name_fault}
-use Rattle.gix_object_tag.specs.OwnedText.{parts_of_tag, is_bad_actor}
+use Rattle.gix_object_tag.specs.OwnedText.{own_parts as own_tag_parts, is_bad_actor}
 use Rattle.gix_object_tag.specs.Tag as tag
 use Rattle.gix_object_tag.specs.Tag.{SpellsTag}
 use Rattle.gix_object_tag.specs.TagText.{tag_text, tag_refusal, is_bad_tagger, is_marked_tagger}
@@ -63,10 +63,10 @@ own_commit_back ids commit law none ids_are =
     loose ids (Commit (own_parts commit)) (subst (λ k. SpellsCommit (hex_len k) (commit_text (own_parts commit)) (own_parts commit)) ids_are (law none))
 
 pub own_tag_back : (ids : hash.Kind) (tag : owned_tag.Tag)
-    → (cause_of (tag_refusal (parts_of_tag tag) (is_bad_actor tag.tagger)) ≡ None → SpellsTag (id_of tag.target).kind (tag_text (parts_of_tag tag)) (parts_of_tag tag))
+    → (cause_of (tag_refusal (own_tag_parts tag) (is_bad_actor tag.tagger)) ≡ None → SpellsTag (id_of tag.target).kind (tag_text (own_tag_parts tag)) (own_tag_parts tag))
     → IsOwnReadBack ids (object.Tag tag)
 own_tag_back ids tag law none ids_are =
-    loose ids (Tag (parts_of_tag tag)) (subst (λ k. SpellsTag k (tag_text (parts_of_tag tag)) (parts_of_tag tag)) ids_are (law (ap cause_of none)))
+    loose ids (Tag (own_tag_parts tag)) (subst (λ k. SpellsTag k (tag_text (own_tag_parts tag)) (own_tag_parts tag)) ids_are (law (ap cause_of none)))
 
 -- ---- the other way round
 

@@ -8,7 +8,7 @@ use Rattle.gix_object_commit.specs.Owned as commit_owned
 use Rattle.gix_object_commit.specs.OwnedText.{own_parts, own_refusal}
 use Rattle.gix_object_tag.specs.Owned.{IsTagOf}
 use Rattle.gix_object_tag.specs.Owned as tag_owned
-use Rattle.gix_object_tag.specs.OwnedText.{parts_of_tag, is_bad_actor}
+use Rattle.gix_object_tag.specs.OwnedText.{own_parts as own_tag_parts, is_bad_actor}
 use Rattle.gix_object_tag.specs.TagText.{tag_refusal}
 use Rattle.gix_object_entries.specs.Entry.{own_item}
 use Rattle.gix_object_entries.specs.Writing.{tree_refusal}
@@ -21,14 +21,14 @@ abbrev pub own_value : Object → Value
 own_value (object.Blob blob) = Blob blob.content
 own_value (object.Tree tree) = Tree (map own_item tree.entries.items)
 own_value (object.Commit commit) = Commit (own_parts commit)
-own_value (object.Tag tag) = Tag (parts_of_tag tag)
+own_value (object.Tag tag) = Tag (own_tag_parts tag)
 
 -- what of it is refused: an actor also where its offset has no text
 abbrev pub own_value_refusal : Object → Option Refusal
 own_value_refusal (object.Blob blob) = None
 own_value_refusal (object.Tree tree) = tree_refusal (map own_item tree.entries.items)
 own_value_refusal (object.Commit commit) = own_refusal commit
-own_value_refusal (object.Tag tag) = tag_refusal (parts_of_tag tag) (is_bad_actor tag.tagger)
+own_value_refusal (object.Tag tag) = tag_refusal (own_tag_parts tag) (is_bad_actor tag.tagger)
 
 -- ---- owned from borrowed parts
 

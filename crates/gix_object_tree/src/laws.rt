@@ -15,9 +15,8 @@ use gix_object_entries::laws::{
     bytes_spell_one_tree, read_tree_is_written, written_tree_is_read_back,
 };
 use gix_object_lines::decode::loose_header;
-use gix_object_tag::laws::{
-    bytes_spell_one_tag, read_tag_is_written, read_tag_is_written_back, written_tag_is_read_back,
-};
+use gix_object_tag::laws as tags;
+use gix_object_tag::laws::one_tag;
 
 /// Bytes are a header and as much content as it tells in one way at most.
 pub fn one_kind_and_content(bytes: &[u8])
@@ -34,7 +33,7 @@ pub fn one_value(content: &[u8], hash_kind: gix_hash::Kind)
 {
     bytes_spell_one_tree(content, hash_kind);
     one_commit(content, hash_kind);
-    bytes_spell_one_tag(content, hash_kind);
+    one_tag(content, hash_kind);
 }
 
 /// Bytes are one loose object at most, so they alone tell what `ObjectRef::from_loose` reads.
@@ -55,7 +54,7 @@ pub fn written_object_is_read_back(object: &ObjectRef<'_>, hash_kind: gix_hash::
         ObjectRef::Blob(_) => {}
         ObjectRef::Tree(tree) => written_tree_is_read_back(tree, hash_kind),
         ObjectRef::Commit(_) => written_is_read(),
-        ObjectRef::Tag(tag) => written_tag_is_read_back(tag, hash_kind),
+        ObjectRef::Tag(_) => tags::written_is_read(hash_kind),
     }
 }
 
@@ -76,8 +75,7 @@ pub fn read_object_is_written_back(bytes: &[u8], hash_kind: gix_hash::Kind)
     let content = content_of(bytes);
     read_tree_is_written(content, hash_kind);
     read_is_written(content, hash_kind);
-    read_tag_is_written(content, hash_kind);
-    read_tag_is_written_back(content, hash_kind);
+    tags::read_is_written(content, hash_kind);
 }
 
 // What stands behind the header of a loose object.

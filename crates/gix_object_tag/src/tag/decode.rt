@@ -10,7 +10,7 @@ ghost use Rattle.gix_object_tag.specs.Faults.{LineFault, KindFault, NameFault, T
 use crate::signature::split_signature;
 use bstr::BStr;
 use gix_object_lines::Kind;
-use gix_object_lines::cut::{before, behind, split_once};
+use gix_object_lines::cut::{split_once, strip_prefix, strip_suffix};
 use gix_object_lines::decode::Error;
 use gix_object_lines::lines::{ActorRef, read_actor};
 
@@ -20,7 +20,7 @@ fn line<'a>(input: &'a [u8], word: &[u8]) -> Result<(&'a [u8], &'a [u8]), Error>
     ensures every { (value after : List ℕ) → IsLine word.now input.now value after → IsOkAnd result (λ cut. (cut.0.now ≡ value) × (cut.1.now ≡ after)) }
     ensures refused { IfErr result (λ error. LineFault word.now input.now error) }
 {
-    let rest = behind(input, word).ok_or(Error::FieldName)?;
+    let rest = strip_prefix(input, word).ok_or(Error::FieldName)?;
     split_once(rest, b'\n').ok_or(Error::LineEnd)
 }
 
@@ -56,7 +56,7 @@ pub(crate) fn tagger(input: &[u8]) -> Result<(Option<ActorRef<'_>>, &[u8]), Erro
     ensures every { (tagger : Option Tagger) (after : List ℕ) → SpellsTagger input.now tagger after → IsOkAnd result (λ cut. (tagger_of cut.0 ≡ tagger) × (cut.1.now ≡ after)) }
     ensures refused { IfErr result (λ error. TaggerFault input.now error) }
 {
-    if behind(input, b"tagger ").is_none() {
+    if strip_prefix(input, b"tagger ").is_none() {
         return Ok((None, input));
     }
     let (text, rest) = line(input, b"tagger ")?;
@@ -74,7 +74,7 @@ pub(crate) fn rest(input: &[u8]) -> Result<(BStr<'_>, Option<BStr<'_>>), Error>
     if input.is_empty() {
         return Ok((BStr::new(b""), None));
     }
-    match behind(input, b"\n") {
+    match strip_prefix(input, b"\n") {
         Some(text) => Ok(body(text)),
         None => Err(Error::FieldName),
     }
@@ -87,7 +87,7 @@ fn body(text: &[u8]) -> (BStr<'_>, Option<BStr<'_>>)
 {
     match split_signature(text) {
         Some((front, signature)) => {
-            let message = before(front, b"\n").unwrap_or(front);
+            let message = strip_suffix(front, b"\n").unwrap_or(front);
             (BStr::new(message), Some(BStr::new(signature)))
         }
         None => (BStr::new(text), None),

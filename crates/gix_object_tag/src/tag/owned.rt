@@ -6,13 +6,13 @@ ghost use Rattle.gix_object_lines.specs.declared.decode.Error.TheVariants.{Inval
 ghost use Rattle.gix_object_tag.specs.Format.{TellsWhen};
 ghost use Rattle.gix_object_tag.specs.Owned.{IsOwnTagger, IsTagOf, OwningFault};
 ghost use Rattle.gix_object_tag.specs.Signature.{IsBare, IsSignatureOf};
-ghost use Rattle.gix_object_tag.specs.Views.{parts_of, tagger_of, text_of};
+ghost use Rattle.gix_object_tag.specs.Views.{parts_of, tagger_of};
 
 use crate::tag::TagRef;
-use bstr::BStr;
 use gix_hash::ObjectId;
 use gix_object_lines::decode::Error;
 use gix_object_lines::lines::{Actor, ActorRef};
+use gix_object_lines::text::{own_text, own_text_if_any};
 use gix_object_lines::{ByteString, Kind};
 use gix_object_signature::{Format, SignatureRef};
 use std::alloc::Global;
@@ -56,9 +56,9 @@ impl<'a> TagRef<'a> {
             return Err(Error::HexDigits);
         };
         let tagger = own_tagger(alloc, self.tagger)?;
-        let name = own(alloc, self.name)?;
-        let message = own(alloc, self.message)?;
-        let pgp_signature = own_signature(alloc, self.pgp_signature)?;
+        let name = own_text(alloc, self.name)?;
+        let message = own_text(alloc, self.message)?;
+        let pgp_signature = own_text_if_any(alloc, self.pgp_signature)?;
         Ok(Tag {
             target,
             target_kind: self.target_kind,
@@ -77,26 +77,6 @@ fn own_tagger(alloc: Global, tagger: Option<ActorRef<'_>>) -> Result<Option<Acto
 {
     match tagger {
         Some(actor) => Ok(Some(actor.to_owned(alloc)?)),
-        None => Ok(None),
-    }
-}
-
-fn own(alloc: Global, text: BStr<'_>) -> Result<ByteString, Error>
-    ensures own { IfOk result (λ copy. copy ≡ bstr_bytes text.entry) }
-    ensures refused { IfErr result (λ error. error ≡ Memory) }
-{
-    match ByteString::from_slice(alloc, text.as_bytes()) {
-        Ok(copy) => Ok(copy),
-        Err(_) => Err(Error::Memory),
-    }
-}
-
-fn own_signature(alloc: Global, signature: Option<BStr<'_>>) -> Result<Option<ByteString>, Error>
-    ensures own { IfOk result (λ copy. copy ≡ text_of signature.entry) }
-    ensures refused { IfErr result (λ error. error ≡ Memory) }
-{
-    match signature {
-        Some(signature) => Ok(Some(own(alloc, signature)?)),
         None => Ok(None),
     }
 }

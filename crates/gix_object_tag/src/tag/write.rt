@@ -1,22 +1,22 @@
 //! Writing tags.
 
-ghost use Rattle.std.specs.Prelude.{◌≡◌, ◌≤◌, ◌^◌, Some, None, codes, flat_map, length, MatchOption};
+ghost use Rattle.std.specs.Prelude.{◌≡◌, ◌≤◌, ◌^◌, ◌+◌, Some, flat_map, length, MatchOption};
 ghost use Rattle.bstr.specs.BStr.{bstr_bytes};
 ghost use Rattle.gix_object_lines.specs.HexLine as hex;
 ghost use Rattle.gix_object_lines.specs.Kind.{kind_word};
 ghost use Rattle.gix_object_lines.specs.Writes.{Writes};
 ghost use Rattle.gix_object_lines.specs.declared.kind.Kind.TheVariants.{Tag as TagKind};
 ghost use Rattle.gix_object_tag.specs.NameTest as name_test;
-ghost use Rattle.gix_object_tag.specs.TagText.{head_text, name_line, tagger_line, body_text, name_refusal, tagger_refusal, unspellable_unless, is_bad_tagger, is_marked, tag_text, tag_refusal};
+ghost use Rattle.gix_object_tag.specs.TagText.{head_text, name_line, tagger_line, body_text, name_refusal, tagger_refusal, unspellable_unless, is_bad_tagger, tag_text, tag_refusal};
 ghost use Rattle.gix_object_tag.specs.Views.{parts_of, tagger_of, text_of};
 
-use crate::signature::is_whole_body;
 use crate::tag::TagRef;
-use crate::write::{length_of, write_all, write_spellable};
+use crate::tag::spelling::{is_marked, is_whole_body, name_fault};
+use crate::write::{write_all, write_spellable};
 use bstr::BStr;
 use gix_object_lines::hex_line::is_id;
-use gix_object_lines::lines::{ActorRef, is_partial_name, tells_time};
-use gix_object_lines::write::{Error, TagNameError};
+use gix_object_lines::lines::{ActorRef, tells_time};
+use gix_object_lines::write::{Error, add_lengths};
 use gix_object_lines::{Kind, WriteTo, encode};
 use std::io;
 
@@ -40,13 +40,11 @@ impl<'a> WriteTo for TagRef<'a> {
     }
 
     fn size(&self) -> Option<u64> {
-        let head = length_of(&head_parts(self.target.as_bytes(), self.target_kind.as_bytes()))?;
-        let name = length_of(&name_parts(self.name.as_bytes()))?;
-        let tagger = tagger_length(self.tagger)?;
-        let body = length_of(&body_parts(self.message, self.pgp_signature))?;
-        head.checked_add(name)?
-            .checked_add(tagger)?
-            .checked_add(body)
+        let head = head_parts(self.target.as_bytes(), self.target_kind.as_bytes());
+        let head = add_lengths(0, &head)?;
+        let name = add_lengths(head, &name_parts(self.name.as_bytes()))?;
+        let tagger = add_tagger(name, self.tagger)?;
+        add_lengths(tagger, &body_parts(self.message, self.pgp_signature))
     }
 }
 
@@ -104,25 +102,6 @@ pub(crate) fn write_name<W: io::Write>(name: BStr<'_>, out: &mut W) -> Result<()
     write_all(&name_parts(name), out)
 }
 
-// Why the name is no tag's, if it isn't.
-fn name_fault(name: &[u8]) -> Option<TagNameError>
-    ensures { result ≡ name_test.name_fault name.now }
-{
-    if !is_partial_name(name) {
-        return Some(TagNameError::InvalidRefName);
-    }
-    if begins_with_dash(name) {
-        return Some(TagNameError::StartsWithDash);
-    }
-    None
-}
-
-fn begins_with_dash(name: &[u8]) -> bool
-    ensures { result ≡ name_test.begins (codes "-") name.now }
-{
-    name.starts_with(b"-")
-}
-
 fn write_tagger<W: io::Write>(tagger: Option<ActorRef<'_>>, out: &mut W) -> Result<(), Error>
     ensures { Writes (W.contents out.old) (W.contents out.new) (tagger_line (tagger_of tagger.entry)) (tagger_refusal (is_bad_tagger (tagger_of tagger.entry))) result }
 {
@@ -138,14 +117,6 @@ fn write_tagger<W: io::Write>(tagger: Option<ActorRef<'_>>, out: &mut W) -> Resu
     write_all(&tagger_parts(name, email, time), out)
 }
 
-// Whether a `<`, a `>` or a line feed stands in a name or an email.
-pub(crate) fn is_marked(part: &[u8]) -> bool
-    ensures { result ≡ is_marked part.now }
-{
-    part.iter()
-        .any(|byte| *byte == b'<' || *byte == b'>' || *byte == b'\n')
-}
-
 pub(crate) fn write_body<W: io::Write>(
     message: BStr<'_>,
     signature: Option<BStr<'_>>,
@@ -159,15 +130,16 @@ pub(crate) fn write_body<W: io::Write>(
 
 // ---- their lengths
 
-fn tagger_length(tagger: Option<ActorRef<'_>>) -> Option<u64>
-    ensures { MatchOption result (2 ^ 64 ≤ length (tagger_line (tagger_of tagger.entry))) (λ n. n ≡ length (tagger_line (tagger_of tagger.entry))) }
+fn add_tagger(before: u64, tagger: Option<ActorRef<'_>>) -> Option<u64>
+    ensures { let text = tagger_line (tagger_of tagger.entry) in
+        MatchOption result (2 ^ 64 ≤ before + length text) (λ total. total ≡ before + length text) }
 {
     match tagger {
-        Some(actor) => length_of(&tagger_parts(
-            actor.name.as_bytes(),
-            actor.email.as_bytes(),
-            actor.time.as_bytes(),
-        )),
-        None => Some(0),
+        Some(actor) => {
+            let name = actor.name.as_bytes();
+            let email = actor.email.as_bytes();
+            add_lengths(before, &tagger_parts(name, email, actor.time.as_bytes()))
+        }
+        None => Some(before),
     }
 }

@@ -12,7 +12,7 @@ use crate::laws::read_object_is_written_back;
 use gix_hash::laws::lower_case_is_written;
 use gix_object_commit::laws::owned::owned_written_is_read;
 use gix_object_entries::laws::owned_written_tree_is_read_back;
-use gix_object_tag::laws::owned::owned_written_tag_is_read_back;
+use gix_object_tag::laws::owned as tags;
 
 /// What is written of an object that owns its parts and isn't refused, behind its header, is a loose object that tells its
 /// value, where its ids are of this hash function.
@@ -24,7 +24,7 @@ pub fn owned_written_object_is_read_back(object: &Object, _hash_kind: gix_hash::
         Object::Blob(_) => {}
         Object::Tree(tree) => owned_written_tree_is_read_back(tree, _hash_kind),
         Object::Commit(commit) => owned_written_is_read(commit),
-        Object::Tag(tag) => owned_written_tag_is_read_back(tag),
+        Object::Tag(tag) => tags::owned_written_is_read(tag),
     }
 }
 

@@ -1,9 +1,9 @@
-use Rattle.std.proofs.Common.{◌≡◌, ◌∙◌, ap, sym, subst, refl, Bool, true, false, ◌||◌, [], ◌∷◌, ◌++◌, Some, Ok}
-use Rattle.gix_object_tag.specs.Tokens.{place_of, start, Place, HasPart, Stands, Steps}
-use Rattle.gix_object_tag.specs.Whole.{IsFrom, is_named, tells_name}
-use Rattle.gix_object_tag.specs.declared.tag.ref_iter.Token.{Token}
-use Rattle.gix_object_tag.proofs.WholeLemmas.{tag_to, has_part, step_on, named_on, end_named}
-use Rattle.gix_object_tag.proofs.WholeReadings.{reads_more, reads_named, is_tag, is_read}
+use Rattle.std.proofs.Common.{◌≡◌, ◌∙◌, ap, sym, subst, refl, Bool, true, false, ◌||◌, [], ◌∷◌, ◌++◌}
+use Rattle.gix_object_tag.specs.Tokens.{Part, part_of, place_of, start, Place, IsPartAt, IsNext}
+use Rattle.gix_object_tag.specs.Whole.{tells_name}
+use Rattle.gix_object_tag.proofs.Left.{IsFrom, is_named, tag_to, has_part, step_on, named_on, end_named}
+use Rattle.gix_object_tag.proofs.Readings.{reads_more}
+use Rattle.gix_object_tag.proofs.WholeReadings.{reads_named, is_tag, is_read}
 use Rattle.gix_object_tag.proofs.laws.tokens_tell_a_tag.Goals as goal
 
 still : (named tells : Bool) → named ≡ true → named ≡ (named || tells)
@@ -15,8 +15,15 @@ now true tells later e is = absurd cc
 now false tells later e is = is
 
 -- whether the name has been told, behind a step
-named_behind : (here next : Place) (token : Token) (named later : Bool) → Steps here (Some (Ok token)) next → named ≡ is_named here.stage → later ≡ (named || tells_name token) → later ≡ is_named next.stage
-named_behind here next token named later steps is told = told ∙ ap (λ n. n || tells_name token) is ∙ named_on here.kind here.stage here.input token next.stage next.input steps.2
+named_behind : (here next : Place) (part : Part) (named later : Bool) → IsNext here part next → named ≡ is_named here.stage → later ≡ (named || tells_name part) → later ≡ is_named next.stage
+named_behind here next part named later step is told =
+    told ∙ ap (λ n. n || tells_name part) is ∙ named_on here.kind here.stage here.input part next.input step.1 ∙ ap is_named (sym step.2)
+
+-- what is left of a tag behind a step
+on_behind : (kind : _) (here next : Place) (part : Part) → here.kind ≡ kind → IsNext here part next → IsFrom kind here.stage here.input → IsFrom kind next.stage next.input
+on_behind kind here next part same step from =
+    subst (λ s. IsFrom kind s next.input) (sym step.2)
+    (step_on kind here.stage here.input part next.input (subst (λ k. IsPartAt k here.stage here.input part next.input) same step.1) from)
 
 pub tokens-init : goal.tokens-init
 tokens-init c =
@@ -36,14 +43,13 @@ tokens-preserved-then-named c =
     let kind = c.args.hash_kind in
     let here = place_of c.tokens.tokens in
     let next = place_of c.next.new.self in
-    let token = c.in-Ok.token in
-    let steps = rw c.in-Ok.is at c.in-Some.ensures.steps in
-    let stands = subst (λ k. Stands k here.stage here.input token next.stage next.input) i.kind steps.2 in
+    let part = part_of c.in-Ok.token in
+    let step = rw c.in-Ok.is at c.in-Some.ensures.steps in
     record {
-      kind = steps.1 ∙ i.kind;
-      on = λ is. step_on kind here.stage here.input token next.stage next.input stands (i.on is);
-      read = (i.read.0 ++ token ∷ [], reads_more (start kind c.args.input.now) here next i.read.0 token i.read.1 steps);
-      named = named_behind here next token c.tokens.named c.tokens.named steps i.named (still c.tokens.named (tells_name token) c.if-named.true);
+      kind = step.3 ∙ i.kind;
+      on = λ is. on_behind kind here next part i.kind step (i.on is);
+      read = (i.read.0 ++ part ∷ [], reads_more (start kind c.args.input.now) here next i.read.0 part i.read.1 step);
+      named = named_behind here next part c.tokens.named c.tokens.named step i.named (still c.tokens.named (tells_name part) c.if-named.true);
     }
 
 pub tokens-preserved : goal.tokens-preserved
@@ -52,14 +58,13 @@ tokens-preserved c =
     let kind = c.args.hash_kind in
     let here = place_of c.tokens.tokens in
     let next = place_of c.next.new.self in
-    let token = c.in-Ok.token in
-    let steps = rw c.in-Ok.is at c.in-Some.ensures.steps in
-    let stands = subst (λ k. Stands k here.stage here.input token next.stage next.input) i.kind steps.2 in
+    let part = part_of c.in-Ok.token in
+    let step = rw c.in-Ok.is at c.in-Some.ensures.steps in
     record {
-      kind = steps.1 ∙ i.kind;
-      on = λ is. step_on kind here.stage here.input token next.stage next.input stands (i.on is);
-      read = (i.read.0 ++ token ∷ [], reads_more (start kind c.args.input.now) here next i.read.0 token i.read.1 steps);
-      named = named_behind here next token c.tokens.named c.is_name-named.result steps i.named (now c.tokens.named (tells_name token) c.is_name-named.result c.if-named.false c.is_name-named.ensures);
+      kind = step.3 ∙ i.kind;
+      on = λ is. on_behind kind here next part i.kind step (i.on is);
+      read = (i.read.0 ++ part ∷ [], reads_more (start kind c.args.input.now) here next i.read.0 part i.read.1 step);
+      named = named_behind here next part c.tokens.named c.is_name-named.result step i.named (now c.tokens.named (tells_name part) c.is_name-named.result c.if-named.false c.is_name-named.ensures);
     }
 
 pub returns-in-Err-clause-reader : goal.returns-in-Err-clause-reader
@@ -67,8 +72,8 @@ returns-in-Err-clause-reader c =
     let i = c.tokens.invariant in
     let kind = c.args.hash_kind in
     let here = place_of c.tokens.tokens in
-    let steps = rw c.in-Err.is at c.in-Some.ensures.steps in (
-      λ is. absurd (steps.2 (subst (λ k. HasPart k here.stage here.input) (sym i.kind) (has_part kind here.stage here.input (i.on is)))),
+    let step = rw c.in-Err.is at c.in-Some.ensures.steps in (
+      λ is. let part = has_part kind here.stage here.input (i.on is) in absurd (step.0.1 part.0 part.1 (subst (λ k. IsPartAt k here.stage here.input part.0 part.1) (sym i.kind) part.2)),
       is_tag kind c.args.input.now,
     )
 
@@ -76,9 +81,9 @@ pub returns-in-Err-clause-answer : goal.returns-in-Err-clause-answer
 returns-in-Err-clause-answer c =
     let i = c.tokens.invariant in
     let here = place_of c.tokens.tokens in
-    let steps = rw c.in-Err.is at c.in-Some.ensures.steps in (
+    let step = rw c.in-Err.is at c.in-Some.ensures.steps in (
       λ e. absurd cc,
-      λ is. absurd (steps.2 (subst (λ k. HasPart k here.stage here.input) (sym i.kind) (has_part c.args.hash_kind here.stage here.input (i.on is)))),
+      λ is. let part = has_part c.args.hash_kind here.stage here.input (i.on is) in absurd (step.0.1 part.0 part.1 (subst (λ k. IsPartAt k here.stage here.input part.0 part.1) (sym i.kind) part.2)),
     )
 
 pub returns-clause-reader : goal.returns-clause-reader

@@ -13,4 +13,4 @@ pub returns-in-Commit : goal.returns-in-Commit
 returns-in-Commit c = subst (λ o. IsReadBack c.args.hash_kind (value_of o)) (sym c.in-Commit.is) (commit_back c.args.hash_kind _ (c.written_is_read.ensures _))
 
 pub returns-in-Tag : goal.returns-in-Tag
-returns-in-Tag c = subst (λ o. IsReadBack c.args.hash_kind (value_of o)) (sym c.in-Tag.is) (tag_back c.args.hash_kind _ c.written_tag_is_read_back.ensures)
+returns-in-Tag c = subst (λ o. IsReadBack c.args.hash_kind (value_of o)) (sym c.in-Tag.is) (tag_back c.args.hash_kind _ (c.written_is_read-in-Tag.ensures _))

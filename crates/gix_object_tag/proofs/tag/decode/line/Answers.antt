@@ -20,4 +20,4 @@ every word input rest (Some x) (Ok y) is same h value after line =
 every word input rest (Some x) (Err e) is same h value after line = absurd cc
 
 pub returns-clause-every : goal.returns-clause-every
-returns-clause-every c = every c.args.word.now c.args.input.now c.in_ok-rest.rest.now c.split_once.result c.ok_or-2.result (rw c.in_ok-rest.ensures.ok_part at c.behind.ensures) c.ok_or-2.ensures.ok_part c.split_once.ensures
+returns-clause-every c = every c.args.word.now c.args.input.now c.in_ok-rest.rest.now c.split_once.result c.ok_or-2.result (rw c.in_ok-rest.ensures.ok_part at c.strip_prefix.ensures) c.ok_or-2.ensures.ok_part c.split_once.ensures

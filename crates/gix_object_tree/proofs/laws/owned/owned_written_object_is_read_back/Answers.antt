@@ -12,4 +12,4 @@ pub returns-in-Commit : goal.returns-in-Commit
 returns-in-Commit c = subst (IsOwnReadBack c.args._hash_kind) (sym c.in-Commit.is) (own_commit_back c.args._hash_kind c.in-Commit.commit c.owned_written_is_read.ensures)
 
 pub returns-in-Tag : goal.returns-in-Tag
-returns-in-Tag c = subst (IsOwnReadBack c.args._hash_kind) (sym c.in-Tag.is) (own_tag_back c.args._hash_kind c.in-Tag.tag c.owned_written_tag_is_read_back.ensures)
+returns-in-Tag c = subst (IsOwnReadBack c.args._hash_kind) (sym c.in-Tag.is) (own_tag_back c.args._hash_kind c.in-Tag.tag c.owned_written_is_read-in-Tag.ensures)

@@ -1,5 +1,0 @@
-use Rattle.gix_object_tag.proofs.SignedLemmas.{read_tells}
-use Rattle.gix_object_tag.proofs.laws.signed_data_is_the_text_that_was_signed.Goals as goal
-
-pub returns : goal.returns
-returns c = λ tag text signature. read_tells c.args.hash_kind c.args.written.now c.signature.result tag text signature c.signature.ensures.every
