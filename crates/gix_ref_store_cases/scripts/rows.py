@@ -469,6 +469,30 @@ rows.append((f"strip - refs/namespaces/a/x {spaces.files()} a", "outside " + spa
 for number in [0, 1, 32768, 100000, 2 ** 64 - 1]:
     rows.append((f"threshold - {number} HEAD={b'ref: refs/heads/main'.hex()}", f"32768 {number}"))
 
+# git-rev-parse tells a worktree's own folder, the shared one and where packed references stand; a folder in the `refs` or `logs` of the
+# other, and one that is no path, is of no store by the port's own rule.
+def folders(folder, asked, files):
+    room = linked if folder.startswith("worktrees/") else tree.folder
+    told = [run(room, "rev-parse", "--path-format=absolute", *words).stdout.strip() for words in (["--git-dir"], ["--git-common-dir"], ["--git-path", "packed-refs"])]
+    own, shared, packed = [os.path.relpath(path, os.path.realpath(tree.path(""))).removeprefix(".") for path in told]
+    lengths = {path: len(digits) // 2 for path, digits in (item.split("=") for item in files.split(";"))}
+    rows.append((f"folders {folder} {asked} {files}",
+                 f"[{own}] [{'none' if own == shared else shared}] [{shared}] [{packed}] {str(folder != '+').lower()} {lengths.get(asked, 'no file')}"))
+
+
+for folder in ["-", "+", "worktrees/linked"]:
+    for asked in ["HEAD", "packed-refs", "refs", "nothing", "worktrees/linked/HEAD"]:
+        folders(folder, asked, tree.files())
+for folder in ["refs", "refs/x", "logs/x", "a//b", ".", "..", "/a", "a/"]:
+    rows.append((f"folders {folder} HEAD {tree.files()}", "no store"))
+
+# Which updates are written, as gix-ref declares them.
+declared = ["always", "normal", "disable"]
+for one in declared:
+    for other in declared:
+        word = "Less" if declared.index(one) < declared.index(other) else "Equal" if one == other else "Greater"
+        rows.append((f"order_of_updates - {one},{other} HEAD={b'ref: refs/heads/main'.hex()}", " ".join([word] + [str(one == other).lower()] * 2)))
+
 # An operation by another call answers what its sister does, whose answer is git's: each so many rows, and those of errors.
 unread = "packed-refs=" + b"no record\n".hex()
 for operation, sister, step in [("try_find", "find", 5), ("try_find_packed", "packed", 1), ("try_find_packed", "find", 11), ("try_find_loose", "loose", 1),

@@ -3,7 +3,7 @@
 use crate::ends::{end, pristine};
 use crate::lists::list;
 use crate::logs::log;
-use crate::names::{strip, threshold};
+use crate::names::{folders, order_of_updates, strip, threshold};
 use crate::objects::Objects;
 use crate::tries::{look_up, refreshed};
 use crate::{files, packed};
@@ -33,7 +33,7 @@ fn store(
         Store::at_opts(files, root, options)
     } else {
         let git_dir = folder.as_bytes().to_vec(alloc)?;
-        Store::for_linked_worktree_opts(files, git_dir, root, Options::default())
+        Store::for_linked_worktree(files, git_dir, root)
     };
     Ok(made.ok())
 }
@@ -167,6 +167,8 @@ fn other(
         }
         "strip" => strip(alloc, &store, asked, last),
         "threshold" => threshold(alloc, &mut store, asked),
+        "folders" => folders(alloc, store, asked),
+        "order_of_updates" => order_of_updates(alloc, asked),
         _ => format!(in alloc; "no operation"),
     }
 }

@@ -1,10 +1,13 @@
-//! Namespaces of references, and the number that a store keeps.
+//! Namespaces of references, and what a store was told: its folders, its options and a number.
 
 use crate::cases::shown;
-use gix_ref_file::MemoryFiles;
+use bstr::BStr;
+use gix_ref_file::{Files, MemoryFiles, Place};
 use gix_ref_name::{PartialNameRef, namespace};
 use gix_ref_store::store::file::Store;
+use gix_ref_store::{Options, WriteReflog};
 use std::alloc::{AllocError, Global};
+use std::hash::{DefaultHasher, Hash, Hasher};
 
 /// The name of a word's reference without the front of this namespace, and the reference once the front is taken off.
 pub fn strip(
@@ -44,4 +47,47 @@ pub fn threshold(
     let usual = store.set_packed_buffer_mmap_threshold(number);
     let kept = store.set_packed_buffer_mmap_threshold(usual);
     format!(in alloc; "{usual} {kept}")
+}
+
+/// The store's own folder, the shared one where it is another, that one in either case, where packed references stand, whether its
+/// options are the usual ones, and how long the file of this path is among the files that are taken out.
+pub fn folders(alloc: Global, store: Store<MemoryFiles>, path: &str) -> Result<String, AllocError> {
+    let own = BStr::new(store.git_dir());
+    let other = BStr::new(store.common_dir().unwrap_or(b"none"));
+    let shared = BStr::new(store.common_dir_resolved());
+    let packed = store.packed_refs_path(alloc)?;
+    let packed = BStr::new(packed.as_slice());
+    let is_usual = store.options() == Options::default();
+    let told = format!(in alloc; "[{own}] [{other}] [{shared}] [{packed}] {is_usual}")?;
+    match store.into_files().kind_of(path.as_bytes()) {
+        Ok(Place::File(length)) => format!(in alloc; "{told} {length}"),
+        Ok(_) => format!(in alloc; "{told} no file"),
+        Err(_) => format!(in alloc; "{told} unread"),
+    }
+}
+
+fn read_updates(word: &str) -> Option<WriteReflog> {
+    match word {
+        "always" => Some(WriteReflog::Always),
+        "normal" => Some(WriteReflog::Normal),
+        "disable" => Some(WriteReflog::Disable),
+        _ => None,
+    }
+}
+
+fn digest(updates: WriteReflog) -> u64 {
+    let mut hasher = DefaultHasher::new();
+    updates.hash(&mut hasher);
+    hasher.finish()
+}
+
+/// How two words for the updates that are written to logs stand to each other, with a comma between them.
+pub fn order_of_updates(alloc: Global, words: &str) -> Result<String, AllocError> {
+    let (one, other) = words.split_once(',').unwrap_or((words, ""));
+    let (Some(one), Some(other)) = (read_updates(one), read_updates(other)) else {
+        return format!(in alloc; "no words");
+    };
+    let order = one.cmp(&other);
+    let is_hash = digest(one) == digest(other);
+    format!(in alloc; "{order:?} {} {is_hash}", one == other)
 }

@@ -34,8 +34,8 @@ pub trait Sealed {}
 
 impl Sealed for Reference {}
 
-/// What a reference tells with its store. Where a call takes packed references, those of the store aren't opened, and without
-/// any, `None`, only references with files of their own are found; the other calls open them first.
+/// What a reference tells with its store. A call that is handed packed references goes by these, and without any, `None`, only
+/// references with files of their own are found; `follow`, `peel_to_id` and `peel_to_id_in_place` open those of the store first.
 pub trait ReferenceExt: Sealed {
     /// The reference.
     ghost seen: { Self → Reference };
