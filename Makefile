@@ -15,7 +15,7 @@ test:
 	docs/check
 	RT_JOBS=$${RT_JOBS:-$$(.ci/lanes)} rt ci
 
-# Tries all wrong bodies, of planted/ and of must-fail/, many in one check; CRATES="gix_hash history" those of some crates.
+# Tries all wrong bodies, of planted/ and of must-fail/, many in one check; CRATES="gix_hash_id history" those of some crates.
 wrong-bodies:
 	planted/try $(CRATES)
 

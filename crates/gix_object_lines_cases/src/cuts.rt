@@ -2,7 +2,9 @@
 
 use crate::fields::quoted;
 use bstr::BStr;
-use gix_object_lines::cut::{lacks, rsplit_once, split_once, starts_with, strip_prefix, strip_suffix};
+use gix_object_lines::cut::{
+    lacks, rsplit_once, split_once, starts_with, strip_prefix, strip_suffix,
+};
 use gix_object_lines::lines::{is_capitals, is_full_name, is_partial_name};
 use std::alloc::Global;
 

@@ -108,7 +108,7 @@ module _ {F P : Type 0} (accepts : P → Id → Bool) (ids : List Id) (g : Commi
 
   pub at_fewer : (walk : Simple F P) (rows : List Row) → rows ≡ rows_of walk.source.rows → IsKnown rows ids id → IsAtTurn accepts ids g a listed id walk → length listed < length rows + length ids
   at_fewer walk rows e k t = elim t [
-    | inl w ↦ fewer_known rows ids (asked_parents a.parents g) a.tips (keep_of w.hides a.accepts) (is_met walk.nodes) listed walk.queue.items id (length (listed ++ id ∷ [])) 0 w.walked (known_push rows ids listed id (moved w.known) k)
+    | inl w ↦ fewer_known rows ids (asked_parents a.parents g) a.tips (keep_of w.hides a.accepts) (is_met walk.known.nodes) listed walk.known.queue id (length (listed ++ id ∷ [])) 0 w.walked (known_push rows ids listed id (moved w.known) k)
     | inr w ↦ fewer_listed rows ids listed id w.chosen.once (known_push rows ids listed id (moved w.known) k)
   ]
     where

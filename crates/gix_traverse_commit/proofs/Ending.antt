@@ -1,12 +1,7 @@
 -- No commit comes more often than it may.
 use Rattle.std.proofs.Common.{◌≡◌, ◌∙◌, ℕ, zero, suc, ◌+◌, ◌≤◌, ◌<◌, ◌⊎◌, inl, inr, refl, sym, ap, subst, arith, List, [], ◌∷◌, ◌++◌, map, Bool, true, false, cond}
 use Rattle.std.specs.Prelude.{Contains, not, ◌&&◌}
-use Rattle.std.specs.BTreeMap.{insert_entry}
 use Rattle.std.specs.List.{count_by, sum_by}
-use Rattle.std.specs.Map.{keys_of}
-use Rattle.std.specs.Ordering.{match_ordering}
-use Rattle.std.specs.declared.cmp.Ordering.{Ordering}
-use Rattle.std.specs.declared.cmp.Ordering.TheVariants.{Less, Equal, Greater}
 use Rattle.std.proofs.lemmas.List.Elements.{Contains-append_left, Contains-append_right}
 use Rattle.std.proofs.lemmas.List.Sums.{sum_by-cons, sum_by_push}
 use Rattle.gix_hash.specs.Id.{Id, id_of}
@@ -15,11 +10,12 @@ use Rattle.gix_hash.specs.OrderLaws.{id_eq-itself, id_eq-same}
 use Rattle.gix_hash.specs.Packed.{object_id_of, object_id_of-id_of}
 use Rattle.gix_hash.specs.declared.object_id.ObjectId.{ObjectId}
 use Rattle.gix_traverse_commit.specs.Ending.{NoneGains, is_empty, may_come, met_under, times_in, times_waiting}
+use Rattle.gix_traverse_commit.specs.Known.{turns_of}
 use Rattle.gix_traverse_commit.specs.Nodes.{Node, is_met, marks_in}
 use Rattle.gix_traverse_commit.specs.Numbered.{same_id}
 use Rattle.gix_traverse_commit.specs.Order.{At}
 use Rattle.gix_traverse_commit.specs.Simply.{IsKnown, IsOver, is_over, known_ids}
-use Rattle.gix_traverse_commit.specs.Timely.{IsTaken, Waits, turn_cmp, waiting}
+use Rattle.gix_traverse_commit.specs.Timely.{IsTaken, Waits}
 use Rattle.gix_traverse_commit.specs.declared.rows.Row.{Row}
 use Rattle.gix_traverse_commit.specs.declared.simple.Simple.{Simple}
 use Rattle.gix_traverse_commit.specs.declared.simple.sorting.CommitTimeOrder.{CommitTimeOrder}
@@ -80,32 +76,7 @@ times_some xs x c = count_some (λ (y : ObjectId). id_eq (id_of x) (id_of y)) xs
 pub waiting_some : (turns : List Turn) (x : ObjectId) → Waits turns x → 1 ≤ times_waiting turns (id_of x)
 waiting_some turns x (t, c, e) = count_some (λ (t : Turn). id_eq (id_of x) (id_of t.id)) turns t c (subst (λ (y : ObjectId). id_eq (id_of x) (id_of y) ≡ true) (sym e) (id_eq-itself (id_of x)))
 
--- ---- one more waits, or one less
-
-module _ (turn : Turn) (place : ℕ) (id : Id) where
-  abbrev passes : Turn → ℕ
-  passes t = cond (id_eq id (id_of t.id)) 1 0
-
-  abbrev Most : List (Turn × ℕ) → List Turn → Type 0
-  Most es new = times_waiting new id ≤ times_waiting (keys_of es) id + times_in (turn.id ∷ []) id
-
-  put_times : (es : List (Turn × ℕ)) → Most es (keys_of (insert_entry turn_cmp es turn place))
-  put_times [] = let e = sum_by-cons passes turn [] in let f = times_one turn.id id in omega (arith, e, f)
-  put_times (e ∷ es) = go (put_times es) (turn_cmp turn e.0)
-    where
-      go : Most es (keys_of (insert_entry turn_cmp es turn place)) → (o : Ordering) → Most (e ∷ es) (keys_of (match_ordering o ((turn, place) ∷ e ∷ es) ((e.0, place) ∷ es) (e ∷ insert_entry turn_cmp es turn place)))
-      go next Less =
-          let a = sum_by-cons passes turn (e.0 ∷ keys_of es) in
-          let f = times_one turn.id id in
-          let h : Most (e ∷ es) (turn ∷ e.0 ∷ keys_of es) = omega (arith, a, f) in h
-      go next Equal = let h : Most (e ∷ es) (e.0 ∷ keys_of es) = omega arith in h
-      go next Greater =
-          let a = sum_by-cons passes e.0 (keys_of (insert_entry turn_cmp es turn place)) in
-          let b = sum_by-cons passes e.0 (keys_of es) in
-          let h : Most (e ∷ es) (e.0 ∷ keys_of (insert_entry turn_cmp es turn place)) = omega (arith, a, b, next) in h
-
-  pub put_once : (es : List (Turn × ℕ)) (new : List Turn) → new ≡ keys_of (insert_entry turn_cmp es turn place) → times_waiting new id ≤ times_waiting (keys_of es) id + times_in (turn.id ∷ []) id
-  put_once es new e = let f = ap (λ (ts : List Turn). times_waiting ts id) e in let h = put_times es in omega (arith, f, h)
+-- ---- one less waits
 
 pub taken_less : (order : CommitTimeOrder) (old : List Turn) (turn : Turn) (new : List Turn) → IsTaken order old turn new → (id : Id) → times_waiting old id ≡ times_in (turn.id ∷ []) id + times_waiting new id
 taken_less NewestFirst old turn new (e, all) id =
@@ -287,18 +258,18 @@ empty_test xs e = ap is_empty e
 
 pub over_from : {F P : Type 0} (walk : Simple F P) → is_over walk ≡ true → IsOver walk
 over_from walk e =
-    let rest = and_right walk.begun (is_empty walk.queue.items && is_empty (waiting walk.waiting)) e in
+    let rest = and_right walk.begun (is_empty walk.known.queue && is_empty (turns_of walk.known)) e in
     record {
-      begun = and_left walk.begun (is_empty walk.queue.items && is_empty (waiting walk.waiting)) e;
-      empty = empty_from walk.queue.items (and_left (is_empty walk.queue.items) (is_empty (waiting walk.waiting)) rest);
-      none_waits = empty_from (waiting walk.waiting) (and_right (is_empty walk.queue.items) (is_empty (waiting walk.waiting)) rest);
+      begun = and_left walk.begun (is_empty walk.known.queue && is_empty (turns_of walk.known)) e;
+      empty = empty_from walk.known.queue (and_left (is_empty walk.known.queue) (is_empty (turns_of walk.known)) rest);
+      none_waits = empty_from (turns_of walk.known) (and_right (is_empty walk.known.queue) (is_empty (turns_of walk.known)) rest);
     }
 
 pub over_test : {F P : Type 0} (walk : Simple F P) → IsOver walk → is_over walk ≡ true
 over_test walk o =
-    ap (λ (b : Bool). b && (is_empty walk.queue.items && is_empty (waiting walk.waiting))) o.begun
-    ∙ ap (λ (xs : List ObjectId). is_empty xs && is_empty (waiting walk.waiting)) o.empty
-    ∙ empty_test (waiting walk.waiting) o.none_waits
+    ap (λ (b : Bool). b && (is_empty walk.known.queue && is_empty (turns_of walk.known))) o.begun
+    ∙ ap (λ (xs : List ObjectId). is_empty xs && is_empty (turns_of walk.known)) o.empty
+    ∙ empty_test (turns_of walk.known) o.none_waits
 
 -- a commit comes, and then fewer answers may
 pub fewer_left : (b b' : Bool) (m m' : ℕ) → (b ≡ true → ⊥) → m' < m → cond b' 0 (m' + 1) < cond b 0 (m + 1)

@@ -15,6 +15,7 @@ pub mod Told
 pub mod Turn
 pub mod Simply
 mod Timely
+mod Waiting
 mod Chosen
 mod Cutoff
 mod ByTime
@@ -24,3 +25,4 @@ mod Rest
 mod Counting
 pub mod Ending
 pub mod Meeting
+pub mod KnownLemmas

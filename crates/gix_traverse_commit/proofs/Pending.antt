@@ -1,19 +1,15 @@
 -- What is queued when a walk begins anew.
 use Rattle.std.proofs.Common.{◌≡◌, ◌∙◌, ℕ, zero, suc, inl, inr, refl, ap, subst, List, [], ◌∷◌, ◌++◌, map, Result, Ok, Err, Bool, true, false, cond}
-use Rattle.std.specs.Prelude.{Contains, IfOk, OnOk, filter, is_some}
-use Rattle.std.specs.BTreeMap.{get}
+use Rattle.std.specs.Prelude.{Contains, IfOk, OnOk, filter}
 use Rattle.std.proofs.lemmas.List.{map-append}
 use Rattle.std.proofs.lemmas.List.Elements.{Contains-append_cases, filter-append}
-use Rattle.std.proofs.lemmas.Map.Views.{btree_map_contains_key_iff}
 use Rattle.gix_hash.specs.declared.object_id.ObjectId.{ObjectId}
 use Rattle.gix_traverse_commit.specs.Order.{At}
 use Rattle.gix_traverse_commit.specs.Rows.{AllHeld, Holds}
-use Rattle.gix_traverse_commit.specs.Timely.{AllRowed, Waits, queued_by, turn_cmp, waiting}
+use Rattle.gix_traverse_commit.specs.Timely.{AllRowed, Waits}
 use Rattle.gix_traverse_commit.specs.declared.rows.Row.{Row}
 use Rattle.gix_traverse_commit.specs.declared.simple.waiting.Turn.{Turn}
-use Rattle.gix_traverse_commit.specs.declared.simple.waiting.Waiting.{Waiting}
 use Rattle.gix_traverse_commit.proofs.Lists.{at_from_contains, contains_from_at, none_at_nil}
-use Rattle.gix_traverse_commit.proofs.Timely.{turn_exact, turn_total}
 
 pub in_head : {I : Type 0} (x : I) (xs : List I) → Contains (x ∷ xs) x
 in_head x xs = contains_from_at (x ∷ xs) 0 x refl
@@ -30,7 +26,7 @@ from_map {A} {B} f xs y c = let (k, a) = at_from_contains (map f xs) y c in go x
     go (x ∷ xs) zero a = let same : f x ≡ y = cc in (x, in_head x xs, same)
     go (x ∷ xs) (suc k) a = let (z, c, e) = go xs k a in (z, in_tail x xs z c, e)
 
-from_filter : {A : Type 0} (p : A → Bool) (xs : List A) (x : A) → Contains (filter p xs) x → p x ≡ true
+pub from_filter : {A : Type 0} (p : A → Bool) (xs : List A) (x : A) → Contains (filter p xs) x → p x ≡ true
 from_filter {A} p xs x c = let (k, a) = at_from_contains (filter p xs) x c in go xs k a
   where
     go : (xs : List A) (k : ℕ) → At (filter p xs) k x → p x ≡ true
@@ -50,23 +46,13 @@ pass_push {A} {B} f p xs x = ap (map f) (filter-append p xs (x ∷ [])) ∙ map-
     one true = refl
     one false = refl
 
--- what is queued waits
-pub queued_waits : (w : Waiting) (x : ObjectId) → Contains (queued_by w) x → Waits (waiting w) x
-queued_waits w x c =
-    let p : Turn → Bool = λ (t : Turn). is_some (get turn_cmp w.turns t) in
-    let (t, k, e) = from_map (λ (t : Turn). t.id) (filter p w.order.items) x c in
-    (t, (btree_map_contains_key_iff turn_total turn_exact w.turns t).0 (from_filter p w.order.items t k), e)
-
 pub is_false : (b : Bool) → (b ≡ true → ⊥) → b ≡ false
 is_false false h = refl
 is_false true h = absurd (h refl)
 
-nothing_in : (xs : List ObjectId) → ((x : ObjectId) → Contains xs x → ⊥) → xs ≡ []
+pub nothing_in : (xs : List ObjectId) → ((x : ObjectId) → Contains xs x → ⊥) → xs ≡ []
 nothing_in [] h = refl
 nothing_in (x ∷ xs) h = absurd (h x (in_head x xs))
-
-pub none_queued : (w : Waiting) → waiting w ≡ [] → queued_by w ≡ []
-none_queued w e = nothing_in (queued_by w) (λ x c. let (t, k, f) = queued_waits w x c in let (j, a) = at_from_contains [] t (subst (λ (ts : List Turn). Contains ts t) e k) in none_at_nil j t a)
 
 -- all of both lists have rows
 pub held_both : (rows : List Row) (xs ys : List ObjectId) → AllHeld rows xs → AllHeld rows ys → AllHeld rows (xs ++ ys)

@@ -9,10 +9,10 @@ use Rattle.gix_traverse_commit.specs.Keeping.{KeptAll}
 use Rattle.gix_traverse_commit.specs.Nodes.{is_met}
 use Rattle.gix_traverse_commit.specs.Simply.{Asked, AcceptsAs, IsMade, IsRest, IsTurned, IsUnderWay, IsUnderWayTo, keep_of, queued_in}
 use Rattle.gix_traverse_commit.specs.Sorting.{in_time}
-use Rattle.gix_traverse_commit.specs.Timely.{queued_by}
+use Rattle.gix_traverse_commit.specs.Known.{waited_of}
 use Rattle.gix_traverse_commit.specs.declared.simple.Simple.{Simple}
 use Rattle.gix_traverse_commit.proofs.Lists.{at_from_contains}
-use Rattle.gix_traverse_commit.proofs.Pending.{none_queued, queued_waits}
+use Rattle.gix_traverse_commit.proofs.KnownLemmas.{none_waited, waited_waits}
 use Rattle.gix_traverse_commit.proofs.Simply.{and_left, and_right}
 use Rattle.gix_traverse_commit.proofs.Timely.{in_nil}
 
@@ -29,13 +29,13 @@ kept_accepted along tips hides accepts has listed queue w x c =
 module _ {F P : Type 0} (accepts : P → Id → Bool) (walk : Simple F P) where
   queued_accepted : (ids : List Id) (g : Commits ObjectId) (a : Asked) (listed : List ObjectId) → IsUnderWay accepts ids g a listed walk → (x : ObjectId) → Contains (queued_in walk) x → a.accepts (id_of x) ≡ true
   queued_accepted ids g a listed u x c = elim u [
-    | inl w ↦ elim (Contains-append_cases walk.queue.items (queued_by walk.waiting) x c) [
-      | inl d ↦ kept_accepted _ a.tips w.hides a.accepts (is_met walk.nodes) listed walk.queue.items w.walked x d
-      | inr d ↦ absurd (in_nil x (subst (λ (zs : List ObjectId). Contains zs x) (none_queued walk.waiting w.none_waits) d))
+    | inl w ↦ elim (Contains-append_cases walk.known.queue (waited_of walk.known) x c) [
+      | inl d ↦ kept_accepted _ a.tips w.hides a.accepts (is_met walk.known.nodes) listed walk.known.queue w.walked x d
+      | inr d ↦ absurd (in_nil x (subst (λ (zs : List ObjectId). Contains zs x) (none_waited walk.known w.none_waits) d))
     ]
-    | inr w ↦ elim (Contains-append_cases walk.queue.items (queued_by walk.waiting) x c) [
+    | inr w ↦ elim (Contains-append_cases walk.known.queue (waited_of walk.known) x c) [
       | inl d ↦ absurd (in_nil x (subst (λ (zs : List ObjectId). Contains zs x) w.empty d))
-      | inr d ↦ (let kept = (w.met.some x (queued_waits walk.waiting x d)).0 in and_left (a.accepts (id_of x)) (in_time w.by_time.since (g x).time) (and_right (not (w.hides x)) (a.accepts (id_of x) && in_time w.by_time.since (g x).time) kept))
+      | inr d ↦ (let kept = (w.met.some x (waited_waits walk.known x d)).0 in and_left (a.accepts (id_of x)) (in_time w.by_time.since (g x).time) (and_right (not (w.hides x)) (a.accepts (id_of x) && in_time w.by_time.since (g x).time) kept))
     ]
   ]
 
@@ -54,7 +54,7 @@ module _ {F P : Type 0} (accepts : P → Id → Bool) (walk : Simple F P) where
   sorting_under : (ids : List Id) (g : Commits ObjectId) (a : Asked) (listed : List ObjectId) → IsUnderWay accepts ids g a listed walk → walk.sorting ≡ a.sorting
   sorting_under ids g a listed u = elim u [ inl w ↦ w.sorting | inr w ↦ w.sorting ]
 
-  accepts_under : (ids : List Id) (g : Commits ObjectId) (a : Asked) (listed : List ObjectId) → IsUnderWay accepts ids g a listed walk → AcceptsAs (accepts walk.predicate) walk.nodes a
+  accepts_under : (ids : List Id) (g : Commits ObjectId) (a : Asked) (listed : List ObjectId) → IsUnderWay accepts ids g a listed walk → AcceptsAs (accepts walk.predicate) walk.known.nodes a
   accepts_under ids g a listed u = elim u [ inl w ↦ w.accepts_as | inr w ↦ w.accepts_as ]
 
 both_true : (p q : Bool) → (p ≡ true → q ≡ true) → (q ≡ true → p ≡ true) → p ≡ q
@@ -62,7 +62,7 @@ both_true true q f b = sym (f refl)
 both_true false true f b = b refl
 both_true false false f b = refl
 
-refused_rest : {F P : Type 0} (a rest : Asked) (walk : Simple F P) → IsRest a rest walk → (x : ObjectId) → is_met walk.nodes x ≡ true → (Contains rest.tips x → ⊥) → rest.accepts (id_of x) ≡ false
+refused_rest : {F P : Type 0} (a rest : Asked) (walk : Simple F P) → IsRest a rest walk → (x : ObjectId) → is_met walk.known.nodes x ≡ true → (Contains rest.tips x → ⊥) → rest.accepts (id_of x) ≡ false
 refused_rest a rest walk left x m out = go (rest.accepts (id_of x)) refl
   where
     go : (b : Bool) → rest.accepts (id_of x) ≡ b → rest.accepts (id_of x) ≡ false

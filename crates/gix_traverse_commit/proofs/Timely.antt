@@ -1,21 +1,8 @@
 -- A walk by time: which commits are met and wait, and which was chosen.
-use Rattle.std.proofs.Common.{◌≡◌, ℕ, zero, suc, ◌+◌, ◌⊎◌, inl, inr, List, [], ◌∷◌, ◌++◌, take, refl, sym, ◌∙◌, ap, subst, Bool, true, false, cond, ℤ, T}
-use lib.Signed.{lt_z, lt_z_no, ≤ℤ_refl}
+use Rattle.std.proofs.Common.{◌≡◌, ℕ, zero, suc, ◌+◌, ◌⊎◌, inl, inr, List, [], ◌∷◌, ◌++◌, take, refl, sym, ◌∙◌, ap, subst, Bool, true, false, cond, ℤ}
+use lib.Signed.{≤ℤ_refl}
 use Rattle.std.specs.Prelude.{Contains, ◌↔◌, ◌&&◌, not, ◌≤ℤ◌}
-use Rattle.std.specs.BTreeMap.{insert_entry}
-use Rattle.std.specs.BTreeMap.Range.{IsLtBy}
-use Rattle.std.specs.Map.{keys_of}
-use Rattle.std.specs.Ordering.{int_cmp, match_ordering}
-use Rattle.std.specs.Cmp.{IsTotalOrder}
-use Rattle.std.specs.declared.cmp.Ordering.{Ordering}
-use Rattle.std.specs.declared.cmp.Ordering.TheVariants.{Less, Equal, Greater}
-use Rattle.std.proofs.lemmas.Cmp.{int_cmp_total, on_total, then_total, tied_itself}
-use Rattle.std.proofs.lemmas.List.Elements.{All-contains, Contains-append_left, Contains-push}
-use Rattle.std.proofs.lemmas.Map.Lookups.{CmpEqualImpliesEq, exact_signed}
-use Rattle.gix_hash.specs.Id.{id_of}
-use Rattle.gix_hash.specs.Order.{id_cmp}
-use Rattle.gix_hash.specs.OrderLaws.{id_total, id_tied, id_eq-same}
-use Rattle.gix_hash.specs.Packed.{object_id_of, object_id_of-id_of}
+use Rattle.std.proofs.lemmas.List.Elements.{Contains-append_left, Contains-push}
 use Rattle.gix_hash.specs.declared.object_id.ObjectId.{ObjectId}
 use Rattle.gix_traverse_commit.specs.Commits.{Commits}
 use Rattle.gix_traverse_commit.specs.Numbered.{same_id}
@@ -23,7 +10,7 @@ use Rattle.gix_traverse_commit.specs.Order.{At}
 use Rattle.gix_traverse_commit.specs.Rows.{Holds}
 use Rattle.gix_traverse_commit.specs.Sorting.{ComesFirst}
 use Rattle.gix_traverse_commit.specs.declared.rows.Row.{Row}
-use Rattle.gix_traverse_commit.specs.Timely.{AllRowed, IsMetSoFar, IsTaken, Joins, Waits, turn_cmp, turn_of}
+use Rattle.gix_traverse_commit.specs.Timely.{AllRowed, IsMetSoFar, IsTaken, Joins, Waits, turn_of}
 use Rattle.gix_traverse_commit.specs.declared.simple.sorting.CommitTimeOrder.{CommitTimeOrder}
 use Rattle.gix_traverse_commit.specs.declared.simple.sorting.CommitTimeOrder.TheVariants.{NewestFirst, OldestFirst}
 use Rattle.gix_traverse_commit.specs.declared.simple.waiting.Turn.{Turn}
@@ -31,60 +18,15 @@ use Rattle.gix_traverse_commit.proofs.Keeping.{Meets, met_itself, met_more, met_
 use Rattle.gix_traverse_commit.proofs.Lists.{at_from_contains, contains_from_at, none_at_nil}
 use Rattle.gix_traverse_commit.proofs.Simply.{in_push, take_push}
 
--- ---- turns in their order
-
-pub turn_total : IsTotalOrder turn_cmp
-turn_total = then_total (on_total (λ (t : Turn). t.time) int_cmp_total) (on_total (λ (t : Turn). id_of t.id) id_total)
-
-never_less : (t : Turn) → turn_cmp t t ≡ Less → ⊥
-never_less t e = let f = tied_itself turn_total t in let z : ⊥ = cc in z
-
-no_later : (m n : ℤ) → int_cmp m n ≡ Less → m ≤ℤ n
-no_later m n e = go (lt_z n m) refl
-  where
-    go : (b : Bool) → lt_z n m ≡ b → m ≤ℤ n
-    go true t =
-        let f : int_cmp n m ≡ Less = rw t refl in
-        let h = int_cmp_total.antisymm m n in
-        let i : int_cmp m n ≡ Greater = rw f at h in
-        let z : ⊥ = cc in absurd z
-    go false f = lt_z_no (subst (λ (b : Bool). T (not b)) (sym f) tt)
-
--- a lesser turn has no later time
-older_from_less : (a b : Turn) → turn_cmp a b ≡ Less → a.time ≤ℤ b.time
-older_from_less a b e = go (int_cmp a.time b.time) refl
-  where
-    go : (o : Ordering) → o ≡ int_cmp a.time b.time → a.time ≤ℤ b.time
-    go Less f = no_later a.time b.time (sym f)
-    go Equal f = subst (λ (n : ℤ). a.time ≤ℤ n) (exact_signed a.time b.time (sym f)) (≤ℤ_refl a.time)
-    go Greater f = let g = rw (sym f) at e in let z : ⊥ = cc in absurd z
+-- ---- turns and lists
 
 pub same_turn : (a b : Turn) → a.time ≡ b.time → a.id ≡ b.id → a ≡ b
 same_turn a b s i = subst (λ (n : ℤ). a ≡ record { time = n; id = b.id }) s (subst (λ (x : ObjectId). a ≡ record { time = a.time; id = x }) i refl)
 
-ids_from_equal : (x y : ObjectId) → id_cmp (id_of x) (id_of y) ≡ Equal → x ≡ y
-ids_from_equal x y e =
-    let same : id_of x ≡ id_of y = id_eq-same (id_of x) (id_of y) (let f = id_tied (id_of x) (id_of y) in rw e at f) in
-    sym (object_id_of-id_of x) ∙ ap object_id_of same ∙ object_id_of-id_of y
-
-pub turn_exact : CmpEqualImpliesEq turn_cmp
-turn_exact a b e = go (int_cmp a.time b.time) refl
-  where
-    go : (o : Ordering) → o ≡ int_cmp a.time b.time → a ≡ b
-    go Less f = let g = rw (sym f) at e in let z : ⊥ = cc in absurd z
-    go Greater f = let g = rw (sym f) at e in let z : ⊥ = cc in absurd z
-    go Equal f =
-        let g : id_cmp (id_of a.id) (id_of b.id) ≡ Equal = rw (sym f) at e in
-        let s : a.time ≡ b.time = exact_signed a.time b.time (sym f) in
-        let i : a.id ≡ b.id = ids_from_equal a.id b.id g in
-        same_turn a b s i
-
--- ---- what is put in
-
-in_first : {X : Type 0} (y : X) (xs : List X) → Contains (y ∷ xs) y
+pub in_first : {X : Type 0} (y : X) (xs : List X) → Contains (y ∷ xs) y
 in_first y xs = contains_from_at (y ∷ xs) 0 y refl
 
-in_rest : {X : Type 0} (y : X) (xs : List X) (x : X) → Contains xs x → Contains (y ∷ xs) x
+pub in_rest : {X : Type 0} (y : X) (xs : List X) (x : X) → Contains xs x → Contains (y ∷ xs) x
 in_rest y xs x c = let (k, a) = at_from_contains xs x c in contains_from_at (y ∷ xs) (suc k) x a
 
 pub in_cons : {X : Type 0} (y : X) (xs : List X) (x : X) → Contains (y ∷ xs) x → (x ≡ y) ⊎ Contains xs x
@@ -96,46 +38,6 @@ in_cons {X} y xs x c = let (k, a) = at_from_contains (y ∷ xs) x c in go k a
 
 pub in_nil : {X : Type 0} (x : X) → Contains [] x → ⊥
 in_nil x c = let (k, a) = at_from_contains [] x c in none_at_nil k x a
-
-module _ (turn : Turn) (place : ℕ) where
-  put_new : (es : List (Turn × ℕ)) → Contains (keys_of (insert_entry turn_cmp es turn place)) turn
-  put_new [] = in_first turn []
-  put_new (e ∷ es) = go (put_new es) (turn_cmp turn e.0) refl
-    where
-      go : Contains (keys_of (insert_entry turn_cmp es turn place)) turn → (o : Ordering) → o ≡ turn_cmp turn e.0 → Contains (keys_of (match_ordering o ((turn, place) ∷ e ∷ es) ((e.0, place) ∷ es) (e ∷ insert_entry turn_cmp es turn place))) turn
-      go next Less f = in_first turn (e.0 ∷ keys_of es)
-      go next Equal f = let s : turn ≡ e.0 = turn_exact turn e.0 (sym f) in subst (λ (t : Turn). Contains (e.0 ∷ keys_of es) t) (sym s) (in_first e.0 (keys_of es))
-      go next Greater f = in_rest e.0 (keys_of (insert_entry turn_cmp es turn place)) turn next
-
-  put_old : (es : List (Turn × ℕ)) (t : Turn) → Contains (keys_of es) t → Contains (keys_of (insert_entry turn_cmp es turn place)) t
-  put_old [] t c = absurd (in_nil t c)
-  put_old (e ∷ es) t c = go (put_old es t) (turn_cmp turn e.0)
-    where
-      go : (Contains (keys_of es) t → Contains (keys_of (insert_entry turn_cmp es turn place)) t) → (o : Ordering) → Contains (keys_of (match_ordering o ((turn, place) ∷ e ∷ es) ((e.0, place) ∷ es) (e ∷ insert_entry turn_cmp es turn place))) t
-      go next Less = in_rest turn (e.0 ∷ keys_of es) t c
-      go next Equal = c
-      go next Greater = elim (in_cons e.0 (keys_of es) t c) [
-        | inl s ↦ subst (λ (u : Turn). Contains (e.0 ∷ keys_of (insert_entry turn_cmp es turn place)) u) (sym s) (in_first e.0 (keys_of (insert_entry turn_cmp es turn place)))
-        | inr d ↦ in_rest e.0 (keys_of (insert_entry turn_cmp es turn place)) t (next d)
-      ]
-
-  put_from : (es : List (Turn × ℕ)) (t : Turn) → Contains (keys_of (insert_entry turn_cmp es turn place)) t → (t ≡ turn) ⊎ Contains (keys_of es) t
-  put_from [] t c = elim (in_cons turn [] t c) [ inl e ↦ inl e | inr d ↦ absurd (in_nil t d) ]
-  put_from (e ∷ es) t c = go (put_from es t) (turn_cmp turn e.0) c
-    where
-      go : (Contains (keys_of (insert_entry turn_cmp es turn place)) t → (t ≡ turn) ⊎ Contains (keys_of es) t) → (o : Ordering) → Contains (keys_of (match_ordering o ((turn, place) ∷ e ∷ es) ((e.0, place) ∷ es) (e ∷ insert_entry turn_cmp es turn place))) t → (t ≡ turn) ⊎ Contains (keys_of (e ∷ es)) t
-      go next Less c = in_cons turn (e.0 ∷ keys_of es) t c
-      go next Equal c = inr c
-      go next Greater c = elim (in_cons e.0 (keys_of (insert_entry turn_cmp es turn place)) t c) [
-        | inl s ↦ inr (subst (λ (u : Turn). Contains (e.0 ∷ keys_of es) u) (sym s) (in_first e.0 (keys_of es)))
-        | inr d ↦ elim (next d) [ inl s ↦ inl s | inr f ↦ inr (in_rest e.0 (keys_of es) t f) ]
-      ]
-
-  pub put_joins : (es : List (Turn × ℕ)) (new : List Turn) → new ≡ keys_of (insert_entry turn_cmp es turn place) → Joins true (keys_of es) turn new
-  put_joins es new e t = (
-    (λ c. elim (put_from es t (subst (λ (ts : List Turn). Contains ts t) e c)) [ inl s ↦ inl (refl, s) | inr d ↦ inr d ]),
-    (λ d. subst (λ (ts : List Turn). Contains ts t) (sym e) (elim d [ inl s ↦ subst (λ (u : Turn). Contains (keys_of (insert_entry turn_cmp es turn place)) u) (sym s.1) (put_new es) | inr c ↦ put_old es t c ])),
-  )
 
 -- nothing is put in
 pub joins_none : (so : Bool) (old : List Turn) (turn : Turn) → so ≡ false → Joins so old turn old
@@ -353,15 +255,15 @@ module _ (order : CommitTimeOrder) (old : List Turn) (turn : Turn) (new : List T
   taken_other w t c s = go order w (subst (λ (u : Turn). Contains new u) s c)
     where
       go : (o : CommitTimeOrder) → IsTaken o old turn new → Contains new turn → ⊥
-      go NewestFirst (e, a) d = never_less turn (All-contains (λ u. IsLtBy turn_cmp u turn) new turn a d)
-      go OldestFirst (e, a) d = never_less turn (All-contains (IsLtBy turn_cmp turn) new turn a d)
+      go NewestFirst (e, a) d = (a turn d).1 refl
+      go OldestFirst (e, a) d = (a turn d).1 refl
 
   pub taken_first : (before : List ObjectId) (time : ObjectId → ℤ) → IsTaken order old turn new → (t : Turn) → Contains new t → t.time ≡ time t.id → turn.time ≡ time turn.id → ComesFirst order time before turn.id t.id
   taken_first before time w t c f h = go order w
     where
       go : (o : CommitTimeOrder) → IsTaken o old turn new → ComesFirst o time before turn.id t.id
-      go NewestFirst (e, a) = subst (λ (n : ℤ). time t.id ≤ℤ n) h (subst (λ (n : ℤ). n ≤ℤ turn.time) f (older_from_less t turn (All-contains (λ u. IsLtBy turn_cmp u turn) new t a c)))
-      go OldestFirst (e, a) = subst (λ (n : ℤ). n ≤ℤ time t.id) h (subst (λ (n : ℤ). turn.time ≤ℤ n) f (older_from_less turn t (All-contains (IsLtBy turn_cmp turn) new t a c)))
+      go NewestFirst (e, a) = subst (λ (n : ℤ). time t.id ≤ℤ n) h (subst (λ (n : ℤ). n ≤ℤ turn.time) f (a t c).0)
+      go OldestFirst (e, a) = subst (λ (n : ℤ). n ≤ℤ time t.id) h (subst (λ (n : ℤ). turn.time ≤ℤ n) f (a t c).0)
 
 pub comes_itself : (order : CommitTimeOrder) (time : ObjectId → ℤ) (before : List ObjectId) (x : ObjectId) → ComesFirst order time before x x
 comes_itself NewestFirst time before x = ≤ℤ_refl (time x)

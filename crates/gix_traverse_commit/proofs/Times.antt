@@ -1,5 +1,5 @@
 -- Why a commit's time isn't read, and what it is then.
-use Rattle.std.proofs.Common.{◌≡◌, ℕ, List, refl, sym, ap, ◌∙◌, subst, Option, Some, None, Result, Ok, Err, ℤ, pos, take, Bool, true, false}
+use Rattle.std.proofs.Common.{◌≡◌, ℕ, inl, inr, List, refl, sym, ap, ◌∙◌, subst, Option, Some, None, Result, Ok, Err, ℤ, pos, take, Bool, true, false}
 use Rattle.std.specs.Prelude.{unwrap_or, ◌≢◌, Contains}
 use Rattle.std.specs.Result.{result_ok}
 use Rattle.gix_hash.specs.Id.{Id, id_of}
@@ -18,6 +18,7 @@ use Rattle.gix_traverse_commit.specs.Commits.{Commits}
 use Rattle.gix_traverse_commit.specs.Fetching.{TimeFault, TimeIsTold, find_error}
 use Rattle.gix_traverse_commit.specs.Rows.{Holds}
 use Rattle.gix_traverse_commit.specs.Simply.{IsFirstUnread, TipFault, error_of}
+use Rattle.gix_traverse_commit.specs.Timely.{CountsAs}
 use Rattle.gix_traverse_commit.specs.Told.{AreTold}
 use Rattle.gix_traverse_commit.specs.declared.fetch.FetchError.{FetchError}
 use Rattle.gix_traverse_commit.specs.declared.fetch.FetchError.TheVariants as fault
@@ -35,12 +36,12 @@ time_fault honest may_fail rows table id (iter_case.Find lookup.Failed) h k = (h
 time_fault honest may_fail rows table id (iter_case.NotFound oid) h k = (h, k)
 time_fault honest may_fail rows table id (iter_case.ObjectKind oid actual expected) h k = (h, k)
 
--- no commit is found, and so its time is 0
-pub time_zero : (honest may_fail : Type 0) (rows : List Row) (table : Table) (g : Commits ObjectId) (id : ObjectId) (e : existing_iter.Error) → honest → (¬ may_fail) → AreTold rows table g → (¬ Holds rows id) → KindFault honest may_fail table (id_of id) kinds.Commit e → find_error e ≢ fault.Memory → (g id).time ≡ pos 0
-time_zero honest may_fail rows table g id (iter_case.Find lookup.Memory) t sure told h k n = absurd (n refl)
-time_zero honest may_fail rows table g id (iter_case.Find lookup.Failed) t sure told h k n = absurd (sure k)
-time_zero honest may_fail rows table g id (iter_case.NotFound oid) t sure told h k n = told.missing id h (λ content s. let e = k.1 t in let z : ⊥ = cc in z)
-time_zero honest may_fail rows table g id (iter_case.ObjectKind oid actual expected) t sure told h k n = told.missing id h (λ content s. k.2 (other content s))
+-- a commit that isn't found counts with the time 0
+pub counts_zero : (honest may_fail : Type 0) (rows : List Row) (table : Table) (g : Commits ObjectId) (id : ObjectId) (e : existing_iter.Error) → honest → AreTold rows table g → (¬ Holds rows id) → KindFault honest may_fail table (id_of id) kinds.Commit e → find_error e ≢ fault.Memory → CountsAs may_fail g id (pos 0)
+counts_zero honest may_fail rows table g id (iter_case.Find lookup.Memory) t told h k n = absurd (n refl)
+counts_zero honest may_fail rows table g id (iter_case.Find lookup.Failed) t told h k n = inr (refl, k)
+counts_zero honest may_fail rows table g id (iter_case.NotFound oid) t told h k n = inl (sym (told.missing id h (λ content s. let e = k.1 t in let z : ⊥ = cc in z)))
+counts_zero honest may_fail rows table g id (iter_case.ObjectKind oid actual expected) t told h k n = inl (sym (told.missing id h (λ content s. k.2 (other content s))))
   where
     in_object : Option object.Kind → object.Kind
     in_object None = kinds.Commit
@@ -48,6 +49,10 @@ time_zero honest may_fail rows table g id (iter_case.ObjectKind oid actual expec
 
     other : (content : List ℕ) → Stands table (id_of id) kinds.Commit content → actual ≡ kinds.Commit
     other content s = let e = k.3 t in let f : kind_at table (id_of id) ≡ Some kinds.Commit = rw s refl in ap in_object (sym e ∙ f)
+
+-- no commit is found, and so its time is 0
+pub time_zero : (honest may_fail : Type 0) (rows : List Row) (table : Table) (g : Commits ObjectId) (id : ObjectId) (e : existing_iter.Error) → honest → (¬ may_fail) → AreTold rows table g → (¬ Holds rows id) → KindFault honest may_fail table (id_of id) kinds.Commit e → find_error e ≢ fault.Memory → (g id).time ≡ pos 0
+time_zero honest may_fail rows table g id e t sure told h k n = elim (counts_zero honest may_fail rows table g id e t told h k n) [ inl s ↦ sym s | inr f ↦ absurd (sure f.1) ]
 
 pub zero_unread : (r : Result ℤ decode.Error) (e : decode.Error) (n : ℤ) → r ≡ Err e → unwrap_or (result_ok r) (pos 0) ≡ n → n ≡ pos 0
 zero_unread r e n is h = sym (rw is at h)

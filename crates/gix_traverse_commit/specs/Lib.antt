@@ -13,6 +13,8 @@ pub mod Told
 pub mod Fetching
 pub mod Simply
 pub mod Nodes
+pub mod Waiting
+pub mod Known
 pub mod Meeting
 pub mod Keeping
 pub mod Painting

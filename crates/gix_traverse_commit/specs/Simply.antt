@@ -10,6 +10,7 @@ use Rattle.gix_object_lines.specs.declared.kind.Kind.TheVariants as kinds
 use Rattle.gix_traverse_commit.specs.Commits.{Commit, Commits, WalkRequest, asked_parents}
 use Rattle.gix_traverse_commit.specs.Ending.{NoneGains, is_empty, may_come, times_in, times_waiting}
 use Rattle.gix_traverse_commit.specs.Fetching.{FetchFault, TimeFault, TimeIsTold, HasRowsGeneration, one_more}
+use Rattle.gix_traverse_commit.specs.Known.{turns_of, waited_of}
 use Rattle.gix_traverse_commit.specs.Keeping.{Kept, KeptAll}
 use Rattle.gix_traverse_commit.specs.Meeting.{Asks, CountsAll, CountsOne, CountsTimes, IsFresh, accepted}
 use Rattle.gix_traverse_commit.specs.Nodes.{is_asked, is_hidden, is_met}
@@ -19,7 +20,7 @@ use Rattle.gix_traverse_commit.specs.Told.{AreTold, rows_of}
 use Rattle.gix_traverse_commit.specs.Standing.{Reads}
 use Rattle.gix_traverse_commit.specs.Order.{At, IsListOf, IsOpen}
 use Rattle.gix_traverse_commit.specs.Sorting.{ComesFirst, InOrder, IsNextIn, cutoff_in, timing_of}
-use Rattle.gix_traverse_commit.specs.Timely.{AllRowed, IsChosenSoFar, IsMetSoFar, keep_since, queued_by, waiting}
+use Rattle.gix_traverse_commit.specs.Timely.{AllRowed, IsChosenSoFar, IsMetSoFar, keep_since}
 use Rattle.gix_traverse_commit.specs.declared.fetch.FetchError.{FetchError}
 use Rattle.gix_traverse_commit.specs.declared.fetch.FetchError.TheVariants as fetch
 use Rattle.gix_traverse_commit.specs.declared.fetch.Source.{Source}
@@ -66,27 +67,28 @@ kind_of walk = walk.kind
 
 -- what is queued, in the order in which it was queued
 abbrev pub queued_in : {F P : Type 0} → Simple F P → List ObjectId
-queued_in walk = walk.queue.items ++ queued_by walk.waiting
+queued_in walk = walk.known.queue ++ waited_of walk.known
 
 -- it has met the commit: as a tip, or as a parent of a commit that came, which was not hidden then
 abbrev pub HasMet : {F P : Type 0} → Simple F P → ObjectId → Type 0
-HasMet walk x = is_met walk.nodes x ≡ true
+HasMet walk x = is_met walk.known.nodes x ≡ true
 
 -- how often an id is queued, or waits
 abbrev pub times_queued : {F P : Type 0} → Simple F P → Id → ℕ
-times_queued walk id = times_in walk.queue.items id + times_waiting (waiting walk.waiting) id
+times_queued walk id = times_in walk.known.queue id + times_waiting (turns_of walk.known) id
 
 -- no commit may come more often than before
 abbrev pub GainsNone : {F P : Type 0} → Simple F P → Simple F P → Type 0
-GainsNone before after = NoneGains before.nodes (times_queued before) after.nodes (times_queued after)
+GainsNone before after = NoneGains before.known.nodes (times_queued before) after.known.nodes (times_queued after)
 
 -- the ids of the rows, and these
 abbrev pub known_ids : List Row → List Id → List Id
 known_ids rows ids = map (λ (row : Row). id_of row.id) rows ++ ids
 
--- what is left of a walk, of the ids of its rows and these: each once where it isn't met, and as often as it is queued or waits
+-- what is left of a walk, of the ids of its rows and these: each once where it isn't met, and as often as it is queued or waits. An id
+-- that is a row's and one of these as well counts twice
 abbrev pub left_of : {F P : Type 0} → List Id → Simple F P → ℕ
-left_of ids walk = sum_by (may_come walk.nodes (times_queued walk)) (known_ids (rows_of walk.source.rows) ids)
+left_of ids walk = sum_by (may_come walk.known.nodes (times_queued walk)) (known_ids (rows_of walk.source.rows) ids)
 
 -- ---- what it is asked for
 
@@ -143,23 +145,23 @@ pub record IsNew {F P : Type 0} (accepts : P → Id → Bool) (a : Asked) (walk 
   pub hidden : walk.hidden.items ≡ a.hidden
   pub parents : walk.parents ≡ a.parents
   pub sorting : walk.sorting ≡ a.sorting
-  pub accepts_as : AcceptsAs (accepts walk.predicate) walk.nodes a
-  pub asked : AreRefused a.accepts a.tips walk.nodes
-  pub empty : walk.queue.items ≡ []
-  pub none_waits : waiting walk.waiting ≡ []
+  pub accepts_as : AcceptsAs (accepts walk.predicate) walk.known.nodes a
+  pub asked : AreRefused a.accepts a.tips walk.known.nodes
+  pub empty : walk.known.queue ≡ []
+  pub none_waits : turns_of walk.known ≡ []
 
 -- a walk that begins anew, from what is queued: it goes to no other commit that was met before
 pub record IsTurned {F P : Type 0} (accepts : P → Id → Bool) (a : Asked) (walk : Simple F P) : Type 0 where
   pub begun : walk.begun ≡ false
   pub no_tips : walk.tips.items ≡ []
   pub queued : queued_in walk ≡ a.tips
-  pub goes_on : (walk.queue.items ≡ []) → (waiting walk.waiting ≡ []) → ⊥
+  pub goes_on : (walk.known.queue ≡ []) → (turns_of walk.known ≡ []) → ⊥
   pub hidden : walk.hidden.items ≡ a.hidden
   pub parents : walk.parents ≡ a.parents
   pub sorting : walk.sorting ≡ a.sorting
-  pub accepts_as : AcceptsAs (accepts walk.predicate) walk.nodes a
+  pub accepts_as : AcceptsAs (accepts walk.predicate) walk.known.nodes a
   pub accepted : (x : ObjectId) → Contains a.tips x → a.accepts (id_of x) ≡ true
-  pub refused : (x : ObjectId) → is_met walk.nodes x ≡ true → (¬ Contains a.tips x) → a.accepts (id_of x) ≡ false
+  pub refused : (x : ObjectId) → is_met walk.known.nodes x ≡ true → (¬ Contains a.tips x) → a.accepts (id_of x) ≡ false
 
 -- a walk that was asked for this, and has not begun, or begins anew
 abbrev pub IsMade : {F P : Type 0} → (P → Id → Bool) → Asked → Simple F P → Type 0
@@ -171,12 +173,12 @@ pub record IsPaintedFor {F P : Type 0} (accepts : P → Id → Bool) (g : Commit
   pub hidden : walk.hidden.items ≡ a.hidden
   pub parents : walk.parents ≡ a.parents
   pub sorting : walk.sorting ≡ a.sorting
-  pub accepts_as : AcceptsAs (accepts walk.predicate) walk.nodes a
-  pub refused : (x : ObjectId) → is_met walk.nodes x ≡ true → a.accepts (id_of x) ≡ false
-  pub accepted : (x : ObjectId) → Contains a.tips x → is_met walk.nodes x ≡ false → a.accepts (id_of x) ≡ true
-  pub painted : (x : ObjectId) → (is_hidden walk.nodes x ≡ true) ↔ ReachedFrom g a.hidden x
-  pub empty : walk.queue.items ≡ []
-  pub none_waits : waiting walk.waiting ≡ []
+  pub accepts_as : AcceptsAs (accepts walk.predicate) walk.known.nodes a
+  pub refused : (x : ObjectId) → is_met walk.known.nodes x ≡ true → a.accepts (id_of x) ≡ false
+  pub accepted : (x : ObjectId) → Contains a.tips x → is_met walk.known.nodes x ≡ false → a.accepts (id_of x) ≡ true
+  pub painted : (x : ObjectId) → (is_hidden walk.known.nodes x ≡ true) ↔ ReachedFrom g a.hidden x
+  pub empty : walk.known.queue ≡ []
+  pub none_waits : turns_of walk.known ≡ []
 
 -- accepted, and not hidden
 abbrev pub keep_of : (ObjectId → Bool) → (Id → Bool) → ObjectId → Bool
@@ -190,13 +192,13 @@ pub record IsGoing {F P : Type 0} (accepts : P → Id → Bool) (ids : List Id) 
   pub parents : walk.parents ≡ a.parents
   pub sorting : walk.sorting ≡ a.sorting
   pub in_breadth : timing a ≡ None
-  pub none_waits : waiting walk.waiting ≡ []
-  pub accepts_as : AcceptsAs (accepts walk.predicate) walk.nodes a
+  pub none_waits : turns_of walk.known ≡ []
+  pub accepts_as : AcceptsAs (accepts walk.predicate) walk.known.nodes a
   pub hides : ObjectId → Bool
-  pub hidden : (x : ObjectId) → is_hidden walk.nodes x ≡ hides x
+  pub hidden : (x : ObjectId) → is_hidden walk.known.nodes x ≡ hides x
   pub painted : (x : ObjectId) → (hides x ≡ true) ↔ ReachedFrom g a.hidden x
   pub known : (x : ObjectId) → Contains listed x → IsKnown (rows_of walk.source.rows) ids x
-  pub walked : KeptAll (asked_parents a.parents g) a.tips (keep_of hides a.accepts) (is_met walk.nodes) (listed ++ walk.queue.items) (length listed)
+  pub walked : KeptAll (asked_parents a.parents g) a.tips (keep_of hides a.accepts) (is_met walk.known.nodes) (listed ++ walk.known.queue) (length listed)
 
 -- the same of a walk by time: of what the list names, the commits that are kept are listed or wait
 pub record IsGoingByTime {F P : Type 0} (accepts : P → Id → Bool) (ids : List Id) (g : Commits ObjectId) (a : Asked) (listed : List ObjectId) (walk : Simple F P) : Type 0 where
@@ -206,13 +208,13 @@ pub record IsGoingByTime {F P : Type 0} (accepts : P → Id → Bool) (ids : Lis
   pub sorting : walk.sorting ≡ a.sorting
   pub by_time : Timing
   pub is_by_time : timing a ≡ Some by_time
-  pub empty : walk.queue.items ≡ []
-  pub accepts_as : AcceptsAs (accepts walk.predicate) walk.nodes a
+  pub empty : walk.known.queue ≡ []
+  pub accepts_as : AcceptsAs (accepts walk.predicate) walk.known.nodes a
   pub hides : ObjectId → Bool
-  pub hidden : (x : ObjectId) → is_hidden walk.nodes x ≡ hides x
+  pub hidden : (x : ObjectId) → is_hidden walk.known.nodes x ≡ hides x
   pub painted : (x : ObjectId) → (hides x ≡ true) ↔ ReachedFrom g a.hidden x
   pub known : (x : ObjectId) → Contains listed x → IsKnown (rows_of walk.source.rows) ids x
-  pub met : IsMetSoFar g (keep_since by_time.since g hides a.accepts) (is_met walk.nodes) (IsOpen (asked_parents a.parents g) a.tips listed) listed (waiting walk.waiting)
+  pub met : IsMetSoFar g (keep_since by_time.since g hides a.accepts) (is_met walk.known.nodes) (IsOpen (asked_parents a.parents g) a.tips listed) listed (turns_of walk.known)
   pub chosen : IsChosenSoFar (asked_parents a.parents g) a.tips (keep_since by_time.since g hides a.accepts) (ComesFirst by_time.order (λ x. (g x).time)) listed
 
 -- a walk that has begun and given this list
@@ -226,12 +228,12 @@ Stands accepts ids g a listed walk = ((listed ≡ []) × IsMade accepts a walk) 
 -- it gives nothing more
 pub record IsOver {F P : Type 0} (walk : Simple F P) : Type 0 where
   pub begun : walk.begun ≡ true
-  pub empty : walk.queue.items ≡ []
-  pub none_waits : waiting walk.waiting ≡ []
+  pub empty : walk.known.queue ≡ []
+  pub none_waits : turns_of walk.known ≡ []
 
 -- the same, as a test
 abbrev pub is_over : {F P : Type 0} → Simple F P → Bool
-is_over walk = walk.begun && (is_empty walk.queue.items && is_empty (waiting walk.waiting))
+is_over walk = walk.begun && (is_empty walk.known.queue && is_empty (turns_of walk.known))
 
 -- how many answers may still come, of the ids of its rows and these: none where it is over, and else the commits that are left and
 -- an error
@@ -267,14 +269,14 @@ pub record Enters {F P : Type 0} (accepts : P → Id → Bool) (ids : List Id) (
   pub parents : walk.parents ≡ a.parents
   pub sorting : walk.sorting ≡ a.sorting
   pub in_breadth : timing a ≡ None
-  pub none_waits : waiting walk.waiting ≡ []
-  pub accepts_as : AcceptsAs (accepts walk.predicate) walk.nodes a
+  pub none_waits : turns_of walk.known ≡ []
+  pub accepts_as : AcceptsAs (accepts walk.predicate) walk.known.nodes a
   pub hides : ObjectId → Bool
-  pub hidden : (x : ObjectId) → is_hidden walk.nodes x ≡ hides x
+  pub hidden : (x : ObjectId) → is_hidden walk.known.nodes x ≡ hides x
   pub painted : (x : ObjectId) → (hides x ≡ true) ↔ ReachedFrom g a.hidden x
   pub known : (x : ObjectId) → Contains listed x → IsKnown (rows_of walk.source.rows) ids x
-  pub walked : Kept (asked_parents a.parents g) a.tips (keep_of hides a.accepts) (is_met walk.nodes) ((listed ++ id ∷ []) ++ walk.queue.items) (length (listed ++ id ∷ [])) 0
-  pub reads : Reads ((listed ++ id ∷ []) ++ walk.queue.items) (length (listed ++ id ∷ [])) id
+  pub walked : Kept (asked_parents a.parents g) a.tips (keep_of hides a.accepts) (is_met walk.known.nodes) ((listed ++ id ∷ []) ++ walk.known.queue) (length (listed ++ id ∷ [])) 0
+  pub reads : Reads ((listed ++ id ∷ []) ++ walk.known.queue) (length (listed ++ id ∷ [])) id
 
 -- the same in a walk by time
 pub record EntersByTime {F P : Type 0} (accepts : P → Id → Bool) (ids : List Id) (g : Commits ObjectId) (a : Asked) (listed : List ObjectId) (id : ObjectId) (walk : Simple F P) : Type 0 where
@@ -284,13 +286,13 @@ pub record EntersByTime {F P : Type 0} (accepts : P → Id → Bool) (ids : List
   pub sorting : walk.sorting ≡ a.sorting
   pub by_time : Timing
   pub is_by_time : timing a ≡ Some by_time
-  pub empty : walk.queue.items ≡ []
-  pub accepts_as : AcceptsAs (accepts walk.predicate) walk.nodes a
+  pub empty : walk.known.queue ≡ []
+  pub accepts_as : AcceptsAs (accepts walk.predicate) walk.known.nodes a
   pub hides : ObjectId → Bool
-  pub hidden : (x : ObjectId) → is_hidden walk.nodes x ≡ hides x
+  pub hidden : (x : ObjectId) → is_hidden walk.known.nodes x ≡ hides x
   pub painted : (x : ObjectId) → (hides x ≡ true) ↔ ReachedFrom g a.hidden x
   pub known : (x : ObjectId) → Contains listed x → IsKnown (rows_of walk.source.rows) ids x
-  pub met : IsMetSoFar g (keep_since by_time.since g hides a.accepts) (is_met walk.nodes) (IsOpen (asked_parents a.parents g) a.tips listed) (listed ++ id ∷ []) (waiting walk.waiting)
+  pub met : IsMetSoFar g (keep_since by_time.since g hides a.accepts) (is_met walk.known.nodes) (IsOpen (asked_parents a.parents g) a.tips listed) (listed ++ id ∷ []) (turns_of walk.known)
   pub chosen : IsChosenSoFar (asked_parents a.parents g) a.tips (keep_since by_time.since g hides a.accepts) (ComesFirst by_time.order (λ x. (g x).time)) (listed ++ id ∷ [])
 
 -- it gives this commit next
@@ -373,8 +375,8 @@ IsAccepted a x = a.accepts (id_of x) ≡ true
 pub record InRows {F P : Type 0} (walk : Simple F P) : Type 0 where
   pub tips : AllHeld (rows_of walk.source.rows) walk.tips.items
   pub hidden : AllHeld (rows_of walk.source.rows) walk.hidden.items
-  pub queue : AllHeld (rows_of walk.source.rows) walk.queue.items
-  pub waiting_rows : AllRowed (rows_of walk.source.rows) (waiting walk.waiting)
+  pub queue : AllHeld (rows_of walk.source.rows) walk.known.queue
+  pub waiting_rows : AllRowed (rows_of walk.source.rows) (turns_of walk.known)
 
 -- the content is the commit's where its object told it, and else nothing
 pub record IsContentOf (honest : Type 0) (rows : List Row) (table : Table) (id : ObjectId) (content : List ℕ) : Type 0 where
@@ -414,7 +416,7 @@ pub record MeetsParents {P : Type 0} (accepts : P → Id → Bool) (goes : P →
 
 -- a walk gives this commit so
 abbrev pub Meets : {F P : Type 0} → (P → Id → Bool) → (P → Id → P → Type 0) → List Row → Simple F P → Info → Simple F P → Type 0
-Meets accepts goes rows before info after = MeetsParents accepts goes rows before.nodes (timing_of before.parents before.sorting) info before.predicate before.source.lookups after.predicate after.source.lookups
+Meets accepts goes rows before info after = MeetsParents accepts goes rows before.known.nodes (timing_of before.parents before.sorting) info before.predicate before.source.lookups after.predicate after.source.lookups
 
 -- the walk begins, for which the predicate isn't asked, and the first commit comes
 pub record CountsFirst {F P : Type 0} (accepts : P → Id → Bool) (goes : P → Id → P → Type 0) (honest may_fail : Type 0) (table : Table) (ids : List Id) (a : Asked) (before : Simple F P) (info : Info) (after : Simple F P) : Type 0 where

@@ -1,12 +1,6 @@
 -- Where a walk by time stands.
-use Rattle.std.specs.Prelude.{◌≡◌, ◌⊎◌, ◌↔◌, ℕ, ℤ, Bool, true, not, ◌&&◌, List, ◌∷◌, [], ◌++◌, Option, take, Contains, IsTrue, map, filter, is_some}
-use Rattle.std.specs.List.{All}
-use Rattle.std.specs.BTreeMap.{get, keys}
-use Rattle.std.specs.BTreeMap.Range.{IsLtBy}
-use Rattle.std.specs.Ordering.{int_cmp, ordering_then}
-use Rattle.std.specs.declared.cmp.Ordering.{Ordering}
+use Rattle.std.specs.Prelude.{◌≡◌, ◌≢◌, ◌≤ℤ◌, ◌⊎◌, ◌↔◌, ℕ, ℤ, pos, Bool, true, not, ◌&&◌, List, ◌∷◌, [], ◌++◌, Option, take, Contains, IsTrue}
 use Rattle.gix_hash.specs.Id.{Id, id_of}
-use Rattle.gix_hash.specs.Order.{id_cmp}
 use Rattle.gix_hash.specs.declared.object_id.ObjectId.{ObjectId}
 use Rattle.gix_traverse_commit.specs.Commits.{Commits, Reached}
 use Rattle.gix_traverse_commit.specs.Order.{At, IsOpen}
@@ -16,32 +10,23 @@ use Rattle.gix_traverse_commit.specs.declared.rows.Row.{Row}
 use Rattle.gix_traverse_commit.specs.declared.simple.sorting.CommitTimeOrder.{CommitTimeOrder}
 use Rattle.gix_traverse_commit.specs.declared.simple.sorting.CommitTimeOrder.TheVariants.{NewestFirst, OldestFirst}
 use Rattle.gix_traverse_commit.specs.declared.simple.waiting.Turn.{Turn}
-use Rattle.gix_traverse_commit.specs.declared.simple.waiting.Waiting.{Waiting}
-
--- the turns of those that wait
-abbrev pub waiting : Waiting → List Turn
-waiting w = keys w.turns
-
--- by time, and then by id
-abbrev pub turn_cmp : Turn → Turn → Ordering
-turn_cmp a b = ordering_then (int_cmp a.time b.time) (id_cmp (id_of a.id) (id_of b.id))
-
--- those that wait, in the order in which they were queued
-abbrev pub queued_by : Waiting → List ObjectId
-queued_by w = map (λ (t : Turn). t.id) (filter (λ (t : Turn). is_some (get turn_cmp w.turns t)) w.order.items)
 
 -- one more waits, where that is so
 abbrev pub Joins : Bool → List Turn → Turn → List Turn → Type 0
 Joins so old turn new = (t : Turn) → Contains new t ↔ (((so ≡ true) × (t ≡ turn)) ⊎ Contains old t)
 
--- its turn came: none that waits is newer, or older
+-- its turn came: no other that waits is newer, or older
 abbrev pub IsTaken : CommitTimeOrder → List Turn → Turn → List Turn → Type 0
-IsTaken NewestFirst old turn new = (old ≡ new ++ turn ∷ []) × All (λ t. IsLtBy turn_cmp t turn) new
-IsTaken OldestFirst old turn new = (old ≡ turn ∷ new) × All (IsLtBy turn_cmp turn) new
+IsTaken NewestFirst old turn new = (old ≡ new ++ turn ∷ []) × ((t : Turn) → Contains new t → (t.time ≤ℤ turn.time) × (t ≢ turn))
+IsTaken OldestFirst old turn new = (old ≡ turn ∷ new) × ((t : Turn) → Contains new t → (turn.time ≤ℤ t.time) × (t ≢ turn))
 
 -- the turn of a commit
 abbrev pub turn_of : Commits ObjectId → ObjectId → Turn
 turn_of g x = record { time = (g x).time; id = x }
+
+-- the time that a commit counts with: its own, and 0 where its lookup failed
+abbrev pub CountsAs : Type 0 → Commits ObjectId → ObjectId → ℤ → Type 0
+CountsAs may_fail g x time = (time ≡ (g x).time) ⊎ ((time ≡ pos 0) × may_fail)
 
 -- the commit waits
 abbrev pub Waits : List Turn → ObjectId → Type 0

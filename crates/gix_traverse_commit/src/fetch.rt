@@ -9,6 +9,7 @@ ghost use Rattle.gix_object_lines.specs.declared.kind.Kind.TheVariants as kinds;
 ghost use Rattle.gix_traverse_commit.specs.Commits.{Commits, asked_parents, asked};
 ghost use Rattle.gix_traverse_commit.specs.Fetching.{ReadsParents, HasRowsGeneration, ParentsFault, FetchFault, TimeFault, TimeIsTold, find_error, one_more};
 ghost use Rattle.gix_traverse_commit.specs.Rows.{AllHeld, Holds};
+ghost use Rattle.gix_traverse_commit.specs.Timely.{CountsAs};
 ghost use Rattle.gix_traverse_commit.specs.Told.{AreTold, rows_of};
 ghost use Rattle.gix_traverse_commit.specs.declared.fetch.FetchError.TheVariants.{ObjectDecode, Memory};
 
@@ -220,6 +221,10 @@ impl<F: Find> Source<F> {
         ensures none { F.is_honest self.old.objects → ¬ F.may_fail self.old.objects
             → (g : Commits ObjectId) → AreTold (rows_of self.old.rows) (F.table self.old.objects) g
             → IfErr result (λ error. error ≢ Memory → (g id.now).time ≡ pos 0) }
+        ensures unread { F.is_honest self.old.objects → (g : Commits ObjectId)
+            → AreTold (rows_of self.old.rows) (F.table self.old.objects) g
+            → IfErr result (λ error. error ≢ Memory
+            → CountsAs (F.may_fail self.old.objects) g id.now (pos 0)) }
         ensures rowed { Holds (rows_of self.old.rows) id.now → IsOk result
             × (self.new.lookups ≡ self.old.lookups) }
         ensures asked { (¬ Holds (rows_of self.old.rows) id.now)

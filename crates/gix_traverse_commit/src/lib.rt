@@ -5,6 +5,7 @@ mod accept;
 mod either;
 pub mod fetch;
 mod info;
+pub mod known;
 pub mod laws;
 pub mod nodes;
 pub mod paint;

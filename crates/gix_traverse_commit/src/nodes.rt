@@ -1,6 +1,6 @@
 //! The commits that a walk knows, by their numbers, and what was marked of each.
 
-ghost use Rattle.std.specs.Prelude.{◌≡◌, ◌++◌, ◌∷◌, ℕ, [], if◌then◌else◌, IfOk, IfSome, IfNone, OnOk};
+ghost use Rattle.std.specs.Prelude.{◌≡◌, ◌++◌, ◌∷◌, ℕ, [], if◌then◌else◌, IfOk, IfSome, IfNone, OnErr, OnOk, slice_get, true};
 ghost use Rattle.std.specs.List.{list_any};
 ghost use Rattle.gix_hash.specs.declared.object_id.ObjectId.{ObjectId};
 ghost use Rattle.gix_traverse_commit.specs.Numbered.{same_id};
@@ -23,9 +23,22 @@ pub struct Marks {
     pub hidden: bool,
 }
 
+impl Marks {
+    /// The same of a commit that is met.
+    pub fn as_met(self) -> Marks
+        ensures { result ≡ record self { met = true } }
+    {
+        Marks {
+            asked: self.asked,
+            met: true,
+            hidden: self.hidden,
+        }
+    }
+}
+
 /// The number of a commit: its place among those that the walk knows.
-#[derive(Debug, Clone, Copy, PartialEq, Eq)]
-pub struct Number(usize);
+#[derive(Debug, Clone, Copy, PartialEq, Eq, PartialOrd, Ord)]
+pub struct Number(pub usize);
 
 /// Nodes in the order in which their commits were met first. An id stands here once.
 #[derive(Drop)]
@@ -92,21 +105,33 @@ impl Nodes {
         }
     }
 
-    /// Marks a commit, which gets a node where it has none.
-    pub fn mark(&mut self, id: ObjectId, marks: Marks) -> Result<(), AllocError>
+    /// The commit of this number, where it has a node.
+    pub fn id(&self, number: Number) -> Option<ObjectId>
+        ensures id { result ≡ slice_get (ids_of self.now) number.0 }
+        ensures once { (j k : ℕ) (x : ObjectId) → At (ids_of self.now) j x
+            → At (ids_of self.now) k x → j ≡ k }
+    {
+        self.ids.get_index(number.0).copied()
+    }
+
+    /// Marks a commit, which gets a node where it has none, and tells its number.
+    pub fn mark(&mut self, id: ObjectId, marks: Marks) -> Result<Number, AllocError>
         ensures marked { OnOk result ((q : ObjectId) → marks_of self.new q
             ≡ (if same_id id q then marks else marks_of self.old q)) }
         ensures named { OnOk result (ids_of self.new ≡ (if list_any (same_id id) (ids_of self.old)
             then ids_of self.old else ids_of self.old ++ id ∷ [])) }
+        ensures numbered { IfOk result (λ number. At (ids_of self.new) number.0 id) }
+        ensures failed { OnErr result (self.new ≡ self.old) }
     {
         if let Some(number) = number_of(&self.ids, &id) {
             self.marks[number.0] = marks;
-            return Ok(());
+            return Ok(number);
         }
+        let number = Number(self.marks.as_slice().len());
         self.marks.reserve(1)?;
         self.ids.insert(id)?;
         self.marks.push(marks)?;
-        Ok(())
+        Ok(number)
     }
 
     /// The ids of the commits that have nodes, in the order in which they were met first.

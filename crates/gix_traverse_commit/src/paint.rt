@@ -4,6 +4,7 @@ ghost use Rattle.std.specs.Prelude.{◌≡◌, ◌↔◌, ℕ, List, true, false
 ghost use Rattle.gix_hash.specs.declared.object_id.ObjectId.{ObjectId};
 ghost use Rattle.gix_traverse_commit.specs.Commits.{Commits, Reached};
 ghost use Rattle.gix_traverse_commit.specs.Keeping.{Kept, KeptAll};
+ghost use Rattle.gix_traverse_commit.specs.Known.{turns_of};
 ghost use Rattle.gix_traverse_commit.specs.Nodes.{is_met, is_hidden};
 ghost use Rattle.gix_traverse_commit.specs.Numbered.{same_id};
 ghost use Rattle.gix_traverse_commit.specs.Order.{At, IsListOf};
@@ -16,24 +17,29 @@ ghost use Rattle.gix_traverse_commit.specs.declared.rows.Row.{Row};
 
 use crate::Parents;
 use crate::fetch::{FetchError, Source};
-use crate::nodes::{Marks, Nodes};
+use crate::known::Known;
+use crate::nodes::Marks;
 use gix_hash::ObjectId;
 use gix_object_find::Find;
 use std::alloc::{AllocError, Global};
 
 // Paints a commit that was not painted before.
-fn paint_one(nodes: &mut Nodes, painted: &mut Vec<ObjectId>, id: ObjectId) -> Result<(), AllocError>
-    ensures met { OnOk result ((q : ObjectId) → is_met nodes.new q ≡ is_met nodes.old q) }
-    ensures marked { OnOk result ((q : ObjectId) → is_hidden nodes.new q
-        ≡ (if same_id id q then true else is_hidden nodes.old q)) }
+fn paint_one(known: &mut Known, painted: &mut Vec<ObjectId>, id: ObjectId) -> Result<(), AllocError>
+    ensures met { OnOk result ((q : ObjectId) → is_met known.new.nodes q
+        ≡ is_met known.old.nodes q) }
+    ensures queue { OnOk result (known.new.queue ≡ known.old.queue) }
+    ensures turns { OnOk result (turns_of known.new ≡ turns_of known.old) }
+    ensures marked { OnOk result ((q : ObjectId) → is_hidden known.new.nodes q
+        ≡ (if same_id id q then true else is_hidden known.old.nodes q)) }
     ensures queued { OnOk result (painted.new.items
-        ≡ (if is_hidden nodes.old id then painted.old.items else painted.old.items ++ id ∷ [])) }
+        ≡ (if is_hidden known.old.nodes id then painted.old.items else painted.old.items ++ id ∷
+        [])) }
 {
-    let marks = nodes.marks(&id);
+    let marks = known.marks(&id);
     if marks.hidden {
         return Ok(());
     }
-    nodes.mark(
+    known.mark(
         id,
         Marks {
             asked: marks.asked,
@@ -47,46 +53,52 @@ fn paint_one(nodes: &mut Nodes, painted: &mut Vec<ObjectId>, id: ObjectId) -> Re
 
 // Paints the hidden commits that were given.
 fn paint_tips(
-    nodes: &mut Nodes,
+    known: &mut Known,
     painted: &mut Vec<ObjectId>,
     hidden: &[ObjectId],
 ) -> Result<(), AllocError>
-    ensures met { OnOk result ((q : ObjectId) → is_met nodes.new q ≡ is_met nodes.old q) }
-    ensures painted { OnOk result (IsPainted nodes.old painted.old.items
-        → IsPainted nodes.new painted.new.items) }
+    ensures met { OnOk result ((q : ObjectId) → is_met known.new.nodes q
+        ≡ is_met known.old.nodes q) }
+    ensures queue { OnOk result (known.new.queue ≡ known.old.queue) }
+    ensures turns { OnOk result (turns_of known.new ≡ turns_of known.old) }
+    ensures painted { OnOk result (IsPainted known.old.nodes painted.old.items
+        → IsPainted known.new.nodes painted.new.items) }
     ensures rowed { OnOk result ((rows : List Row) → AllHeld rows painted.old.items
         → AllHeld rows hidden.now → AllHeld rows painted.new.items) }
     ensures walked { OnOk result ((along : ObjectId → List ObjectId)
-        → Kept along hidden.now every (is_hidden nodes.old) painted.old.items 0 0
-        → KeptAll along hidden.now every (is_hidden nodes.new) painted.new.items 0) }
+        → Kept along hidden.now every (is_hidden known.old.nodes) painted.old.items 0 0
+        → KeptAll along hidden.now every (is_hidden known.new.nodes) painted.new.items 0) }
 {
     'tips: for id in hidden {
-        paint_one(nodes, painted, *id)?;
+        paint_one(known, painted, *id)?;
     }
     Ok(())
 }
 
 // Paints the parents of a commit that stands just before place `read`.
 fn paint_parents(
-    nodes: &mut Nodes,
+    known: &mut Known,
     painted: &mut Vec<ObjectId>,
     parents: &[ObjectId],
 ) -> Result<(), AllocError>
-    ensures met { OnOk result ((q : ObjectId) → is_met nodes.new q ≡ is_met nodes.old q) }
-    ensures painted { OnOk result (IsPainted nodes.old painted.old.items
-        → IsPainted nodes.new painted.new.items) }
+    ensures met { OnOk result ((q : ObjectId) → is_met known.new.nodes q
+        ≡ is_met known.old.nodes q) }
+    ensures queue { OnOk result (known.new.queue ≡ known.old.queue) }
+    ensures turns { OnOk result (turns_of known.new ≡ turns_of known.old) }
+    ensures painted { OnOk result (IsPainted known.old.nodes painted.old.items
+        → IsPainted known.new.nodes painted.new.items) }
     ensures rowed { OnOk result ((rows : List Row) → AllHeld rows painted.old.items
         → AllHeld rows parents.now → AllHeld rows painted.new.items) }
     ensures longer { OnOk result ((k : ℕ) (x : ObjectId) → At painted.old.items k x
         → At painted.new.items k x) }
     ensures walked { OnOk result ((along : ObjectId → List ObjectId) (tips : List ObjectId)
         (id : ObjectId) (p : ℕ) → parents.now ≡ along id
-        → Kept along tips every (is_hidden nodes.old) painted.old.items p 0
-        → Reads painted.old.items p id → KeptAll along tips every (is_hidden nodes.new)
+        → Kept along tips every (is_hidden known.old.nodes) painted.old.items p 0
+        → Reads painted.old.items p id → KeptAll along tips every (is_hidden known.new.nodes)
         painted.new.items p) }
 {
     'parents: for parent in parents {
-        paint_one(nodes, painted, *parent)?;
+        paint_one(known, painted, *parent)?;
     }
     Ok(())
 }
@@ -94,34 +106,37 @@ fn paint_parents(
 /// Marks as hidden all that these commits reach, until nothing is left to paint.
 pub fn paint<F: Find>(
     source: &mut Source<F>,
-    nodes: &mut Nodes,
+    known: &mut Known,
     hidden: &[ObjectId],
 ) -> Result<(), FetchError>
     ensures objects { source.new.objects ≡ source.old.objects }
     ensures rows { source.new.rows ≡ source.old.rows }
-    ensures met { OnOk result ((q : ObjectId) → is_met nodes.new q ≡ is_met nodes.old q) }
-    ensures painted { OnOk result (IsUnpainted nodes.old → F.is_honest source.old.objects
+    ensures met { OnOk result ((q : ObjectId) → is_met known.new.nodes q
+        ≡ is_met known.old.nodes q) }
+    ensures queue { OnOk result (known.new.queue ≡ known.old.queue) }
+    ensures turns { OnOk result (turns_of known.new ≡ turns_of known.old) }
+    ensures painted { OnOk result (IsUnpainted known.old.nodes → F.is_honest source.old.objects
         → (g : Commits ObjectId) → AreTold (rows_of source.old.rows) (F.table source.old.objects) g
-        → Paints g hidden.now nodes.new) }
+        → Paints g hidden.now known.new.nodes) }
     ensures rowed { OnOk result (AllHeld (rows_of source.old.rows) hidden.now
         → source.new.lookups ≡ source.old.lookups) }
     ensures counted { OnOk result ((asked : List ObjectId)
         × CountsAll (rows_of source.old.rows) asked source.old.lookups source.new.lookups
-        × (IsUnpainted nodes.old → F.is_honest source.old.objects → (g : Commits ObjectId)
+        × (IsUnpainted known.old.nodes → F.is_honest source.old.objects → (g : Commits ObjectId)
         → AreTold (rows_of source.old.rows) (F.table source.old.objects) g
         → IsListOf (ReachedFrom g hidden.now) asked)) }
-    ensures refused { IsUnpainted nodes.old
+    ensures refused { IsUnpainted known.old.nodes
         → IfErr result (PaintFault (F.is_honest source.old.objects) (F.may_fail source.old.objects)
         (rows_of source.old.rows) (F.table source.old.objects) hidden.now) }
 {
     let alloc: Global = *source.buffer.allocator();
     let mut painted: Vec<ObjectId> = Vec::new(alloc);
-    paint_tips(nodes, &mut painted, hidden)?;
+    paint_tips(known, &mut painted, hidden)?;
     let mut read = 0usize;
     'painted: while read < painted.len() {
         let id = painted[read];
         let commit = source.fetch(&id, Parents::All)?;
-        paint_parents(nodes, &mut painted, commit.parents.as_slice())?;
+        paint_parents(known, &mut painted, commit.parents.as_slice())?;
         read += 1;
     }
     Ok(())

@@ -9,7 +9,7 @@ ghost use Rattle.gix_traverse_commit.specs.Commits.{Commits};
 ghost use Rattle.gix_traverse_commit.specs.Fetching.{TimeIsTold};
 ghost use Rattle.gix_traverse_commit.specs.Meeting.{AsksOnce, CountsTimes, accepted};
 ghost use Rattle.gix_traverse_commit.specs.Rows.{AllHeld};
-ghost use Rattle.gix_traverse_commit.specs.Simply.{Asked, HasAhead, IsAccepted, IsMade, IsUnderWay, IsOver, IsKnown, TipFault, GivesNext, answers_left, predicate_of, source_of, objects_of, graph_of, lookups_of, content_of, kind_of};
+ghost use Rattle.gix_traverse_commit.specs.Simply.{Asked, GainsNone, HasAhead, IsAccepted, IsMade, IsUnderWay, IsOver, IsKnown, TipFault, GivesNext, answers_left, predicate_of, source_of, objects_of, graph_of, lookups_of, content_of, kind_of};
 ghost use Rattle.gix_traverse_commit.specs.Sorting.{IsByTime, timing_of};
 ghost use Rattle.gix_traverse_commit.specs.Told.{rows_of};
 ghost use Rattle.gix_traverse_commit.specs.declared.parents.Parents.TheVariants.{All as AllParents};
@@ -19,23 +19,21 @@ ghost use Rattle.gix_traverse_commit.specs.declared.simple.faults.Error.TheVaria
 mod anew;
 mod faults;
 mod meet;
-mod sorting;
+pub mod sorting;
 mod steps;
 mod timed;
-mod waiting;
+pub mod waiting;
 
 use crate::fetch::Source;
-use crate::nodes::Nodes;
+use crate::known::Known;
 pub use crate::simple::faults::{Error, HiddenGraphError};
 use crate::simple::meet::ask_tips;
 pub use crate::simple::sorting::{CommitTimeOrder, Sorting};
-use crate::simple::waiting::Waiting;
 use crate::{Accept, All, Graph, Info, Parents};
 use gix_hash::{Kind, ObjectId};
 use gix_object_commit_tokens::CommitRefIter;
 use gix_object_find::Find;
 use std::alloc::Global;
-use std::collections::VecDeque;
 
 /// A walk over the commits that some tips reach, past none that the predicate refuses or a hidden commit reaches, each once.
 ///
@@ -52,9 +50,7 @@ pub struct Simple<F, P> {
     sorting: Sorting,
     tips: Vec<ObjectId>,
     hidden: Vec<ObjectId>,
-    nodes: Nodes,
-    queue: VecDeque<ObjectId>,
-    waiting: Waiting,
+    known: Known,
     begun: bool,
     kind: Kind,
 }
@@ -101,8 +97,8 @@ impl<F: Find + Drop, P: Accept + Drop> Simple<F, P> {
         ensures refused { IfErr result (λ error. error ≡ Memory) }
     {
         let alloc: Global = *tips.allocator();
-        let mut nodes = Nodes::new(alloc);
-        ask_tips(&mut nodes, &mut predicate, tips.as_slice())?;
+        let mut known = Known::new(alloc);
+        ask_tips(&mut known, &mut predicate, tips.as_slice())?;
         Ok(Simple {
             source: Source {
                 objects: find,
@@ -115,9 +111,7 @@ impl<F: Find + Drop, P: Accept + Drop> Simple<F, P> {
             sorting: Sorting::BreadthFirst,
             tips,
             hidden: Vec::new(alloc),
-            nodes,
-            queue: VecDeque::new(alloc),
-            waiting: Waiting::new(alloc),
+            known,
             begun: false,
             kind: Kind::Sha1,
         })
@@ -152,6 +146,7 @@ impl<F: Find + Drop, P: Accept + Drop> Simple<F, P> {
         ensures refused { (a : Asked) → HasAhead P.accepts a self → IfErr result (TipFault
             (F.is_honest (objects_of self)) (F.may_fail (objects_of self)) (rows_of (graph_of self))
             (F.table (objects_of self)) a.tips (IsAccepted a)) }
+        ensures left { IfOk result (GainsNone self) }
         ensures over { IsOver self → IfOk result IsOver }
     {
         self.turn();
@@ -167,6 +162,7 @@ impl<F: Find + Drop, P: Accept + Drop> Simple<F, P> {
         ensures unasked { predicate_of result ≡ predicate_of self }
         ensures made { (a : Asked) → HasAhead P.accepts a self
             → IsMade P.accepts (record a { parents = parents }) result }
+        ensures left { GainsNone self result }
         ensures over { IsOver self → IsOver result }
     {
         self.turn();
@@ -181,6 +177,7 @@ impl<F: Find + Drop, P: Accept + Drop> Simple<F, P> {
         ensures unasked { IfOk result (λ walk. predicate_of walk ≡ predicate_of self) }
         ensures made { (a : Asked) → HasAhead P.accepts a self
             → IfOk result (IsMade P.accepts (record a { hidden = tips.items })) }
+        ensures left { IfOk result (GainsNone self) }
         ensures over { IsOver self → IfOk result IsOver }
         ensures whole { IsOk result }
     {
@@ -201,6 +198,7 @@ impl<F: Find + Drop, P: Accept + Drop> Simple<F, P> {
             → ((x : ObjectId) → Contains listed x → IsKnown (rows_of rows) ids x)
             → IsUnderWay P.accepts ids g a listed self
             → IsUnderWay P.accepts ids g a listed result }
+        ensures left { GainsNone self result }
         ensures over { IsOver self → IsOver result }
     {
         self.source.rows = rows;
@@ -234,7 +232,8 @@ impl<F: Find + Drop, P: Accept + Drop> Iterator for Simple<F, P> {
     type Item = Result<Info, Error>;
 
     ghost next_gives = { λ before item after. GivesNext P.accepts P.goes (F.is_honest before.source.objects)
-        (F.may_fail before.source.objects) (F.table before.source.objects) (F.ids before.source.objects)
+        (F.may_fail before.source.objects) (F.table before.source.objects)
+        (F.ids before.source.objects)
         before item after };
 
     ghost remaining = { λ walk. at_most (answers_left (F.ids (objects_of walk)) walk) };

@@ -4,7 +4,9 @@ use crate::infos;
 use crate::walks::{Asked, given};
 use gix_hash::ObjectId;
 use gix_traverse_commit::simple::{CommitTimeOrder, Sorting};
-use gix_traverse_commit::{Graph, ParentIds, Parents, Row, RowsError, WalkError, breadth_first};
+use gix_traverse_commit::{
+    Graph, Info, ParentIds, Parents, Row, RowsError, WalkError, breadth_first,
+};
 use std::alloc::Global;
 use std::mem;
 
@@ -100,7 +102,7 @@ impl History {
     }
 
     // A walk of `Simple`: along which parents, the tips, the hidden commits, how it is made or in which order by time it goes, whether
-    // its order is shown, and its cutoff.
+    // its order or all that is told of its commits is shown, and its cutoff.
     fn given(&self, alloc: Global, word: &[&str], sorting: Sorting) -> Option<String> {
         let parents = if *word.get(1)? == "first" {
             Parents::First
@@ -115,12 +117,68 @@ impl History {
             filtered: *word.get(4)? == "filtered",
         };
         let found = given(alloc, self.graph.as_ref()?, asked)?;
-        if *word.get(5)? == "set" {
-            shown(alloc, sorted(found)?.as_slice())
-        } else {
-            shown(alloc, found.as_slice())
+        match *word.get(5)? {
+            "infos" => shown_infos(alloc, found.as_slice()),
+            "set" => shown(alloc, sorted(ids_of(alloc, found.as_slice())?)?.as_slice()),
+            _ => shown(alloc, ids_of(alloc, found.as_slice())?.as_slice()),
         }
     }
+}
+
+// The ids of these commits.
+fn ids_of(alloc: Global, infos: &[Info]) -> Option<Vec<ObjectId>> {
+    let mut ids = Vec::new(alloc);
+    for info in infos {
+        ids.push(info.id).ok()?;
+    }
+    Some(ids)
+}
+
+// Each commit's number, its parents', its generation and its time; `-` is none.
+fn shown_infos(alloc: Global, infos: &[Info]) -> Option<String> {
+    let mut text = String::new(alloc);
+    for info in infos {
+        text.push_str(shown_info(alloc, info)?.as_str()).ok()?;
+    }
+    Some(text)
+}
+
+fn shown_info(alloc: Global, info: &Info) -> Option<String> {
+    let parents = shown_parents(alloc, info.parent_ids.as_slice())?;
+    let generation = match info.generation {
+        Some(generation) => format!(in alloc; "{generation}").ok()?,
+        None => format!(in alloc; "-").ok()?,
+    };
+    let time = match info.commit_time {
+        Some(time) => format!(in alloc; "{time}").ok()?,
+        None => format!(in alloc; "-").ok()?,
+    };
+    let id = number(&info.id);
+    format!(in alloc;
+        "{id}:{}:{}:{} ",
+        parents.as_str(),
+        generation.as_str(),
+        time.as_str()
+    )
+    .ok()
+}
+
+// The numbers of these parents between commas; `-` is none.
+fn shown_parents(alloc: Global, parents: &[ObjectId]) -> Option<String> {
+    if parents.is_empty() {
+        return format!(in alloc; "-").ok();
+    }
+    let mut text = String::new(alloc);
+    for parent in parents {
+        let comma = if text.is_empty() { "" } else { "," };
+        text.push_str(
+            format!(in alloc; "{comma}{}", number(parent))
+                .ok()?
+                .as_str(),
+        )
+        .ok()?;
+    }
+    Some(text)
 }
 
 // The order by time of this name, with its cutoff; `-` is none.

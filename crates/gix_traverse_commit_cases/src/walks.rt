@@ -17,8 +17,8 @@ pub struct Asked {
     pub filtered: bool,
 }
 
-/// What the walk gives. `None` where it ends with an error, or no memory is left.
-pub fn given(alloc: Global, graph: &Graph, asked: Asked) -> Option<Vec<ObjectId>> {
+/// Copies of what the walk gives. `None` where it ends with an error, or no memory is left.
+pub fn given(alloc: Global, graph: &Graph, asked: Asked) -> Option<Vec<Info>> {
     let graph = graph.try_clone().ok()?;
     let made = if asked.filtered {
         Simple::filtered(asked.tips, Never, All)
@@ -41,14 +41,14 @@ fn step(walk: &mut Simple<Never, All>) -> Option<Result<Info, Error>> {
     walk.next()
 }
 
-// The commits that come, up to the end or the first error.
-fn collect(alloc: Global, mut walk: Simple<Never, All>) -> Option<Vec<ObjectId>> {
-    let mut ids = Vec::new(alloc);
+// Copies of the commits that come, up to the end or the first error.
+fn collect(alloc: Global, mut walk: Simple<Never, All>) -> Option<Vec<Info>> {
+    let mut infos = Vec::new(alloc);
     for _ in 0..100_000u32 {
         match step(&mut walk) {
-            Some(Ok(info)) => ids.push(info.id).ok()?,
+            Some(Ok(info)) => infos.push(info.try_clone().ok()?).ok()?,
             Some(Err(_)) => return None,
-            None => return Some(ids),
+            None => return Some(infos),
         }
     }
     None

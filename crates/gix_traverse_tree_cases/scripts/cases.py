@@ -105,6 +105,9 @@ def main():
         depth, breadth = git.depth(root), git.breadth(root)
         add("depth-stopped", git, root, git.trees(root), "whole" + told([it for it in depth if it[2] != b"a/shut/x"][:3], lambda path: path))
         add("breadth-stopped", git, root, git.trees(root), "refused Cancelled" + told(breadth[:3], lambda path: path))
+        # copies tell the same: the path `a`, `a/b` that is queued, and the entries; buffers are empty when they are taken
+        add("depth-copied", git, root, git.trees(root), "0 0 a a/b" + told(depth, lambda path: path))
+        add("breadth-copied", git, root, git.trees(root), "a a/b" + told(breadth, lambda path: path))
         # a tree that isn't there comes at its turn
         root = git.tree({b"a": {b"x": file}, b"b": file})
         whole = git.trees(root)

@@ -2,6 +2,7 @@
 #![tactic(auto)]
 
 mod case;
+mod copies;
 mod operations;
 mod page;
 mod stopping;

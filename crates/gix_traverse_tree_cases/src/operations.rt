@@ -1,6 +1,7 @@
 //! One line to one answer.
 
 use crate::case::{Case, read_case};
+use crate::copies::copy;
 use crate::page::Page;
 use crate::stopping::Stopping;
 use crate::store::Store;
@@ -13,13 +14,15 @@ use std::alloc::{AllocError, Global};
 
 /// The two orders.
 #[derive(Clone, Copy)]
-enum Order {
+pub enum Order {
+    /// By levels.
     Breadth,
+    /// Each tree's entries behind it.
     Depth,
 }
 
-// The entries, one after another, each as its mode, its path and its id.
-fn records(page: &mut Page, entries: &[Entry]) {
+/// Adds the entries, one after another, each as its mode, its path and its id.
+pub fn records(page: &mut Page, entries: &[Entry]) {
     for entry in entries {
         page.value(" ", entry.mode.as_str(), " ");
         page.bytes(entry.filepath.as_bytes());
@@ -77,6 +80,13 @@ fn record(
     records(page, recorder.records.as_slice());
 }
 
+// What copies have after a walk.
+fn copies(alloc: Global, order: Order, root: &ObjectId, store: &Store, page: &mut Page) {
+    if copy(alloc, order, root, store, page).is_none() {
+        page.word("no walk");
+    }
+}
+
 // What a delegate has that ends the walk at its third entry.
 fn stop(alloc: Global, order: Order, root: &ObjectId, store: &Store, page: &mut Page) {
     let mut delegate = Stopping {
@@ -106,6 +116,8 @@ fn perform(alloc: Global, operation: &str, case: &Case, page: &mut Page) {
         "depth-untracked" => record(alloc, Order::Depth, None, &root, &store, page),
         "breadth-stopped" => stop(alloc, Order::Breadth, &root, &store, page),
         "depth-stopped" => stop(alloc, Order::Depth, &root, &store, page),
+        "breadth-copied" => copies(alloc, Order::Breadth, &root, &store, page),
+        "depth-copied" => copies(alloc, Order::Depth, &root, &store, page),
         _ => page.word("no operation"),
     }
 }

@@ -81,7 +81,8 @@ fn open(alloc: Global, parts: &mut Parts, page: &mut Page) {
     let files = parts.take_objects(alloc);
     match Objects::open(alloc, files, parts.kind) {
         Ok(objects) => {
-            page.word("opened");
+            let is_of_kind = objects.kind() == parts.kind;
+            page.word(if is_of_kind { "opened" } else { "other" });
             parts.objects = objects;
         }
         Err(refusal) => {

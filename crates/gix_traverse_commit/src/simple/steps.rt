@@ -6,20 +6,20 @@ ghost use Rattle.gix_hash.specs.declared.object_id.ObjectId.{ObjectId};
 ghost use Rattle.gix_traverse_commit.specs.Commits.{Commits, asked_parents};
 ghost use Rattle.gix_traverse_commit.specs.Ending.{times_in};
 ghost use Rattle.gix_traverse_commit.specs.Fetching.{TimeIsTold};
+ghost use Rattle.gix_traverse_commit.specs.Known.{turns_of};
 ghost use Rattle.gix_traverse_commit.specs.Meeting.{Asks, CountsOne, CountsTimes, CountsTips, IsFresh, accepted, unmet};
 ghost use Rattle.gix_traverse_commit.specs.Order.{IsListOf};
 ghost use Rattle.gix_traverse_commit.specs.Rows.{AllHeld, Holds};
 ghost use Rattle.gix_traverse_commit.specs.Simply.{Answers, Asked, CountsBeginning, CountsFault, CountsUpTo, HasAhead, IsMade, IsNew, IsPaintedFor, IsUnderWay, IsAtTurn, IsOver, IsKnown, IsInfo, IsTurn, IsSure, IsContentOf, IsUnmet, InRows, Meets, Stands, StopsFetch, TipFault, SimpleFault, GainsNone, content_of, times_queued};
 ghost use Rattle.gix_traverse_commit.specs.Sorting.{IsByTime, timing_of};
-ghost use Rattle.gix_traverse_commit.specs.Timely.{waiting};
 ghost use Rattle.gix_traverse_commit.specs.Told.{AreTold, rows_of};
 ghost use Rattle.gix_traverse_commit.specs.declared.parents.Parents.TheVariants.{All as AllParents};
 ghost use Rattle.gix_traverse_commit.specs.declared.simple.faults.Error.TheVariants.{Memory};
 
 use crate::paint::paint;
-use crate::simple::anew::{queue_all, take_all, unpaint};
+use crate::simple::anew::{take_all, unpaint};
 use crate::simple::faults::of_painting;
-use crate::simple::meet::{meet_parents, pop, queue_tips};
+use crate::simple::meet::{meet_parents, queue_tips};
 use crate::simple::sorting::{Sorting, shown_time, time_order};
 use crate::simple::timed::{await_parents, await_tips, read_times};
 use crate::simple::{Error, Simple};
@@ -36,6 +36,7 @@ impl<F: Find + Drop, P: Accept + Drop> Simple<F, P> {
         ensures predicate { self.new.predicate ≡ self.old.predicate }
         ensures same { self.old.begun ≡ false → self.new ≡ self.old }
         ensures ahead { (a : Asked) → HasAhead P.accepts a self.old → IsMade P.accepts a self.new }
+        ensures left { GainsNone self.old self.new }
         ensures over { IsOver self.old → IsOver self.new }
     {
         if !self.begun {
@@ -47,10 +48,10 @@ impl<F: Find + Drop, P: Accept + Drop> Simple<F, P> {
 
     // Whether nothing is queued.
     fn is_idle(&self) -> bool
-        ensures { (result ≡ true) ↔ ((self.now.queue.items ≡ [])
-            × (waiting self.now.waiting ≡ [])) }
+        ensures { (result ≡ true) ↔ ((self.now.known.queue ≡ [])
+            × (turns_of self.now.known ≡ [])) }
     {
-        self.queue.is_empty() && self.waiting.is_empty()
+        self.known.is_idle()
     }
 
     // Reads the times of the tips, but of those that the predicate refused, where the order goes by time.
@@ -64,16 +65,17 @@ impl<F: Find + Drop, P: Accept + Drop> Simple<F, P> {
         ensures rowed { AllHeld (rows_of self.old.source.rows) self.old.tips.items
             → self.new.source.lookups ≡ self.old.source.lookups }
         ensures each { OnOk result (CountsTimes (timing_of AllParents sorting)
-            (rows_of self.old.source.rows) (unmet self.old.nodes self.old.tips.items)
+            (rows_of self.old.source.rows) (unmet self.old.known.nodes self.old.tips.items)
             self.old.source.lookups self.new.source.lookups) }
         ensures content { OnOk result (content_of self.new ≡ content_of self.old) }
         ensures told { F.is_honest self.old.source.objects → IsByTime sorting
             → OnOk result ((x : ObjectId) → Contains self.old.tips.items x
-            → IsUnmet self.old.nodes x → TimeIsTold (rows_of self.old.source.rows)
+            → IsUnmet self.old.known.nodes x → TimeIsTold (rows_of self.old.source.rows)
             (F.table self.old.source.objects) x) }
         ensures refused { IfErr result (TipFault (F.is_honest self.old.source.objects)
             (F.may_fail self.old.source.objects) (rows_of self.old.source.rows)
-            (F.table self.old.source.objects) self.old.tips.items (IsUnmet self.old.nodes)) }
+            (F.table self.old.source.objects) self.old.tips.items (IsUnmet self.old.known.nodes)) }
+        ensures left { OnOk result (GainsNone self.old self.new) }
         ensures over { IsOver self.old → IsOver self.new }
     {
         if time_order(Parents::All, sorting).is_none() {
@@ -81,7 +83,7 @@ impl<F: Find + Drop, P: Accept + Drop> Simple<F, P> {
         }
         let alloc: Global = *self.tips.allocator();
         let content = mem::replace(&mut self.source.buffer, Vec::new(alloc));
-        read_times(&mut self.source, &self.nodes, self.tips.as_slice())?;
+        read_times(&mut self.source, &self.known, self.tips.as_slice())?;
         self.source.buffer = content;
         Ok(())
     }
@@ -90,7 +92,7 @@ impl<F: Find + Drop, P: Accept + Drop> Simple<F, P> {
     pub(crate) fn gather(&mut self) -> Result<(), AllocError>
         ensures source { self.new.source ≡ self.old.source }
         ensures predicate { self.new.predicate ≡ self.old.predicate }
-        ensures same { self.old.queue.items ≡ [] → waiting self.old.waiting ≡ []
+        ensures same { self.old.known.queue ≡ [] → turns_of self.old.known ≡ []
             → (self.new ≡ self.old) × IsOk result }
         ensures made { (a : Asked) → IsMade P.accepts a self.old
             → OnOk result (IsNew P.accepts a self.new) }
@@ -103,10 +105,9 @@ impl<F: Find + Drop, P: Accept + Drop> Simple<F, P> {
             return Ok(());
         }
         let alloc: Global = *self.tips.allocator();
-        unpaint(alloc, &mut self.nodes)?;
-        let waiting = self.waiting.take_all(alloc)?;
-        queue_all(&mut self.queue, waiting.as_slice())?;
-        take_all(&mut self.tips, &mut self.nodes, &mut self.queue)?;
+        self.known.queue_waiting(alloc)?;
+        unpaint(alloc, &mut self.known)?;
+        take_all(&mut self.tips, &mut self.known)?;
         Ok(())
     }
 
@@ -129,21 +130,20 @@ impl<F: Find + Drop, P: Accept + Drop> Simple<F, P> {
         ensures counted { self.new.source.lookups
             ≤ self.old.source.lookups + length self.old.tips.items }
         ensures timed { OnOk result (CountsTips (timing_of self.old.parents self.old.sorting)
-            (IsFresh self.old.nodes self.old.tips.items) (rows_of self.old.source.rows)
+            (IsFresh self.old.known.nodes self.old.tips.items) (rows_of self.old.source.rows)
             self.old.source.lookups self.new.source.lookups) }
         ensures order { (self.new.parents ≡ self.old.parents)
             × (self.new.sorting ≡ self.old.sorting) }
         ensures refused { IfErr result (λ error. error ≡ Memory) }
     {
         let Some(timing) = time_order(self.parents, self.sorting) else {
-            queue_tips(&mut self.nodes, &mut self.queue, self.tips.as_slice())?;
+            queue_tips(&mut self.known, self.tips.as_slice())?;
             self.begun = true;
             return Ok(());
         };
         await_tips(
             &mut self.source,
-            &mut self.nodes,
-            &mut self.waiting,
+            &mut self.known,
             timing.since,
             self.tips.as_slice(),
         )?;
@@ -177,7 +177,7 @@ impl<F: Find + Drop, P: Accept + Drop> Simple<F, P> {
         self.gather()?;
         let alloc: Global = *self.tips.allocator();
         let content = mem::replace(&mut self.source.buffer, Vec::new(alloc));
-        if let Err(error) = paint(&mut self.source, &mut self.nodes, self.hidden.as_slice()) {
+        if let Err(error) = paint(&mut self.source, &mut self.known, self.hidden.as_slice()) {
             return Err(of_painting(error));
         }
         self.line_up()?;
@@ -226,8 +226,7 @@ impl<F: Find + Drop, P: Accept + Drop> Simple<F, P> {
         ensures over { IsOver self.new }
     {
         self.begun = true;
-        self.queue.clear();
-        self.waiting.clear();
+        self.known.clear();
     }
 
     // Ends the walk after an error.
@@ -246,7 +245,7 @@ impl<F: Find + Drop, P: Accept + Drop> Simple<F, P> {
     pub(crate) fn take(&mut self) -> Option<ObjectId>
         ensures source { self.new.source ≡ self.old.source }
         ensures predicate { self.new.predicate ≡ self.old.predicate }
-        ensures nodes { self.new.nodes ≡ self.old.nodes }
+        ensures nodes { self.new.known.nodes ≡ self.old.known.nodes }
         ensures order { (self.new.parents ≡ self.old.parents)
             × (self.new.sorting ≡ self.old.sorting) }
         ensures turn { IfSome result (λ id. (ids : List Id) (g : Commits ObjectId) (a : Asked)
@@ -262,10 +261,10 @@ impl<F: Find + Drop, P: Accept + Drop> Simple<F, P> {
             × Holds (rows_of self.old.source.rows) id) }
     {
         let Some(timing) = time_order(self.parents, self.sorting) else {
-            let id = pop(&mut self.queue)?;
+            let id = self.known.pop()?;
             return Some(id);
         };
-        let turn = self.waiting.take(timing.order)?;
+        let turn = self.known.take_turn(timing.order)?;
         Some(turn.id)
     }
 
@@ -293,7 +292,7 @@ impl<F: Find + Drop, P: Accept + Drop> Simple<F, P> {
         ensures still { AllHeld (rows_of self.old.source.rows) parents.now
             → OnOk result (self.new.source.lookups ≡ self.old.source.lookups) }
         ensures met { OnOk result ((met : List ObjectId)
-            × IsListOf (IsFresh self.old.nodes parents.now) met
+            × IsListOf (IsFresh self.old.known.nodes parents.now) met
             × Asks P.goes met self.old.predicate self.new.predicate
             × CountsTimes (timing_of self.old.parents self.old.sorting)
             (rows_of self.old.source.rows) (accepted (P.accepts self.old.predicate) met)
@@ -301,19 +300,13 @@ impl<F: Find + Drop, P: Accept + Drop> Simple<F, P> {
         ensures refused { IfErr result (λ error. error ≡ Memory) }
     {
         let Some(timing) = time_order(self.parents, self.sorting) else {
-            meet_parents(
-                &mut self.nodes,
-                &mut self.predicate,
-                &mut self.queue,
-                parents,
-            )?;
+            meet_parents(&mut self.known, &mut self.predicate, parents)?;
             return Ok(());
         };
         await_parents(
             &mut self.source,
-            &mut self.nodes,
+            &mut self.known,
             &mut self.predicate,
-            &mut self.waiting,
             timing.since,
             parents,
         )?;

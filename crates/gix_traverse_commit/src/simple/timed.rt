@@ -1,11 +1,12 @@
 //! Meeting commits in a walk by time: tips and parents, each once.
 
-ghost use Rattle.std.specs.Prelude.{◌≡◌, ◌⊎◌, ◌∷◌, ℕ, ◌≤◌, ◌+◌, ◌&&◌, not, List, Bool, true, length, if◌then◌else◌, [], false, Contains, IfOk, IfErr, OnOk};
+ghost use Rattle.std.specs.Prelude.{◌≡◌, ◌⊎◌, ◌∷◌, ℕ, ℤ, ◌≤◌, ◌+◌, ◌&&◌, not, List, Bool, true, length, if◌then◌else◌, [], false, Contains, IfOk, IfErr, OnOk};
 ghost use Rattle.gix_hash.specs.Id.{Id, id_of};
 ghost use Rattle.gix_hash.specs.declared.object_id.ObjectId.{ObjectId};
 ghost use Rattle.gix_traverse_commit.specs.Commits.{Commits};
 ghost use Rattle.gix_traverse_commit.specs.Ending.{NoneGains, times_in, times_waiting};
 ghost use Rattle.gix_traverse_commit.specs.Fetching.{TimeIsTold, one_more};
+ghost use Rattle.gix_traverse_commit.specs.Known.{turns_of};
 ghost use Rattle.gix_traverse_commit.specs.Meeting.{Asks, CountsAll, IsFresh, accepted, fresh, unmet};
 ghost use Rattle.gix_traverse_commit.specs.Nodes.{is_met, is_hidden};
 ghost use Rattle.gix_traverse_commit.specs.Numbered.{same_id};
@@ -13,17 +14,18 @@ ghost use Rattle.gix_traverse_commit.specs.Order.{At, IsListOf, IsOpen};
 ghost use Rattle.gix_traverse_commit.specs.Rows.{AllHeld, Holds};
 ghost use Rattle.gix_traverse_commit.specs.Simply.{IsReadBefore, IsUnmet, TipFault};
 ghost use Rattle.gix_traverse_commit.specs.Sorting.{in_time};
-ghost use Rattle.gix_traverse_commit.specs.Timely.{AllRowed, IsMetSoFar, Joins, keep_since, turn_of, waiting as waiting_turns};
+ghost use Rattle.gix_traverse_commit.specs.Timely.{AllRowed, CountsAs, IsMetSoFar, Joins, keep_since, turn_of};
 ghost use Rattle.gix_traverse_commit.specs.Told.{AreTold, rows_of};
 ghost use Rattle.gix_traverse_commit.specs.declared.simple.faults.Error.TheVariants.{Memory};
 
 use crate::Accept;
 use crate::fetch::{FetchError, Source};
-use crate::nodes::Nodes;
+use crate::known::Known;
+use crate::nodes::Marks;
 use crate::simple::Error;
 use crate::simple::meet::mark_met;
 use crate::simple::sorting::is_in_time;
-use crate::simple::waiting::{Turn, Waiting};
+use crate::simple::waiting::Turn;
 use gix_hash::ObjectId;
 use gix_object_find::Find;
 
@@ -40,6 +42,9 @@ fn seconds_or_zero<F: Find>(source: &mut Source<F>, id: &ObjectId) -> Result<i64
     ensures time { F.is_honest source.old.objects → ¬ F.may_fail source.old.objects
         → (g : Commits ObjectId) → AreTold (rows_of source.old.rows) (F.table source.old.objects) g
         → IfOk result (λ seconds. seconds ≡ (g id.now).time) }
+    ensures counted_as { F.is_honest source.old.objects → (g : Commits ObjectId)
+        → AreTold (rows_of source.old.rows) (F.table source.old.objects) g
+        → IfOk result (CountsAs (F.may_fail source.old.objects) g id.now) }
     ensures refused { IfErr result (λ error. error ≡ Memory) }
 {
     match source.seconds(id) {
@@ -50,23 +55,25 @@ fn seconds_or_zero<F: Find>(source: &mut Source<F>, id: &ObjectId) -> Result<i64
 }
 
 // Reads the time of a tip, unless the predicate refused it.
-fn read_time<F: Find>(source: &mut Source<F>, nodes: &Nodes, tip: &ObjectId) -> Result<(), Error>
+fn read_time<F: Find>(source: &mut Source<F>, known: &Known, tip: &ObjectId) -> Result<(), Error>
     ensures objects { source.new.objects ≡ source.old.objects }
     ensures rows { source.new.rows ≡ source.old.rows }
     ensures counted { source.new.lookups ≤ source.old.lookups + 1 }
     ensures rowed { Holds (rows_of source.old.rows) tip.now
         → source.new.lookups ≡ source.old.lookups }
-    ensures each { OnOk result (CountsAll (rows_of source.old.rows) (unmet nodes.now (tip.now ∷ []))
+    ensures each { OnOk result (CountsAll (rows_of source.old.rows) (unmet known.now.nodes
+        (tip.now ∷ []))
         source.old.lookups source.new.lookups) }
-    ensures told { F.is_honest source.old.objects → OnOk result (IsUnmet nodes.now tip.now
+    ensures told { F.is_honest source.old.objects → OnOk result (IsUnmet known.now.nodes tip.now
         → TimeIsTold (rows_of source.old.rows) (F.table source.old.objects) tip.now) }
     ensures refused { IfErr result (λ error. (tips : List ObjectId) (place : ℕ)
         → At tips place tip.now → IsReadBefore (F.is_honest source.old.objects)
-        (rows_of source.old.rows) (F.table source.old.objects) nodes.now tips place
+        (rows_of source.old.rows) (F.table source.old.objects) known.now.nodes tips place
         → TipFault (F.is_honest source.old.objects) (F.may_fail source.old.objects)
-        (rows_of source.old.rows) (F.table source.old.objects) tips (IsUnmet nodes.now) error) }
+        (rows_of source.old.rows) (F.table source.old.objects) tips
+        (IsUnmet known.now.nodes) error) }
 {
-    if nodes.marks(tip).met {
+    if known.marks(tip).met {
         return Ok(());
     }
     source.seconds(tip)?;
@@ -76,7 +83,7 @@ fn read_time<F: Find>(source: &mut Source<F>, nodes: &Nodes, tip: &ObjectId) -> 
 /// Reads the times of these tips, but of those that the predicate refused.
 pub fn read_times<F: Find>(
     source: &mut Source<F>,
-    nodes: &Nodes,
+    known: &Known,
     tips: &[ObjectId],
 ) -> Result<(), Error>
     ensures objects { source.new.objects ≡ source.old.objects }
@@ -84,57 +91,69 @@ pub fn read_times<F: Find>(
     ensures counted { source.new.lookups ≤ source.old.lookups + length tips.now }
     ensures rowed { AllHeld (rows_of source.old.rows) tips.now
         → source.new.lookups ≡ source.old.lookups }
-    ensures each { OnOk result (CountsAll (rows_of source.old.rows) (unmet nodes.now tips.now)
+    ensures each { OnOk result (CountsAll (rows_of source.old.rows) (unmet known.now.nodes tips.now)
         source.old.lookups source.new.lookups) }
     ensures told { F.is_honest source.old.objects → OnOk result ((x : ObjectId)
-        → Contains tips.now x → IsUnmet nodes.now x
+        → Contains tips.now x → IsUnmet known.now.nodes x
         → TimeIsTold (rows_of source.old.rows) (F.table source.old.objects) x) }
     ensures refused { IfErr result (TipFault (F.is_honest source.old.objects)
         (F.may_fail source.old.objects) (rows_of source.old.rows) (F.table source.old.objects)
-        tips.now (IsUnmet nodes.now)) }
+        tips.now (IsUnmet known.now.nodes)) }
 {
     'tips: for tip in tips {
-        read_time(source, nodes, tip)?;
+        read_time(source, known, tip)?;
     }
     Ok(())
 }
 
-// Lets a commit wait that is no older than the cutoff.
+// Marks a commit as met, and lets it wait where it is no older than the cutoff.
 fn wait<F: Find>(
     source: &mut Source<F>,
-    waiting: &mut Waiting,
+    known: &mut Known,
     since: Option<i64>,
     id: ObjectId,
+    marks: Marks,
 ) -> Result<(), Error>
     ensures objects { source.new.objects ≡ source.old.objects }
     ensures rows { source.new.rows ≡ source.old.rows }
     ensures counted { source.new.lookups ≤ source.old.lookups + 1 }
     ensures rising { source.old.lookups ≤ source.new.lookups }
+    ensures met { OnOk result ((q : ObjectId) → is_met known.new.nodes q
+        ≡ (if same_id id q then true else is_met known.old.nodes q)) }
+    ensures hidden { OnOk result (is_hidden known.old.nodes id ≡ marks.hidden
+        → (q : ObjectId) → is_hidden known.new.nodes q ≡ is_hidden known.old.nodes q) }
+    ensures queue { OnOk result (known.new.queue ≡ known.old.queue) }
     ensures rowed { Holds (rows_of source.old.rows) id → (source.new.lookups ≡ source.old.lookups)
-        × OnOk result (AllRowed (rows_of source.old.rows) (waiting_turns waiting.old)
-        → AllRowed (rows_of source.old.rows) (waiting_turns waiting.new)) }
+        × OnOk result (AllRowed (rows_of source.old.rows) (turns_of known.old)
+        → AllRowed (rows_of source.old.rows) (turns_of known.new)) }
     ensures waits { OnOk result (F.is_honest source.old.objects → ¬ F.may_fail source.old.objects
         → (g : Commits ObjectId) → AreTold (rows_of source.old.rows) (F.table source.old.objects) g
-        → Joins (in_time since (g id).time) (waiting_turns waiting.old) (turn_of g id)
-        (waiting_turns waiting.new)) }
-    ensures once { OnOk result ((x : Id) → times_waiting (waiting_turns waiting.new) x
-        ≤ times_waiting (waiting_turns waiting.old) x + times_in (id ∷ []) x) }
+        → Joins (in_time since (g id).time) (turns_of known.old) (turn_of g id)
+        (turns_of known.new)) }
+    ensures counted_as { OnOk result (F.is_honest source.old.objects → (g : Commits ObjectId)
+        → AreTold (rows_of source.old.rows) (F.table source.old.objects) g → (time : ℤ)
+        × CountsAs (F.may_fail source.old.objects) g id time
+        × Joins (in_time since time) (turns_of known.old) (record { time = time; id = id })
+        (turns_of known.new)) }
+    ensures once { OnOk result ((x : Id) → times_waiting (turns_of known.new) x
+        ≤ times_waiting (turns_of known.old) x + times_in (id ∷ []) x) }
     ensures asked { (¬ Holds (rows_of source.old.rows) id)
         → source.new.lookups ≡ one_more source.old.lookups }
     ensures refused { IfErr result (λ error. error ≡ Memory) }
 {
     let time = seconds_or_zero(source, &id)?;
-    if is_in_time(since, time) {
-        waiting.put(Turn { time, id })?;
+    if !is_in_time(since, time) {
+        mark_met(known, id, marks)?;
+        return Ok(());
     }
+    known.wait(Turn { time, id }, marks.as_met())?;
     Ok(())
 }
 
 // Lets a tip wait that is not hidden and was not met.
 fn await_tip<F: Find>(
     source: &mut Source<F>,
-    nodes: &mut Nodes,
-    waiting: &mut Waiting,
+    known: &mut Known,
     since: Option<i64>,
     id: ObjectId,
 ) -> Result<(), Error>
@@ -142,39 +161,42 @@ fn await_tip<F: Find>(
     ensures rows { source.new.rows ≡ source.old.rows }
     ensures counted { source.new.lookups ≤ source.old.lookups + 1 }
     ensures rising { source.old.lookups ≤ source.new.lookups }
-    ensures met { OnOk result ((q : ObjectId) → is_met nodes.new q
-        ≡ (if same_id id q then true else is_met nodes.old q)) }
-    ensures hidden { OnOk result ((q : ObjectId) → is_hidden nodes.new q ≡ is_hidden nodes.old q) }
+    ensures met { OnOk result ((q : ObjectId) → is_met known.new.nodes q
+        ≡ (if same_id id q then true else is_met known.old.nodes q)) }
+    ensures queue { OnOk result (known.new.queue ≡ known.old.queue) }
+    ensures hidden { OnOk result ((q : ObjectId) → is_hidden known.new.nodes q
+        ≡ is_hidden known.old.nodes q) }
     ensures rowed { Holds (rows_of source.old.rows) id
         → OnOk result ((source.new.lookups ≡ source.old.lookups)
-        × (AllRowed (rows_of source.old.rows) (waiting_turns waiting.old)
-        → AllRowed (rows_of source.old.rows) (waiting_turns waiting.new))) }
+        × (AllRowed (rows_of source.old.rows) (turns_of known.old)
+        → AllRowed (rows_of source.old.rows) (turns_of known.new))) }
     ensures waits { OnOk result (F.is_honest source.old.objects → ¬ F.may_fail source.old.objects
         → (g : Commits ObjectId) → AreTold (rows_of source.old.rows) (F.table source.old.objects) g
-        → Joins (not (is_met nodes.old id) && (not (is_hidden nodes.old id) && in_time since
-        (g id).time)) (waiting_turns waiting.old) (turn_of g id) (waiting_turns waiting.new)) }
-    ensures left { OnOk result (NoneGains nodes.old (times_waiting (waiting_turns waiting.old))
-        nodes.new (times_waiting (waiting_turns waiting.new))) }
-    ensures timed { OnOk result (CountsAll (rows_of source.old.rows) (fresh nodes.old id)
+        → Joins (not (is_met known.old.nodes id) && (not
+        (is_hidden known.old.nodes id) && in_time since
+        (g id).time)) (turns_of known.old) (turn_of g id) (turns_of known.new)) }
+    ensures left { OnOk result (NoneGains known.old.nodes
+        (times_waiting (turns_of known.old)) known.new.nodes (times_waiting (turns_of known.new))) }
+    ensures timed { OnOk result (CountsAll (rows_of source.old.rows) (fresh known.old.nodes id)
         source.old.lookups source.new.lookups) }
     ensures refused { IfErr result (λ error. error ≡ Memory) }
 {
-    let marks = nodes.marks(&id);
+    let marks = known.marks(&id);
     if marks.met {
         return Ok(());
     }
-    mark_met(nodes, id, marks)?;
     if !marks.hidden {
-        wait(source, waiting, since, id)?;
+        wait(source, known, since, id, marks)?;
+        return Ok(());
     }
+    mark_met(known, id, marks)?;
     Ok(())
 }
 
 /// Lets the tips wait that are accepted, not hidden and no older than the cutoff, each once.
 pub fn await_tips<F: Find>(
     source: &mut Source<F>,
-    nodes: &mut Nodes,
-    waiting: &mut Waiting,
+    known: &mut Known,
     since: Option<i64>,
     tips: &[ObjectId],
 ) -> Result<(), Error>
@@ -182,30 +204,34 @@ pub fn await_tips<F: Find>(
     ensures rows { source.new.rows ≡ source.old.rows }
     ensures counted { source.new.lookups ≤ source.old.lookups + length tips.now }
     ensures rising { source.old.lookups ≤ source.new.lookups }
-    ensures hidden { OnOk result ((q : ObjectId) → is_hidden nodes.new q ≡ is_hidden nodes.old q) }
-    ensures grown { OnOk result ((q : ObjectId) → is_met nodes.old q ≡ true
-        → is_met nodes.new q ≡ true) }
+    ensures queue { OnOk result (known.new.queue ≡ known.old.queue) }
+    ensures hidden { OnOk result ((q : ObjectId) → is_hidden known.new.nodes q
+        ≡ is_hidden known.old.nodes q) }
+    ensures grown { OnOk result ((q : ObjectId) → is_met known.old.nodes q ≡ true
+        → is_met known.new.nodes q ≡ true) }
     ensures rowed { AllHeld (rows_of source.old.rows) tips.now
         → OnOk result ((source.new.lookups ≡ source.old.lookups)
-        × (AllRowed (rows_of source.old.rows) (waiting_turns waiting.old)
-        → AllRowed (rows_of source.old.rows) (waiting_turns waiting.new))) }
+        × (AllRowed (rows_of source.old.rows) (turns_of known.old)
+        → AllRowed (rows_of source.old.rows) (turns_of known.new))) }
     ensures walked { OnOk result (F.is_honest source.old.objects → ¬ F.may_fail source.old.objects
         → (g : Commits ObjectId) → AreTold (rows_of source.old.rows) (F.table source.old.objects) g
         → (accepts : Id → Bool) → ((x : ObjectId) → Contains tips.now x
-        → is_met nodes.old x ≡ false → accepts (id_of x) ≡ true)
-        → IsMetSoFar g (keep_since since g (is_hidden nodes.old) accepts) (is_met nodes.old)
-        (λ _. ⊥) [] (waiting_turns waiting.old)
-        → IsMetSoFar g (keep_since since g (is_hidden nodes.old) accepts) (is_met nodes.new)
-        (Contains tips.now) [] (waiting_turns waiting.new)) }
-    ensures left { OnOk result (NoneGains nodes.old (times_waiting (waiting_turns waiting.old))
-        nodes.new (times_waiting (waiting_turns waiting.new))) }
+        → is_met known.old.nodes x ≡ false → accepts (id_of x) ≡ true)
+        → IsMetSoFar g (keep_since since g (is_hidden known.old.nodes) accepts)
+        (is_met known.old.nodes)
+        (λ _. ⊥) [] (turns_of known.old)
+        → IsMetSoFar g (keep_since since g (is_hidden known.old.nodes) accepts)
+        (is_met known.new.nodes)
+        (Contains tips.now) [] (turns_of known.new)) }
+    ensures left { OnOk result (NoneGains known.old.nodes
+        (times_waiting (turns_of known.old)) known.new.nodes (times_waiting (turns_of known.new))) }
     ensures timed { OnOk result ((timed : List ObjectId)
-        × IsListOf (IsFresh nodes.old tips.now) timed
+        × IsListOf (IsFresh known.old.nodes tips.now) timed
         × CountsAll (rows_of source.old.rows) timed source.old.lookups source.new.lookups) }
     ensures refused { IfErr result (λ error. error ≡ Memory) }
 {
     'tips: for tip in tips {
-        await_tip(source, nodes, waiting, since, *tip)?;
+        await_tip(source, known, since, *tip)?;
     }
     Ok(())
 }
@@ -213,9 +239,8 @@ pub fn await_tips<F: Find>(
 // Lets a commit wait that was not met, is not hidden, is accepted and is no older than the cutoff.
 fn await_parent<F: Find, P: Accept>(
     source: &mut Source<F>,
-    nodes: &mut Nodes,
+    known: &mut Known,
     predicate: &mut P,
-    waiting: &mut Waiting,
     since: Option<i64>,
     id: ObjectId,
 ) -> Result<(), Error>
@@ -224,46 +249,50 @@ fn await_parent<F: Find, P: Accept>(
     ensures counted { source.new.lookups ≤ source.old.lookups + 1 }
     ensures rising { source.old.lookups ≤ source.new.lookups }
     ensures accepts { P.accepts predicate.new ≡ P.accepts predicate.old }
-    ensures met { OnOk result ((q : ObjectId) → is_met nodes.new q ≡ (if is_hidden nodes.old id
-        then is_met nodes.old q else (if same_id id q then true else is_met nodes.old q))) }
-    ensures hidden { OnOk result ((q : ObjectId) → is_hidden nodes.new q ≡ is_hidden nodes.old q) }
+    ensures met { OnOk result ((q : ObjectId) → is_met known.new.nodes q
+        ≡ (if is_hidden known.old.nodes id
+        then is_met known.old.nodes q else
+        (if same_id id q then true else is_met known.old.nodes q))) }
+    ensures queue { OnOk result (known.new.queue ≡ known.old.queue) }
+    ensures hidden { OnOk result ((q : ObjectId) → is_hidden known.new.nodes q
+        ≡ is_hidden known.old.nodes q) }
     ensures rowed { Holds (rows_of source.old.rows) id
         → OnOk result ((source.new.lookups ≡ source.old.lookups)
-        × (AllRowed (rows_of source.old.rows) (waiting_turns waiting.old)
-        → AllRowed (rows_of source.old.rows) (waiting_turns waiting.new))) }
+        × (AllRowed (rows_of source.old.rows) (turns_of known.old)
+        → AllRowed (rows_of source.old.rows) (turns_of known.new))) }
     ensures waits { OnOk result (F.is_honest source.old.objects → ¬ F.may_fail source.old.objects
         → (g : Commits ObjectId) → AreTold (rows_of source.old.rows) (F.table source.old.objects) g
-        → Joins (not (is_met nodes.old id) && keep_since since g (is_hidden nodes.old)
-        (P.accepts predicate.old) id) (waiting_turns waiting.old) (turn_of g id)
-        (waiting_turns waiting.new)) }
-    ensures left { OnOk result (NoneGains nodes.old (times_waiting (waiting_turns waiting.old))
-        nodes.new (times_waiting (waiting_turns waiting.new))) }
-    ensures asked { OnOk result (Asks P.goes (fresh nodes.old id) predicate.old predicate.new) }
+        → Joins (not (is_met known.old.nodes id) && keep_since since g (is_hidden known.old.nodes)
+        (P.accepts predicate.old) id) (turns_of known.old) (turn_of g id) (turns_of known.new)) }
+    ensures left { OnOk result (NoneGains known.old.nodes
+        (times_waiting (turns_of known.old)) known.new.nodes (times_waiting (turns_of known.new))) }
+    ensures asked { OnOk result (Asks P.goes
+        (fresh known.old.nodes id) predicate.old predicate.new) }
     ensures timed { OnOk result (CountsAll (rows_of source.old.rows)
-        (accepted (P.accepts predicate.old) (fresh nodes.old id)) source.old.lookups
+        (accepted (P.accepts predicate.old) (fresh known.old.nodes id)) source.old.lookups
         source.new.lookups) }
     ensures refused { IfErr result (λ error. error ≡ Memory) }
 {
-    let marks = nodes.marks(&id);
+    let marks = known.marks(&id);
     if marks.hidden {
         return Ok(());
     }
     if marks.met {
         return Ok(());
     }
-    mark_met(nodes, id, marks)?;
     if predicate.accept(id.as_oid()) {
-        wait(source, waiting, since, id)?;
+        wait(source, known, since, id, marks)?;
+        return Ok(());
     }
+    mark_met(known, id, marks)?;
     Ok(())
 }
 
 /// Lets the parents of a commit wait that were not met, are not hidden, are accepted and are no older than the cutoff.
 pub fn await_parents<F: Find, P: Accept>(
     source: &mut Source<F>,
-    nodes: &mut Nodes,
+    known: &mut Known,
     predicate: &mut P,
-    waiting: &mut Waiting,
     since: Option<i64>,
     parents: &[ObjectId],
 ) -> Result<(), Error>
@@ -272,34 +301,38 @@ pub fn await_parents<F: Find, P: Accept>(
     ensures counted { source.new.lookups ≤ source.old.lookups + length parents.now }
     ensures rising { source.old.lookups ≤ source.new.lookups }
     ensures accepts { P.accepts predicate.new ≡ P.accepts predicate.old }
-    ensures hidden { OnOk result ((q : ObjectId) → is_hidden nodes.new q ≡ is_hidden nodes.old q) }
-    ensures grown { OnOk result ((q : ObjectId) → is_met nodes.old q ≡ true
-        → is_met nodes.new q ≡ true) }
+    ensures queue { OnOk result (known.new.queue ≡ known.old.queue) }
+    ensures hidden { OnOk result ((q : ObjectId) → is_hidden known.new.nodes q
+        ≡ is_hidden known.old.nodes q) }
+    ensures grown { OnOk result ((q : ObjectId) → is_met known.old.nodes q ≡ true
+        → is_met known.new.nodes q ≡ true) }
     ensures rowed { AllHeld (rows_of source.old.rows) parents.now
         → OnOk result ((source.new.lookups ≡ source.old.lookups)
-        × (AllRowed (rows_of source.old.rows) (waiting_turns waiting.old)
-        → AllRowed (rows_of source.old.rows) (waiting_turns waiting.new))) }
+        × (AllRowed (rows_of source.old.rows) (turns_of known.old)
+        → AllRowed (rows_of source.old.rows) (turns_of known.new))) }
     ensures walked { OnOk result (F.is_honest source.old.objects → ¬ F.may_fail source.old.objects
         → (g : Commits ObjectId) → AreTold (rows_of source.old.rows) (F.table source.old.objects) g
         → (accepts : Id → Bool) (along : ObjectId → List ObjectId)
-        (tips front listed : List ObjectId) → ((x : ObjectId) → is_met nodes.old x ≡ false
+        (tips front listed : List ObjectId) → ((x : ObjectId) → is_met known.old.nodes x ≡ false
         → P.accepts predicate.old (id_of x) ≡ accepts (id_of x))
-        → IsMetSoFar g (keep_since since g (is_hidden nodes.old) accepts) (is_met nodes.old)
-        (IsOpen along tips front) listed (waiting_turns waiting.old)
-        → IsMetSoFar g (keep_since since g (is_hidden nodes.old) accepts) (is_met nodes.new)
+        → IsMetSoFar g (keep_since since g (is_hidden known.old.nodes) accepts)
+        (is_met known.old.nodes)
+        (IsOpen along tips front) listed (turns_of known.old)
+        → IsMetSoFar g (keep_since since g (is_hidden known.old.nodes) accepts)
+        (is_met known.new.nodes)
         (λ x. IsOpen along tips front x ⊎ Contains parents.now x) listed
-        (waiting_turns waiting.new)) }
-    ensures left { OnOk result (NoneGains nodes.old (times_waiting (waiting_turns waiting.old))
-        nodes.new (times_waiting (waiting_turns waiting.new))) }
+        (turns_of known.new)) }
+    ensures left { OnOk result (NoneGains known.old.nodes
+        (times_waiting (turns_of known.old)) known.new.nodes (times_waiting (turns_of known.new))) }
     ensures asked { OnOk result ((met : List ObjectId)
-        × IsListOf (IsFresh nodes.old parents.now) met
+        × IsListOf (IsFresh known.old.nodes parents.now) met
         × Asks P.goes met predicate.old predicate.new
         × CountsAll (rows_of source.old.rows) (accepted (P.accepts predicate.old) met)
         source.old.lookups source.new.lookups) }
     ensures refused { IfErr result (λ error. error ≡ Memory) }
 {
     'parents: for parent in parents {
-        await_parent(source, nodes, predicate, waiting, since, *parent)?;
+        await_parent(source, known, predicate, since, *parent)?;
     }
     Ok(())
 }

@@ -25,7 +25,7 @@ returns-in_err-commit-clause-refused g c = λ unpainted.
     let here : At items c.painted.read c.index.result.now = at_item items c.painted.read c.index.result.now l c.index.ensures in
     let f = rw (c.painted.invariant.rows, c.painted.invariant.objects) at c.in_err-commit.ensures.refused in
     rw (p.1, p.2) (paint_fault (g.F.Lookup.is_honest c.args.source.now.objects) (g.F.Lookup.may_fail c.args.source.now.objects) (rows_of c.args.source.now.rows) (g.F.Lookup.table c.args.source.now.objects) c.args.hidden.now c.index.result.now c.in_err-commit.field-0.0 f
-    (λ honest commits told. painted_reached commits c.args.hidden.now c.painted.nodes items c.painted.read c.painted.read c.index.result.now (c.painted.invariant.walked unpainted honest commits told) here))
+    (λ honest commits told. painted_reached commits c.args.hidden.now c.painted.known.nodes items c.painted.read c.painted.read c.index.result.now (c.painted.invariant.walked unpainted honest commits told) here))
 
 pub painted-preserved-in_ok-paint_parents : goal.painted-preserved-in_ok-paint_parents
 painted-preserved-in_ok-paint_parents g c =
@@ -43,6 +43,8 @@ painted-preserved-in_ok-paint_parents g c =
       objects = c.fetch.ensures.objects ∙ c.painted.invariant.objects;
       rows = c.fetch.ensures.rows ∙ c.painted.invariant.rows;
       met = λ q. c.in_ok-paint_parents.ensures.met q ∙ c.painted.invariant.met q;
+      queue = c.in_ok-paint_parents.ensures.queue ∙ c.painted.invariant.queue;
+      turns = c.in_ok-paint_parents.ensures.turns ∙ c.painted.invariant.turns;
       within = (let k = slice_get_within c.paint_parents.new.painted.items c.painted.read id (c.in_ok-paint_parents.ensures.longer c.painted.read id here) in omega arith);
       painted = c.in_ok-paint_parents.ensures.painted c.painted.invariant.painted;
       known = known_longer rows ids items c.paint_parents.new.painted.items c.painted.read id l c.in_ok-paint_parents.ensures.longer c.painted.invariant.known here listed;
@@ -53,7 +55,7 @@ painted-preserved-in_ok-paint_parents g c =
           let w = c.painted.invariant.walked unpainted honest commits told in
           let e : c.painted.read + 1 ≡ suc c.painted.read = omega arith in
           c.in_ok-paint_parents.ensures.walked (λ y. (commits y).parents) c.args.hidden.now id (c.painted.read + 1) (c.as_slice.ensures ∙ parents honest commits told)
-          (subst (λ (n : ℕ). Kept (λ y. (commits y).parents) c.args.hidden.now every (is_hidden c.painted.nodes) items n 0) (sym e) (kept_next (λ y. (commits y).parents) c.args.hidden.now every (is_hidden c.painted.nodes) items c.painted.read w (omega arith)))
+          (subst (λ (n : ℕ). Kept (λ y. (commits y).parents) c.args.hidden.now every (is_hidden c.painted.known.nodes) items n 0) (sym e) (kept_next (λ y. (commits y).parents) c.args.hidden.now every (is_hidden c.painted.known.nodes) items c.painted.read w (omega arith)))
           (c.painted.read, e, here));
     }
 
@@ -99,6 +101,8 @@ painted-preserved g c =
       objects = c.fetch.ensures.objects ∙ c.painted.invariant.objects;
       rows = c.fetch.ensures.rows ∙ c.painted.invariant.rows;
       met = λ q. c.in_ok-paint_parents.ensures.met q ∙ c.painted.invariant.met q;
+      queue = c.in_ok-paint_parents.ensures.queue ∙ c.painted.invariant.queue;
+      turns = c.in_ok-paint_parents.ensures.turns ∙ c.painted.invariant.turns;
       within = (let k = slice_get_within c.paint_parents.new.painted.items c.painted.read id (c.in_ok-paint_parents.ensures.longer c.painted.read id here) in omega arith);
       painted = c.in_ok-paint_parents.ensures.painted c.painted.invariant.painted;
       known = known_longer rows ids items c.paint_parents.new.painted.items c.painted.read id l c.in_ok-paint_parents.ensures.longer c.painted.invariant.known here listed;
@@ -109,7 +113,7 @@ painted-preserved g c =
           let w = c.painted.invariant.walked unpainted honest commits told in
           let e : c.painted.read + 1 ≡ suc c.painted.read = omega arith in
           c.in_ok-paint_parents.ensures.walked (λ y. (commits y).parents) c.args.hidden.now id (c.painted.read + 1) (c.as_slice.ensures ∙ parents honest commits told)
-          (subst (λ (n : ℕ). Kept (λ y. (commits y).parents) c.args.hidden.now every (is_hidden c.painted.nodes) items n 0) (sym e) (kept_next (λ y. (commits y).parents) c.args.hidden.now every (is_hidden c.painted.nodes) items c.painted.read w (omega arith)))
+          (subst (λ (n : ℕ). Kept (λ y. (commits y).parents) c.args.hidden.now every (is_hidden c.painted.known.nodes) items n 0) (sym e) (kept_next (λ y. (commits y).parents) c.args.hidden.now every (is_hidden c.painted.known.nodes) items c.painted.read w (omega arith)))
           (c.painted.read, e, here));
     }
 
@@ -119,9 +123,9 @@ returns-clause-counted g c =
     let e : take c.painted.read items ≡ items = take_all items c.painted.read (omega arith) in (
       items,
       subst (λ (xs : List ObjectId). CountsAll (rows_of c.args.source.now.rows) xs c.args.source.now.lookups c.painted.source.lookups) e c.painted.invariant.counted,
-      (λ unpainted honest commits told. painted_list commits c.args.hidden.now c.painted.nodes items c.painted.read (c.painted.invariant.walked unpainted honest commits told) (omega arith)),
+      (λ unpainted honest commits told. painted_list commits c.args.hidden.now c.painted.known.nodes items c.painted.read (c.painted.invariant.walked unpainted honest commits told) (omega arith)),
     )
 
 pub returns-clause-painted : goal.returns-clause-painted
 returns-clause-painted g c = λ unpainted honest commits told.
-    painted_all commits c.args.hidden.now c.painted.nodes c.painted.painted.items c.painted.read (c.painted.invariant.walked unpainted honest commits told) (omega arith)
+    painted_all commits c.args.hidden.now c.painted.known.nodes c.painted.painted.items c.painted.read (c.painted.invariant.walked unpainted honest commits told) (omega arith)

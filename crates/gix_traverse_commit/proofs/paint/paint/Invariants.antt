@@ -1,5 +1,6 @@
 use Rattle.std.proofs.Common.{◌≡◌, ℕ, ◌<◌, ◌≤◌, ◌+◌, ◌-◌, length, take}
 use Rattle.gix_hash.specs.declared.object_id.ObjectId.{ObjectId}
+use Rattle.gix_traverse_commit.specs.Known.{turns_of}
 use Rattle.gix_traverse_commit.specs.Commits.{Commits}
 use Rattle.gix_traverse_commit.specs.Keeping.{KeptAll}
 use Rattle.gix_traverse_commit.specs.Nodes.{is_hidden, is_met}
@@ -15,15 +16,17 @@ abbrev pub invariant-painted : goal.invariant-painted
 invariant-painted g l = record {
   objects : l.source.objects ≡ l.fn.source.objects;
   rows : l.source.rows ≡ l.fn.source.rows;
-  met : (q : ObjectId) → is_met l.nodes q ≡ is_met l.fn.nodes q;
+  met : (q : ObjectId) → is_met l.known.nodes q ≡ is_met l.fn.known.nodes q;
+  queue : l.known.queue ≡ l.fn.known.queue;
+  turns : turns_of l.known ≡ turns_of l.fn.known;
   within : l.read ≤ length l.painted.items;
-  painted : IsPainted l.nodes l.painted.items;
+  painted : IsPainted l.known.nodes l.painted.items;
   known : (k : ℕ) (x : ObjectId) → k < l.read → At l.painted.items k x → IsKnown (rows_of l.fn.source.rows) (g.F.Lookup.ids l.fn.source.objects) x;
   rowed : AllHeld (rows_of l.fn.source.rows) l.hidden → AllHeld (rows_of l.fn.source.rows) l.painted.items × (l.source.lookups ≡ l.fn.source.lookups);
   counted : CountsAll (rows_of l.fn.source.rows) (take l.read l.painted.items) l.fn.source.lookups l.source.lookups;
-  walked : IsUnpainted l.fn.nodes → g.F.Lookup.is_honest l.fn.source.objects → (commits : Commits ObjectId)
+  walked : IsUnpainted l.fn.known.nodes → g.F.Lookup.is_honest l.fn.source.objects → (commits : Commits ObjectId)
       → AreTold (rows_of l.fn.source.rows) (g.F.Lookup.table l.fn.source.objects) commits
-      → KeptAll (λ y. (commits y).parents) l.hidden every (is_hidden l.nodes) l.painted.items l.read;
+      → KeptAll (λ y. (commits y).parents) l.hidden every (is_hidden l.known.nodes) l.painted.items l.read;
 }
 
 abbrev pub decreases-painted : goal.decreases-painted

@@ -16,13 +16,15 @@ parents-preserved c =
     let here = slice_get-get_or ids c.parents.parent-index (Sha1 []) c.parents-test.true in
     record {
       met = λ q. c.in_ok-paint_one.ensures.met q ∙ c.parents.invariant.met q;
-      painted = λ w. painted_one c.parents.nodes c.paint_one.new.nodes c.parents.painted.items c.paint_one.new.painted.items id (c.parents.invariant.painted w) c.in_ok-paint_one.ensures.marked c.in_ok-paint_one.ensures.queued;
-      rowed = λ rows a b. pushes_held rows (is_hidden c.parents.nodes id) c.parents.painted.items c.paint_one.new.painted.items id c.in_ok-paint_one.ensures.queued (c.parents.invariant.rowed rows a b) (b id (contains_from_at ids c.parents.parent-index id here));
-      longer = λ k x a. pushes_keep (is_hidden c.parents.nodes id) c.parents.painted.items c.paint_one.new.painted.items id c.in_ok-paint_one.ensures.queued k x (c.parents.invariant.longer k x a);
-      walked = λ along tips child p e w r. kept_parent along tips every (is_hidden c.parents.nodes) (is_hidden c.paint_one.new.nodes) true [] c.parents.painted.items c.paint_one.new.painted.items p c.parents.parent-index id child (c.parents.invariant.walked along tips child p e w r)
-          (subst (λ (zs : List ObjectId). slice_get zs c.parents.parent-index ≡ Some id) e here) (pushes_queues (is_hidden c.parents.nodes id) c.parents.painted.items c.paint_one.new.painted.items id c.in_ok-paint_one.ensures.queued) c.in_ok-paint_one.ensures.marked (λ f. refl);
+      queue = c.in_ok-paint_one.ensures.queue ∙ c.parents.invariant.queue;
+      turns = c.in_ok-paint_one.ensures.turns ∙ c.parents.invariant.turns;
+      painted = λ w. painted_one c.parents.known.nodes c.paint_one.new.known.nodes c.parents.painted.items c.paint_one.new.painted.items id (c.parents.invariant.painted w) c.in_ok-paint_one.ensures.marked c.in_ok-paint_one.ensures.queued;
+      rowed = λ rows a b. pushes_held rows (is_hidden c.parents.known.nodes id) c.parents.painted.items c.paint_one.new.painted.items id c.in_ok-paint_one.ensures.queued (c.parents.invariant.rowed rows a b) (b id (contains_from_at ids c.parents.parent-index id here));
+      longer = λ k x a. pushes_keep (is_hidden c.parents.known.nodes id) c.parents.painted.items c.paint_one.new.painted.items id c.in_ok-paint_one.ensures.queued k x (c.parents.invariant.longer k x a);
+      walked = λ along tips child p e w r. kept_parent along tips every (is_hidden c.parents.known.nodes) (is_hidden c.paint_one.new.known.nodes) true [] c.parents.painted.items c.paint_one.new.painted.items p c.parents.parent-index id child (c.parents.invariant.walked along tips child p e w r)
+          (subst (λ (zs : List ObjectId). slice_get zs c.parents.parent-index ≡ Some id) e here) (pushes_queues (is_hidden c.parents.known.nodes id) c.parents.painted.items c.paint_one.new.painted.items id c.in_ok-paint_one.ensures.queued) c.in_ok-paint_one.ensures.marked (λ f. refl);
     }
 
 pub returns-clause-walked : goal.returns-clause-walked
 returns-clause-walked c = λ along tips child p e w r.
-    kept_row along tips every (is_hidden c.parents.nodes) c.parents.painted.items p c.parents.parent-index child (c.parents.invariant.walked along tips child p e w r) (subst (λ (row : List ObjectId). length row ≤ c.parents.parent-index) e c.parents-test.false)
+    kept_row along tips every (is_hidden c.parents.known.nodes) c.parents.painted.items p c.parents.parent-index child (c.parents.invariant.walked along tips child p e w r) (subst (λ (row : List ObjectId). length row ≤ c.parents.parent-index) e c.parents-test.false)

@@ -1,5 +1,6 @@
 use Rattle.std.proofs.Common.{◌≡◌, ℕ, List}
 use Rattle.gix_hash.specs.declared.object_id.ObjectId.{ObjectId}
+use Rattle.gix_traverse_commit.specs.Known.{turns_of}
 use Rattle.gix_traverse_commit.specs.Keeping.{Kept}
 use Rattle.gix_traverse_commit.specs.Nodes.{is_hidden, is_met}
 use Rattle.gix_traverse_commit.specs.Order.{At}
@@ -11,11 +12,13 @@ use Rattle.gix_traverse_commit.proofs.paint.paint_parents.Given as goal
 
 abbrev pub invariant-parents : goal.invariant-parents
 invariant-parents l = record {
-  met : (q : ObjectId) → is_met l.nodes q ≡ is_met l.fn.nodes q;
-  painted : IsPainted l.fn.nodes l.fn.painted.items → IsPainted l.nodes l.painted.items;
+  met : (q : ObjectId) → is_met l.known.nodes q ≡ is_met l.fn.known.nodes q;
+  queue : l.known.queue ≡ l.fn.known.queue;
+  turns : turns_of l.known ≡ turns_of l.fn.known;
+  painted : IsPainted l.fn.known.nodes l.fn.painted.items → IsPainted l.known.nodes l.painted.items;
   rowed : (rows : List Row) → AllHeld rows l.fn.painted.items → AllHeld rows l.parents → AllHeld rows l.painted.items;
   longer : (k : ℕ) (x : ObjectId) → At l.fn.painted.items k x → At l.painted.items k x;
   walked : (along : ObjectId → List ObjectId) (tips : List ObjectId) (id : ObjectId) (p : ℕ) → l.parents ≡ along id
-      → Kept along tips every (is_hidden l.fn.nodes) l.fn.painted.items p 0 → Reads l.fn.painted.items p id
-      → Kept along tips every (is_hidden l.nodes) l.painted.items p l.parent-index × Reads l.painted.items p id;
+      → Kept along tips every (is_hidden l.fn.known.nodes) l.fn.painted.items p 0 → Reads l.fn.painted.items p id
+      → Kept along tips every (is_hidden l.known.nodes) l.painted.items p l.parent-index × Reads l.painted.items p id;
 }

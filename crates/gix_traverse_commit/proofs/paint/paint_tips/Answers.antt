@@ -17,10 +17,12 @@ tips-preserved c =
     let here = slice_get-get_or ids c.tips.id-index (Sha1 []) c.tips-test.true in
     record {
       met = λ q. c.in_ok-paint_one.ensures.met q ∙ c.tips.invariant.met q;
-      painted = λ w. painted_one c.tips.nodes c.paint_one.new.nodes c.tips.painted.items c.paint_one.new.painted.items id (c.tips.invariant.painted w) c.in_ok-paint_one.ensures.marked c.in_ok-paint_one.ensures.queued;
-      rowed = λ rows a b. pushes_held rows (is_hidden c.tips.nodes id) c.tips.painted.items c.paint_one.new.painted.items id c.in_ok-paint_one.ensures.queued (c.tips.invariant.rowed rows a b) (b id (contains_from_at ids c.tips.id-index id here));
-      walked = λ along w. kept_meet along ids every (is_hidden c.tips.nodes) (is_hidden c.paint_one.new.nodes) true [] c.tips.painted.items c.paint_one.new.painted.items 0 c.tips.id-index id (c.tips.invariant.walked along w) here (pushes_queues (is_hidden c.tips.nodes id) c.tips.painted.items c.paint_one.new.painted.items id c.in_ok-paint_one.ensures.queued) c.in_ok-paint_one.ensures.marked (λ f. refl);
+      queue = c.in_ok-paint_one.ensures.queue ∙ c.tips.invariant.queue;
+      turns = c.in_ok-paint_one.ensures.turns ∙ c.tips.invariant.turns;
+      painted = λ w. painted_one c.tips.known.nodes c.paint_one.new.known.nodes c.tips.painted.items c.paint_one.new.painted.items id (c.tips.invariant.painted w) c.in_ok-paint_one.ensures.marked c.in_ok-paint_one.ensures.queued;
+      rowed = λ rows a b. pushes_held rows (is_hidden c.tips.known.nodes id) c.tips.painted.items c.paint_one.new.painted.items id c.in_ok-paint_one.ensures.queued (c.tips.invariant.rowed rows a b) (b id (contains_from_at ids c.tips.id-index id here));
+      walked = λ along w. kept_meet along ids every (is_hidden c.tips.known.nodes) (is_hidden c.paint_one.new.known.nodes) true [] c.tips.painted.items c.paint_one.new.painted.items 0 c.tips.id-index id (c.tips.invariant.walked along w) here (pushes_queues (is_hidden c.tips.known.nodes id) c.tips.painted.items c.paint_one.new.painted.items id c.in_ok-paint_one.ensures.queued) c.in_ok-paint_one.ensures.marked (λ f. refl);
     }
 
 pub returns-clause-walked : goal.returns-clause-walked
-returns-clause-walked c = λ along w. kept_start along c.args.hidden.now every (is_hidden c.tips.nodes) [] c.tips.painted.items c.tips.id-index refl (c.tips.invariant.walked along w) c.tips-test.false
+returns-clause-walked c = λ along w. kept_start along c.args.hidden.now every (is_hidden c.tips.known.nodes) [] c.tips.painted.items c.tips.id-index refl (c.tips.invariant.walked along w) c.tips-test.false

@@ -7,6 +7,7 @@ use Rattle.gix_traverse_commit.specs.Numbered.{same_id}
 use Rattle.gix_traverse_commit.specs.Order.{At}
 use Rattle.gix_traverse_commit.specs.declared.nodes.Marks.{Marks}
 use Rattle.gix_traverse_commit.proofs.NodeLemmas.{ids_again, keys_push, marks_push, marks_set, numbered_push, numbered_set, stays}
+use Rattle.gix_traverse_commit.proofs.Lists.{at_append}
 use Rattle.gix_traverse_commit.proofs.RowLemmas.{at_item}
 use Rattle.gix_traverse_commit.proofs.nodes.Nodes.mark.Goals as goal
 
@@ -62,3 +63,23 @@ returns-clause-named c =
     let old : ids ≡ ids_of c.args.self.now = ids_again ids items c.self.invariant.as_many ∙ ap ids_of c.self.view_is in
     subst (λ (xs : List ObjectId). ids_of (nodes_in c.insert.new.self.keys c.push.new.self.items) ≡ cond (list_any (same_id c.args.id) xs) xs (xs ++ c.args.id ∷ [])) old
     (sym (ids_again c.insert.new.self.keys c.push.new.self.items as_many) ∙ c.in_ok-insert.ensures.keys)
+
+pub returns-in-Some-clause-numbered : goal.returns-in-Some-clause-numbered
+returns-in-Some-clause-numbered c =
+    let ids : List ObjectId = c.self.inside.ids.keys in
+    let items : List Marks = c.self.inside.marks.items in
+    let n : ℕ = c.in-Some.number.0 in
+    let new : List Marks = set items n c.args.marks in
+    subst (λ (xs : List ObjectId). At xs n c.args.id) (ids_again ids new (numbered_set ids items c.self.invariant n c.args.marks).as_many) c.in-Some.ensures.found
+
+pub returns-clause-numbered : goal.returns-clause-numbered
+returns-clause-numbered c =
+    let ids : List ObjectId = c.self.inside.ids.keys in
+    let items : List Marks = c.self.inside.marks.items in
+    let new_ids : c.insert.new.self.keys ≡ ids ++ c.args.id ∷ [] = keys_push ids c.insert.new.self.keys c.args.id c.in_ok-insert.ensures.keys c.in_default.ensures.none in
+    let new_marks : c.push.new.self.items ≡ items ++ c.args.marks ∷ [] = c.in_ok-push.ensures.items ∙ ap (λ (ms : List Marks). ms ++ c.args.marks ∷ []) c.reserve.ensures.items in
+    let as_many : length c.push.new.self.items ≡ length c.insert.new.self.keys = ap length new_marks ∙ (numbered_push ids items c.args.id c.args.marks c.self.invariant c.in_default.ensures.none).as_many ∙ sym (ap length new_ids) in
+    let n : ℕ = length c.as_slice.result.now in
+    let place : n ≡ length ids = ap length c.as_slice.ensures.value ∙ c.self.invariant.as_many in
+    let here : At (ids ++ c.args.id ∷ []) n c.args.id = subst (λ (k : ℕ). At (ids ++ c.args.id ∷ []) k c.args.id) (sym place) (at_append ids c.args.id []) in
+    subst (λ (xs : List ObjectId). At xs n c.args.id) (sym new_ids ∙ ids_again c.insert.new.self.keys c.push.new.self.items as_many) here

@@ -1,19 +1,23 @@
-use Rattle.std.proofs.Common.{arith, ◌≡◌, ◌≤◌, ◌+◌, sym, ◌∙◌, ap, refl, subst, List, [], Option, length}
+use Rattle.std.proofs.Common.{arith, ℕ, ◌≡◌, ◌≤◌, ◌+◌, sym, ◌∙◌, ap, refl, subst, List, [], Option, length}
 use Rattle.gix_hash.specs.declared.object_id.ObjectId.{ObjectId}
+use Rattle.gix_hash.specs.Id.{Id}
+use Rattle.gix_traverse_commit.specs.Ending.{times_in, times_waiting}
 use Rattle.gix_traverse_commit.specs.Painting.{PaintFault, Paints, ReachedFrom}
 use Rattle.gix_traverse_commit.specs.Order.{IsListOf}
 use Rattle.gix_traverse_commit.specs.Rows.{AllHeld}
 use Rattle.std.specs.Prelude.{Contains, IsSome}
 use Rattle.gix_traverse_commit.specs.Meeting.{CountsAll, CountsTimes, IsFresh}
+use Rattle.gix_traverse_commit.specs.Known.{turns_of}
 use Rattle.gix_traverse_commit.specs.Nodes.{is_hidden}
 use Rattle.gix_traverse_commit.specs.Sorting.{timing_of}
 use Rattle.gix_traverse_commit.specs.Simply.{IsAccepted, IsNew, IsSure, SimpleFault, hidden_error, times_queued, timing}
-use Rattle.gix_traverse_commit.specs.Timely.{AllRowed, waiting}
+use Rattle.gix_traverse_commit.specs.Timely.{AllRowed}
 use Rattle.gix_traverse_commit.specs.Told.{AreTold, rows_of}
 use Rattle.gix_object_find.specs.Table.{Table}
 use Rattle.gix_traverse_commit.specs.declared.fetch.FetchError.{FetchError}
 use Rattle.gix_traverse_commit.specs.declared.fetch.FetchError.TheVariants as fault
 use Rattle.gix_traverse_commit.specs.declared.rows.Row.{Row}
+use Rattle.gix_traverse_commit.specs.declared.simple.waiting.Turn.{Turn}
 use Rattle.gix_traverse_commit.specs.declared.simple.sorting.Timing.{Timing}
 use Rattle.gix_traverse_commit.specs.declared.simple.faults.Error.{Error}
 use Rattle.gix_traverse_commit.proofs.ByTime.{timing_same, under_source}
@@ -39,12 +43,12 @@ returns-clause-going g c = λ honest0 commits told0 ids a sure0 m0.
       hidden = m.hidden;
       parents = m.parents;
       sorting = m.sorting;
-      accepts_as = accepts_more (g.P.Accept.accepts c.gather.new.self.predicate) (g.P.Accept.accepts c.gather.new.self.predicate) c.gather.new.self.nodes c.paint.new.nodes a refl (λ x h. c.in_default.ensures.met x ∙ h) m.accepts_as;
+      accepts_as = accepts_more (g.P.Accept.accepts c.gather.new.self.predicate) (g.P.Accept.accepts c.gather.new.self.predicate) c.gather.new.self.known.nodes c.paint.new.known.nodes a refl (λ x h. c.in_default.ensures.met x ∙ h) m.accepts_as;
       refused = λ x h. m.asked.refused x (sym (c.in_default.ensures.met x) ∙ h);
       accepted = λ x k h. m.asked.accepted x k (sym (c.in_default.ensures.met x) ∙ h);
-      painted = subst (λ (hs : List ObjectId). Paints commits hs c.paint.new.nodes) hidden (c.in_default.ensures.painted m.asked.unpainted honest commits told);
-      empty = m.empty;
-      none_waits = m.none_waits;
+      painted = subst (λ (hs : List ObjectId). Paints commits hs c.paint.new.known.nodes) hidden (c.in_default.ensures.painted m.asked.unpainted honest commits told);
+      empty = c.in_default.ensures.queue ∙ m.empty;
+      none_waits = c.in_default.ensures.turns ∙ m.none_waits;
     }))
 
 pub returns-clause-counted : goal.returns-clause-counted
@@ -69,9 +73,9 @@ returns-clause-counted g c = λ a m.
           (subst (λ (r : Option (List Row)). CountsTimes (timing a) (rows_of r) tips.timed c.paint.new.source.lookups c.line_up.new.self.source.lookups) c.paint.ensures.rows
           (subst (λ (t : Option Timing). CountsTimes t (rows_of c.paint.new.source.rows) tips.timed c.paint.new.source.lookups c.line_up.new.self.source.lookups) order tips.each));
       are_timed = (λ some honest commits told.
-          let painted = subst (λ (hs : List ObjectId). Paints commits hs c.paint.new.nodes) hidden
+          let painted = subst (λ (hs : List ObjectId). Paints commits hs c.paint.new.known.nodes) hidden
           (c.in_default.ensures.painted w.asked.unpainted (subst (λ s. g.F.Lookup.is_honest s.objects) (sym still) honest) commits (subst (λ s. AreTold (rows_of s.rows) (g.F.Lookup.table s.objects) commits) (sym still) told)) in
-          list_same (IsFresh c.paint.new.nodes c.gather.new.self.tips.items) (λ x. Contains a.tips x × IsAccepted a x × (ReachedFrom commits a.hidden x → ⊥)) tips.timed
+          list_same (IsFresh c.paint.new.known.nodes c.gather.new.self.tips.items) (λ x. Contains a.tips x × IsAccepted a x × (ReachedFrom commits a.hidden x → ⊥)) tips.timed
           (λ x (k, m, h). (
             subst (λ (ts : List ObjectId). Contains ts x) w.tips k,
             w.asked.accepted x (subst (λ (ts : List ObjectId). Contains ts x) w.tips k) (sym (c.in_default.ensures.met x) ∙ m),
@@ -79,8 +83,8 @@ returns-clause-counted g c = λ a m.
           ))
           (λ x (k, y, out). (
             subst (λ (ts : List ObjectId). Contains ts x) (sym w.tips) k,
-            c.in_default.ensures.met x ∙ met_or_accepted a.accepts c.gather.new.self.nodes x (w.asked.refused x) y,
-            is_false (is_hidden c.paint.new.nodes x) (λ t. out ((painted x).0 t)),
+            c.in_default.ensures.met x ∙ met_or_accepted a.accepts c.gather.new.self.known.nodes x (w.asked.refused x) y,
+            is_false (is_hidden c.paint.new.known.nodes x) (λ t. out ((painted x).0 t)),
           ))
           (tips.list (subst (λ (t : Option Timing). IsSome t) (sym order) some)));
     }
@@ -91,8 +95,8 @@ returns-clause-rowed g c = λ r0.
     let step = c.in_ok-line_up.ensures.rowed (record {
       tips = subst (λ (o : Option (List Row)). AllHeld (rows_of o) c.gather.new.self.tips.items) (sym c.paint.ensures.rows) r.tips;
       hidden = subst (λ (o : Option (List Row)). AllHeld (rows_of o) c.gather.new.self.hidden.items) (sym c.paint.ensures.rows) r.hidden;
-      queue = subst (λ (o : Option (List Row)). AllHeld (rows_of o) c.gather.new.self.queue.items) (sym c.paint.ensures.rows) r.queue;
-      waiting_rows = subst (λ (o : Option (List Row)). AllRowed (rows_of o) (waiting c.gather.new.self.waiting)) (sym c.paint.ensures.rows) r.waiting_rows;
+      queue = subst (λ (o : Option (List Row)). AllHeld (rows_of o) c.paint.new.known.queue) (sym c.paint.ensures.rows) (subst (AllHeld (rows_of c.gather.new.self.source.rows)) (sym c.in_default.ensures.queue) r.queue);
+      waiting_rows = subst (λ (o : Option (List Row)). AllRowed (rows_of o) (turns_of c.paint.new.known)) (sym c.paint.ensures.rows) (subst (AllRowed (rows_of c.gather.new.self.source.rows)) (sym c.in_default.ensures.turns) r.waiting_rows);
     }) in
     (record { tips = step.0.tips; hidden = step.0.hidden; queue = step.0.queue; waiting_rows = step.0.waiting_rows }, step.1 ∙ c.in_default.ensures.rowed (subst (λ (xs : List ObjectId). AllHeld (rows_of c.gather.new.self.source.rows) xs) (sym c.as_slice.ensures.value) r.hidden) ∙ ap (λ s. s.lookups) c.gather.ensures.source)
 
@@ -130,7 +134,8 @@ returns-clause-order g c = (c.line_up.ensures.order.0 ∙ c.gather.ensures.order
 pub returns-clause-left : goal.returns-clause-left
 returns-clause-left g c =
     let queued = times_queued c.gather.new.self in
-    let painted = gains_same c.gather.new.self.nodes c.paint.new.nodes queued queued (λ x h. c.in_default.ensures.met x ∙ h) (λ id. omega arith) in
-    gains_more c.args.self.now.nodes c.paint.new.nodes c.line_up.new.self.nodes (times_queued c.args.self.now) queued (times_queued c.line_up.new.self)
-    (gains_more c.args.self.now.nodes c.gather.new.self.nodes c.paint.new.nodes (times_queued c.args.self.now) queued queued c.in_ok-gather.ensures.left painted)
+    let queued' : Id → ℕ = λ id. times_in c.paint.new.known.queue id + times_waiting (turns_of c.paint.new.known) id in
+    let painted = gains_same c.gather.new.self.known.nodes c.paint.new.known.nodes queued queued' (λ x h. c.in_default.ensures.met x ∙ h) (λ id. let e = ap (λ (zs : List ObjectId). times_in zs id) c.in_default.ensures.queue in let f = ap (λ (ts : List Turn). times_waiting ts id) c.in_default.ensures.turns in omega (arith, e, f)) in
+    gains_more c.args.self.now.known.nodes c.paint.new.known.nodes c.line_up.new.self.known.nodes (times_queued c.args.self.now) queued' (times_queued c.line_up.new.self)
+    (gains_more c.args.self.now.known.nodes c.gather.new.self.known.nodes c.paint.new.known.nodes (times_queued c.args.self.now) queued queued' c.in_ok-gather.ensures.left painted)
     c.in_ok-line_up.ensures.left

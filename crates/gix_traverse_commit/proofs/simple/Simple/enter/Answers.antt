@@ -9,7 +9,8 @@ use Rattle.gix_traverse_commit.specs.Order.{IsListOf}
 use Rattle.gix_traverse_commit.specs.Rows.{AllHeld}
 use Rattle.gix_traverse_commit.specs.Simply.{IsKnown, IsSure, IsTime}
 use Rattle.gix_traverse_commit.specs.Sorting.{timing_of}
-use Rattle.gix_traverse_commit.specs.Timely.{AllRowed, waiting}
+use Rattle.gix_traverse_commit.specs.Timely.{AllRowed}
+use Rattle.gix_traverse_commit.specs.Known.{turns_of}
 use Rattle.gix_traverse_commit.specs.Told.{AreTold, rows_of}
 use Rattle.gix_traverse_commit.specs.declared.parents.Parents.{Parents}
 use Rattle.gix_traverse_commit.specs.declared.rows.Row.{Row}
@@ -46,8 +47,8 @@ returns-clause-rowed g c = λ r held.
     let step = c.in_ok-meet_all.ensures.rowed (record {
       tips = subst (λ (o : Option (List Row)). AllHeld (rows_of o) c.args.self.now.tips.items) (sym c.fetch.ensures.rows) r.tips;
       hidden = subst (λ (o : Option (List Row)). AllHeld (rows_of o) c.args.self.now.hidden.items) (sym c.fetch.ensures.rows) r.hidden;
-      queue = subst (λ (o : Option (List Row)). AllHeld (rows_of o) c.args.self.now.queue.items) (sym c.fetch.ensures.rows) r.queue;
-      waiting_rows = subst (λ (o : Option (List Row)). AllRowed (rows_of o) (waiting c.args.self.now.waiting)) (sym c.fetch.ensures.rows) r.waiting_rows;
+      queue = subst (λ (o : Option (List Row)). AllHeld (rows_of o) c.args.self.now.known.queue) (sym c.fetch.ensures.rows) r.queue;
+      waiting_rows = subst (λ (o : Option (List Row)). AllRowed (rows_of o) (turns_of c.args.self.now.known)) (sym c.fetch.ensures.rows) r.waiting_rows;
     }) (subst (λ (o : Option (List Row)). AllHeld (rows_of o) c.as_slice.result.now) (sym c.fetch.ensures.rows) (subst (λ (xs : List ObjectId). AllHeld (rows_of c.args.self.now.source.rows) xs) (sym c.as_slice.ensures) (c.in_ok-commit.ensures.closed held))) in
     (record { tips = step.0.tips; hidden = step.0.hidden; queue = step.0.queue; waiting_rows = step.0.waiting_rows }, step.1 ∙ (c.in_ok-commit.ensures.rowed held).0)
 
@@ -69,7 +70,7 @@ returns-clause-met g c =
     let (met, list, asks, times) = c.in_ok-meet_all.ensures.met in
     record {
       met = met;
-      are_met = subst (λ (ps : List ObjectId). IsListOf (IsFresh c.args.self.now.nodes ps) met) c.as_slice.ensures list;
+      are_met = subst (λ (ps : List ObjectId). IsListOf (IsFresh c.args.self.now.known.nodes ps) met) c.as_slice.ensures list;
       asked = asks;
       read = c.fetch.new.self.lookups;
       one = record { stored = c.fetch.ensures.asked; rowed = λ held. (c.fetch.ensures.rowed held).0 };

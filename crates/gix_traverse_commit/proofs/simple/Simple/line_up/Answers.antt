@@ -1,4 +1,4 @@
-use Rattle.std.proofs.Common.{rules, ◌≡◌, sym, ◌∙◌, refl, subst, inl, inr, List, [], Option, Some, None, Bool, true, false}
+use Rattle.std.proofs.Common.{rules, ◌+◌, ◌≡◌, sym, ◌∙◌, refl, subst, inl, inr, List, [], Option, Some, None, Bool, true, false}
 use Rattle.std.specs.Prelude.{Contains, not, ◌&&◌}
 use Rattle.gix_hash.specs.Id.{id_of}
 use Rattle.gix_hash.specs.declared.object_id.ObjectId.{ObjectId}
@@ -6,15 +6,17 @@ use Rattle.gix_traverse_commit.specs.Commits.{asked_parents}
 use Rattle.std.specs.Prelude.{IsSome}
 use Rattle.gix_traverse_commit.specs.Meeting.{CountsTimes, IsFresh}
 use Rattle.gix_traverse_commit.specs.Order.{IsListOf}
+use Rattle.gix_traverse_commit.specs.Known.{turns_of}
 use Rattle.gix_traverse_commit.specs.Nodes.{is_hidden, is_met}
 use Rattle.gix_traverse_commit.specs.Rows.{AllHeld}
-use Rattle.gix_traverse_commit.specs.Simply.{keep_of, timing}
+use Rattle.gix_traverse_commit.specs.Simply.{keep_of, times_queued, timing}
 use Rattle.gix_traverse_commit.specs.Sorting.{in_time, timing_of}
-use Rattle.gix_traverse_commit.specs.Timely.{AllRowed, IsMetSoFar, keep_since, waiting}
+use Rattle.gix_traverse_commit.specs.Timely.{AllRowed, IsMetSoFar, keep_since}
 use Rattle.gix_traverse_commit.specs.Told.{rows_of}
 use Rattle.gix_traverse_commit.specs.declared.rows.Row.{Row}
+use Rattle.gix_traverse_commit.specs.declared.simple.waiting.Turn.{Turn}
 use Rattle.gix_traverse_commit.specs.declared.simple.sorting.Timing.{Timing}
-use Rattle.gix_traverse_commit.specs.Ending.{times_in, times_waiting}
+use Rattle.gix_traverse_commit.specs.Ending.{NoneGains, times_in, times_waiting}
 use Rattle.gix_traverse_commit.proofs.Ending.{gains_before, gains_behind}
 use Rattle.gix_traverse_commit.proofs.ByTime.{is_sure, timing_same}
 use Rattle.gix_traverse_commit.specs.Keeping.{KeptAll}
@@ -32,7 +34,7 @@ pub returns-in_default-clause-going : goal.returns-in_default-clause-going
 returns-in_default-clause-going g c = λ honest commits told ids a sure m.
     let none : timing_of c.args.self.now.parents c.args.self.now.sorting ≡ None = search rules in
     let tips : c.as_slice.result.now ≡ a.tips = c.as_slice.ensures.value ∙ m.tips in
-    let hides = is_hidden c.args.self.now.nodes in
+    let hides = is_hidden c.args.self.now.known.nodes in
     let along = asked_parents a.parents commits in
     let keep = keep_of hides a.accepts in
     inl (record {
@@ -41,16 +43,16 @@ returns-in_default-clause-going g c = λ honest commits told ids a sure m.
       parents = m.parents;
       sorting = m.sorting;
       in_breadth = sym (timing_same a c.args.self.now.parents c.args.self.now.sorting m.parents m.sorting) ∙ none;
-      none_waits = m.none_waits;
-      accepts_as = accepts_more (g.P.Accept.accepts c.args.self.now.predicate) (g.P.Accept.accepts c.args.self.now.predicate) c.args.self.now.nodes c.queue_tips.new.nodes a refl c.in_ok-queue_tips.ensures.grown m.accepts_as;
+      none_waits = c.in_ok-queue_tips.ensures.turns ∙ m.none_waits;
+      accepts_as = accepts_more (g.P.Accept.accepts c.args.self.now.predicate) (g.P.Accept.accepts c.args.self.now.predicate) c.args.self.now.known.nodes c.queue_tips.new.known.nodes a refl c.in_ok-queue_tips.ensures.grown m.accepts_as;
       hides = hides;
       hidden = c.in_ok-queue_tips.ensures.hidden;
       painted = m.painted;
       known = λ x k. absurd (in_nil x k);
-      walked = subst (λ (ts : List ObjectId). KeptAll along ts keep (is_met c.queue_tips.new.nodes) c.queue_tips.new.queue.items 0) tips
+      walked = subst (λ (ts : List ObjectId). KeptAll along ts keep (is_met c.queue_tips.new.known.nodes) c.queue_tips.new.known.queue 0) tips
           (c.in_ok-queue_tips.ensures.walked along keep
           (λ x k f. kept_tip hides a.accepts x (m.accepted x (subst (λ (ts : List ObjectId). Contains ts x) tips k) f))
-          (kept_none along c.as_slice.result.now keep (is_met c.args.self.now.nodes) c.args.self.now.queue.items m.empty (λ q h k. refused_tip hides a.accepts q (m.refused q h) k)));
+          (kept_none along c.as_slice.result.now keep (is_met c.args.self.now.known.nodes) c.args.self.now.known.queue m.empty (λ q h k. refused_tip hides a.accepts q (m.refused q h) k)));
     })
 
 pub returns-clause-going : goal.returns-clause-going
@@ -58,11 +60,11 @@ returns-clause-going g c = λ honest commits told ids a sure m.
     let t : Timing = c.in-Some.timing in
     let is : timing a ≡ Some t = sym (timing_same a c.args.self.now.parents c.args.self.now.sorting m.parents m.sorting) ∙ (sym c.time_order.ensures ∙ c.in-Some.is) in
     let tips : c.as_slice-2.result.now ≡ a.tips = c.as_slice-2.ensures.value ∙ m.tips in
-    let hides = is_hidden c.args.self.now.nodes in
+    let hides = is_hidden c.args.self.now.known.nodes in
     let keep = keep_since t.since commits hides a.accepts in
     let met = c.in_ok-await_tips.ensures.walked honest (is_sure (g.F.Lookup.may_fail c.args.self.now.source.objects) a t sure is) commits told a.accepts
     (λ x k f. m.accepted x (subst (λ (ts : List ObjectId). Contains ts x) tips k) f)
-    (met_none commits keep [] (is_met c.args.self.now.nodes) (waiting c.args.self.now.waiting) refl m.none_waits (λ q h k. refused_since (hides q) (a.accepts (id_of q)) (in_time t.since (commits q).time) (m.refused q h) k)) in
+    (met_none commits keep [] (is_met c.args.self.now.known.nodes) (turns_of c.args.self.now.known) refl m.none_waits (λ q h k. refused_since (hides q) (a.accepts (id_of q)) (in_time t.since (commits q).time) (m.refused q h) k)) in
     inr (record {
       begun = refl;
       hidden_same = m.hidden;
@@ -70,14 +72,14 @@ returns-clause-going g c = λ honest commits told ids a sure m.
       sorting = m.sorting;
       by_time = t;
       is_by_time = is;
-      empty = m.empty;
-      accepts_as = accepts_more (g.P.Accept.accepts c.args.self.now.predicate) (g.P.Accept.accepts c.args.self.now.predicate) c.args.self.now.nodes c.await_tips.new.nodes a refl c.in_ok-await_tips.ensures.grown m.accepts_as;
+      empty = c.in_ok-await_tips.ensures.queue ∙ m.empty;
+      accepts_as = accepts_more (g.P.Accept.accepts c.args.self.now.predicate) (g.P.Accept.accepts c.args.self.now.predicate) c.args.self.now.known.nodes c.await_tips.new.known.nodes a refl c.in_ok-await_tips.ensures.grown m.accepts_as;
       hides = hides;
       hidden = c.in_ok-await_tips.ensures.hidden;
       painted = m.painted;
       known = λ x k. absurd (in_nil x k);
-      met = met_tips commits (asked_parents a.parents commits) a.tips keep t.order (is_met c.await_tips.new.nodes) (waiting c.await_tips.new.waiting)
-          (subst (λ (ts : List ObjectId). IsMetSoFar commits keep (is_met c.await_tips.new.nodes) (Contains ts) [] (waiting c.await_tips.new.waiting)) tips met);
+      met = met_tips commits (asked_parents a.parents commits) a.tips keep t.order (is_met c.await_tips.new.known.nodes) (turns_of c.await_tips.new.known)
+          (subst (λ (ts : List ObjectId). IsMetSoFar commits keep (is_met c.await_tips.new.known.nodes) (Contains ts) [] (turns_of c.await_tips.new.known)) tips met);
       chosen = chosen_none commits (asked_parents a.parents commits) a.tips keep t.order [] refl;
     })
 
@@ -87,8 +89,8 @@ returns-clause-rowed g c = λ r.
       record {
         tips = subst (λ (o : Option (List Row)). AllHeld (rows_of o) c.args.self.now.tips.items) (sym c.await_tips.ensures.rows) r.tips;
         hidden = subst (λ (o : Option (List Row)). AllHeld (rows_of o) c.args.self.now.hidden.items) (sym c.await_tips.ensures.rows) r.hidden;
-        queue = subst (λ (o : Option (List Row)). AllHeld (rows_of o) c.args.self.now.queue.items) (sym c.await_tips.ensures.rows) r.queue;
-        waiting_rows = subst (λ (o : Option (List Row)). AllRowed (rows_of o) (waiting c.await_tips.new.waiting)) (sym c.await_tips.ensures.rows) (step.1 r.waiting_rows);
+        queue = subst (λ (o : Option (List Row)). AllHeld (rows_of o) c.await_tips.new.known.queue) (sym c.await_tips.ensures.rows) (subst (AllHeld (rows_of c.args.self.now.source.rows)) (sym c.in_ok-await_tips.ensures.queue) r.queue);
+        waiting_rows = subst (λ (o : Option (List Row)). AllRowed (rows_of o) (turns_of c.await_tips.new.known)) (sym c.await_tips.ensures.rows) (step.1 r.waiting_rows);
       },
       step.0,
     )
@@ -110,11 +112,13 @@ returns-clause-timed g c =
     record {
       timed = timed;
       each = subst (λ (t : Option Timing). CountsTimes t (rows_of c.args.self.now.source.rows) timed c.args.self.now.source.lookups c.await_tips.new.source.lookups) (sym is) counts;
-      list = λ some. subst (λ (ts : List ObjectId). IsListOf (IsFresh c.args.self.now.nodes ts) timed) c.as_slice-2.ensures.value list;
+      list = λ some. subst (λ (ts : List ObjectId). IsListOf (IsFresh c.args.self.now.known.nodes ts) timed) c.as_slice-2.ensures.value list;
     }
 
 pub returns-in_default-clause-left : goal.returns-in_default-clause-left
-returns-in_default-clause-left g c = gains_before c.args.self.now.nodes c.queue_tips.new.nodes (times_in c.args.self.now.queue.items) (times_in c.queue_tips.new.queue.items) (times_waiting (waiting c.args.self.now.waiting)) c.in_ok-queue_tips.ensures.left
+returns-in_default-clause-left g c = subst (λ (ts : List Turn). NoneGains c.args.self.now.known.nodes (times_queued c.args.self.now) c.queue_tips.new.known.nodes (λ id. times_in c.queue_tips.new.known.queue id + times_waiting ts id)) (sym c.in_ok-queue_tips.ensures.turns)
+    (gains_before c.args.self.now.known.nodes c.queue_tips.new.known.nodes (times_in c.args.self.now.known.queue) (times_in c.queue_tips.new.known.queue) (times_waiting (turns_of c.args.self.now.known)) c.in_ok-queue_tips.ensures.left)
 
 pub returns-clause-left : goal.returns-clause-left
-returns-clause-left g c = gains_behind c.args.self.now.nodes c.await_tips.new.nodes (times_waiting (waiting c.args.self.now.waiting)) (times_waiting (waiting c.await_tips.new.waiting)) (times_in c.args.self.now.queue.items) c.in_ok-await_tips.ensures.left
+returns-clause-left g c = subst (λ (zs : List ObjectId). NoneGains c.args.self.now.known.nodes (times_queued c.args.self.now) c.await_tips.new.known.nodes (λ id. times_in zs id + times_waiting (turns_of c.await_tips.new.known) id)) (sym c.in_ok-await_tips.ensures.queue)
+    (gains_behind c.args.self.now.known.nodes c.await_tips.new.known.nodes (times_waiting (turns_of c.args.self.now.known)) (times_waiting (turns_of c.await_tips.new.known)) (times_in c.args.self.now.known.queue) c.in_ok-await_tips.ensures.left)

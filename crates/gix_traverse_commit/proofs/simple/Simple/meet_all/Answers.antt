@@ -1,18 +1,20 @@
-use Rattle.std.proofs.Common.{refl, rules, ◌≡◌, ◌⊎◌, sym, ◌∙◌, ap, subst, inl, inr, List, [], ◌∷◌, ◌++◌, Option, Some, None, Bool}
+use Rattle.std.proofs.Common.{refl, ◌+◌, rules, ◌≡◌, ◌⊎◌, sym, ◌∙◌, ap, subst, inl, inr, List, [], ◌∷◌, ◌++◌, Option, Some, None, Bool}
 use Rattle.std.specs.Prelude.{Contains, not, ◌&&◌}
 use Rattle.gix_hash.specs.Id.{id_of}
 use Rattle.gix_hash.specs.declared.object_id.ObjectId.{ObjectId}
 use Rattle.gix_traverse_commit.specs.Commits.{asked_parents}
 use Rattle.gix_traverse_commit.specs.Meeting.{CountsTimes, accepted}
+use Rattle.gix_traverse_commit.specs.Known.{turns_of}
 use Rattle.gix_traverse_commit.specs.Nodes.{is_hidden, is_met}
 use Rattle.gix_traverse_commit.specs.Rows.{AllHeld}
-use Rattle.gix_traverse_commit.specs.Simply.{IsKnown, keep_of}
+use Rattle.gix_traverse_commit.specs.Simply.{IsKnown, keep_of, times_queued}
 use Rattle.gix_traverse_commit.specs.Sorting.{in_time, timing_of}
-use Rattle.gix_traverse_commit.specs.Timely.{AllRowed, IsMetSoFar, keep_since, waiting}
+use Rattle.gix_traverse_commit.specs.Timely.{AllRowed, IsMetSoFar, keep_since}
 use Rattle.gix_traverse_commit.specs.Told.{rows_of}
 use Rattle.gix_traverse_commit.specs.declared.rows.Row.{Row}
+use Rattle.gix_traverse_commit.specs.declared.simple.waiting.Turn.{Turn}
 use Rattle.gix_traverse_commit.specs.declared.simple.sorting.Timing.{Timing}
-use Rattle.gix_traverse_commit.specs.Ending.{times_in, times_waiting}
+use Rattle.gix_traverse_commit.specs.Ending.{NoneGains, times_in, times_waiting}
 use Rattle.gix_traverse_commit.proofs.Ending.{gains_before, gains_behind}
 use Rattle.gix_traverse_commit.proofs.ByTime.{is_sure, none_some, one_timing, timing_same}
 use Rattle.gix_traverse_commit.specs.Order.{IsOpen}
@@ -31,14 +33,14 @@ returns-in_default-clause-going g c = λ honest commits told ids a listed id sur
         parents = n.parents;
         sorting = n.sorting;
         in_breadth = n.in_breadth;
-        none_waits = n.none_waits;
-        accepts_as = accepts_more (g.P.Accept.accepts c.args.self.now.predicate) (g.P.Accept.accepts c.meet_parents.new.predicate) c.args.self.now.nodes c.meet_parents.new.nodes a c.meet_parents.ensures.accepts c.in_ok-meet_parents.ensures.grown n.accepts_as;
+        none_waits = c.in_ok-meet_parents.ensures.turns ∙ n.none_waits;
+        accepts_as = accepts_more (g.P.Accept.accepts c.args.self.now.predicate) (g.P.Accept.accepts c.meet_parents.new.predicate) c.args.self.now.known.nodes c.meet_parents.new.known.nodes a c.meet_parents.ensures.accepts c.in_ok-meet_parents.ensures.grown n.accepts_as;
         hides = n.hides;
         hidden = λ x. c.in_ok-meet_parents.ensures.hidden x ∙ n.hidden x;
         painted = n.painted;
         known = known_push (rows_of c.args.self.now.source.rows) ids listed id n.known known;
         walked = c.in_ok-meet_parents.ensures.walked (asked_parents a.parents commits) (keep_of n.hides a.accepts) a.tips (listed ++ id ∷ []) id
-            (λ x f. ap (λ (b : Bool). not b && a.accepts (id_of x)) (sym (n.hidden x)) ∙ ap (λ (b : Bool). not (is_hidden c.args.self.now.nodes x) && b) (sym (n.accepts_as.unmet x f)))
+            (λ x f. ap (λ (b : Bool). not b && a.accepts (id_of x)) (sym (n.hidden x)) ∙ ap (λ (b : Bool). not (is_hidden c.args.self.now.known.nodes x) && b) (sym (n.accepts_as.unmet x f)))
             same n.walked n.reads;
       })
       | inr n ↦ absurd (none_some n.by_time (sym none ∙ (timing_same a c.args.self.now.parents c.args.self.now.sorting n.parents n.sorting ∙ n.is_by_time)))
@@ -53,14 +55,14 @@ returns-clause-going g c = λ honest commits told ids a listed id sure same know
           let one : n.by_time ≡ c.in-Some.timing = one_timing n.by_time c.in-Some.timing (sym n.is_by_time ∙ (sym (timing_same a c.args.self.now.parents c.args.self.now.sorting n.parents n.sorting) ∙ is)) in
           let along = asked_parents a.parents commits in
           let keep = keep_since n.by_time.since commits n.hides a.accepts in
-          let keep' = keep_since c.in-Some.timing.since commits (is_hidden c.args.self.now.nodes) a.accepts in
+          let keep' = keep_since c.in-Some.timing.since commits (is_hidden c.args.self.now.known.nodes) a.accepts in
           let alike : (x : ObjectId) → keep x ≡ keep' x = (λ x.
           ap (λ (b : Bool). not b && (a.accepts (id_of x) && in_time n.by_time.since (commits x).time)) (sym (n.hidden x))
-          ∙ ap (λ (t : Timing). not (is_hidden c.args.self.now.nodes x) && (a.accepts (id_of x) && in_time t.since (commits x).time)) one) in
-          let before = met_kept commits keep (listed ++ id ∷ []) keep' (is_met c.args.self.now.nodes) (IsOpen along a.tips listed) (waiting c.args.self.now.waiting) alike n.met in
+          ∙ ap (λ (t : Timing). not (is_hidden c.args.self.now.known.nodes x) && (a.accepts (id_of x) && in_time t.since (commits x).time)) one) in
+          let before = met_kept commits keep (listed ++ id ∷ []) keep' (is_met c.args.self.now.known.nodes) (IsOpen along a.tips listed) (turns_of c.args.self.now.known) alike n.met in
           let after = c.in_ok-await_parents.ensures.walked honest (is_sure (g.F.Lookup.may_fail c.args.self.now.source.objects) a n.by_time sure n.is_by_time) commits told a.accepts along a.tips listed (listed ++ id ∷ []) n.accepts_as.unmet before in
-          let back = met_kept commits keep' (listed ++ id ∷ []) keep (is_met c.await_parents.new.nodes) (λ x. IsOpen along a.tips listed x ⊎ Contains c.args.parents.now x) (waiting c.await_parents.new.waiting) (λ x. sym (alike x)) after in
-          let named = subst (λ (ps : List ObjectId). IsMetSoFar commits keep (is_met c.await_parents.new.nodes) (λ x. IsOpen along a.tips listed x ⊎ Contains ps x) (listed ++ id ∷ []) (waiting c.await_parents.new.waiting)) same back in
+          let back = met_kept commits keep' (listed ++ id ∷ []) keep (is_met c.await_parents.new.known.nodes) (λ x. IsOpen along a.tips listed x ⊎ Contains c.args.parents.now x) (turns_of c.await_parents.new.known) (λ x. sym (alike x)) after in
+          let named = subst (λ (ps : List ObjectId). IsMetSoFar commits keep (is_met c.await_parents.new.known.nodes) (λ x. IsOpen along a.tips listed x ⊎ Contains ps x) (listed ++ id ∷ []) (turns_of c.await_parents.new.known)) same back in
           inr (record {
             begun = n.begun;
             hidden_same = n.hidden_same;
@@ -68,13 +70,13 @@ returns-clause-going g c = λ honest commits told ids a listed id sure same know
             sorting = n.sorting;
             by_time = n.by_time;
             is_by_time = n.is_by_time;
-            empty = n.empty;
-            accepts_as = accepts_more (g.P.Accept.accepts c.args.self.now.predicate) (g.P.Accept.accepts c.await_parents.new.predicate) c.args.self.now.nodes c.await_parents.new.nodes a c.await_parents.ensures.accepts c.in_ok-await_parents.ensures.grown n.accepts_as;
+            empty = c.in_ok-await_parents.ensures.queue ∙ n.empty;
+            accepts_as = accepts_more (g.P.Accept.accepts c.args.self.now.predicate) (g.P.Accept.accepts c.await_parents.new.predicate) c.args.self.now.known.nodes c.await_parents.new.known.nodes a c.await_parents.ensures.accepts c.in_ok-await_parents.ensures.grown n.accepts_as;
             hides = n.hides;
             hidden = λ x. c.in_ok-await_parents.ensures.hidden x ∙ n.hidden x;
             painted = n.painted;
             known = subst (λ (r : Option (List Row)). (x : ObjectId) → Contains (listed ++ id ∷ []) x → IsKnown (rows_of r) ids x) (sym c.await_parents.ensures.rows) (known_push (rows_of c.args.self.now.source.rows) ids listed id n.known known);
-            met = met_parents commits along a.tips keep n.by_time.order (is_met c.await_parents.new.nodes) listed id (waiting c.await_parents.new.waiting) named;
+            met = met_parents commits along a.tips keep n.by_time.order (is_met c.await_parents.new.known.nodes) listed id (turns_of c.await_parents.new.known) named;
             chosen = n.chosen;
           }))
     ]
@@ -85,8 +87,8 @@ returns-clause-rowed g c = λ r held.
       record {
         tips = subst (λ (o : Option (List Row)). AllHeld (rows_of o) c.args.self.now.tips.items) (sym c.await_parents.ensures.rows) r.tips;
         hidden = subst (λ (o : Option (List Row)). AllHeld (rows_of o) c.args.self.now.hidden.items) (sym c.await_parents.ensures.rows) r.hidden;
-        queue = subst (λ (o : Option (List Row)). AllHeld (rows_of o) c.args.self.now.queue.items) (sym c.await_parents.ensures.rows) r.queue;
-        waiting_rows = subst (λ (o : Option (List Row)). AllRowed (rows_of o) (waiting c.await_parents.new.waiting)) (sym c.await_parents.ensures.rows) (step.1 r.waiting_rows);
+        queue = subst (λ (o : Option (List Row)). AllHeld (rows_of o) c.await_parents.new.known.queue) (sym c.await_parents.ensures.rows) (subst (AllHeld (rows_of c.args.self.now.source.rows)) (sym c.in_ok-await_parents.ensures.queue) r.queue);
+        waiting_rows = subst (λ (o : Option (List Row)). AllRowed (rows_of o) (turns_of c.await_parents.new.known)) (sym c.await_parents.ensures.rows) (step.1 r.waiting_rows);
       },
       step.0,
     )
@@ -105,7 +107,9 @@ returns-clause-met g c =
     (met, list, asks, subst (λ (t : Option Timing). CountsTimes t (rows_of c.args.self.now.source.rows) (accepted (g.P.Accept.accepts c.args.self.now.predicate) met) c.args.self.now.source.lookups c.await_parents.new.source.lookups) (sym is) counts)
 
 pub returns-in_default-clause-left : goal.returns-in_default-clause-left
-returns-in_default-clause-left g c = gains_before c.args.self.now.nodes c.meet_parents.new.nodes (times_in c.args.self.now.queue.items) (times_in c.meet_parents.new.queue.items) (times_waiting (waiting c.args.self.now.waiting)) c.in_ok-meet_parents.ensures.left
+returns-in_default-clause-left g c = subst (λ (ts : List Turn). NoneGains c.args.self.now.known.nodes (times_queued c.args.self.now) c.meet_parents.new.known.nodes (λ id. times_in c.meet_parents.new.known.queue id + times_waiting ts id)) (sym c.in_ok-meet_parents.ensures.turns)
+    (gains_before c.args.self.now.known.nodes c.meet_parents.new.known.nodes (times_in c.args.self.now.known.queue) (times_in c.meet_parents.new.known.queue) (times_waiting (turns_of c.args.self.now.known)) c.in_ok-meet_parents.ensures.left)
 
 pub returns-clause-left : goal.returns-clause-left
-returns-clause-left g c = gains_behind c.args.self.now.nodes c.await_parents.new.nodes (times_waiting (waiting c.args.self.now.waiting)) (times_waiting (waiting c.await_parents.new.waiting)) (times_in c.args.self.now.queue.items) c.in_ok-await_parents.ensures.left
+returns-clause-left g c = subst (λ (zs : List ObjectId). NoneGains c.args.self.now.known.nodes (times_queued c.args.self.now) c.await_parents.new.known.nodes (λ id. times_in zs id + times_waiting (turns_of c.await_parents.new.known) id)) (sym c.in_ok-await_parents.ensures.queue)
+    (gains_behind c.args.self.now.known.nodes c.await_parents.new.known.nodes (times_waiting (turns_of c.args.self.now.known)) (times_waiting (turns_of c.await_parents.new.known)) (times_in c.args.self.now.known.queue) c.in_ok-await_parents.ensures.left)

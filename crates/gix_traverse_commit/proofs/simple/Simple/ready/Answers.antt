@@ -33,4 +33,4 @@ returns-then-self-clause-counted g c = λ a made. elim made [
 ]
 
 pub returns-then-self-clause-left : goal.returns-then-self-clause-left
-returns-then-self-clause-left g c = gains_none c.args.self.now.nodes (times_queued c.args.self.now)
+returns-then-self-clause-left g c = gains_none c.args.self.now.known.nodes (times_queued c.args.self.now)

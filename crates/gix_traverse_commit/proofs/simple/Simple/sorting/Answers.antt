@@ -40,9 +40,9 @@ pub returns-clause-told : goal.returns-clause-told
 returns-clause-told g c = λ honest by a m x k accepted.
     let v : IsNew g.P.Accept.accepts a c.gather.new.self = c.in_ok-gather.ensures.made a (c.turn.ensures.ahead a m) in
     let e = c.gather.ensures.source ∙ c.turn.ensures.source in
-    let told = subst (λ s. g.F.Lookup.is_honest s.objects → (x : ObjectId) → Contains c.gather.new.self.tips.items x → IsUnmet c.gather.new.self.nodes x → TimeIsTold (rows_of s.rows) (g.F.Lookup.table s.objects) x) e
+    let told = subst (λ s. g.F.Lookup.is_honest s.objects → (x : ObjectId) → Contains c.gather.new.self.tips.items x → IsUnmet c.gather.new.self.known.nodes x → TimeIsTold (rows_of s.rows) (g.F.Lookup.table s.objects) x) e
     (λ h. c.in_ok-read_tips.ensures.told h by) in
-    told honest x (subst (λ (ts : List ObjectId). Contains ts x) (sym v.tips) k) (met_or_accepted a.accepts c.gather.new.self.nodes x (v.asked.refused x) accepted)
+    told honest x (subst (λ (ts : List ObjectId). Contains ts x) (sym v.tips) k) (met_or_accepted a.accepts c.gather.new.self.known.nodes x (v.asked.refused x) accepted)
 
 pub returns-in_err-read_tips-clause-refused : goal.returns-in_err-read_tips-clause-refused
 returns-in_err-read_tips-clause-refused g c = λ a m.
@@ -54,7 +54,7 @@ returns-in_err-read_tips-clause-refused g c = λ a m.
     let may_fail = g.F.Lookup.may_fail c.args.self.source.objects in
     let rows = rows_of c.args.self.source.rows in
     let table = g.F.Lookup.table c.args.self.source.objects in
-    let nodes = c.gather.new.self.nodes in
+    let nodes = c.gather.new.self.known.nodes in
     let here = subst (λ s. TipFault (g.F.Lookup.is_honest s.objects) (g.F.Lookup.may_fail s.objects) (rows_of s.rows) (g.F.Lookup.table s.objects) c.gather.new.self.tips.items (IsUnmet nodes) error) e c.in_err-read_tips.ensures.refused in
     let of_tips = subst (λ (ts : List ObjectId). TipFault honest may_fail rows table ts (IsUnmet nodes) error) v.tips here in
     let fault : TipFault honest may_fail rows table a.tips (IsAccepted a) error = tip_fault_more honest may_fail rows table a.tips (IsUnmet nodes) (IsAccepted a) (λ x k u. v.asked.accepted x k u) (λ x k y. met_or_accepted a.accepts nodes x (v.asked.refused x) y) error of_tips in
@@ -73,7 +73,7 @@ returns-clause-each g c = λ a m.
     let e = c.gather.ensures.source ∙ c.turn.ensures.source in
     let t = timing_of All c.args.sorting in
     let tips : List ObjectId = c.gather.new.self.tips.items in
-    let nodes = c.gather.new.self.nodes in
+    let nodes = c.gather.new.self.known.nodes in
     let same = unmet_accepted nodes a.accepts tips v.asked.refused (λ x k. v.asked.accepted x (subst (λ (ts : List ObjectId). Contains ts x) v.tips k)) ∙ ap (accepted a.accepts) v.tips in
     subst (λ (xs : List ObjectId). CountsTimes t (rows_of c.args.self.source.rows) xs c.args.self.source.lookups c.read_tips.new.self.source.lookups) same
     (subst (λ s. CountsTimes t (rows_of s.rows) (unmet nodes tips) s.lookups c.read_tips.new.self.source.lookups) e c.in_ok-read_tips.ensures.each)

@@ -1,14 +1,19 @@
-use Rattle.std.proofs.Common.{ap, arith, rules, ◌≡◌, sym, ◌∙◌, refl, subst, inl, inr, List, [], ◌∷◌, ◌++◌, Some, None}
+use Rattle.std.proofs.Common.{ap, arith, rules, ◌≡◌, sym, ◌∙◌, refl, subst, inl, inr, List, [], ◌∷◌, ◌++◌, length, Some, None}
 use Rattle.gix_hash.specs.Id.{Id}
 use Rattle.gix_hash.specs.declared.object_id.ObjectId.{ObjectId}
 use Rattle.gix_traverse_commit.specs.Commits.{Commits, asked_parents}
-use Rattle.gix_traverse_commit.specs.Nodes.{is_met}
-use Rattle.gix_traverse_commit.specs.Simply.{Answers, Asked, IsUnderWay, keep_of}
+use Rattle.gix_traverse_commit.specs.Nodes.{Node, is_hidden, is_met}
+use Rattle.gix_traverse_commit.specs.Simply.{AcceptsAs, Answers, Asked, IsUnderWay, keep_of}
 use Rattle.gix_traverse_commit.specs.Sorting.{timing_of}
-use Rattle.gix_traverse_commit.specs.Timely.{IsTaken, keep_since, waiting}
+use Rattle.gix_traverse_commit.specs.Timely.{AllRowed, IsMetSoFar, IsTaken, keep_since}
+use Rattle.gix_traverse_commit.specs.Keeping.{Kept}
+use Rattle.gix_traverse_commit.specs.Order.{IsOpen}
+use Rattle.gix_traverse_commit.specs.Rows.{AllHeld}
+use Rattle.gix_traverse_commit.specs.Known.{turns_of}
 use Rattle.gix_traverse_commit.specs.Told.{rows_of}
 use Rattle.gix_traverse_commit.specs.declared.simple.sorting.Timing.{Timing}
-use Rattle.gix_traverse_commit.specs.Ending.{times_in}
+use Rattle.gix_traverse_commit.specs.Ending.{times_in, times_waiting}
+use Rattle.gix_traverse_commit.specs.declared.simple.waiting.Turn.{Turn}
 use Rattle.gix_traverse_commit.proofs.Ending.{taken_less, times_first}
 use Rattle.gix_traverse_commit.proofs.ByTime.{none_some, one_timing, timing_same, since_end, since_turn}
 use Rattle.gix_traverse_commit.proofs.Chosen.{taken_chosen, taken_met}
@@ -20,29 +25,43 @@ use Rattle.gix_traverse_commit.proofs.simple.Simple.take.Goals as goal
 pub returns-in_default-clause-turn : goal.returns-in_default-clause-turn
 returns-in_default-clause-turn g c = λ ids commits a listed u.
     let none : timing_of c.args.self.now.parents c.args.self.now.sorting ≡ None = search rules in
-    let queue : List ObjectId = c.args.self.now.queue.items in
-    let queue' : List ObjectId = c.pop.new.queue.items in
+    let queue : List ObjectId = c.args.self.now.known.queue in
+    let queue' : List ObjectId = c.pop.new.self.queue in
     let id : ObjectId = c.in_ok-id.id in
     elim u [
       | inl w ↦ (
-          let r = kept_pop (asked_parents a.parents commits) a.tips (keep_of w.hides a.accepts) (is_met c.args.self.now.nodes) listed queue (listed ++ id ∷ []) queue' id w.walked c.in_ok-id.ensures.first refl in (
-            inl (record { begun = w.begun; hidden_same = w.hidden_same; parents = w.parents; sorting = w.sorting; in_breadth = w.in_breadth; none_waits = w.none_waits; accepts_as = w.accepts_as; hides = w.hides; hidden = w.hidden; painted = w.painted; known = w.known; walked = r.0; reads = r.1 }),
-            kept_turn commits a w.hides w.painted (is_met c.args.self.now.nodes) listed queue queue' id w.walked c.in_ok-id.ensures.first w.in_breadth,
+          let r = kept_pop (asked_parents a.parents commits) a.tips (keep_of w.hides a.accepts) (is_met c.args.self.now.known.nodes) listed queue (listed ++ id ∷ []) queue' id w.walked c.in_ok-id.ensures.first refl in (
+            inl (record {
+              begun = w.begun;
+              hidden_same = w.hidden_same;
+              parents = w.parents;
+              sorting = w.sorting;
+              in_breadth = w.in_breadth;
+              none_waits = c.pop.ensures.turns ∙ w.none_waits;
+              accepts_as = subst (λ (ns : List Node). AcceptsAs (g.P.Accept.accepts c.args.self.now.predicate) ns a) (sym c.pop.ensures.nodes) w.accepts_as;
+              hides = w.hides;
+              hidden = λ x. ap (λ (ns : List Node). is_hidden ns x) c.pop.ensures.nodes ∙ w.hidden x;
+              painted = w.painted;
+              known = w.known;
+              walked = subst (λ (ns : List Node). Kept (asked_parents a.parents commits) a.tips (keep_of w.hides a.accepts) (is_met ns) ((listed ++ id ∷ []) ++ queue') (length (listed ++ id ∷ [])) 0) (sym c.pop.ensures.nodes) r.0;
+              reads = r.1;
+            }),
+            kept_turn commits a w.hides w.painted (is_met c.args.self.now.known.nodes) listed queue queue' id w.walked c.in_ok-id.ensures.first w.in_breadth,
           ))
       | inr w ↦ absurd (none_some w.by_time (sym none ∙ (timing_same a c.args.self.now.parents c.args.self.now.sorting w.parents w.sorting ∙ w.is_by_time)))
     ]
 
 pub returns-in_default-clause-rowed : goal.returns-in_default-clause-rowed
 returns-in_default-clause-rowed g c = λ r.
-    let h = held_first (rows_of c.args.self.now.source.rows) c.args.self.now.queue.items c.pop.new.queue.items c.in_ok-id.id c.in_ok-id.ensures.first r.queue in
-    (record { tips = r.tips; hidden = r.hidden; queue = h.1; waiting_rows = r.waiting_rows }, h.0)
+    let h = held_first (rows_of c.args.self.now.source.rows) c.args.self.now.known.queue c.pop.new.self.queue c.in_ok-id.id c.in_ok-id.ensures.first r.queue in
+    (record { tips = r.tips; hidden = r.hidden; queue = h.1; waiting_rows = subst (AllRowed (rows_of c.args.self.now.source.rows)) (sym c.pop.ensures.turns) r.waiting_rows }, h.0)
 
 pub returns-in_err-id-clause-end : goal.returns-in_err-id-clause-end
 returns-in_err-id-clause-end g c =
     let end : (ids : List Id) (commits : Commits ObjectId) (a : Asked) (listed : List ObjectId) → IsUnderWay g.P.Accept.accepts ids commits a listed c.args.self.now → Answers commits a listed = (λ ids commits a listed u.
     let none : timing_of c.args.self.now.parents c.args.self.now.sorting ≡ None = search rules in
     elim u [
-      | inl w ↦ kept_breadth commits a w.hides w.painted (is_met c.args.self.now.nodes) listed c.args.self.now.queue.items w.walked c.in_err-id.ensures.none w.in_breadth
+      | inl w ↦ kept_breadth commits a w.hides w.painted (is_met c.args.self.now.known.nodes) listed c.args.self.now.known.queue w.walked c.in_err-id.ensures.none w.in_breadth
       | inr w ↦ absurd (none_some w.by_time (sym none ∙ (timing_same a c.args.self.now.parents c.args.self.now.sorting w.parents w.sorting ∙ w.is_by_time)))
     ]) in
     rw c.from_residual.ensures end
@@ -52,15 +71,15 @@ returns-in_err-turn-clause-end g c =
     let is : timing_of c.args.self.now.parents c.args.self.now.sorting ≡ Some c.in-Some.timing = sym c.time_order.ensures ∙ c.in-Some.is in
     let end : (ids : List Id) (commits : Commits ObjectId) (a : Asked) (listed : List ObjectId) → IsUnderWay g.P.Accept.accepts ids commits a listed c.args.self.now → Answers commits a listed = (λ ids commits a listed u. elim u [
       | inl w ↦ absurd (none_some c.in-Some.timing (sym w.in_breadth ∙ (sym (timing_same a c.args.self.now.parents c.args.self.now.sorting w.parents w.sorting) ∙ is)))
-      | inr w ↦ since_end commits a w.by_time w.is_by_time w.hides w.painted (is_met c.args.self.now.nodes) listed (waiting c.args.self.now.waiting) w.met w.chosen c.in_err-turn.ensures.none
+      | inr w ↦ since_end commits a w.by_time w.is_by_time w.hides w.painted (is_met c.args.self.now.known.nodes) listed (turns_of c.args.self.now.known) w.met w.chosen c.in_err-turn.ensures.none
     ]) in
     rw c.from_residual-in_err-turn.ensures end
 
 pub returns-clause-turn : goal.returns-clause-turn
 returns-clause-turn g c = λ ids commits a listed u.
     let is : timing_of c.args.self.now.parents c.args.self.now.sorting ≡ Some c.in-Some.timing = sym c.time_order.ensures ∙ c.in-Some.is in
-    let old = waiting c.args.self.now.waiting in
-    let new = waiting c.take.new.self in
+    let old = turns_of c.args.self.now.known in
+    let new = turns_of c.take_turn.new.self in
     let turn = c.in_ok-turn.turn in
     elim u [
       | inl w ↦ absurd (none_some c.in-Some.timing (sym w.in_breadth ∙ (sym (timing_same a c.args.self.now.parents c.args.self.now.sorting w.parents w.sorting) ∙ is)))
@@ -76,34 +95,36 @@ returns-clause-turn g c = λ ids commits a listed u.
               sorting = w.sorting;
               by_time = w.by_time;
               is_by_time = w.is_by_time;
-              empty = w.empty;
-              accepts_as = w.accepts_as;
+              empty = c.take_turn.ensures.queue ∙ w.empty;
+              accepts_as = subst (λ (ns : List Node). AcceptsAs (g.P.Accept.accepts c.args.self.now.predicate) ns a) (sym c.take_turn.ensures.nodes) w.accepts_as;
               hides = w.hides;
-              hidden = w.hidden;
+              hidden = λ x. ap (λ (ns : List Node). is_hidden ns x) c.take_turn.ensures.nodes ∙ w.hidden x;
               painted = w.painted;
               known = w.known;
-              met = taken_met commits along a.tips keep w.by_time.order (is_met c.args.self.now.nodes) listed old turn new w.met taken;
-              chosen = taken_chosen commits along a.tips keep w.by_time.order (is_met c.args.self.now.nodes) listed old turn new w.met taken w.chosen;
+              met = subst (λ (ns : List Node). IsMetSoFar commits keep (is_met ns) (IsOpen along a.tips listed) (listed ++ turn.id ∷ []) new) (sym c.take_turn.ensures.nodes) (taken_met commits along a.tips keep w.by_time.order (is_met c.args.self.now.known.nodes) listed old turn new w.met taken);
+              chosen = taken_chosen commits along a.tips keep w.by_time.order (is_met c.args.self.now.known.nodes) listed old turn new w.met taken w.chosen;
             }),
-            since_turn commits a w.by_time w.is_by_time w.hides w.painted (is_met c.args.self.now.nodes) listed old turn new w.met w.chosen taken,
+            since_turn commits a w.by_time w.is_by_time w.hides w.painted (is_met c.args.self.now.known.nodes) listed old turn new w.met w.chosen taken,
           ))
     ]
 
 pub returns-clause-rowed : goal.returns-clause-rowed
 returns-clause-rowed g c = λ r.
-    let old = waiting c.args.self.now.waiting in
-    let new = waiting c.take.new.self in
+    let old = turns_of c.args.self.now.known in
+    let new = turns_of c.take_turn.new.self in
     let turn = c.in_ok-turn.turn in
     let some = taken_some c.in-Some.timing.order old turn new c.in_ok-turn.ensures.taken in
-    (record { tips = r.tips; hidden = r.hidden; queue = r.queue; waiting_rows = λ t d. r.waiting_rows t ((some t).1 (inr d)) }, r.waiting_rows turn ((some turn).1 (inl refl)))
+    (record { tips = r.tips; hidden = r.hidden; queue = subst (AllHeld (rows_of c.args.self.now.source.rows)) (sym c.take_turn.ensures.queue) r.queue; waiting_rows = λ t d. r.waiting_rows t ((some t).1 (inr d)) }, r.waiting_rows turn ((some turn).1 (inl refl)))
 
 pub returns-in_default-clause-less : goal.returns-in_default-clause-less
 returns-in_default-clause-less g c = λ x.
     let a = ap (λ (zs : List ObjectId). times_in zs x) c.in_ok-id.ensures.first in
-    let b = times_first c.in_ok-id.id c.pop.new.queue.items x in
-    omega (arith, a, b)
+    let b = times_first c.in_ok-id.id c.pop.new.self.queue x in
+    let d = ap (λ (ts : List Turn). times_waiting ts x) c.pop.ensures.turns in
+    omega (arith, a, b, d)
 
 pub returns-clause-less : goal.returns-clause-less
 returns-clause-less g c = λ x.
-    let a = taken_less c.in-Some.timing.order (waiting c.args.self.now.waiting) c.in_ok-turn.turn (waiting c.take.new.self) c.in_ok-turn.ensures.taken x in
-    omega (arith, a)
+    let a = taken_less c.in-Some.timing.order (turns_of c.args.self.now.known) c.in_ok-turn.turn (turns_of c.take_turn.new.self) c.in_ok-turn.ensures.taken x in
+    let b = ap (λ (zs : List ObjectId). times_in zs x) c.take_turn.ensures.queue in
+    omega (arith, a, b)

@@ -1,4 +1,6 @@
 use Rattle.std.proofs.Common.{inl, inr}
+use Rattle.gix_traverse_commit.specs.Simply.{times_queued}
+use Rattle.gix_traverse_commit.proofs.Ending.{gains_none}
 use Rattle.gix_traverse_commit.proofs.Pending.{is_false}
 use Rattle.gix_traverse_commit.proofs.Rest.{begun_to, rest_turned}
 use Rattle.gix_traverse_commit.proofs.simple.Simple.turn.Goals as goal
@@ -8,6 +10,12 @@ returns-then-not-self-clause-ahead g c = λ a m. elim m [
   | inl n ↦ n
   | inr u ↦ (let b = begun_to g.P.Accept.accepts c.args.self.now a u in let f = c.if-not-self.true in let z : ⊥ = cc in absurd z)
 ]
+
+pub returns-then-not-self-clause-left : goal.returns-then-not-self-clause-left
+returns-then-not-self-clause-left g c = gains_none c.args.self.now.known.nodes (times_queued c.args.self.now)
+
+pub returns-clause-left : goal.returns-clause-left
+returns-clause-left g c = gains_none c.args.self.now.known.nodes (times_queued c.args.self.now)
 
 pub returns-clause-ahead : goal.returns-clause-ahead
 returns-clause-ahead g c = λ a m. elim m [

@@ -3,11 +3,11 @@ use Rattle.gix_hash.specs.Id.{id_of}
 use Rattle.gix_hash.specs.declared.object_id.ObjectId.{ObjectId}
 use Rattle.std.specs.List.{sum_by}
 use Rattle.gix_traverse_commit.specs.Ending.{may_come}
-use Rattle.gix_traverse_commit.specs.Timely.{waiting}
 use Rattle.gix_traverse_commit.specs.Meeting.{CountsOne}
 use Rattle.gix_traverse_commit.specs.Simply.{CountsBeginning, CountsFault, CountsUpTo, IsAtTurn, IsContentOf, IsInfo, IsOver, IsKnown, IsSure, IsTurn, IsUnderWay, StopsFetch, is_over, known_ids, left_of, times_queued}
 use Rattle.gix_traverse_commit.specs.Rows.{Holds}
 use Rattle.gix_traverse_commit.specs.Sorting.{timing_of}
+use Rattle.gix_traverse_commit.specs.Known.{turns_of}
 use Rattle.gix_traverse_commit.specs.Told.{AreTold, rows_of}
 use Rattle.gix_traverse_commit.specs.declared.parents.Parents.{Parents}
 use Rattle.gix_traverse_commit.specs.declared.rows.Row.{Row}
@@ -129,8 +129,8 @@ returns-in-Ok-clause-steps g c =
           let (n, f) = c.in-Ok.ensures.rowed r2 (subst (λ s. Holds (rows_of s.rows) id) (sym c.take.ensures.source) held) in
           (n, f ∙ (ap (λ s. s.lookups) c.take.ensures.source ∙ e)));
       meets = (λ b. let s = c.in_default.ensures.same b in
-          meets_moved g.P.Accept.accepts g.P.Accept.goes (rows_of c.take.new.self.source.rows) rows c.take.new.self.nodes c.args.self.now.nodes (timing_of c.take.new.self.parents c.take.new.self.sorting) (timing_of c.args.self.now.parents c.args.self.now.sorting) c.in-Ok.info c.take.new.self.predicate c.args.self.now.predicate c.take.new.self.source.lookups c.args.self.now.source.lookups c.enter.new.self.predicate c.enter.new.self.source.lookups
-          (ap rows_of same_rows) (c.take.ensures.nodes ∙ ap (λ walk. walk.nodes) s) (in_order ∙ ap (λ walk. timing_of walk.parents walk.sorting) s) (c.take.ensures.predicate ∙ ap (λ walk. walk.predicate) s) (ap (λ source. source.lookups) c.take.ensures.source ∙ ap (λ walk. walk.source.lookups) s) c.in-Ok.ensures.met);
+          meets_moved g.P.Accept.accepts g.P.Accept.goes (rows_of c.take.new.self.source.rows) rows c.take.new.self.known.nodes c.args.self.now.known.nodes (timing_of c.take.new.self.parents c.take.new.self.sorting) (timing_of c.args.self.now.parents c.args.self.now.sorting) c.in-Ok.info c.take.new.self.predicate c.args.self.now.predicate c.take.new.self.source.lookups c.args.self.now.source.lookups c.enter.new.self.predicate c.enter.new.self.source.lookups
+          (ap rows_of same_rows) (c.take.ensures.nodes ∙ ap (λ walk. walk.known.nodes) s) (in_order ∙ ap (λ walk. timing_of walk.parents walk.sorting) s) (c.take.ensures.predicate ∙ ap (λ walk. walk.predicate) s) (ap (λ source. source.lookups) c.take.ensures.source ∙ ap (λ walk. walk.source.lookups) s) c.in-Ok.ensures.met);
       unasked = tt;
       over = tt;
       content_end = tt;
@@ -150,7 +150,7 @@ returns-in-Ok-clause-steps g c =
             under_way = λ honest commits told sure. c.in_default.ensures.going honest commits told ids a [] sure (inl (refl, m));
             unasked = c.ready.ensures.predicate;
             beginning = begin;
-            meets = meets_moved g.P.Accept.accepts g.P.Accept.goes (rows_of c.take.new.self.source.rows) rows c.take.new.self.nodes c.ready.new.self.nodes (timing_of c.take.new.self.parents c.take.new.self.sorting) (timing_of c.ready.new.self.parents c.ready.new.self.sorting) c.in-Ok.info c.take.new.self.predicate c.ready.new.self.predicate c.take.new.self.source.lookups c.ready.new.self.source.lookups c.enter.new.self.predicate c.enter.new.self.source.lookups
+            meets = meets_moved g.P.Accept.accepts g.P.Accept.goes (rows_of c.take.new.self.source.rows) rows c.take.new.self.known.nodes c.ready.new.self.known.nodes (timing_of c.take.new.self.parents c.take.new.self.sorting) (timing_of c.ready.new.self.parents c.ready.new.self.sorting) c.in-Ok.info c.take.new.self.predicate c.ready.new.self.predicate c.take.new.self.source.lookups c.ready.new.self.source.lookups c.enter.new.self.predicate c.enter.new.self.source.lookups
                 (ap rows_of same_rows) c.take.ensures.nodes in_order c.take.ensures.predicate f c.in-Ok.ensures.met;
             one = (λ n. subst (λ (x : ObjectId). CountsOne rows x c.ready.new.self.source.lookups c.enter.new.self.source.lookups) (sym c.in-Ok.ensures.id)
                 (subst (λ (k : ℕ). CountsOne rows id k c.enter.new.self.source.lookups) f
@@ -164,13 +164,13 @@ returns-in-Ok-clause-steps g c =
           let now = ap rows_of (c.enter.ensures.rows ∙ same_rows) in
           let old = c.args.self.now in
           let new = c.enter.new.self in
-          let left = left_falls rows ids old.nodes new.nodes old.queue.items new.queue.items (waiting old.waiting) (waiting new.waiting) id known (λ x.
+          let left = left_falls rows ids old.known.nodes new.known.nodes old.known.queue new.known.queue (turns_of old.known) (turns_of new.known) id known (λ x.
           let a = c.in_default.ensures.left x in
           let b = c.in-Some.ensures.less (id_of x) in
           let d = c.in-Ok.ensures.left x in
           let e = ap (λ nodes. may_come nodes (times_queued c.take.new.self) (id_of x)) c.take.ensures.nodes in
           omega (arith, a, b, d, e)) in
-          subst (λ (r : List Row). sum_by (may_come new.nodes (times_queued new)) (known_ids r ids) < left_of ids old) (sym now) left);
+          subst (λ (r : List Row). sum_by (may_come new.known.nodes (times_queued new)) (known_ids r ids) < left_of ids old) (sym now) left);
     }
 
 pub returns-in-Err-enter-clause-steps : goal.returns-in-Err-enter-clause-steps

@@ -20,15 +20,17 @@ ids-preserved c =
     let marks : Marks = record { asked = c.marks-marks.result.asked; met = c.marks-marks.result.met; hidden = false } in
     let new = c.in_ok-mark.ensures.marked in
     record {
-      met = λ q. met_same c.ids.nodes c.mark.new.self id marks new (ap (λ (k : Marks). k.met) c.marks-marks.ensures) q ∙ inv.met q;
+      queue = c.in_ok-mark.ensures.queue ∙ c.ids.invariant.queue;
+      turns = c.in_ok-mark.ensures.turns ∙ c.ids.invariant.turns;
+      met = λ q. met_same c.ids.known.nodes c.mark.new.self.nodes id marks new (ap (λ (k : Marks). k.met) c.marks-marks.ensures) q ∙ inv.met q;
       left = (λ q h.
-          let (before, other) = taken_off c.ids.nodes c.mark.new.self id marks new (λ (k : Marks). k.hidden) refl q h in
+          let (before, other) = taken_off c.ids.known.nodes c.mark.new.self.nodes id marks new (λ (k : Marks). k.hidden) refl q h in
           let (was, out) = inv.left q before in
           (was, λ k. elim (in_push (take c.ids.id-index items) id q (subst (λ (zs : List ObjectId). Contains zs q) (take_push items c.ids.id-index id here) k)) [ inl d ↦ out d | inr e ↦ other (sym e) ]));
     }
 
 pub returns-clause-unpainted : goal.returns-clause-unpainted
-returns-clause-unpainted c = λ x. is_false (is_hidden c.ids.nodes x) (λ h.
+returns-clause-unpainted c = λ x. is_false (is_hidden c.ids.known.nodes x) (λ h.
     let (was, out) = c.ids.invariant.left x h in
     let all = take_all c.deref-id-items.result.now c.ids.id-index c.ids-test.false ∙ c.deref-id-items.ensures.value in
-    out (subst (λ (zs : List ObjectId). Contains zs x) (sym (all ∙ c.in_ok-ids.ensures)) (hidden_among c.args.nodes.now x was)))
+    out (subst (λ (zs : List ObjectId). Contains zs x) (sym (all ∙ c.in_ok-ids.ensures)) (hidden_among c.args.known.now.nodes x was)))

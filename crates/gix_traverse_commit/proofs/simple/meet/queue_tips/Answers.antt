@@ -17,20 +17,21 @@ tips-preserved c =
     let id : ObjectId = get_or ids c.tips.tip-index (Sha1 []) in
     let here = slice_get-get_or ids c.tips.tip-index (Sha1 []) c.tips-test.true in
     record {
+      turns = c.in_ok-queue_tip.ensures.turns ∙ c.tips.invariant.turns;
       hidden = λ q. c.in_ok-queue_tip.ensures.hidden q ∙ c.tips.invariant.hidden q;
-      grown = λ q h. met_more (is_met c.tips.nodes) (is_met c.queue_tip.new.nodes) id q c.in_ok-queue_tip.ensures.met (c.tips.invariant.grown q h);
-      left = gains_more c.args.nodes.now c.tips.nodes c.queue_tip.new.nodes (times_in c.args.queue.now.items) (times_in c.tips.queue.items) (times_in c.queue_tip.new.queue.items) c.tips.invariant.left
-          (gains_queued c.tips.nodes c.queue_tip.new.nodes c.tips.queue.items c.queue_tip.new.queue.items id (not (is_hidden c.tips.nodes id))
-          (λ x h. met_more (is_met c.tips.nodes) (is_met c.queue_tip.new.nodes) id x c.in_ok-queue_tip.ensures.met h)
-          (λ j. met_itself (is_met c.tips.nodes) (is_met c.queue_tip.new.nodes) id c.in_ok-queue_tip.ensures.met)
+      grown = λ q h. met_more (is_met c.tips.known.nodes) (is_met c.queue_tip.new.known.nodes) id q c.in_ok-queue_tip.ensures.met (c.tips.invariant.grown q h);
+      left = gains_more c.args.known.now.nodes c.tips.known.nodes c.queue_tip.new.known.nodes (times_in c.args.known.now.queue) (times_in c.tips.known.queue) (times_in c.queue_tip.new.known.queue) c.tips.invariant.left
+          (gains_queued c.tips.known.nodes c.queue_tip.new.known.nodes c.tips.known.queue c.queue_tip.new.known.queue id (not (is_hidden c.tips.known.nodes id))
+          (λ x h. met_more (is_met c.tips.known.nodes) (is_met c.queue_tip.new.known.nodes) id x c.in_ok-queue_tip.ensures.met h)
+          (λ j. met_itself (is_met c.tips.known.nodes) (is_met c.queue_tip.new.known.nodes) id c.in_ok-queue_tip.ensures.met)
           c.in_ok-queue_tip.ensures.queued);
-      rowed = λ rows a b. queues_held rows (is_met c.tips.nodes id) (not (is_hidden c.tips.nodes id)) c.tips.queue.items c.queue_tip.new.queue.items id c.in_ok-queue_tip.ensures.queued (c.tips.invariant.rowed rows a b) (b id (contains_from_at ids c.tips.tip-index id here));
-      walked = λ along keep which w. kept_meet along ids keep (is_met c.tips.nodes) (is_met c.queue_tip.new.nodes) (not (is_hidden c.tips.nodes id)) [] c.tips.queue.items c.queue_tip.new.queue.items 0 c.tips.tip-index id (c.tips.invariant.walked along keep which w) here c.in_ok-queue_tip.ensures.queued c.in_ok-queue_tip.ensures.met
-          (λ f. which id (contains_from_at ids c.tips.tip-index id here) (unmet_before (is_met c.args.nodes.now) (is_met c.tips.nodes) id (c.tips.invariant.grown id) f) ∙ ap not (sym (c.tips.invariant.hidden id)));
+      rowed = λ rows a b. queues_held rows (is_met c.tips.known.nodes id) (not (is_hidden c.tips.known.nodes id)) c.tips.known.queue c.queue_tip.new.known.queue id c.in_ok-queue_tip.ensures.queued (c.tips.invariant.rowed rows a b) (b id (contains_from_at ids c.tips.tip-index id here));
+      walked = λ along keep which w. kept_meet along ids keep (is_met c.tips.known.nodes) (is_met c.queue_tip.new.known.nodes) (not (is_hidden c.tips.known.nodes id)) [] c.tips.known.queue c.queue_tip.new.known.queue 0 c.tips.tip-index id (c.tips.invariant.walked along keep which w) here c.in_ok-queue_tip.ensures.queued c.in_ok-queue_tip.ensures.met
+          (λ f. which id (contains_from_at ids c.tips.tip-index id here) (unmet_before (is_met c.args.known.now.nodes) (is_met c.tips.known.nodes) id (c.tips.invariant.grown id) f) ∙ ap not (sym (c.tips.invariant.hidden id)));
     }
 
 pub returns-clause-walked : goal.returns-clause-walked
-returns-clause-walked c = λ along keep which w. kept_start along c.args.tips.now keep (is_met c.tips.nodes) [] c.tips.queue.items c.tips.tip-index refl (c.tips.invariant.walked along keep which w) c.tips-test.false
+returns-clause-walked c = λ along keep which w. kept_start along c.args.tips.now keep (is_met c.tips.known.nodes) [] c.tips.known.queue c.tips.tip-index refl (c.tips.invariant.walked along keep which w) c.tips-test.false
 
 pub returns-clause-grown : goal.returns-clause-grown
 returns-clause-grown c = c.tips.invariant.grown

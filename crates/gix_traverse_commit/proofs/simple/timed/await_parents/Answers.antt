@@ -4,10 +4,11 @@ use Rattle.std.proofs.lemmas.Option.{slice_get-get_or}
 use Rattle.gix_hash.specs.Id.{Id, id_of}
 use Rattle.gix_hash.specs.declared.object_id.ObjectId.{ObjectId}
 use Rattle.gix_hash.specs.declared.object_id.ObjectId.TheVariants.{Sha1}
+use Rattle.gix_traverse_commit.specs.Known.{turns_of}
 use Rattle.gix_traverse_commit.specs.Nodes.{is_hidden, is_met}
 use Rattle.gix_traverse_commit.specs.Rows.{Holds}
 use Rattle.gix_traverse_commit.specs.Sorting.{in_time}
-use Rattle.gix_traverse_commit.specs.Timely.{AllRowed, IsMetSoFar, keep_since, turn_of, waiting}
+use Rattle.gix_traverse_commit.specs.Timely.{AllRowed, IsMetSoFar, keep_since, turn_of}
 use Rattle.gix_traverse_commit.specs.Told.{AreTold, rows_of}
 use Rattle.gix_traverse_commit.specs.declared.rows.Row.{Row}
 use Rattle.gix_traverse_commit.proofs.Chosen.{take_all}
@@ -29,14 +30,15 @@ parents-init g c = record {
   rows = refl;
   accepts = refl;
   hidden = λ q. refl;
+  queue = refl;
   grown = λ q h. h;
   counted = omega arith;
   rising = omega arith;
   same = λ all. refl;
-  left = gains_none c.args.nodes.now (times_waiting (waiting c.args.waiting.now));
+  left = gains_none c.args.known.now.nodes (times_waiting (turns_of c.args.known.now));
   rowed = λ all before. before;
-  walked = λ honest sure h told accepts along tips front listed which w. met_renamed h (keep_since c.args.since h (is_hidden c.args.nodes.now) accepts) listed (is_met c.args.nodes.now) (IsOpen along tips front) (λ x. IsOpen along tips front x ⊎ Contains (take 0 c.args.parents.now) x) (waiting c.args.waiting.now) w (λ x. ((λ o. inl o), (λ d. elim d [ inl o ↦ o | inr c ↦ absurd (in_nil x c) ])));
-  once = ([], refl, refl, meets_none (is_met c.args.nodes.now) (is_hidden c.args.nodes.now));
+  walked = λ honest sure h told accepts along tips front listed which w. met_renamed h (keep_since c.args.since h (is_hidden c.args.known.now.nodes) accepts) listed (is_met c.args.known.now.nodes) (IsOpen along tips front) (λ x. IsOpen along tips front x ⊎ Contains (take 0 c.args.parents.now) x) (turns_of c.args.known.now) w (λ x. ((λ o. inl o), (λ d. elim d [ inl o ↦ o | inr c ↦ absurd (in_nil x c) ])));
+  once = ([], refl, refl, meets_none (is_met c.args.known.now.nodes) (is_hidden c.args.known.now.nodes));
 }
 
 pub parents-preserved : goal.parents-preserved
@@ -45,34 +47,35 @@ parents-preserved g c =
     let id : ObjectId = get_or ids c.parents.parent-index (Sha1 []) in
     let here = slice_get-get_or ids c.parents.parent-index (Sha1 []) c.parents-test.true in
     let inv = c.parents.invariant in
-    let rowed = subst (λ (o : Option (List Row)). Holds (rows_of o) id → (c.await_parent.new.source.lookups ≡ c.parents.source.lookups) × (AllRowed (rows_of o) (waiting c.parents.waiting) → AllRowed (rows_of o) (waiting c.await_parent.new.waiting))) inv.rows c.in_ok-await_parent.ensures.rowed in
+    let rowed = subst (λ (o : Option (List Row)). Holds (rows_of o) id → (c.await_parent.new.source.lookups ≡ c.parents.source.lookups) × (AllRowed (rows_of o) (turns_of c.parents.known) → AllRowed (rows_of o) (turns_of c.await_parent.new.known))) inv.rows c.in_ok-await_parent.ensures.rowed in
     record {
       objects = c.await_parent.ensures.objects ∙ inv.objects;
       rows = c.await_parent.ensures.rows ∙ inv.rows;
       accepts = c.await_parent.ensures.accepts ∙ inv.accepts;
       hidden = λ q. c.in_ok-await_parent.ensures.hidden q ∙ inv.hidden q;
-      grown = λ q h. stays_met (is_met c.parents.nodes) (is_met c.await_parent.new.nodes) (is_hidden c.parents.nodes id) id q c.in_ok-await_parent.ensures.met (inv.grown q h);
+      queue = c.in_ok-await_parent.ensures.queue ∙ inv.queue;
+      grown = λ q h. stays_met (is_met c.parents.known.nodes) (is_met c.await_parent.new.known.nodes) (is_hidden c.parents.known.nodes id) id q c.in_ok-await_parent.ensures.met (inv.grown q h);
       counted = omega (arith, c.await_parent.ensures.counted, inv.counted);
       rising = omega (arith, c.await_parent.ensures.rising, inv.rising);
       same = λ all. (rowed (all id (contains_from_at ids c.parents.parent-index id here))).0 ∙ inv.same all;
-      left = gains_more c.args.nodes.now c.parents.nodes c.await_parent.new.nodes (times_waiting (waiting c.args.waiting.now)) (times_waiting (waiting c.parents.waiting)) (times_waiting (waiting c.await_parent.new.waiting)) inv.left c.in_ok-await_parent.ensures.left;
+      left = gains_more c.args.known.now.nodes c.parents.known.nodes c.await_parent.new.known.nodes (times_waiting (turns_of c.args.known.now)) (times_waiting (turns_of c.parents.known)) (times_waiting (turns_of c.await_parent.new.known)) inv.left c.in_ok-await_parent.ensures.left;
       rowed = λ all before. (rowed (all id (contains_from_at ids c.parents.parent-index id here))).1 (inv.rowed all before);
       walked = (λ honest sure h told accepts along tips front listed which w.
-          let keep = keep_since c.args.since h (is_hidden c.args.nodes.now) accepts in
+          let keep = keep_since c.args.since h (is_hidden c.args.known.now.nodes) accepts in
           let honest' = subst (λ (o : g.row.F.Denot). g.F.Lookup.is_honest o) (sym inv.objects) honest in
           let sure' = subst (λ (o : g.row.F.Denot). g.F.Lookup.may_fail o → ⊥) (sym inv.objects) sure in
           let told' = subst (λ (o : g.row.F.Denot). AreTold (rows_of c.parents.source.rows) (g.F.Lookup.table o) h) (sym inv.objects) (subst (λ (r : Option (List Row)). AreTold (rows_of r) (g.F.Lookup.table c.args.source.now.objects) h) (sym inv.rows) told) in
           let time = in_time c.args.since (h id).time in
-          let met = is_met c.parents.nodes id in
-          let so = parent_joins met (is_hidden c.parents.nodes id) (is_hidden c.args.nodes.now id) (g.P.Accept.accepts c.parents.predicate (id_of id)) (accepts (id_of id)) time (inv.hidden id)
-          (λ f. ap (λ (p : Id → Bool). p (id_of id)) inv.accepts ∙ which id (unmet_before (is_met c.args.nodes.now) (is_met c.parents.nodes) id (inv.grown id) f)) in
-          let j = joins_same (not met && (not (is_hidden c.parents.nodes id) && (g.P.Accept.accepts c.parents.predicate (id_of id) && time))) (not met && keep id) (waiting c.parents.waiting) (turn_of h id) (turn_of h id) (waiting c.await_parent.new.waiting) so refl (c.in_ok-await_parent.ensures.waits honest' sure' h told') in
-          step_parent h keep (is_met c.parents.nodes) (is_met c.await_parent.new.nodes) (is_hidden c.parents.nodes id) ids c.parents.parent-index (waiting c.parents.waiting) (waiting c.await_parent.new.waiting) id here j c.in_ok-await_parent.ensures.met
-          (λ e. hides_out (is_hidden c.args.nodes.now id) (accepts (id_of id) && time) (sym (inv.hidden id) ∙ e)) (IsOpen along tips front) listed (inv.walked honest sure h told accepts along tips front listed which w));
+          let met = is_met c.parents.known.nodes id in
+          let so = parent_joins met (is_hidden c.parents.known.nodes id) (is_hidden c.args.known.now.nodes id) (g.P.Accept.accepts c.parents.predicate (id_of id)) (accepts (id_of id)) time (inv.hidden id)
+          (λ f. ap (λ (p : Id → Bool). p (id_of id)) inv.accepts ∙ which id (unmet_before (is_met c.args.known.now.nodes) (is_met c.parents.known.nodes) id (inv.grown id) f)) in
+          let j = joins_same (not met && (not (is_hidden c.parents.known.nodes id) && (g.P.Accept.accepts c.parents.predicate (id_of id) && time))) (not met && keep id) (turns_of c.parents.known) (turn_of h id) (turn_of h id) (turns_of c.await_parent.new.known) so refl (c.in_ok-await_parent.ensures.waits honest' sure' h told') in
+          step_parent h keep (is_met c.parents.known.nodes) (is_met c.await_parent.new.known.nodes) (is_hidden c.parents.known.nodes id) ids c.parents.parent-index (turns_of c.parents.known) (turns_of c.await_parent.new.known) id here j c.in_ok-await_parent.ensures.met
+          (λ e. hides_out (is_hidden c.args.known.now.nodes id) (accepts (id_of id) && time) (sym (inv.hidden id) ∙ e)) (IsOpen along tips front) listed (inv.walked honest sure h told accepts along tips front listed which w));
       once = (let (xs, asks, counts, w) = inv.once in
-          let has = is_met c.parents.nodes in
-          let has' = is_met c.await_parent.new.nodes in
-          let hidden = is_hidden c.parents.nodes id in
+          let has = is_met c.parents.known.nodes in
+          let has' = is_met c.await_parent.new.known.nodes in
+          let hidden = is_hidden c.parents.known.nodes id in
           let more : List ObjectId = cond (has id) [] (cond hidden [] (id ∷ [])) in
           let now = c.in_ok-await_parent.ensures.met in
           let one = subst (λ (o : Option (List Row)). CountsAll (rows_of o) (accepted (g.P.Accept.accepts c.parents.predicate) more) c.parents.source.lookups c.await_parent.new.source.lookups) inv.rows c.in_ok-await_parent.ensures.timed in
@@ -80,14 +83,14 @@ parents-preserved g c =
             xs ++ more,
             asks_more g.P.Accept.goes xs more c.args.predicate.now c.parents.predicate c.await_parent.new.predicate asks c.in_ok-await_parent.ensures.asked,
             counts_accepted (rows_of c.args.source.now.rows) (g.P.Accept.accepts c.args.predicate.now) xs more c.args.source.now.lookups c.parents.source.lookups c.await_parent.new.source.lookups counts same,
-            meets_step (is_met c.args.nodes.now) (is_hidden c.args.nodes.now) has has' hidden ids xs c.parents.parent-index id here w (inv.hidden id)
+            meets_step (is_met c.args.known.now.nodes) (is_hidden c.args.known.now.nodes) has has' hidden ids xs c.parents.parent-index id here w (inv.hidden id)
                 (λ x h. stays_met has has' hidden id x now h) (parent_or_met has has' hidden id now) (parent_met has has' hidden id now),
           ));
     }
 
 pub returns-clause-walked : goal.returns-clause-walked
 returns-clause-walked g c = λ honest sure h told accepts along tips front listed which w.
-    subst (λ (zs : List ObjectId). IsMetSoFar h (keep_since c.args.since h (is_hidden c.args.nodes.now) accepts) (is_met c.parents.nodes) (λ x. IsOpen along tips front x ⊎ Contains zs x) listed (waiting c.parents.waiting)) (take_all c.args.parents.now c.parents.parent-index c.parents-test.false)
+    subst (λ (zs : List ObjectId). IsMetSoFar h (keep_since c.args.since h (is_hidden c.args.known.now.nodes) accepts) (is_met c.parents.known.nodes) (λ x. IsOpen along tips front x ⊎ Contains zs x) listed (turns_of c.parents.known)) (take_all c.args.parents.now c.parents.parent-index c.parents-test.false)
     (c.parents.invariant.walked honest sure h told accepts along tips front listed which w)
 
 pub returns-clause-grown : goal.returns-clause-grown
@@ -96,7 +99,7 @@ returns-clause-grown g c = c.parents.invariant.grown
 pub returns-clause-asked : goal.returns-clause-asked
 returns-clause-asked g c =
     let (xs, asks, counts, w) = c.parents.invariant.once in
-    (xs, subst (λ (ps : List ObjectId). IsListOf (Fresh (is_met c.args.nodes.now) (is_hidden c.args.nodes.now) ps) xs) (take_all c.args.parents.now c.parents.parent-index c.parents-test.false) w.list, asks, counts)
+    (xs, subst (λ (ps : List ObjectId). IsListOf (Fresh (is_met c.args.known.now.nodes) (is_hidden c.args.known.now.nodes) ps) xs) (take_all c.args.parents.now c.parents.parent-index c.parents-test.false) w.list, asks, counts)
 
 pub returns-clause-left : goal.returns-clause-left
 returns-clause-left g c = c.parents.invariant.left

@@ -4,10 +4,11 @@ use Rattle.std.proofs.lemmas.Option.{slice_get-get_or}
 use Rattle.gix_hash.specs.Id.{id_of}
 use Rattle.gix_hash.specs.declared.object_id.ObjectId.{ObjectId}
 use Rattle.gix_hash.specs.declared.object_id.ObjectId.TheVariants.{Sha1}
+use Rattle.gix_traverse_commit.specs.Known.{turns_of}
 use Rattle.gix_traverse_commit.specs.Nodes.{is_hidden, is_met}
 use Rattle.gix_traverse_commit.specs.Rows.{Holds}
 use Rattle.gix_traverse_commit.specs.Sorting.{in_time}
-use Rattle.gix_traverse_commit.specs.Timely.{AllRowed, IsMetSoFar, keep_since, turn_of, waiting}
+use Rattle.gix_traverse_commit.specs.Timely.{AllRowed, IsMetSoFar, keep_since, turn_of}
 use Rattle.gix_traverse_commit.specs.Told.{AreTold, rows_of}
 use Rattle.gix_traverse_commit.specs.declared.rows.Row.{Row}
 use Rattle.gix_traverse_commit.proofs.Chosen.{take_all}
@@ -27,14 +28,15 @@ tips-init g c = record {
   objects = refl;
   rows = refl;
   hidden = λ q. refl;
+  queue = refl;
   grown = λ q h. h;
   most = omega arith;
   rising = omega arith;
   counted = λ all. refl;
-  left = gains_none c.args.nodes.now (times_waiting (waiting c.args.waiting.now));
+  left = gains_none c.args.known.now.nodes (times_waiting (turns_of c.args.known.now));
   rowed = λ all before. before;
-  walked = λ honest sure h told accepts which w. met_renamed h (keep_since c.args.since h (is_hidden c.args.nodes.now) accepts) [] (is_met c.args.nodes.now) (λ _. ⊥) (Contains (take 0 c.args.tips.now)) (waiting c.args.waiting.now) w (λ x. ((λ z. absurd z), (λ d. in_nil x d)));
-  timed = ([], refl, meets_none (is_met c.args.nodes.now) (is_hidden c.args.nodes.now));
+  walked = λ honest sure h told accepts which w. met_renamed h (keep_since c.args.since h (is_hidden c.args.known.now.nodes) accepts) [] (is_met c.args.known.now.nodes) (λ _. ⊥) (Contains (take 0 c.args.tips.now)) (turns_of c.args.known.now) w (λ x. ((λ z. absurd z), (λ d. in_nil x d)));
+  timed = ([], refl, meets_none (is_met c.args.known.now.nodes) (is_hidden c.args.known.now.nodes));
 }
 
 pub tips-preserved : goal.tips-preserved
@@ -43,45 +45,46 @@ tips-preserved g c =
     let id : ObjectId = get_or ids c.tips.tip-index (Sha1 []) in
     let here = slice_get-get_or ids c.tips.tip-index (Sha1 []) c.tips-test.true in
     let inv = c.tips.invariant in
-    let rowed = subst (λ (o : Option (List Row)). Holds (rows_of o) id → (c.await_tip.new.source.lookups ≡ c.tips.source.lookups) × (AllRowed (rows_of o) (waiting c.tips.waiting) → AllRowed (rows_of o) (waiting c.await_tip.new.waiting))) inv.rows c.in_ok-await_tip.ensures.rowed in
+    let rowed = subst (λ (o : Option (List Row)). Holds (rows_of o) id → (c.await_tip.new.source.lookups ≡ c.tips.source.lookups) × (AllRowed (rows_of o) (turns_of c.tips.known) → AllRowed (rows_of o) (turns_of c.await_tip.new.known))) inv.rows c.in_ok-await_tip.ensures.rowed in
     record {
       objects = c.await_tip.ensures.objects ∙ inv.objects;
       rows = c.await_tip.ensures.rows ∙ inv.rows;
       hidden = λ q. c.in_ok-await_tip.ensures.hidden q ∙ inv.hidden q;
-      grown = λ q h. met_more (is_met c.tips.nodes) (is_met c.await_tip.new.nodes) id q c.in_ok-await_tip.ensures.met (inv.grown q h);
+      queue = c.in_ok-await_tip.ensures.queue ∙ inv.queue;
+      grown = λ q h. met_more (is_met c.tips.known.nodes) (is_met c.await_tip.new.known.nodes) id q c.in_ok-await_tip.ensures.met (inv.grown q h);
       most = omega (arith, c.await_tip.ensures.counted, inv.most);
       rising = omega (arith, c.await_tip.ensures.rising, inv.rising);
       counted = λ all. (rowed (all id (contains_from_at ids c.tips.tip-index id here))).0 ∙ inv.counted all;
-      left = gains_more c.args.nodes.now c.tips.nodes c.await_tip.new.nodes (times_waiting (waiting c.args.waiting.now)) (times_waiting (waiting c.tips.waiting)) (times_waiting (waiting c.await_tip.new.waiting)) inv.left c.in_ok-await_tip.ensures.left;
+      left = gains_more c.args.known.now.nodes c.tips.known.nodes c.await_tip.new.known.nodes (times_waiting (turns_of c.args.known.now)) (times_waiting (turns_of c.tips.known)) (times_waiting (turns_of c.await_tip.new.known)) inv.left c.in_ok-await_tip.ensures.left;
       rowed = λ all before. (rowed (all id (contains_from_at ids c.tips.tip-index id here))).1 (inv.rowed all before);
       walked = (λ honest sure h told accepts which w.
-          let keep = keep_since c.args.since h (is_hidden c.args.nodes.now) accepts in
+          let keep = keep_since c.args.since h (is_hidden c.args.known.now.nodes) accepts in
           let honest' = subst (λ (o : g.row.F.Denot). g.F.Lookup.is_honest o) (sym inv.objects) honest in
           let sure' = subst (λ (o : g.row.F.Denot). g.F.Lookup.may_fail o → ⊥) (sym inv.objects) sure in
           let told' = subst (λ (o : g.row.F.Denot). AreTold (rows_of c.tips.source.rows) (g.F.Lookup.table o) h) (sym inv.objects) (subst (λ (r : Option (List Row)). AreTold (rows_of r) (g.F.Lookup.table c.args.source.now.objects) h) (sym inv.rows) told) in
           let time = in_time c.args.since (h id).time in
-          let met = is_met c.tips.nodes id in
-          let so = tip_joins met (is_hidden c.tips.nodes id) (is_hidden c.args.nodes.now id) (accepts (id_of id)) time (inv.hidden id)
-          (λ f. which id (contains_from_at ids c.tips.tip-index id here) (unmet_before (is_met c.args.nodes.now) (is_met c.tips.nodes) id (inv.grown id) f)) in
-          let j = joins_same (not met && (not (is_hidden c.tips.nodes id) && time)) (not met && keep id) (waiting c.tips.waiting) (turn_of h id) (turn_of h id) (waiting c.await_tip.new.waiting) so refl (c.in_ok-await_tip.ensures.waits honest' sure' h told') in
-          next_tip h keep (is_met c.tips.nodes) (is_met c.await_tip.new.nodes) ids c.tips.tip-index (waiting c.tips.waiting) (waiting c.await_tip.new.waiting) id here j c.in_ok-await_tip.ensures.met (inv.walked honest sure h told accepts which w));
+          let met = is_met c.tips.known.nodes id in
+          let so = tip_joins met (is_hidden c.tips.known.nodes id) (is_hidden c.args.known.now.nodes id) (accepts (id_of id)) time (inv.hidden id)
+          (λ f. which id (contains_from_at ids c.tips.tip-index id here) (unmet_before (is_met c.args.known.now.nodes) (is_met c.tips.known.nodes) id (inv.grown id) f)) in
+          let j = joins_same (not met && (not (is_hidden c.tips.known.nodes id) && time)) (not met && keep id) (turns_of c.tips.known) (turn_of h id) (turn_of h id) (turns_of c.await_tip.new.known) so refl (c.in_ok-await_tip.ensures.waits honest' sure' h told') in
+          next_tip h keep (is_met c.tips.known.nodes) (is_met c.await_tip.new.known.nodes) ids c.tips.tip-index (turns_of c.tips.known) (turns_of c.await_tip.new.known) id here j c.in_ok-await_tip.ensures.met (inv.walked honest sure h told accepts which w));
       timed = (let (xs, counts, w) = inv.timed in
-          let has = is_met c.tips.nodes in
-          let has' = is_met c.await_tip.new.nodes in
-          let hidden = is_hidden c.tips.nodes id in
+          let has = is_met c.tips.known.nodes in
+          let has' = is_met c.await_tip.new.known.nodes in
+          let hidden = is_hidden c.tips.known.nodes id in
           let more : List ObjectId = cond (has id) [] (cond hidden [] (id ∷ [])) in
           let now = c.in_ok-await_tip.ensures.met in
           let one = subst (λ (o : Option (List Row)). CountsAll (rows_of o) more c.tips.source.lookups c.await_tip.new.source.lookups) inv.rows c.in_ok-await_tip.ensures.timed in (
             xs ++ more,
             counts_more (rows_of c.args.source.now.rows) xs more c.args.source.now.lookups c.tips.source.lookups c.await_tip.new.source.lookups counts one,
-            meets_step (is_met c.args.nodes.now) (is_hidden c.args.nodes.now) has has' hidden ids xs c.tips.tip-index id here w (inv.hidden id)
+            meets_step (is_met c.args.known.now.nodes) (is_hidden c.args.known.now.nodes) has has' hidden ids xs c.tips.tip-index id here w (inv.hidden id)
                 (λ x h. met_more has has' id x now h) (tip_or_met has has' id now) (λ _. met_itself has has' id now),
           ));
     }
 
 pub returns-clause-walked : goal.returns-clause-walked
 returns-clause-walked g c = λ honest sure h told accepts which w.
-    subst (λ (zs : List ObjectId). IsMetSoFar h (keep_since c.args.since h (is_hidden c.args.nodes.now) accepts) (is_met c.tips.nodes) (Contains zs) [] (waiting c.tips.waiting)) (take_all c.args.tips.now c.tips.tip-index c.tips-test.false)
+    subst (λ (zs : List ObjectId). IsMetSoFar h (keep_since c.args.since h (is_hidden c.args.known.now.nodes) accepts) (is_met c.tips.known.nodes) (Contains zs) [] (turns_of c.tips.known)) (take_all c.args.tips.now c.tips.tip-index c.tips-test.false)
     (c.tips.invariant.walked honest sure h told accepts which w)
 
 pub returns-clause-grown : goal.returns-clause-grown
@@ -90,7 +93,7 @@ returns-clause-grown g c = c.tips.invariant.grown
 pub returns-clause-timed : goal.returns-clause-timed
 returns-clause-timed g c =
     let (xs, counts, w) = c.tips.invariant.timed in
-    (xs, subst (λ (ts : List ObjectId). IsListOf (Fresh (is_met c.args.nodes.now) (is_hidden c.args.nodes.now) ts) xs) (take_all c.args.tips.now c.tips.tip-index c.tips-test.false) w.list, counts)
+    (xs, subst (λ (ts : List ObjectId). IsListOf (Fresh (is_met c.args.known.now.nodes) (is_hidden c.args.known.now.nodes) ts) xs) (take_all c.args.tips.now c.tips.tip-index c.tips-test.false) w.list, counts)
 
 pub returns-clause-left : goal.returns-clause-left
 returns-clause-left g c = c.tips.invariant.left

@@ -5,9 +5,10 @@ use Rattle.gix_hash.specs.declared.object_id.ObjectId.{ObjectId}
 use Rattle.gix_traverse_commit.specs.Commits.{Commits}
 use Rattle.gix_traverse_commit.specs.Ending.{NoneGains, times_waiting}
 use Rattle.gix_traverse_commit.specs.Meeting.{CountsAll}
+use Rattle.gix_traverse_commit.specs.Known.{turns_of}
 use Rattle.gix_traverse_commit.specs.Nodes.{is_hidden, is_met}
 use Rattle.gix_traverse_commit.specs.Rows.{AllHeld}
-use Rattle.gix_traverse_commit.specs.Timely.{AllRowed, IsMetSoFar, keep_since, waiting}
+use Rattle.gix_traverse_commit.specs.Timely.{AllRowed, IsMetSoFar, keep_since}
 use Rattle.gix_traverse_commit.specs.Told.{AreTold, rows_of}
 use Rattle.gix_traverse_commit.proofs.Meeting.{MeetsOnce}
 use Rattle.gix_traverse_commit.proofs.simple.timed.await_tips.Given as goal
@@ -16,16 +17,17 @@ abbrev pub invariant-tips : goal.invariant-tips
 invariant-tips g l = record {
   objects : l.source.objects ≡ l.fn.source.objects;
   rows : l.source.rows ≡ l.fn.source.rows;
-  hidden : (q : ObjectId) → is_hidden l.nodes q ≡ is_hidden l.fn.nodes q;
-  grown : (q : ObjectId) → is_met l.fn.nodes q ≡ true → is_met l.nodes q ≡ true;
+  hidden : (q : ObjectId) → is_hidden l.known.nodes q ≡ is_hidden l.fn.known.nodes q;
+  queue : l.known.queue ≡ l.fn.known.queue;
+  grown : (q : ObjectId) → is_met l.fn.known.nodes q ≡ true → is_met l.known.nodes q ≡ true;
   most : l.source.lookups ≤ l.fn.source.lookups + l.tip-index;
   rising : l.fn.source.lookups ≤ l.source.lookups;
   counted : AllHeld (rows_of l.fn.source.rows) l.tips → l.source.lookups ≡ l.fn.source.lookups;
-  left : NoneGains l.fn.nodes (times_waiting (waiting l.fn.waiting)) l.nodes (times_waiting (waiting l.waiting));
-  rowed : AllHeld (rows_of l.fn.source.rows) l.tips → AllRowed (rows_of l.fn.source.rows) (waiting l.fn.waiting) → AllRowed (rows_of l.fn.source.rows) (waiting l.waiting);
+  left : NoneGains l.fn.known.nodes (times_waiting (turns_of l.fn.known)) l.known.nodes (times_waiting (turns_of l.known));
+  rowed : AllHeld (rows_of l.fn.source.rows) l.tips → AllRowed (rows_of l.fn.source.rows) (turns_of l.fn.known) → AllRowed (rows_of l.fn.source.rows) (turns_of l.known);
   walked : g.F.Lookup.is_honest l.fn.source.objects → (¬ g.F.Lookup.may_fail l.fn.source.objects) → (h : Commits ObjectId) → AreTold (rows_of l.fn.source.rows) (g.F.Lookup.table l.fn.source.objects) h
-      → (accepts : Id → Bool) → ((x : ObjectId) → Contains l.tips x → is_met l.fn.nodes x ≡ false → accepts (id_of x) ≡ true)
-      → IsMetSoFar h (keep_since l.since h (is_hidden l.fn.nodes) accepts) (is_met l.fn.nodes) (λ _. ⊥) [] (waiting l.fn.waiting)
-      → IsMetSoFar h (keep_since l.since h (is_hidden l.fn.nodes) accepts) (is_met l.nodes) (Contains (take l.tip-index l.tips)) [] (waiting l.waiting);
-  timed : (xs : List ObjectId) × CountsAll (rows_of l.fn.source.rows) xs l.fn.source.lookups l.source.lookups × MeetsOnce (is_met l.fn.nodes) (is_hidden l.fn.nodes) (is_met l.nodes) (take l.tip-index l.tips) xs;
+      → (accepts : Id → Bool) → ((x : ObjectId) → Contains l.tips x → is_met l.fn.known.nodes x ≡ false → accepts (id_of x) ≡ true)
+      → IsMetSoFar h (keep_since l.since h (is_hidden l.fn.known.nodes) accepts) (is_met l.fn.known.nodes) (λ _. ⊥) [] (turns_of l.fn.known)
+      → IsMetSoFar h (keep_since l.since h (is_hidden l.fn.known.nodes) accepts) (is_met l.known.nodes) (Contains (take l.tip-index l.tips)) [] (turns_of l.known);
+  timed : (xs : List ObjectId) × CountsAll (rows_of l.fn.source.rows) xs l.fn.source.lookups l.source.lookups × MeetsOnce (is_met l.fn.known.nodes) (is_hidden l.fn.known.nodes) (is_met l.known.nodes) (take l.tip-index l.tips) xs;
 }

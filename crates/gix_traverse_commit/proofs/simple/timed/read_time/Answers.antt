@@ -15,6 +15,6 @@ returns-in_err-seconds-clause-refused g c =
     let may_fail = g.F.Lookup.may_fail c.args.source.now.objects in
     let rows = rows_of c.args.source.now.rows in
     let table = g.F.Lookup.table c.args.source.now.objects in
-    let unmet : is_met c.args.nodes.now c.args.tip.now ≡ false = search rules in
-    let fault : (tips : List ObjectId) (place : ℕ) → At tips place c.args.tip.now → IsReadBefore honest rows table c.args.nodes.now tips place → TipFault honest may_fail rows table tips (IsUnmet c.args.nodes.now) (error_of c.in_err-seconds.field-0.0) = λ tips place here before. tip_fault honest may_fail rows table tips (IsUnmet c.args.nodes.now) c.args.tip.now place c.in_err-seconds.field-0.0 here unmet before c.in_err-seconds.ensures.refused in
+    let unmet : is_met c.args.known.now.nodes c.args.tip.now ≡ false = search rules in
+    let fault : (tips : List ObjectId) (place : ℕ) → At tips place c.args.tip.now → IsReadBefore honest rows table c.args.known.now.nodes tips place → TipFault honest may_fail rows table tips (IsUnmet c.args.known.now.nodes) (error_of c.in_err-seconds.field-0.0) = λ tips place here before. tip_fault honest may_fail rows table tips (IsUnmet c.args.known.now.nodes) c.args.tip.now place c.in_err-seconds.field-0.0 here unmet before c.in_err-seconds.ensures.refused in
     rw (p.1, p.2) fault

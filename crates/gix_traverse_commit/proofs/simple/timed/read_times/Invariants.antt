@@ -10,7 +10,7 @@ invariant-tips g l = record {
   objects : l.source.objects ≡ l.fn.source.objects;
   rows : l.source.rows ≡ l.fn.source.rows;
   counted : l.source.lookups ≤ l.fn.source.lookups + l.tip-index;
-  each : CountsAll (rows_of l.fn.source.rows) (unmet l.nodes (take l.tip-index l.tips)) l.fn.source.lookups l.source.lookups;
+  each : CountsAll (rows_of l.fn.source.rows) (unmet l.known.nodes (take l.tip-index l.tips)) l.fn.source.lookups l.source.lookups;
   rowed : AllHeld (rows_of l.fn.source.rows) l.tips → l.source.lookups ≡ l.fn.source.lookups;
-  told : IsReadBefore (g.F.Lookup.is_honest l.fn.source.objects) (rows_of l.fn.source.rows) (g.F.Lookup.table l.fn.source.objects) l.nodes l.tips l.tip-index;
+  told : IsReadBefore (g.F.Lookup.is_honest l.fn.source.objects) (rows_of l.fn.source.rows) (g.F.Lookup.table l.fn.source.objects) l.known.nodes l.tips l.tip-index;
 }

@@ -1,9 +1,10 @@
 use Rattle.std.proofs.Common.{◌≡◌, map, take}
-use Rattle.std.specs.BTreeMap.{get}
-use Rattle.std.specs.Prelude.{filter, is_some}
-use Rattle.gix_traverse_commit.specs.Timely.{turn_cmp}
-use Rattle.gix_traverse_commit.specs.declared.simple.waiting.Turn.{Turn}
+use Rattle.std.specs.List.{list_any}
+use Rattle.std.specs.Ordering.{eq_by_cmp}
+use Rattle.std.specs.Prelude.{filter}
+use Rattle.gix_traverse_commit.specs.Waiting.{pending_cmp, pendings}
+use Rattle.gix_traverse_commit.specs.declared.simple.waiting.Pending.{Pending}
 use Rattle.gix_traverse_commit.proofs.simple.waiting.Waiting.take_all.Given as goal
 
 abbrev pub invariant-order : goal.invariant-order
-invariant-order l = l.ids.items ≡ map (λ (t : Turn). t.id) (filter (λ (t : Turn). is_some (get turn_cmp l.fn.self.turns t)) (take l.turn-index l.fn.self.order.items))
+invariant-order l = l.numbers.items ≡ map (λ (t : Pending). t.number) (filter (λ (t : Pending). list_any (eq_by_cmp pending_cmp t) (pendings l.fn.self)) (take l.pending-index l.fn.self.order.items))

@@ -1,0 +1,23 @@
+use Rattle.std.proofs.Common.{◌∙◌, ap}
+use Rattle.gix_traverse_commit.specs.Known.{KnownCommits, turns_of}
+use Rattle.gix_traverse_commit.specs.Waiting.{numbers_of, pendings}
+use Rattle.gix_traverse_commit.proofs.KnownLemmas.{have_kept, ids_kept, keeps_named, turns_kept}
+use Rattle.gix_traverse_commit.proofs.known.Known.mark.Goals as goal
+
+pub invariant_of-self-2 : goal.invariant_of-self-2
+invariant_of-self-2 c =
+    let up = keeps_named c.self.inside.nodes c.mark.new.self c.args.id c.in_ok-mark.ensures.named in
+    record {
+      queued = have_kept c.self.inside.nodes c.mark.new.self c.self.inside.queue.items c.self.invariant.queued up;
+      wait = have_kept c.self.inside.nodes c.mark.new.self (numbers_of (pendings c.self.inside.waiting)) c.self.invariant.wait up;
+    }
+
+pub returns-clause-queue : goal.returns-clause-queue
+returns-clause-queue c =
+    let up = keeps_named c.self.inside.nodes c.mark.new.self c.args.id c.in_ok-mark.ensures.named in
+    ids_kept c.self.inside.nodes c.mark.new.self c.self.inside.queue.items c.self.invariant.queued up ∙ ap (λ (k : KnownCommits). k.queue) c.self.view_is
+
+pub returns-clause-turns : goal.returns-clause-turns
+returns-clause-turns c =
+    let up = keeps_named c.self.inside.nodes c.mark.new.self c.args.id c.in_ok-mark.ensures.named in
+    turns_kept c.self.inside.nodes c.mark.new.self (pendings c.self.inside.waiting) c.self.invariant.wait up ∙ ap turns_of c.self.view_is
