@@ -5,12 +5,12 @@ use Rattle.std.specs.List.{AllZip}
 use Rattle.std.proofs.lemmas.List.{map-append, length-map, get_or-map}
 use Rattle.std.proofs.Math.Seq.{take-suc}
 use Rattle.hex.specs.Hex.{hex_digit_value}
-use Rattle.gix_hash.specs.Views.{IsFaultOf}
-use Rattle.gix_hash.specs.Id.{id_of}
-use Rattle.gix_hash.specs.declared.object_id.ObjectId.{ObjectId}
-use Rattle.gix_hash.specs.declared.object_id.decode.Error as hex
-use Rattle.gix_hash.proofs.PrefixLemmas.{refused_whole}
-use Rattle.gix_hash.proofs.ReadBack.{all_values}
+use Rattle.gix_hash_id.specs.Views.{IsFaultOf}
+use Rattle.gix_hash_id.specs.Id.{id_of}
+use Rattle.gix_hash_id.specs.declared.object_id.ObjectId.{ObjectId}
+use Rattle.gix_hash_id.specs.declared.object_id.decode.Error as hex
+use Rattle.gix_hash_id.proofs.Reading.{refused_whole}
+use Rattle.gix_hash_id.proofs.ReadBack.{all_values}
 use Rattle.gix_object_lines.specs.Actor.{TellsTime}
 use Rattle.gix_object_lines.specs.declared.decode.Error.{Error}
 use Rattle.gix_object_lines.specs.declared.decode.Error.TheVariants.{HexDigits, InvalidTime, Memory}

@@ -1,8 +1,8 @@
 -- A commit that is signed, or that stays as it was.
 use Rattle.std.proofs.Common.{◌≡◌, ◌∙◌, ap, refl, ℕ, List, Some, None, Result, Ok, Err, ◌⊎◌, inl, inr}
 use Rattle.std.specs.Prelude.{IfOk, IfErr}
-use Rattle.gix_hash.specs.declared.kind.Kind.{Kind}
-use Rattle.gix_hash.specs.Id.{id_of}
+use Rattle.gix_hash_id.specs.declared.kind.Kind.{Kind}
+use Rattle.gix_hash_id.specs.Id.{id_of}
 use Rattle.gix_object_lines.specs.declared.write.Error as write
 use Rattle.gix_object_signature.specs.Run.{Request}
 use Rattle.gix_object_signature.specs.Signing.{Signs}

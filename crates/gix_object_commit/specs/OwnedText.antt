@@ -1,8 +1,8 @@
 -- A commit that owns its parts, as it is written.
 use Rattle.std.specs.Prelude.{ℕ, ℤ, Bool, ◌==◌, ◌&&◌, nat_lt, ◌%◌, List, [], ◌∷◌, ◌++◌, codes, map, Option, None, unsigned_abs}
-use Rattle.gix_hash.specs.Id.{id_of}
-use Rattle.gix_hash.specs.Spelling.{hex_text}
-use Rattle.gix_hash.specs.declared.object_id.ObjectId.{ObjectId}
+use Rattle.gix_hash_id.specs.Id.{id_of}
+use Rattle.gix_hash_id.specs.Spelling.{hex_text}
+use Rattle.gix_hash_id.specs.declared.object_id.ObjectId.{ObjectId}
 use Rattle.gix_object_lines.specs.Time.{time_text}
 use Rattle.gix_object_lines.specs.Writes.{Refusal}
 use Rattle.gix_object_lines.specs.declared.lines.actor.Actor.{Actor}

@@ -1,8 +1,8 @@
 -- Signing a commit (Git's commit.c: `commit_tree_extended`, `sign_with_header`; builtin/commit.c: `exclude_gpgsig`).
 use Rattle.std.specs.Prelude.{ℕ, nat_eq, Bool, not, ◌||◌, ◌≡◌, List, [], ◌∷◌, ◌++◌, filter, Option, None, Some, Result, Ok, Err}
 use Rattle.std.specs.Cmp.Lexicographic.{pointwise}
-use Rattle.gix_hash.specs.Id.{id_of}
-use Rattle.gix_hash.specs.declared.kind.Kind.TheVariants.{Sha1, Sha256}
+use Rattle.gix_hash_id.specs.Id.{id_of}
+use Rattle.gix_hash_id.specs.declared.kind.Kind.TheVariants.{Sha1, Sha256}
 use Rattle.gix_object_lines.specs.Bytes.{without_last_feed}
 use Rattle.gix_object_lines.specs.Writes.{cause_of}
 use Rattle.gix_object_lines.specs.declared.decode.Error as decode

@@ -2,7 +2,7 @@
 
 ghost use Rattle.std.specs.Prelude.{◌≡◌, None, IsTrue, length};
 ghost use Rattle.std.specs.List.{list_all};
-ghost use Rattle.gix_hash.specs.Kind.{hex_len};
+ghost use Rattle.gix_hash_id.specs.Kind.{hex_len};
 ghost use Rattle.gix_object_lines.specs.HexLine.{is_id};
 ghost use Rattle.gix_object_commit_lines.specs.Commit.{Parts, SpellsCommit, commit_text};
 ghost use Rattle.gix_object_commit.specs.Writable.{IsWritable};

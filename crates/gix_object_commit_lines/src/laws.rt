@@ -1,7 +1,7 @@
 //! What follows from the grammar.
 
 ghost use Rattle.std.specs.Prelude.{◌≡◌};
-ghost use Rattle.gix_hash.specs.Kind.{hex_len};
+ghost use Rattle.gix_hash_id.specs.Kind.{hex_len};
 ghost use Rattle.gix_object_commit_lines.specs.Commit.{Parts, SpellsCommit};
 
 use gix_hash::Kind;

@@ -2,9 +2,9 @@
 use Rattle.std.proofs.Common.{◌≡◌, ◌≢◌, ◌∙◌, ap, refl, sym, subst, ℕ, Bool, true, false, List, [], ◌∷◌, ◌++◌, append_assoc, Option, Some, None, inl, inr, arith}
 use Rattle.std.specs.Prelude.{codes, flat_map, All, IfSome}
 use Rattle.std.proofs.lemmas.List.Elements.{All-nil, All-cons}
-use Rattle.gix_hash.specs.declared.kind.Kind.{Kind}
-use Rattle.gix_hash.specs.Kind.{hex_len}
-use Rattle.gix_hash.specs.Id.{Id}
+use Rattle.gix_hash_id.specs.declared.kind.Kind.{Kind}
+use Rattle.gix_hash_id.specs.Kind.{hex_len}
+use Rattle.gix_hash_id.specs.Id.{Id}
 use Rattle.gix_object_lines.specs.Bytes.{Lacks}
 use Rattle.gix_object_lines.specs.HexLine.{hex_line, IsHex}
 use Rattle.gix_object_lines.proofs.Cuts.{cut_once}

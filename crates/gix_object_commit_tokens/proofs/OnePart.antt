@@ -1,10 +1,10 @@
 -- One part stands at a place.
 use Rattle.std.proofs.Common.{◌≡◌, ◌∙◌, ap, refl, sym, subst, ℕ, List, ◌∷◌, ◌++◌, inl, inr, arith}
 use Rattle.std.specs.Prelude.{codes}
-use Rattle.gix_hash.specs.declared.kind.Kind.{Kind}
-use Rattle.gix_hash.specs.Id.{Id}
-use Rattle.gix_hash.specs.Views.{IsHexOfId}
-use Rattle.gix_hash.proofs.LawLemmas.{one_reading}
+use Rattle.gix_hash_id.specs.declared.kind.Kind.{Kind}
+use Rattle.gix_hash_id.specs.Id.{Id}
+use Rattle.gix_hash_id.specs.Views.{IsHexOfId}
+use Rattle.gix_hash_id.proofs.LawLemmas.{one_reading}
 use Rattle.gix_object_lines.proofs.Cuts.{cut_once}
 use Rattle.gix_object_commit_tokens.specs.declared.ref_iter.Stage.{Stage}
 use Rattle.gix_object_commit_tokens.specs.declared.ref_iter.Stage.TheVariants as at

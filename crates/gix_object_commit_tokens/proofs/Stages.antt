@@ -1,8 +1,8 @@
 -- Which parts may stand where.
 use Rattle.std.proofs.Common.{◌≡◌, ◌∙◌, ap, refl, sym, ℕ, List, [], ◌∷◌, ◌++◌, inl, inr, arith}
 use Rattle.std.specs.Prelude.{codes}
-use Rattle.gix_hash.specs.declared.kind.Kind.{Kind}
-use Rattle.gix_hash.specs.Id.{Id}
+use Rattle.gix_hash_id.specs.declared.kind.Kind.{Kind}
+use Rattle.gix_hash_id.specs.Id.{Id}
 use Rattle.gix_object_lines.specs.Bytes.{BeginsWith, Lacks}
 use Rattle.gix_object_lines.proofs.Cuts.{cut_once}
 use Rattle.gix_object_commit_tokens.specs.declared.ref_iter.Stage.TheVariants as at

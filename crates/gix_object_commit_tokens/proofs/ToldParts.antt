@@ -2,10 +2,10 @@
 use Rattle.std.proofs.Common.{◌≡◌, ◌∙◌, ap, refl, sym, subst, ℕ, List, [], ◌∷◌, ◌++◌, append_assoc, inl, inr, Option, None, Some}
 use Rattle.std.specs.Prelude.{◌⊎◌, codes, flat_map, All, IfSome}
 use Rattle.std.specs.List.{AllZip}
-use Rattle.gix_hash.specs.Id.{Id}
-use Rattle.gix_hash.specs.Kind.{hex_len}
-use Rattle.gix_hash.specs.Views.{IsHexOfId}
-use Rattle.gix_hash.specs.declared.kind.Kind.{Kind}
+use Rattle.gix_hash_id.specs.Id.{Id}
+use Rattle.gix_hash_id.specs.Kind.{hex_len}
+use Rattle.gix_hash_id.specs.Views.{IsHexOfId}
+use Rattle.gix_hash_id.specs.declared.kind.Kind.{Kind}
 use Rattle.gix_object_lines.specs.Bytes.{Lacks}
 use Rattle.gix_object_lines.specs.HexLine.{hex_line, IsHex}
 use Rattle.gix_object_commit_tokens.specs.declared.ref_iter.Stage.{Stage}

@@ -1,7 +1,7 @@
 -- Readings that end with the message are those of commits.
 use Rattle.std.proofs.Common.{◌≡◌, ◌∙◌, ap, refl, sym, subst, ℕ, zero, suc, ◌<◌, Bool, true, false, List, [], ◌∷◌, ◌++◌, length, length-append, arith}
 use Rattle.std.specs.Prelude.{codes}
-use Rattle.gix_hash.specs.declared.kind.Kind.{Kind}
+use Rattle.gix_hash_id.specs.declared.kind.Kind.{Kind}
 use Rattle.gix_object_commit_tokens.specs.declared.ref_iter.Stage.{Stage}
 use Rattle.gix_object_commit_lines.specs.Commit.{line, actor_line}
 use Rattle.gix_object_commit_tokens.specs.ReadingOn.{Reads}

@@ -1,7 +1,7 @@
 -- What the parts tell that a reader gives from its place on.
 use Rattle.std.specs.Prelude.{◌≡◌, ◌⊎◌, List, [], ◌∷◌, filter_map, ℕ, Option, None, Some, Result, Ok, Err}
-use Rattle.gix_hash.specs.Id.{Id}
-use Rattle.gix_hash.specs.declared.object_id.ObjectId.{ObjectId}
+use Rattle.gix_hash_id.specs.Id.{Id}
+use Rattle.gix_hash_id.specs.declared.object_id.ObjectId.{ObjectId}
 use Rattle.gix_object_lines.specs.declared.decode.Error.{Error}
 use Rattle.gix_object_lines.specs.declared.decode.Error.TheVariants.{FieldName}
 use Rattle.gix_object_commit_tokens.specs.declared.ref_iter.Token.{Token}

@@ -1,7 +1,7 @@
 -- A commit's signature and what it signs (gitformat-signature, "commit signatures"; Git's hash-function-transition, "Signed
 -- Commits"): its first header of the signature's name, and the commit without that header.
 use Rattle.std.specs.Prelude.{ℕ, ◌≡◌, List, [], ◌++◌, Option, None, Some, if◌then◌else◌}
-use Rattle.gix_hash.specs.declared.kind.Kind.{Kind}
+use Rattle.gix_hash_id.specs.declared.kind.Kind.{Kind}
 use Rattle.bstr.specs.BStr.{bstr_bytes}
 use Rattle.gix_object_commit_tokens.specs.declared.ref_iter.signature.CommitSignature.{CommitSignature}
 use Rattle.gix_object_commit_lines.specs.Commit.{Field, Parts, field_text}

@@ -1,7 +1,7 @@
 -- Why no part of a commit stands next, by what may stand there (git-fast-import, "commit"; Git User Manual, "Commit Object").
 use Rattle.std.specs.Prelude.{ℕ, ◌≢◌, ◌⊎◌, List, ◌∷◌, codes}
-use Rattle.gix_hash.specs.Kind.{hex_len}
-use Rattle.gix_hash.specs.declared.kind.Kind.{Kind}
+use Rattle.gix_hash_id.specs.Kind.{hex_len}
+use Rattle.gix_hash_id.specs.declared.kind.Kind.{Kind}
 use Rattle.gix_object_lines.specs.HexLine.{HexLineFault}
 use Rattle.gix_object_lines.specs.declared.decode.Error.{Error}
 use Rattle.gix_object_commit_tokens.specs.declared.ref_iter.Stage.{Stage}

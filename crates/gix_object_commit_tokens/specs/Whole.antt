@@ -1,10 +1,10 @@
 -- Bytes that are a commit, and the part that ends one.
 use Rattle.std.specs.Prelude.{ℕ, ◌≡◌, Bool, true, false, List, [], ◌∷◌, ◌++◌, map, Option, None, Some}
 use Rattle.std.specs.List.{AllZip}
-use Rattle.gix_hash.specs.Id.{Id}
-use Rattle.gix_hash.specs.Views.{IsHexOfId}
-use Rattle.gix_hash.specs.declared.kind.Kind.{Kind}
-use Rattle.gix_hash.specs.Kind.{hex_len}
+use Rattle.gix_hash_id.specs.Id.{Id}
+use Rattle.gix_hash_id.specs.Views.{IsHexOfId}
+use Rattle.gix_hash_id.specs.declared.kind.Kind.{Kind}
+use Rattle.gix_hash_id.specs.Kind.{hex_len}
 use Rattle.gix_object_commit_lines.specs.Commit.{Field, Parts, SpellsCommit}
 use Rattle.gix_object_commit_tokens.specs.ReadingOn.{Reads}
 use Rattle.gix_object_commit_tokens.specs.Tokens.{Part, Tree, Parent, Author, Committer, Encoding, Header, Message, Place}

@@ -1,7 +1,7 @@
 //! What ties the reader by token to the grammar.
 
 ghost use Rattle.std.specs.Prelude.{◌≡◌, ◌↔◌, List, [], IsTrue};
-ghost use Rattle.gix_hash.specs.Kind.{hex_len};
+ghost use Rattle.gix_hash_id.specs.Kind.{hex_len};
 ghost use Rattle.gix_object_commit_lines.specs.Commit.{Parts, SpellsCommit};
 ghost use Rattle.gix_object_commit_tokens.specs.ReadingOn.{Reads};
 ghost use Rattle.gix_object_commit_tokens.specs.Tokens.{Part, Place, part_of, start};

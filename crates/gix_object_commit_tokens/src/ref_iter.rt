@@ -3,10 +3,10 @@
 ghost use Rattle.std.specs.Prelude.{ℕ, List, ◌≡◌, length, codes, IfOk, IfErr, IsOkAnd};
 ghost use Rattle.std.specs.Iterator.{at_most};
 ghost use Rattle.std.specs.Option.{option_map};
-ghost use Rattle.gix_hash.specs.Id.{Id, id_of};
-ghost use Rattle.gix_hash.specs.Kind.{hex_len};
-ghost use Rattle.gix_hash.specs.Views.{viewed_id};
-ghost use Rattle.gix_hash.specs.declared.kind.Kind.{Kind};
+ghost use Rattle.gix_hash_id.specs.Id.{Id, id_of};
+ghost use Rattle.gix_hash_id.specs.Kind.{hex_len};
+ghost use Rattle.gix_hash_id.specs.Views.{viewed_id};
+ghost use Rattle.gix_hash_id.specs.declared.kind.Kind.{Kind};
 ghost use Rattle.gix_object_lines.specs.HexLine.{HexLineFault};
 ghost use Rattle.gix_object_commit_lines.specs.Faults.{PersonFault};
 ghost use Rattle.gix_object_commit_tokens.specs.TokenFaults.{FirstHeaderFault, FurtherHeaderFault, IsFaultAt};

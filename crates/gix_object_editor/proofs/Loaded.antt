@@ -4,9 +4,9 @@ use Rattle.std.specs.Prelude.{bytes_eq, is_some, IsTrue, ◌↔◌}
 use Rattle.std.proofs.lemmas.List.{get_or-map, get_or_default, get_or-take, take-map, map-append, length-take}
 use Rattle.std.proofs.Math.Seq.{take-suc}
 use Rattle.gix_object_entries.specs.Entry.{Item}
-use Rattle.gix_hash.specs.Id.{Id, null_id}
-use Rattle.gix_hash.specs.Order.{id_eq}
-use Rattle.gix_hash.specs.OrderLaws.{id_eq-same, id_eq-itself}
+use Rattle.gix_hash_id.specs.Id.{Id, null_id}
+use Rattle.gix_hash_id.specs.Order.{id_eq}
+use Rattle.gix_hash_id.specs.OrderLaws.{id_eq-same, id_eq-itself}
 use Rattle.gix_object_editor.specs.declared.tree.editor.node.NodeId.{NodeId}
 use Rattle.gix_object_editor.specs.declared.tree.editor.node.Slot.{Slot}
 use Rattle.gix_object_editor.specs.Files.{Bytes, Path, Trees, leaf_of, named, is_null, through, files_of_entry, files_of_tree}

@@ -1,7 +1,7 @@
 -- Which stored trees an edit asks for: those that its path leads into and that aren't opened, one below the other.
 use Rattle.std.specs.Prelude.{ℕ, suc, ◌≡◌, ◌<◌, ◌+◌, ◌^◌, List, [], ◌∷◌, ◌++◌, length, Option, Some, None, Result, Ok, Err, if◌then◌else◌}
 use Rattle.std.specs.List.{All}
-use Rattle.gix_hash.specs.Id.{Id}
+use Rattle.gix_hash_id.specs.Id.{Id}
 use Rattle.gix_object_lines.specs.declared.kind.Kind.TheVariants as kinds
 use Rattle.gix_object_entries.specs.Entry.{Item, SpellsTree}
 use Rattle.gix_object_entries.specs.WellFormed.{IsWellFormed}

@@ -3,8 +3,8 @@
 -- trees does no harm.
 use Rattle.std.specs.Prelude.{ℕ, ◌≡◌, ◌≢◌, ◌&&◌, not, Bool, List, [], ◌∷◌, ◌++◌, Option, Some, None, is_some, bytes_eq, if◌then◌else◌}
 use Rattle.std.specs.List.{All}
-use Rattle.gix_hash.specs.Id.{Id, null_id}
-use Rattle.gix_hash.specs.Order.{id_eq}
+use Rattle.gix_hash_id.specs.Id.{Id, null_id}
+use Rattle.gix_hash_id.specs.Order.{id_eq}
 use Rattle.gix_object_lines.specs.declared.kind.Kind.TheVariants as kinds
 use Rattle.gix_object_entries.specs.Entry.{Item, SpellsTree}
 use Rattle.gix_object_entries.specs.Mode.{is_tree_value}

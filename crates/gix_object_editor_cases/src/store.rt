@@ -1,7 +1,7 @@
 //! Trees in memory, which count how often they are asked for one.
 
 ghost use Rattle.std.specs.Prelude.{map, None, ⊤};
-ghost use Rattle.gix_hash.specs.Id.{id_of};
+ghost use Rattle.gix_hash_id.specs.Id.{id_of};
 
 use gix_hash::{Kind, ObjectId, oid};
 use gix_object_entries::Tree;

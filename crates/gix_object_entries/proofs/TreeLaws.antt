@@ -6,9 +6,9 @@ use Rattle.std.specs.Fmt.{digits}
 use Rattle.std.specs.List.{All, list_any}
 use Rattle.std.proofs.lemmas.Fmt.{digits_is_IsNumeral}
 use Rattle.std.proofs.lemmas.List.Elements.{All-head, All-tail}
-use Rattle.gix_hash.specs.Id.{raw_bytes}
-use Rattle.gix_hash.specs.Kind.{byte_len}
-use Rattle.gix_hash.specs.declared.kind.Kind.{Kind}
+use Rattle.gix_hash_id.specs.Id.{raw_bytes}
+use Rattle.gix_hash_id.specs.Kind.{byte_len}
+use Rattle.gix_hash_id.specs.declared.kind.Kind.{Kind}
 use Rattle.gix_object_entries.specs.Entry.{Item, item_of, SpellsEntries, SpellsTree}
 use Rattle.gix_object_entries.specs.ModeText.{Mode, SpellsMode, mode_text}
 use Rattle.gix_object_entries.specs.Reading.{Place, Gives, start}

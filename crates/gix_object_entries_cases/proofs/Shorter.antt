@@ -1,6 +1,6 @@
 -- What is left behind an entry is shorter.
 use Rattle.std.proofs.Common.{◌≤◌, ap, ℕ, List, ◌∷◌, ◌++◌, length, length-append, Result, Ok, Err, Some, arith}
-use Rattle.gix_hash.specs.declared.kind.Kind.{Kind}
+use Rattle.gix_hash_id.specs.declared.kind.Kind.{Kind}
 use Rattle.gix_object_lines.specs.declared.decode.Error.{Error}
 use Rattle.gix_object_entries.specs.Entry.{Item, item_of, SpellsEntry}
 use Rattle.gix_object_entries.specs.Reading.{Place, Steps}

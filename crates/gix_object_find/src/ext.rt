@@ -1,7 +1,7 @@
 //! Objects that must stand, of any kind and of one.
 
 ghost use Rattle.std.specs.Prelude.{◌≡◌, Some, IfOk, IfErr};
-ghost use Rattle.gix_hash.specs.Views.{viewed_id};
+ghost use Rattle.gix_hash_id.specs.Views.{viewed_id};
 ghost use Rattle.gix_object_lines.specs.declared.kind.Kind.TheVariants as kinds;
 ghost use Rattle.gix_object_tree.specs.Readers.{ReadsCommit, ReadsTag, ReadsTree};
 ghost use Rattle.gix_object_find.specs.Table.{object_of, header_at};

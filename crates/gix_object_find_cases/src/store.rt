@@ -2,9 +2,9 @@
 
 ghost use Rattle.std.specs.Prelude.{◌≡◌, true, false, find};
 ghost use Rattle.std.specs.Option.{option_copied};
-ghost use Rattle.gix_hash.specs.Id.{id_of};
-ghost use Rattle.gix_hash.specs.Order.{id_eq};
-ghost use Rattle.gix_hash.specs.Views.{viewed_id};
+ghost use Rattle.gix_hash_id.specs.Id.{id_of};
+ghost use Rattle.gix_hash_id.specs.Order.{id_eq};
+ghost use Rattle.gix_hash_id.specs.Views.{viewed_id};
 ghost use Rattle.gix_object_find_cases.specs.Store.{ids_of, table_of};
 
 use gix_hash::{Kind as HashKind, ObjectId, oid};

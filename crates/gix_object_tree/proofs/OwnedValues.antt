@@ -3,12 +3,12 @@ use Rattle.std.proofs.Common.{◌≡◌, ◌∙◌, ap, refl, sym, ℕ, List, []
 use Rattle.std.specs.Prelude.{All, IfSome}
 use Rattle.std.specs.List.{AllZip}
 use Rattle.std.proofs.lemmas.List.Elements.{All-head, All-tail}
-use Rattle.gix_hash.specs.Id.{id_of}
-use Rattle.gix_hash.specs.Kind.{hex_len}
-use Rattle.gix_hash.specs.LetterCase.{IsLowerCase}
-use Rattle.gix_hash.specs.Spelling.{hex_text, IsHexOf}
-use Rattle.gix_hash.specs.declared.kind.Kind as hash
-use Rattle.gix_hash.specs.declared.object_id.ObjectId.{ObjectId}
+use Rattle.gix_hash_id.specs.Id.{id_of}
+use Rattle.gix_hash_id.specs.Kind.{hex_len}
+use Rattle.gix_hash_id.specs.LetterCase.{IsLowerCase}
+use Rattle.gix_hash_id.specs.Spelling.{hex_text, IsHexOf}
+use Rattle.gix_hash_id.specs.declared.kind.Kind as hash
+use Rattle.gix_hash_id.specs.declared.object_id.ObjectId.{ObjectId}
 use Rattle.gix_object_lines.specs.Time.{SpellsTime, time_text}
 use Rattle.gix_object_lines.specs.declared.lines.actor.Actor.{Actor}
 use Rattle.gix_object_lines.specs.declared.lines.time.Time.{Time}

@@ -1,9 +1,9 @@
 -- What is written of an object, behind its header, is a loose object that tells it; and what is read is written to the same bytes.
 use Rattle.std.proofs.Common.{◌≡◌, ◌∙◌, ap, refl, sym, subst, Bool, false, List, ◌∷◌, ℕ, length, map, None}
 use Rattle.std.specs.Prelude.{◌≢◌, []}
-use Rattle.gix_hash.specs.Id.{id_of}
-use Rattle.gix_hash.specs.Kind.{hex_len}
-use Rattle.gix_hash.specs.declared.kind.Kind as hash
+use Rattle.gix_hash_id.specs.Id.{id_of}
+use Rattle.gix_hash_id.specs.Kind.{hex_len}
+use Rattle.gix_hash_id.specs.declared.kind.Kind as hash
 use Rattle.gix_object_lines.specs.Writes.{cause_of}
 use Rattle.gix_object_commit_lines.specs.Commit as commit
 use Rattle.gix_object_commit_lines.specs.Commit.{SpellsCommit, commit_text}

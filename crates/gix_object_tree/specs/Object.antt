@@ -1,7 +1,7 @@
 -- What objects tell, and how they tell it: by the grammars of their kinds.
 use Rattle.std.specs.Prelude.{ℕ, ◌≡◌, List, Option, None}
-use Rattle.gix_hash.specs.Kind.{hex_len}
-use Rattle.gix_hash.specs.declared.kind.Kind as hash
+use Rattle.gix_hash_id.specs.Kind.{hex_len}
+use Rattle.gix_hash_id.specs.declared.kind.Kind as hash
 use Rattle.gix_object_lines.specs.Writes.{Refusal}
 use Rattle.gix_object_lines.specs.declared.kind.Kind.{Kind}
 use Rattle.gix_object_lines.specs.declared.kind.Kind.TheVariants as kinds

@@ -1,6 +1,6 @@
 -- Token readers that begin.
 use Rattle.std.specs.Prelude.{ℕ, ◌≡◌, List}
-use Rattle.gix_hash.specs.declared.kind.Kind as hash
+use Rattle.gix_hash_id.specs.declared.kind.Kind as hash
 use Rattle.gix_object_commit_tokens.specs.Tokens as commit
 use Rattle.gix_object_commit_tokens.specs.declared.ref_iter.CommitRefIter.{CommitRefIter}
 use Rattle.gix_object_entries.specs.Reading as tree

@@ -1,9 +1,9 @@
 //! The bytes of an object.
 
 ghost use Rattle.std.specs.Prelude.{◌≡◌, ◌≢◌, ◌⊎◌, ℕ, List, Err, IfOk, IfErr, MatchOption, MatchResult};
-ghost use Rattle.gix_hash.specs.Id.{id_of};
-ghost use Rattle.gix_hash.specs.Hasher.{id_of_message};
-ghost use Rattle.gix_hash.specs.Views.{viewed_id};
+ghost use Rattle.gix_hash_id.specs.Id.{id_of};
+ghost use Rattle.gix_hash_id.specs.Hasher.{id_of_message};
+ghost use Rattle.gix_hash_id.specs.Views.{viewed_id};
 ghost use Rattle.gix_object_lines.specs.declared.decode.Error.TheVariants.{Memory};
 ghost use Rattle.gix_object_lines.specs.declared.kind.Kind.TheVariants as kinds;
 ghost use Rattle.gix_object_tree.specs.Checks.{TellsBoth};

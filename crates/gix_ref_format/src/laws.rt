@@ -1,7 +1,7 @@
 //! What holds of the formats by their definitions: what is written is read back.
 
 ghost use Rattle.std.specs.Prelude.{◌≡◌, Some};
-ghost use Rattle.gix_hash.specs.Id.{id_of};
+ghost use Rattle.gix_hash_id.specs.Id.{id_of};
 ghost use Rattle.gix_ref_name.specs.Names.{name_of};
 ghost use Rattle.gix_ref_name.specs.Targets.{ToObject, ToName};
 ghost use Rattle.gix_ref_format.specs.Loose.{loose_target, loose_text};

@@ -1,7 +1,7 @@
 -- What a store finds is among its objects.
 use Rattle.std.proofs.Common.{◌≡◌, ◌∙◌, ap, ℕ, zero, suc, List, [], ◌∷◌, Some, arith, slice_get}
 use Rattle.std.specs.Prelude.{Contains}
-use Rattle.gix_hash.specs.Id.{Id, id_of}
+use Rattle.gix_hash_id.specs.Id.{Id, id_of}
 use Rattle.gix_traverse_bench.specs.Store.{ids_of}
 use Rattle.gix_traverse_bench.specs.declared.store.Stored.{Stored}
 

@@ -1,6 +1,6 @@
 -- The ids of objects.
 use Rattle.std.specs.Prelude.{List, map}
-use Rattle.gix_hash.specs.Id.{Id, id_of}
+use Rattle.gix_hash_id.specs.Id.{Id, id_of}
 use Rattle.gix_traverse_bench.specs.declared.store.Stored.{Stored}
 
 abbrev pub ids_of : List Stored → List Id

@@ -1,7 +1,7 @@
 //! Objects in memory, found by a map from ids to numbers.
 
 ghost use Rattle.std.specs.Prelude.{None, IfSome, Contains};
-ghost use Rattle.gix_hash.specs.Views.{viewed_id};
+ghost use Rattle.gix_hash_id.specs.Views.{viewed_id};
 ghost use Rattle.gix_traverse_bench.specs.Store.{ids_of};
 
 use gix_hash::{ObjectId, oid};

@@ -1,8 +1,8 @@
 -- Where a walk by time over rows and objects stands.
 use Rattle.std.proofs.Common.{◌≡◌, ℕ, ◌<◌, ◌+◌, ◌∙◌, inl, inr, sym, ap, subst, arith, List, [], ◌∷◌, ◌++◌, length, length-append, Bool, true, Some, None, Option}
 use Rattle.std.specs.Prelude.{Contains, IsTrue, not, ◌&&◌, ◌↔◌}
-use Rattle.gix_hash.specs.Id.{Id, id_of}
-use Rattle.gix_hash.specs.declared.object_id.ObjectId.{ObjectId}
+use Rattle.gix_hash_id.specs.Id.{Id, id_of}
+use Rattle.gix_hash_id.specs.declared.object_id.ObjectId.{ObjectId}
 use Rattle.gix_traverse_commit.specs.Commits.{Commits, asked_parents, Reached, tip, parent, Passes, Listed}
 use Rattle.gix_traverse_commit.specs.Order.{At, IsChosen, IsOpen}
 use Rattle.gix_traverse_commit.specs.Painting.{ReachedFrom}
@@ -10,7 +10,7 @@ use Rattle.gix_traverse_commit.specs.Nodes.{is_met}
 use Rattle.gix_traverse_commit.specs.Simply.{Answers, Asked, IsAtTurn, IsKnown, IsSure, IsTurn, IsUnderWay, keep_of, request_in, timing}
 use Rattle.gix_traverse_commit.specs.Sorting.{ComesFirst, InOrder, InTimeOrder, IsNextIn, in_time, timing_of}
 use Rattle.gix_traverse_commit.specs.Told.{rows_of}
-use Rattle.gix_hash.specs.declared.kind.Kind.{Kind}
+use Rattle.gix_hash_id.specs.declared.kind.Kind.{Kind}
 use Rattle.gix_traverse_commit.specs.declared.fetch.Source.{Source}
 use Rattle.gix_traverse_commit.specs.declared.parents.Parents.{Parents}
 use Rattle.gix_traverse_commit.specs.declared.simple.Simple.{Simple}

@@ -1,7 +1,7 @@
 -- What is read of a commit, and why it isn't.
 use Rattle.std.specs.Prelude.{ℕ, ℤ, ◌≡◌, ◌⊎◌, ◌+◌, ◌-◌, ◌^◌, min, List, [], ◌∷◌, Contains, Option, Some, None, Err, ⊤}
-use Rattle.gix_hash.specs.Id.{Id, id_of}
-use Rattle.gix_hash.specs.declared.object_id.ObjectId.{ObjectId}
+use Rattle.gix_hash_id.specs.Id.{Id, id_of}
+use Rattle.gix_hash_id.specs.declared.object_id.ObjectId.{ObjectId}
 use Rattle.gix_object_commit_tokens.specs.ReadingOn.{TellsFirst, TellsNone, committer_told, parent_told}
 use Rattle.gix_object_commit_tokens.specs.Tokens.{Place, GivesToken, start}
 use Rattle.gix_object_find.specs.Existing.{Stands, KindFault}

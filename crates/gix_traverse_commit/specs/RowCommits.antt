@@ -1,6 +1,6 @@
 -- The commits that rows tell.
 use Rattle.std.specs.Prelude.{List, [], Option, Some, None, pos, find}
-use Rattle.gix_hash.specs.declared.object_id.ObjectId.{ObjectId}
+use Rattle.gix_hash_id.specs.declared.object_id.ObjectId.{ObjectId}
 use Rattle.gix_traverse_commit.specs.Commits.{Commit, Commits}
 use Rattle.gix_traverse_commit.specs.Numbered.{same_id}
 use Rattle.gix_traverse_commit.specs.declared.rows.Row.{Row}

@@ -1,7 +1,7 @@
 -- Where a walk by time stands.
 use Rattle.std.specs.Prelude.{◌≡◌, ◌≢◌, ◌≤ℤ◌, ◌⊎◌, ◌↔◌, ℕ, ℤ, pos, Bool, true, not, ◌&&◌, List, ◌∷◌, [], ◌++◌, Option, take, Contains, IsTrue}
-use Rattle.gix_hash.specs.Id.{Id, id_of}
-use Rattle.gix_hash.specs.declared.object_id.ObjectId.{ObjectId}
+use Rattle.gix_hash_id.specs.Id.{Id, id_of}
+use Rattle.gix_hash_id.specs.declared.object_id.ObjectId.{ObjectId}
 use Rattle.gix_traverse_commit.specs.Commits.{Commits, Reached}
 use Rattle.gix_traverse_commit.specs.Order.{At, IsOpen}
 use Rattle.gix_traverse_commit.specs.Rows.{Holds}

@@ -2,8 +2,8 @@
 
 ghost use Rattle.std.specs.Prelude.{◌≡◌, ◌≤◌, ◌+◌, List, Contains, [], length, IfOk, IfErr, IsOk, OnOk, None, true, false};
 ghost use Rattle.std.specs.Iterator.{at_most};
-ghost use Rattle.gix_hash.specs.Id.{Id};
-ghost use Rattle.gix_hash.specs.declared.object_id.ObjectId.{ObjectId};
+ghost use Rattle.gix_hash_id.specs.Id.{Id};
+ghost use Rattle.gix_hash_id.specs.declared.object_id.ObjectId.{ObjectId};
 ghost use Rattle.gix_object_commit_tokens.specs.Tokens.{place_of, start};
 ghost use Rattle.gix_traverse_commit.specs.Commits.{Commits};
 ghost use Rattle.gix_traverse_commit.specs.Fetching.{TimeIsTold};

@@ -1,8 +1,8 @@
 -- Where a walk stands, and what it gives.
 use Rattle.std.specs.Prelude.{◌≡◌, ◌↔◌, ◌⊎◌, ℕ, ◌+◌, ◌<◌, ◌≤◌, Bool, ℤ, pos, List, [], ◌∷◌, ◌++◌, length, map, filter, Contains, Option, None, Some, IfSome, ⊤, true, slice_set, slice_index_or}
 use Rattle.std.specs.BinaryHeap.{heap_items, IsHeap}
-use Rattle.gix_hash.specs.declared.object_id.ObjectId.{ObjectId}
-use Rattle.gix_hash.specs.declared.object_id.ObjectId.TheVariants.{Sha1}
+use Rattle.gix_hash_id.specs.declared.object_id.ObjectId.{ObjectId}
+use Rattle.gix_hash_id.specs.declared.object_id.ObjectId.TheVariants.{Sha1}
 use Rattle.gix_traverse_commit.specs.Commits.{Commit, Commits, WalkRequest, asked, asked_parents, Reached, Hides, Listed}
 use Rattle.gix_traverse_commit.specs.Fetching.{HasRowsGeneration}
 use Rattle.gix_traverse_commit.specs.Numbered.{same_id}

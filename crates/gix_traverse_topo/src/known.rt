@@ -1,7 +1,7 @@
 //! The commits that a walk knows, each by a number.
 
 ghost use Rattle.std.specs.Prelude.{◌≡◌, ◌+◌, ◌^◌, ◌<◌, ◌≤◌, ◌==◌, ◌⊎◌, ℕ, List, [], ◌++◌, length, OnOk, IfOk, IfErr, IfSome, IfNone, Some, None, slice_get, slice_set};
-ghost use Rattle.gix_hash.specs.declared.object_id.ObjectId.{ObjectId};
+ghost use Rattle.gix_hash_id.specs.declared.object_id.ObjectId.{ObjectId};
 ghost use Rattle.gix_traverse_commit.specs.Commits.{Commits, asked, asked_parents};
 ghost use Rattle.gix_traverse_commit.specs.Fetching.{one_more};
 ghost use Rattle.gix_traverse_commit.specs.Numbered.{same_id};

@@ -1,8 +1,8 @@
 -- The walk in breadth order: the entries of the root, then of the trees that lie in it, then of those that lie in these.
 use Rattle.std.specs.Prelude.{ℕ, ◌≢◌, Bool, List, [], ◌∷◌, ◌++◌, map, if◌then◌else◌}
 use Rattle.std.specs.declared.ops.ControlFlow.TheVariants.{Continue, Break}
-use Rattle.gix_hash.specs.Id.{Id}
-use Rattle.gix_hash.specs.declared.kind.Kind.{Kind}
+use Rattle.gix_hash_id.specs.Id.{Id}
+use Rattle.gix_hash_id.specs.declared.kind.Kind.{Kind}
 use Rattle.gix_object_lines.specs.declared.decode.Error as decode
 use Rattle.gix_object_entries.specs.Entry.{Item, SpellsEntry, SpellsNoEntry, EntryFault}
 use Rattle.gix_object_find.specs.Table.{Table}

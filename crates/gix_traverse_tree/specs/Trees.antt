@@ -1,8 +1,8 @@
 -- Trees as a walk comes to them. H says whether the store's answers are those of the table, M whether its lookups may fail.
 use Rattle.std.specs.Prelude.{ℕ, ◌≡◌, Bool, true, false, List}
 use Rattle.std.specs.List.{list_any}
-use Rattle.gix_hash.specs.Id.{Id}
-use Rattle.gix_hash.specs.Order.{id_eq}
+use Rattle.gix_hash_id.specs.Id.{Id}
+use Rattle.gix_hash_id.specs.Order.{id_eq}
 use Rattle.gix_object_lines.specs.declared.kind.Kind.TheVariants as kinds
 use Rattle.gix_object_find.specs.Table.{Table}
 use Rattle.gix_object_find.specs.Existing.{Stands, KindFault}

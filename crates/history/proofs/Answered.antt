@@ -6,7 +6,7 @@ use Rattle.std.specs.declared.alloc.Global.{Global}
 use Rattle.history_model.specs.Bytes.{Bytes}
 use Rattle.history_model.specs.FileMap.{FileMap, Content, has_below, inside}
 use Rattle.history_model.specs.Objects.{CommitValue, StoredCommit, StoredBytes, StoredFolder, blob_id, entry_at, folder_id, mode_of}
-use Rattle.gix_hash.specs.Id.{Id, id_of}
+use Rattle.gix_hash_id.specs.Id.{Id, id_of}
 use Rattle.history_model.specs.Repository.{Repository, HasWholeNames, IsWholeStore, as_commit, peeled_value}
 use Rattle.history_model.specs.Meaning.{first_files}
 use Rattle.history_model.specs.Words.{WordReading, ReadsAs, Unborn, Unknown, Ambiguous, word_reading, commit_read}
@@ -21,7 +21,7 @@ use Rattle.history_files.specs.Reading.{entry_of, file_line, line_of}
 use Rattle.history_files.specs.declared.found.Found.{Found}
 use Rattle.history_files.specs.declared.found.Found.TheVariants as found
 use Rattle.history_files.specs.declared.listing.File.{File as FoundFile}
-use Rattle.gix_hash.specs.declared.kind.Kind.{Kind}
+use Rattle.gix_hash_id.specs.declared.kind.Kind.{Kind}
 use Rattle.history_model.specs.declared.Cause.{Cause}
 use Rattle.history_model.specs.declared.Cause.TheVariants.{UnknownWord, UnbornHead, BadPath, IsFolder, NoSuchPath}
 use Rattle.history_model.proofs.OfferedReads.{words_read_names, none_is_ambiguous, names_hold_commits}
@@ -30,7 +30,7 @@ use Rattle.history_model.proofs.OfferedFiles.{files_are_stored}
 use Rattle.history_model.proofs.WholeLists.{texts_differ}
 use Rattle.history_store.specs.Commits.{IsCommitOf}
 use Rattle.gix_object_commit.specs.declared.commit.owned.Commit as commits
-use Rattle.gix_hash.specs.declared.object_id.ObjectId.{ObjectId}
+use Rattle.gix_hash_id.specs.declared.object_id.ObjectId.{ObjectId}
 use Rattle.history.specs.Acts.{AnswersReading, Gives, ReadsWord, IsReadingFault, word_cause}
 use Rattle.history.specs.Shown.{shown_commit, shown_content}
 use Rattle.history.specs.declared.stopped.Stopped.{Stopped}

@@ -5,8 +5,8 @@ use Rattle.std.proofs.Common.{◌≡◌, ℕ, ◌+◌, ◌<◌, length, take, dr
 use Rattle.std.specs.List.{list_any, filter_map, cons_option}
 use Rattle.std.proofs.lemmas.List.{map-append, take_more}
 use Rattle.history_model.specs.Bytes.{Bytes, has_twice}
-use Rattle.gix_hash.specs.Id.{Id, id_of}
-use Rattle.gix_hash.specs.Order.{id_eq}
+use Rattle.gix_hash_id.specs.Id.{Id, id_of}
+use Rattle.gix_hash_id.specs.Order.{id_eq}
 use Rattle.history_model.specs.Repository.{Repository, HasWholeNames, id_at, stands}
 use Rattle.history_model.specs.Words.{WordReading, ReadsAs, Unborn, Unknown, Ambiguous, word_reading, commit_of}
 use Rattle.history_model.specs.Commands.{Commit, CommitCommand, Expect, Any, New, At}
@@ -20,7 +20,7 @@ use Rattle.history_model.specs.declared.Cause.TheVariants.{UnknownWord, UnbornHe
 use Rattle.history_model.proofs.OfferedReads.{names_stand_for_theirs, words_stand_for_theirs}
 use Rattle.history_word.specs.Commands.{IsExpect}
 use Rattle.history_word.specs.declared.command.Expect.TheVariants as sent
-use Rattle.gix_hash.specs.declared.object_id.ObjectId.{ObjectId}
+use Rattle.gix_hash_id.specs.declared.object_id.ObjectId.{ObjectId}
 use Rattle.history.specs.Acts.{IsReadingFault, Gives}
 use Rattle.history.specs.Bases.{IsExpected, expected_readings, words_cause, held_cause, reads_as, parents_cause}
 use Rattle.history.specs.CommitCauses.{first_among, word_causes, held_causes, parent_causes, IsToldBy, Tests}

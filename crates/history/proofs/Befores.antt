@@ -5,7 +5,7 @@ use Rattle.std.specs.FinMap.{get, empty, entries, len-entries, len-empty}
 use Rattle.history_model.specs.Bytes.{Bytes, by_bytes}
 use Rattle.history_model.specs.FileMap.{Content}
 use Rattle.history_model.specs.Objects.{Value, CommitValue, StoredCommit, StoredTag, StoredBytes, StoredFolder}
-use Rattle.gix_hash.specs.Id.{Id, id_of}
+use Rattle.gix_hash_id.specs.Id.{Id, id_of}
 use Rattle.history_model.specs.Repository as plain
 use Rattle.history_model.specs.Meaning.{files_at}
 use Rattle.history_model.specs.Repository.{HoldsCommit, IsWholeStore, as_commit}

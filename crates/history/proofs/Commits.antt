@@ -7,7 +7,7 @@ use Rattle.history_model.specs.Bytes.{Bytes}
 use Rattle.std.specs.FinMap.{contains_key, get}
 use Rattle.history_model.specs.Objects.{StoredCommit, hex}
 use Rattle.history_model.specs.Objects.{id_of as value_id}
-use Rattle.gix_hash.specs.Id.{Id, id_of}
+use Rattle.gix_hash_id.specs.Id.{Id, id_of}
 use Rattle.history_model.specs.Repository as plain
 use Rattle.history_model.specs.Forms.{IsWritten, is_name, is_private, is_reference}
 use Rattle.history_model.specs.Repository.{Reference, HasWholeNames, stands}

@@ -12,7 +12,7 @@ use Rattle.history_model.specs.Commands.{EditLine, PutLine, RemoveLine, RemoveFi
 use Rattle.history_model.specs.CommandParts.{edit_paths, put_contents}
 use Rattle.history_model.specs.Meaning.{put_bytes, read_edit}
 use Rattle.history_model.specs.Causes.{is_bad_path}
-use Rattle.gix_hash.specs.declared.kind.Kind.{Kind}
+use Rattle.gix_hash_id.specs.declared.kind.Kind.{Kind}
 use Rattle.history_files.specs.Editing.{HavePaths, Names, NameEdits}
 use Rattle.history_files.specs.declared.edits.Change.{Change}
 use Rattle.history_files.specs.declared.edits.Edit.{Edit as FileEdit}

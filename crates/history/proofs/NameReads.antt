@@ -5,7 +5,7 @@ use Rattle.std.specs.FinMap.{get}
 use Rattle.std.proofs.Math.Seq.{take-append_seam, drop-append_seam}
 use Rattle.gix_ref_file.specs.History.{History}
 use Rattle.history_model.specs.Bytes.{Bytes, begins, ends, line}
-use Rattle.gix_hash.specs.Id.{Id, id_of}
+use Rattle.gix_hash_id.specs.Id.{Id, id_of}
 use Rattle.history_model.specs.Repository.{Repository, Reference, id_at, stands}
 use Rattle.history_model.specs.Forms.{is_name, max_name}
 use Rattle.gix_object_lines.specs.NameTest.{is_partial_name}
@@ -15,10 +15,10 @@ use Rattle.history_model.specs.PackedNames.{id_from_hex, line_text}
 use Rattle.history_model.specs.Places.{Pair, file_at, packed_place, head_place, is_log_place}
 use Rattle.history_model.specs.Readings.{Reading, Holds, Symbolic, Absent, Faulty, reading, loose_reading, loose_line, packed_text_reading}
 use Rattle.history_model.specs.StandsFor.{StandsFor}
-use Rattle.gix_hash.specs.declared.kind.Kind.{Kind}
+use Rattle.gix_hash_id.specs.declared.kind.Kind.{Kind}
 use Rattle.history_model.proofs.TreePlaces.{one_text, texts_apart}
 use Rattle.history_store.specs.References.{SpellsId, NameHolds}
-use Rattle.gix_hash.specs.declared.object_id.ObjectId.{ObjectId}
+use Rattle.gix_hash_id.specs.declared.object_id.ObjectId.{ObjectId}
 use Rattle.history.specs.Stands.{Serves, pair_of}
 use Rattle.history.specs.Face.{names_part}
 use Rattle.history.specs.declared.repository.Repository as own

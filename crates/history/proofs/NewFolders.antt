@@ -3,10 +3,10 @@ use Rattle.std.proofs.Common.{◌≡◌, ◌⊎◌, inl, inr, refl, sym, ◌∙�
 use Rattle.std.specs.Prelude.{Contains}
 use Rattle.std.specs.List.{AllByRecursion, list_any, flat_map}
 use Rattle.std.specs.FinMap.{empty, get, values}
-use Rattle.gix_hash.specs.Id as object_id
-use Rattle.gix_hash.specs.Id.{Id, null_id}
-use Rattle.gix_hash.specs.Order.{id_eq}
-use Rattle.gix_hash.specs.declared.kind.Kind.{Kind}
+use Rattle.gix_hash_id.specs.Id as object_id
+use Rattle.gix_hash_id.specs.Id.{Id, null_id}
+use Rattle.gix_hash_id.specs.Order.{id_eq}
+use Rattle.gix_hash_id.specs.declared.kind.Kind.{Kind}
 use Rattle.gix_object_lines.specs.declared.kind.Kind.TheVariants as kinds
 use Rattle.history_model.specs.Bytes.{Bytes, by_bytes}
 use Rattle.history_model.specs.FileMap.{FileMap, Content, beginnings, folders_of, inside}

@@ -4,11 +4,11 @@ use Rattle.gix_ref_file.specs.History.{History}
 use Rattle.gix_ref_file.specs.Tree.{Tree}
 use Rattle.std.specs.FinMap.{contains_key, empty, get-empty}
 use Rattle.history_model.specs.Offered.{IsOfStage}
-use Rattle.gix_hash.specs.Id.{Id}
+use Rattle.gix_hash_id.specs.Id.{Id}
 use Rattle.history_model.specs.Objects.{by_id}
 use Rattle.history_model.specs.Places.{packed_place}
 use Rattle.history_model.specs.Repository.{fresh, first_branch}
-use Rattle.gix_hash.specs.declared.kind.Kind.{Kind}
+use Rattle.gix_hash_id.specs.declared.kind.Kind.{Kind}
 use Rattle.history_model.proofs.OfferedSteps.{fresh_is_offered}
 use Rattle.history_store.proofs.FreshParts.{new_stands_whole}
 use Rattle.history_store.specs.Creation.{IsNew}

@@ -8,7 +8,7 @@ use Rattle.history_model.specs.Bytes.{Bytes}
 use Rattle.history_model.specs.FileMap.{FileMap, folders_of, some_refused}
 use Rattle.history_model.specs.Objects.{Value, StoredBytes, StoredFolder, StoredCommit, digest, folder_id, object_text, content_of, commit_content, root, tree_text}
 use Rattle.history_model.specs.Objects.{id_of as value_id}
-use Rattle.gix_hash.specs.Id.{Id, null_id, id_of}
+use Rattle.gix_hash_id.specs.Id.{Id, null_id, id_of}
 use Rattle.history_model.specs.Repository as plain
 use Rattle.std.specs.FinMap.{get}
 use Rattle.history_model.specs.Repository.{HasWholeNames, HoldsCommit, IsWholeStore, as_commit, id_at}
@@ -27,7 +27,7 @@ use Rattle.history_model.specs.declared.Cause.{Cause}
 use Rattle.history_model.specs.declared.Cause.TheVariants.{BadPath, IsFolder, TooLarge}
 use Rattle.history_model.specs.declared.Fault.{Fault}
 use Rattle.history_model.specs.declared.Fault.TheVariants.{Memory, File, IdTaken}
-use Rattle.gix_hash.specs.declared.kind.Kind.{Kind}
+use Rattle.gix_hash_id.specs.declared.kind.Kind.{Kind}
 use Rattle.gix_object_lines.specs.declared.kind.Kind.TheVariants as kinds
 use Rattle.history_model.proofs.IdLemmas.{digest_is_id}
 use Rattle.history_model.proofs.PassedStops.{commits_store_whole}
@@ -42,7 +42,7 @@ use Rattle.history_store.specs.Commits.{IsCommitOf, IsPlainCommit, has_ids_of}
 use Rattle.history_store.specs.Stores.{AreObjectsOf}
 use Rattle.history_store.specs.declared.object.NewObject.{NewObject}
 use Rattle.gix_object_commit.specs.declared.commit.owned.Commit.{Commit as OwnCommit}
-use Rattle.gix_hash.specs.declared.object_id.ObjectId.{ObjectId}
+use Rattle.gix_hash_id.specs.declared.object_id.ObjectId.{ObjectId}
 use Rattle.history_store.specs.declared.log_entry.LogEntry.{LogEntry}
 use Rattle.history_word.specs.Commands.{AreEdits}
 use Rattle.history_word.specs.declared.command.Edit.{Edit}

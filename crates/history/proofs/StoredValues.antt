@@ -9,11 +9,11 @@ use Rattle.history_model.specs.Bytes.{Bytes}
 use Rattle.history_model.specs.FileMap.{FileMap, IsFileMap}
 use Rattle.history_model.specs.Forms.{is_commit_form}
 use Rattle.history_model.specs.Objects.{CommitValue, Value, StoredCommit, StoredFolder, object_kind, content_of, value_text, object_text}
-use Rattle.gix_hash.specs.Id.{Id}
+use Rattle.gix_hash_id.specs.Id.{Id}
 use Rattle.history_model.specs.Places.{file_at, object_place}
 use Rattle.history_model.specs.Repository as plain
 use Rattle.history_model.specs.TreeHalves.{HoldsValues, HaveOwnIds}
-use Rattle.gix_hash.specs.declared.kind.Kind.{Kind}
+use Rattle.gix_hash_id.specs.declared.kind.Kind.{Kind}
 use Rattle.history_model.proofs.TreePlaces.{values_have_ids}
 use Rattle.history_model.proofs.TreePuts.{halves_stand, places_tell_values}
 use Rattle.history_model.proofs.WholeTexts.{object_same}

@@ -2,9 +2,9 @@
 use Rattle.std.proofs.Common.{◌≡◌, ◌≤◌, ◌<◌, ◌^◌, ℕ, refl, sym, ◌∙◌, ap, subst, arith, Bool, true, false, List, [], ◌∷◌}
 use Rattle.std.specs.Prelude.{Option, Some, None, Result, Ok, Err, IfOk, IfErr, IsTrue, IsSome, IsErrAnd, is_some, length, option_map, option_and_then, if◌then◌else◌}
 use Rattle.std.specs.FinMap.{get, contains_key}
-use Rattle.gix_hash.specs.Id.{Id, id_of}
-use Rattle.gix_hash.specs.declared.kind.Kind.{Kind}
-use Rattle.gix_hash.specs.declared.object_id.ObjectId.{ObjectId}
+use Rattle.gix_hash_id.specs.Id.{Id, id_of}
+use Rattle.gix_hash_id.specs.declared.kind.Kind.{Kind}
+use Rattle.gix_hash_id.specs.declared.object_id.ObjectId.{ObjectId}
 use Rattle.gix_ref_file.specs.History.{History}
 use Rattle.gix_object_find.specs.Table.{Object, Table}
 use Rattle.history_model.specs.FileMap as model

@@ -8,13 +8,13 @@ use Rattle.history_model.specs.Repository.{Repository, Reference, id_at, stands}
 use Rattle.history_model.specs.Words.{ReadsAs, Unknown, word_reading, name_reading, id_reading, candidates, head_word}
 use Rattle.gix_ref_file.specs.History.{History}
 use Rattle.history_store.specs.References.{NameHolds}
-use Rattle.gix_hash.specs.declared.object_id.ObjectId.{ObjectId}
+use Rattle.gix_hash_id.specs.declared.object_id.ObjectId.{ObjectId}
 use Rattle.history.specs.Stands.{Serves}
 use Rattle.history.specs.Face.{names_part}
 use Rattle.history.specs.declared.repository.Repository as own
 use Rattle.history.proofs.FieldLemmas.{both_true}
 use Rattle.history.proofs.NameReads.{held, branch_is_name}
-use Rattle.gix_hash.specs.Id.{Id, id_of}
+use Rattle.gix_hash_id.specs.Id.{Id, id_of}
 
 -- what stands before and behind a word
 abbrev pub Ends : Type 0

@@ -12,8 +12,8 @@ use Rattle.history_model.specs.Meaning.{branch_or_name, parents_of}
 use Rattle.history_model.specs.Causes.{is_unknown, is_unborn}
 use Rattle.history_model.specs.declared.Cause.{Cause}
 use Rattle.history_model.specs.declared.Cause.TheVariants.{UnknownWord, UnbornHead, NoSuchName, Taken, NotExpected, TooManyParents, DuplicateParent}
-use Rattle.gix_hash.specs.Id.{Id, id_of}
-use Rattle.gix_hash.specs.Order.{id_eq}
+use Rattle.gix_hash_id.specs.Id.{Id, id_of}
+use Rattle.gix_hash_id.specs.Order.{id_eq}
 use Rattle.history.specs.Readings.{reading_of}
 use Rattle.history.specs.declared.base.Base.{Base}
 use Rattle.history.specs.declared.base.Expected.{Expected}

@@ -12,10 +12,10 @@ use Rattle.history_model.specs.Meaning.{some_taken, store_all}
 use Rattle.history_model.specs.Places.{file_at, packed_place}
 use Rattle.history_model.specs.TreeHalves.{Values, HoldsValues, HoldsNames, HaveOwnIds}
 use Rattle.history_model.specs.TreeSteps.{MovesName}
-use Rattle.gix_hash.specs.declared.kind.Kind.{Kind}
+use Rattle.gix_hash_id.specs.declared.kind.Kind.{Kind}
 use Rattle.history_model.specs.declared.Fault.TheVariants.{Memory, File, IdTaken}
 use Rattle.std.specs.FinMap.{contains_key}
-use Rattle.gix_hash.specs.Id.{Id}
+use Rattle.gix_hash_id.specs.Id.{Id}
 use Rattle.history.specs.Face.{objects_part, names_part, known_ids}
 use Rattle.history.specs.declared.repository.Repository.{Repository}
 use Rattle.history.specs.declared.stopped.Stopped.{Stopped}

@@ -1,9 +1,9 @@
 -- What a commit is to store and how its name is to move, as the plain repository has it.
 use Rattle.std.specs.Prelude.{◌≡◌, ◌⊎◌, ⊤, Bool, List, ◌++◌, map, Contains, Some, None, Result, Ok, Err, IsTrue, IsFalse}
 use Rattle.std.specs.List.{list_any}
-use Rattle.gix_hash.specs.Id as object_id
-use Rattle.gix_hash.specs.declared.kind.Kind.{Kind}
-use Rattle.gix_hash.specs.declared.object_id.ObjectId.{ObjectId}
+use Rattle.gix_hash_id.specs.Id as object_id
+use Rattle.gix_hash_id.specs.declared.kind.Kind.{Kind}
+use Rattle.gix_hash_id.specs.declared.object_id.ObjectId.{ObjectId}
 use Rattle.gix_object_lines.specs.declared.kind.Kind.{Kind as ObjectKind}
 use Rattle.gix_object_lines.specs.declared.kind.Kind.TheVariants as kinds
 use Rattle.history_model.specs.Bytes.{Bytes}

@@ -3,8 +3,8 @@ use Rattle.std.specs.Prelude.{Option, Some, None}
 use Rattle.history_model.specs.Words as model
 use Rattle.history.specs.declared.words.WordReading.{WordReading}
 use Rattle.history.specs.declared.words.WordReading.TheVariants.{Commit, Unborn, Unknown}
-use Rattle.gix_hash.specs.declared.object_id.ObjectId.{ObjectId}
-use Rattle.gix_hash.specs.Id.{id_of}
+use Rattle.gix_hash_id.specs.declared.object_id.ObjectId.{ObjectId}
+use Rattle.gix_hash_id.specs.Id.{id_of}
 
 abbrev pub reading_of : WordReading → model.WordReading
 reading_of (Commit id) = model.ReadsAs (id_of id)

@@ -8,7 +8,7 @@ use Rattle.history_model.specs.Recovery.{recovered}
 use Rattle.history_model.specs.Offered.{IsOfStage}
 use Rattle.history.specs.declared.repository.Repository.{Repository}
 use Rattle.std.specs.FinMap.{contains_key}
-use Rattle.gix_hash.specs.Id.{Id}
+use Rattle.gix_hash_id.specs.Id.{Id}
 use Rattle.history.specs.Face.{objects_part, names_part, known_ids}
 use Rattle.history_store.specs.Face.{kind_of_names, kind_of_objects}
 

@@ -17,8 +17,8 @@ ghost use Rattle.history.specs.Bases.{IsBase, IsExpected, expected_readings, hel
 ghost use Rattle.history.specs.CommitCauses.{Tests, name_causes, place_causes};
 ghost use Rattle.history.specs.Readings.{commit_in, reading_of};
 ghost use Rattle.history.specs.Stands.{Serves};
-ghost use Rattle.gix_hash.specs.Id.{id_of};
-ghost use Rattle.gix_hash.specs.Order.{id_eq};
+ghost use Rattle.gix_hash_id.specs.Id.{id_of};
+ghost use Rattle.gix_hash_id.specs.Order.{id_eq};
 
 use crate::repository::Repository;
 use crate::stopped::Stopped;

@@ -2,7 +2,7 @@
 
 ghost use Rattle.std.specs.Prelude.{◌≡◌, IfOk, List, map, option_map, option_to_list};
 ghost use Rattle.std.specs.List.{AllByRecursion, AllZip, flat_map};
-ghost use Rattle.gix_hash.specs.Id.{id_of};
+ghost use Rattle.gix_hash_id.specs.Id.{id_of};
 ghost use Rattle.history_model.specs.FileMap as model;
 ghost use Rattle.history_model.specs.Meaning.{first_files, put_bytes};
 ghost use Rattle.history_model.specs.Repository as plain;

@@ -9,8 +9,8 @@ ghost use Rattle.history_store.specs.Actors.{HasForm};
 ghost use Rattle.history_store.specs.Commits.{IsPlainCommit};
 ghost use Rattle.history_store.specs.Formats.{own_actor};
 ghost use Rattle.history.specs.Shown.{shown_commit, shown_content};
-ghost use Rattle.gix_hash.specs.Id.{id_of};
-ghost use Rattle.gix_hash.specs.declared.kind.Kind as hash;
+ghost use Rattle.gix_hash_id.specs.Id.{id_of};
+ghost use Rattle.gix_hash_id.specs.declared.kind.Kind as hash;
 
 use crate::fields::{is_bad_path, kept};
 use crate::reply::{field, kind_word, line};

@@ -7,7 +7,7 @@ ghost use Rattle.history_model.specs.FileMap.{FileMap};
 ghost use Rattle.history_model.specs.Objects as model;
 ghost use Rattle.history_model.specs.Objects.{CommitValue, Value, StoredCommit, StoredFolder, content_of, object_kind};
 ghost use Rattle.history_store.specs.Commits.{IsCommitOf};
-ghost use Rattle.gix_hash.specs.Id.{id_of};
+ghost use Rattle.gix_hash_id.specs.Id.{id_of};
 
 use crate::repository::Repository;
 use crate::stopped::Stopped;

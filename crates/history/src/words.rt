@@ -8,7 +8,7 @@ ghost use Rattle.history_model.specs.Words.{word_reading, ReadsAs};
 ghost use Rattle.history.specs.Acts.{word_cause};
 ghost use Rattle.history.specs.Bases.{reads_as};
 ghost use Rattle.history.specs.Readings.{commit_in, reading_of};
-ghost use Rattle.gix_hash.specs.Id.{id_of};
+ghost use Rattle.gix_hash_id.specs.Id.{id_of};
 
 use crate::naming::is_private;
 use crate::repository::Repository;

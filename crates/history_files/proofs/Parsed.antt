@@ -3,9 +3,9 @@ use Rattle.std.proofs.Common.{◌≡◌, ◌∙◌, ap, refl, sym, ℕ, zero, su
 use Rattle.std.proofs.Math.Seq.{take-append_seam, drop-append_seam}
 use Rattle.std.specs.Prelude.{slice_index}
 use Rattle.std.specs.Str.Parse.{digits_value}
-use Rattle.gix_hash.specs.Id.{Id, digits_of}
-use Rattle.gix_hash.specs.Kind.{byte_len}
-use Rattle.gix_hash.specs.declared.kind.Kind.{Kind}
+use Rattle.gix_hash_id.specs.Id.{Id, digits_of}
+use Rattle.gix_hash_id.specs.Kind.{byte_len}
+use Rattle.gix_hash_id.specs.declared.kind.Kind.{Kind}
 use Rattle.gix_object_entries.specs.Entry.{Item, SpellsEntry, SpellsTree}
 use Rattle.gix_object_entries.specs.ModeText.{Mode, text_before}
 use Rattle.gix_object_entries.proofs.Octals.{before_cut}

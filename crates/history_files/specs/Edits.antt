@@ -1,7 +1,7 @@
 -- Edits as the code has them, and those of file maps that they are.
 use Rattle.std.specs.Prelude.{ℕ, ◌≡◌, ◌+◌, ⊤, false, length, IsFalse, List, [], ◌∷◌}
-use Rattle.gix_hash.specs.Id.{id_of}
-use Rattle.gix_hash.specs.declared.kind.Kind.{Kind}
+use Rattle.gix_hash_id.specs.Id.{id_of}
+use Rattle.gix_hash_id.specs.declared.kind.Kind.{Kind}
 use Rattle.gix_object_lines.specs.declared.decode.Error as decode
 use Rattle.gix_object_lines.specs.declared.decode.Error.TheVariants as unread
 use Rattle.gix_object_find.specs.declared.find.Error.TheVariants as looked_up

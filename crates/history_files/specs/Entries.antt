@@ -2,8 +2,8 @@
 use Rattle.std.specs.Prelude.{◌==◌, ◌&&◌, ◌||◌, ⊤, Bool, not, List, [], ◌∷◌, map}
 use Rattle.std.specs.List.{flat_map, list_any}
 use Rattle.std.specs.FinMap.{keys}
-use Rattle.gix_hash.specs.Order.{id_eq}
-use Rattle.gix_hash.specs.declared.kind.Kind.{Kind}
+use Rattle.gix_hash_id.specs.Order.{id_eq}
+use Rattle.gix_hash_id.specs.declared.kind.Kind.{Kind}
 use Rattle.gix_object_entries.specs.Mode.{kind_value}
 use Rattle.gix_object_entries.specs.ModeText.{Mode}
 use Rattle.gix_object_entries.specs.declared.tree.mode.EntryKind.TheVariants as entries

@@ -1,8 +1,8 @@
 -- An editor of a file map's files over trees that stand, and why it isn't opened or an edit isn't made.
 use Rattle.std.specs.Prelude.{⊤, List, IsTrue}
 use Rattle.std.specs.List.{AllByRecursion}
-use Rattle.gix_hash.specs.Id.{id_of}
-use Rattle.gix_hash.specs.declared.kind.Kind.{Kind}
+use Rattle.gix_hash_id.specs.Id.{id_of}
+use Rattle.gix_hash_id.specs.declared.kind.Kind.{Kind}
 use Rattle.gix_object_editor.specs.Editor.{EachEntryHas, files_of}
 use Rattle.gix_object_editor.specs.Files.{HasStored, Trees}
 use Rattle.gix_object_editor.specs.declared.tree.editor.state.Editor.{Editor}

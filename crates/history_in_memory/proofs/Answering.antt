@@ -11,8 +11,8 @@ use Rattle.history_model.specs.Replies.{Reply, Faulted}
 use Rattle.history_model.specs.Runs.{IsNoCommand, Ran, Ends, Runs}
 use Rattle.history_model.specs.Rows.{Gives}
 use Rattle.history_model.proofs.RunsAgree.{runs_give}
-use Rattle.gix_hash.specs.declared.kind.Kind.{Kind}
-use Rattle.gix_hash.specs.declared.kind.Kind.TheVariants.{Sha1}
+use Rattle.gix_hash_id.specs.declared.kind.Kind.{Kind}
+use Rattle.gix_hash_id.specs.declared.kind.Kind.TheVariants.{Sha1}
 use Rattle.history_model.specs.declared.Cause.{Cause}
 use Rattle.history_model.specs.declared.Fault.TheVariants.{File}
 use Rattle.history_model.specs.declared.End.{End}

@@ -9,7 +9,7 @@ use Rattle.history_model.specs.Places.{file_at, object_place, packed_place}
 use Rattle.history_model.specs.TreeHalves.{Values, HoldsValues, HaveOwnIds}
 use Rattle.history_model.specs.TreeSteps.{PutsValue}
 use Rattle.history_model.specs.CommitSteps.{CommitsStand}
-use Rattle.gix_hash.specs.declared.kind.Kind.{Kind}
+use Rattle.gix_hash_id.specs.declared.kind.Kind.{Kind}
 use Rattle.history_model.proofs.TreePlaces.{digest_is_id}
 use Rattle.history_model.proofs.TreePuts.{halves_stand, names_speak_of_no_values, puts_store, standing_is_stored}
 use Rattle.history_model.proofs.TreeMoves.{moves_move, packed_apart, packed_no_log}

@@ -4,14 +4,14 @@ use Rattle.std.specs.List.{flat_map, AllByRecursion}
 use Rattle.std.specs.FinMap.{FinMap, get, insert, contains_key, get-empty}
 use Rattle.history_model.specs.FileMap.{FileMap, Edit, Put, Remove, RemoveFile, folders_of}
 use Rattle.history_model.specs.Objects.{by_id, Value, CommitValue, StoredCommit, StoredFolder, id_of}
-use Rattle.gix_hash.specs.Id.{Id}
-use Rattle.gix_hash.specs.Order.{id_eq}
+use Rattle.gix_hash_id.specs.Id.{Id}
+use Rattle.gix_hash_id.specs.Order.{id_eq}
 use Rattle.history_model.specs.Repository.{Repository, is_tag_value}
 use Rattle.history_model.specs.Commands.{Command, Commit, Tag, Move, Rename, Delete, Switch, Pack, Index, Names, Files, Past, Log, Show, CommitCommand}
 use Rattle.history_model.specs.Meaning.{after, edits_of, new_commit, put_bytes, store_one, store_all, stored_by}
 use Rattle.history_model.specs.Causes.{holds, first_cause, some_collide}
 use Rattle.history_model.specs.Offered.{IsOffered, FreshIsOffered, OfferedStays}
-use Rattle.gix_hash.specs.declared.kind.Kind.{Kind}
+use Rattle.gix_hash_id.specs.declared.kind.Kind.{Kind}
 use Rattle.history_model.specs.declared.Cause.{Cause}
 use Rattle.history_model.specs.declared.Cause.TheVariants.{BadName, PrivateName, NameTwice, UnknownWord, AmbiguousWord, UnbornHead, NotACommit, NoSuchName, Taken, NotExpected, Collides, HoldsTag, TooManyParents, DuplicateParent, BadPath, IsFolder, NoSuchPath, BadActor, BadTime, BadMessage, TooLarge, NothingMoves, OrderWithParents}
 use Rattle.history_model.proofs.IdLemmas.{get_with_id}

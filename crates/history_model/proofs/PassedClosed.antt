@@ -1,6 +1,6 @@
 -- What a stop leaves is closed before it is recovered.
 use Rattle.std.proofs.Common.{◌≡◌, sym, ◌∙◌, ap, Some, IsSome}
-use Rattle.gix_hash.specs.Id.{Id}
+use Rattle.gix_hash_id.specs.Id.{Id}
 use Rattle.history_model.specs.Bytes.{Bytes}
 use Rattle.history_model.specs.Readings.{Holds, reading}
 use Rattle.history_model.specs.Recovery.{recovered_names}

@@ -17,7 +17,7 @@ use Rattle.history_model.specs.Places.{file_at, is_log_place, log_name, is_lock_
 use Rattle.history_model.specs.Readings.{Absent, Reading, is_absent, loose_reading, packed_text_reading, reading}
 use Rattle.history_model.specs.Recovery.{is_leftover, is_deserted, recovered_files, recovered_names, recovered_node, recovered_objects}
 use Rattle.history_model.specs.Laws.{RecoveryKeeps, RecoveryReads, RecoveryEnds}
-use Rattle.gix_hash.specs.declared.kind.Kind.{Kind}
+use Rattle.gix_hash_id.specs.declared.kind.Kind.{Kind}
 use Rattle.history_model.proofs.NameLemmas.{name-lock, name-log}
 
 same_key : (p q : Bytes) → eq_by_cmp by_bytes p q ≡ true → p ≡ q

@@ -5,8 +5,8 @@ use Rattle.std.specs.FinMap.{keys, get}
 use Rattle.history_model.specs.Bytes.{Bytes, begins, has_byte, has_twice, is_empty}
 use Rattle.history_model.specs.FileMap.{FileMap, some_refused, has_below, is_below, is_path}
 use Rattle.history_model.specs.Objects.{content_of, id_of, StoredTag}
-use Rattle.gix_hash.specs.Id.{Id}
-use Rattle.gix_hash.specs.Order.{id_eq}
+use Rattle.gix_hash_id.specs.Id.{Id}
+use Rattle.gix_hash_id.specs.Order.{id_eq}
 use Rattle.history_model.specs.Repository.{Repository, id_at, stands, is_tag, peeled}
 use Rattle.history_model.specs.Forms.{is_name, is_private, is_tag_name, is_actor_part, is_seconds, is_offset, title, max_title, max_path, max_content, max_parents}
 use Rattle.history_model.specs.Words.{WordReading, ReadsAs, Unborn, Unknown, Ambiguous, word_reading, commit_of}

@@ -10,7 +10,7 @@ use Rattle.history_model.specs.Places.{Pair, file_at, packed_place}
 use Rattle.history_model.specs.StandsFor.{StandsFor}
 use Rattle.history_model.specs.TreeHalves.{HoldsValues}
 use Rattle.history_model.specs.TreeSteps.{MovesName, move_entry}
-use Rattle.gix_hash.specs.declared.kind.Kind.{Kind}
+use Rattle.gix_hash_id.specs.declared.kind.Kind.{Kind}
 
 -- the name of a commit moves to its id
 abbrev pub MovesToCommit : Repository → CommitCommand → Tree → Tree → Type 0

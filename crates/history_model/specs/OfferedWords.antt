@@ -4,7 +4,7 @@ use Rattle.std.specs.List.{AllByRecursion}
 use Rattle.std.specs.FinMap.{get}
 use Rattle.history_model.specs.Bytes.{Bytes}
 use Rattle.history_model.specs.Objects.{CommitValue, StoredCommit}
-use Rattle.gix_hash.specs.Id.{Id}
+use Rattle.gix_hash_id.specs.Id.{Id}
 use Rattle.history_model.specs.Repository.{Repository, IsWholeStore, HasWholeNames, HoldsCommit, id_at}
 use Rattle.history_model.specs.Words.{WordReading, ReadsAs, Unborn, Unknown, Ambiguous, word_reading, commit_of}
 use Rattle.history_model.specs.Commands.{CommitCommand}

@@ -7,7 +7,7 @@ use Rattle.history_model.specs.Bytes.{Bytes, line}
 use Rattle.history_model.specs.FileMap.{FileMap, folders_of, is_below}
 use Rattle.history_model.specs.Objects.{Value, StoredCommit, StoredFolder, hex, value_text, id_of}
 use Rattle.history_model.specs.Repository.{Repository, LogEntry, IsWhole, IsWholeStore, id_at, moves_at, peeled, stands}
-use Rattle.gix_hash.specs.Id.{Id}
+use Rattle.gix_hash_id.specs.Id.{Id}
 use Rattle.history_model.specs.Readings.{Reading, Holds, Absent, is_absent, reading}
 use Rattle.history_model.specs.PackedNames.{packed_file, PackedAgrees}
 use Rattle.history_model.specs.Forms.{is_name, title}
@@ -26,7 +26,7 @@ use Rattle.history_model.specs.Replies.{Reply, Faulted}
 use Rattle.history_model.specs.Steps.{some_failed}
 use Rattle.history_model.specs.Moments.{LeavesStopped, Moment, ActsOn, Traces, CountsStay, HasCountedFailure, last_moment}
 use Rattle.history_model.specs.Wholeness.{IsSound}
-use Rattle.gix_hash.specs.declared.kind.Kind.{Kind}
+use Rattle.gix_hash_id.specs.declared.kind.Kind.{Kind}
 use Rattle.history_model.specs.declared.Fault.TheVariants.{File}
 
 -- ---- values

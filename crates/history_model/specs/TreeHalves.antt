@@ -4,7 +4,7 @@ use Rattle.std.specs.FinMap.{FinMap, entries, get, from_entries}
 use Rattle.gix_ref_file.specs.Tree.{Tree, folder}
 use Rattle.history_model.specs.Bytes.{Bytes, by_bytes}
 use Rattle.history_model.specs.Objects.{by_id, Value, value_text, id_of}
-use Rattle.gix_hash.specs.Id.{Id}
+use Rattle.gix_hash_id.specs.Id.{Id}
 use Rattle.history_model.specs.Repository.{Repository, id_at, moves_at}
 use Rattle.history_model.specs.Forms.{is_id}
 use Rattle.history_model.specs.Places.{Pair, file_at, object_place, is_object_folder, head_place, packed_place, log_place, is_name_place, is_name_folder}
@@ -12,7 +12,7 @@ use Rattle.history_model.specs.PackedNames.{packed_file, PackedAgrees}
 use Rattle.history_model.specs.Logs.{log_text}
 use Rattle.history_model.specs.Readings.{Holds, reading}
 use Rattle.history_model.specs.StandsFor.{StandsFor, head_text}
-use Rattle.gix_hash.specs.declared.kind.Kind.{Kind}
+use Rattle.gix_hash_id.specs.declared.kind.Kind.{Kind}
 
 -- what is stored under each id
 abbrev pub Values : Type 0

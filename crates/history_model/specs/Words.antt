@@ -5,8 +5,8 @@ use Rattle.std.specs.FinMap.{keys}
 use Rattle.hex.specs.Hex.{is_hex_digit}
 use Rattle.history_model.specs.Bytes.{Bytes, begins, lower}
 use Rattle.history_model.specs.Objects.{hex}
-use Rattle.gix_hash.specs.Id.{Id}
-use Rattle.gix_hash.specs.Kind.{hex_len}
+use Rattle.gix_hash_id.specs.Id.{Id}
+use Rattle.gix_hash_id.specs.Kind.{hex_len}
 use Rattle.history_model.specs.Forms.{is_private}
 use Rattle.history_model.specs.Stage.{offers_short_ids}
 use Rattle.history_model.specs.Repository.{Repository, id_at, stands, peeled}

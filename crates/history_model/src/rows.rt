@@ -5,7 +5,7 @@ ghost use Rattle.history_model.specs.Bytes.{line};
 ghost use Rattle.history_model.specs.Objects.{hex, blob_id, blob_text, digest, tree_text, root_within, empty_tree_id, commit_content, id_of, StoredCommit};
 ghost use Rattle.history_model.specs.Rows.{Gives, Refuses, first_commit, first_stream, first_output, empty_file_stream, empty_file_output};
 ghost use Rattle.history_model.specs.Rows.{hello_stream, hello_output, three_files, xs};
-ghost use Rattle.gix_hash.specs.declared.kind.Kind.TheVariants.{Sha1, Sha256};
+ghost use Rattle.gix_hash_id.specs.declared.kind.Kind.TheVariants.{Sha1, Sha256};
 
 /// Ids of blobs and of the empty tree in both kinds, the first commit's 99 bytes and id, three files in their order and their tree.
 pub fn ids()

@@ -10,11 +10,11 @@ use Rattle.history_model.specs.Bytes.{Bytes, has_byte}
 use Rattle.history_model.specs.Objects.{hex}
 use Rattle.history_model.specs.Forms.{is_id}
 use Rattle.history_model.proofs.IdLemmas.{has_kind, id_digits, length-hex}
-use Rattle.gix_hash.specs.Id.{Id}
-use Rattle.gix_hash.specs.Kind.{hex_len}
-use Rattle.gix_hash.specs.Spelling.{hex_character, hex_text}
-use Rattle.gix_hash.specs.declared.kind.Kind.{Kind}
-use Rattle.gix_hash.specs.declared.kind.Kind.TheVariants.{Sha1, Sha256}
+use Rattle.gix_hash_id.specs.Id.{Id}
+use Rattle.gix_hash_id.specs.Kind.{hex_len}
+use Rattle.gix_hash_id.specs.Spelling.{hex_character, hex_text}
+use Rattle.gix_hash_id.specs.declared.kind.Kind.{Kind}
+use Rattle.gix_hash_id.specs.declared.kind.Kind.TheVariants.{Sha1, Sha256}
 use Rattle.history_model.specs.Places.{object_place, is_lower_hex, is_object_folder, is_name_folder, log_place}
 use Rattle.history_store.specs.Stores.{IsAbove, FoldersAbove}
 use Rattle.history_store.specs.References.{FoldersOfName}

@@ -16,10 +16,10 @@ use Rattle.std.specs.FinMap.{contains_key-keys, keys}
 use Rattle.std.proofs.lemmas.List.Sorted.{searchable_from_sorted}
 use Rattle.std.specs.Prelude.{T}
 use Rattle.std.proofs.Common.{subst}
-use Rattle.gix_hash.specs.Id.{Id, id_of}
-use Rattle.gix_hash.specs.Order.{id_eq}
-use Rattle.gix_hash.specs.OrderLaws.{id_total, id_tied}
-use Rattle.gix_hash.specs.declared.object_id.ObjectId.{ObjectId}
+use Rattle.gix_hash_id.specs.Id.{Id, id_of}
+use Rattle.gix_hash_id.specs.Order.{id_eq}
+use Rattle.gix_hash_id.specs.OrderLaws.{id_total, id_tied}
+use Rattle.gix_hash_id.specs.declared.object_id.ObjectId.{ObjectId}
 use Rattle.history_model.specs.Objects.{by_id}
 use Rattle.history_model.proofs.IdLemmas.{get_with_id, one_by_ids, same_id_tie}
 use Rattle.history_store.specs.Ids.{IdSet, is_one_of, marked, set_of, with_id}

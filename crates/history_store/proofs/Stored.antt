@@ -11,7 +11,7 @@ use Rattle.gix_ref_file.proofs.Histories.{adds_weaker, adds_joined}
 use Rattle.gix_ref_file.proofs.Rooted.{adds_now}
 use Rattle.gix_ref_file.proofs.Trees.{get-inserted, get-removed, get_inserted, one_path}
 use Rattle.history_model.specs.Bytes.{Bytes}
-use Rattle.gix_hash.specs.Id.{id_of}
+use Rattle.gix_hash_id.specs.Id.{id_of}
 use Rattle.history_model.specs.Places.{file_at, unfinished_place}
 use Rattle.history_store.specs.ObjectTexts.{is_reserved}
 use Rattle.history_store.specs.Stores.{SameFiles, KeepsFiles, HoldsFile, MayStand, IsTaken, place_of, text_of}

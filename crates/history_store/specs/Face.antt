@@ -1,5 +1,5 @@
 -- What callers see of the objects and of the names of a repository.
-use Rattle.gix_hash.specs.declared.kind.Kind.{Kind}
+use Rattle.gix_hash_id.specs.declared.kind.Kind.{Kind}
 use Rattle.history_store.specs.Ids.{IdSet}
 use Rattle.history_store.specs.KeptIds.{kept}
 use Rattle.history_store.specs.declared.objects.Objects.{Objects}

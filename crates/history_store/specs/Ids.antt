@@ -5,12 +5,12 @@ use Rattle.std.specs.declared.alloc.Global.{Global}
 use Rattle.std.specs.declared.cmp.Ordering.TheVariants.{Less}
 use Rattle.std.specs.FinMap.{empty, is_sorted, insert}
 use Rattle.std.specs.FinSet.{FinSet}
-use Rattle.gix_hash.specs.declared.kind.Kind.{Kind}
-use Rattle.gix_hash.specs.declared.kind.Kind.TheVariants as kinds
-use Rattle.gix_hash.specs.declared.object_id.ObjectId.{ObjectId}
-use Rattle.gix_hash.specs.declared.object_id.ObjectId.TheVariants.{Sha1, Sha256}
-use Rattle.gix_hash.specs.Id.{Id, id_of, bytes_of, digits_of}
-use Rattle.gix_hash.specs.Order.{id_eq, digits_cmp}
+use Rattle.gix_hash_id.specs.declared.kind.Kind.{Kind}
+use Rattle.gix_hash_id.specs.declared.kind.Kind.TheVariants as kinds
+use Rattle.gix_hash_id.specs.declared.object_id.ObjectId.{ObjectId}
+use Rattle.gix_hash_id.specs.declared.object_id.ObjectId.TheVariants.{Sha1, Sha256}
+use Rattle.gix_hash_id.specs.Id.{Id, id_of, bytes_of, digits_of}
+use Rattle.gix_hash_id.specs.Order.{id_eq, digits_cmp}
 use Rattle.history_model.specs.Objects.{by_id}
 
 -- a set of ids is a finite map with nothing at each of its keys

@@ -2,8 +2,8 @@
 use Rattle.std.specs.Prelude.{◌≡◌, ◌<◌, ℕ, List, [], ◌∷◌, ◌++◌, Vec, take, length, vec_len, vec_capacity}
 use Rattle.std.specs.List.{slice_index_or}
 use Rattle.std.specs.declared.alloc.Global.{Global}
-use Rattle.gix_hash.specs.Id.{Id, digits_of}
-use Rattle.gix_hash.specs.declared.object_id.ObjectId.{ObjectId}
+use Rattle.gix_hash_id.specs.Id.{Id, digits_of}
+use Rattle.gix_hash_id.specs.declared.object_id.ObjectId.{ObjectId}
 use Rattle.history_store.specs.Ids.{IdSet, set_of, joined}
 use Rattle.history_store.specs.declared.ids.Ids.{Ids}
 use Rattle.history_store.specs.declared.ids.IdIter.{IdIter}

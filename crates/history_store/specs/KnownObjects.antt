@@ -1,7 +1,7 @@
 -- A store of objects as a map: what stands under the ids that it knows.
 use Rattle.std.specs.Prelude.{Option, None, IsTrue, IsSome, option_and_then, if◌then◌else◌}
 use Rattle.std.specs.FinMap.{contains_key}
-use Rattle.gix_hash.specs.Id.{Id}
+use Rattle.gix_hash_id.specs.Id.{Id}
 use Rattle.gix_ref_file.specs.History.{History}
 use Rattle.gix_ref_file.specs.Tree.{Tree}
 use Rattle.gix_object_find.specs.Table.{Object, Table}

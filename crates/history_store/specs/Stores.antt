@@ -8,8 +8,8 @@ use Rattle.gix_ref_file.specs.declared.files.FileError.{FileError}
 use Rattle.gix_ref_file.specs.declared.files.FileError.TheVariants as files
 use Rattle.history_model.specs.Objects.{Value, object_text, object_kind, content_of}
 use Rattle.history_model.specs.Objects.{id_of as value_id}
-use Rattle.gix_hash.specs.Id.{Id, id_of}
-use Rattle.gix_hash.specs.declared.kind.Kind.{Kind}
+use Rattle.gix_hash_id.specs.Id.{Id, id_of}
+use Rattle.gix_hash_id.specs.declared.kind.Kind.{Kind}
 use Rattle.gix_object_lines.specs.declared.kind.Kind.{Kind as ObjectKind}
 use Rattle.history_store.specs.declared.object.NewObject.{NewObject}
 use Rattle.history_store.specs.declared.objects.PutMadeError.{PutMadeError}

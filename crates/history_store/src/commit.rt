@@ -2,9 +2,9 @@
 ghost use Rattle.std.specs.Prelude.{◌≡◌, ◌≢◌, ◌↔◌, List, None, map, IfOk, IfSome, IfNone, MatchOption, IsTrue, IsFalse};
 ghost use Rattle.std.specs.List.{list_all};
 ghost use Rattle.bstr.specs.BStr.{bstr_bytes};
-ghost use Rattle.gix_hash.specs.Id.{Id, id_of};
-ghost use Rattle.gix_hash.specs.Kind.{hex_len};
-ghost use Rattle.gix_hash.specs.declared.kind.Kind as hash;
+ghost use Rattle.gix_hash_id.specs.Id.{Id, id_of};
+ghost use Rattle.gix_hash_id.specs.Kind.{hex_len};
+ghost use Rattle.gix_hash_id.specs.declared.kind.Kind as hash;
 ghost use Rattle.gix_object_commit_lines.specs.Commit.{Parts, SpellsCommit, commit_text};
 ghost use Rattle.gix_object_commit.specs.OwnedText.{own_parts, own_refusal};
 ghost use Rattle.gix_object_commit.specs.Views as views;

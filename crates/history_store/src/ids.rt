@@ -15,7 +15,7 @@ pub struct Ids {
 impl Ids {
     ghost use Rattle.std.specs.Prelude.{◌≡◌, ◌≤◌, length, OnOk};
     ghost use Rattle.std.specs.FinMap.{contains_key, empty};
-    ghost use Rattle.gix_hash.specs.Id.{Id, id_of};
+    ghost use Rattle.gix_hash_id.specs.Id.{Id, id_of};
     ghost use Rattle.history_store.specs.Ids.{IsAscending, is_one_of, with_id};
     ghost use Rattle.history_store.specs.KeptIds.{HasRoom, kept, left};
 

@@ -1,7 +1,7 @@
 //! Putting contents as objects: in written form, and naming none but what is stored.
 ghost use Rattle.std.specs.Prelude.{◌≡◌, ◌↔◌, ◌<◌, ◌≤◌, ◌⊎◌, Some, length, map, IfErr, IfOk, IsErrOf, IsFalse, IsTrue, OnErr, OnOk};
 ghost use Rattle.std.specs.List.{All};
-ghost use Rattle.gix_hash.specs.Id.{id_of};
+ghost use Rattle.gix_hash_id.specs.Id.{id_of};
 ghost use Rattle.gix_object_find.specs.declared.find.Error.TheVariants as found;
 ghost use Rattle.gix_object_write.specs.Keeping.{IsAsBefore, Puts};
 ghost use Rattle.gix_ref_file.specs.Calls.{Achieves, HasFault, Passes};

@@ -1,7 +1,7 @@
 //! What follows for the signatures of whole commits.
 
 ghost use Rattle.std.specs.Prelude.{List, ◌≡◌, ◌≢◌, ◌++◌, ◌∷◌, All, None, Some};
-ghost use Rattle.gix_hash.specs.Kind.{hex_len};
+ghost use Rattle.gix_hash_id.specs.Kind.{hex_len};
 ghost use Rattle.gix_object_commit_lines.specs.Commit.{Field, Parts, SpellsCommit, commit_text};
 ghost use Rattle.gix_object_commit_lines.specs.Signature.{signature_name};
 ghost use Rattle.gix_object_commit_tokens.specs.SignedCommit.{Cut, FindsSignature, with_headers};

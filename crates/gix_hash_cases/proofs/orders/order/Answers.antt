@@ -1,5 +1,5 @@
 use Rattle.std.proofs.Common.{ℕ, List, length, ap, arith}
-use Rattle.gix_hash.proofs.ByteLists.{length-digits_of}
+use Rattle.gix_hash_id.proofs.ByteLists.{length-digits_of}
 use Rattle.gix_hash_cases.proofs.orders.order.Goals as goal
 
 pub cmp_oid-requires : goal.cmp_oid-requires

@@ -1,4 +1,4 @@
-use Rattle.gix_hash.specs.Kind.{hex_len}
+use Rattle.gix_hash_id.specs.Kind.{hex_len}
 use Rattle.gix_object_commit_lines.proofs.Once.{spells_once}
 use Rattle.gix_object_commit_lines.proofs.laws.one_commit.Goals as goal
 

@@ -2,7 +2,7 @@
 
 ghost use Rattle.std.specs.Prelude.{◌≡◌, ◌≢◌, ◌≤◌, ◌+◌, ◌++◌, ◌⊎◌, [], length, option_map, IfOk, IfErr, OnOk, OnErr, Some, None, true, false};
 ghost use Rattle.std.specs.Borrow.{sem};
-ghost use Rattle.gix_hash.specs.Id.{id_of};
+ghost use Rattle.gix_hash_id.specs.Id.{id_of};
 ghost use Rattle.gix_object_entries.specs.Entry.{Item, item_of};
 ghost use Rattle.gix_object_editor.specs.Files.{Path, Leaf, Trees, is_null, leaf_of, HasStored, SameFiles, Begins, NamesAreFull, HasNoneBelow, HasSomeBelow, no_trees, removed, put, cleared};
 ghost use Rattle.gix_object_editor.specs.Nodes.{slots_of, entry_at};

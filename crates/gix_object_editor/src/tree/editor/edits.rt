@@ -1,7 +1,7 @@
 //! Edits below an opened tree.
 
 ghost use Rattle.std.specs.Prelude.{◌≡◌, ◌<◌, ◌≤◌, ◌+◌, ◌⊎◌, length, IfErr, OnOk, OnErr, IfOk, Some, None, true, false, []};
-ghost use Rattle.gix_hash.specs.Id.{id_of};
+ghost use Rattle.gix_hash_id.specs.Id.{id_of};
 ghost use Rattle.gix_object_editor.specs.Files.{Path, Trees, is_null, HasStored, SameFiles, Begins, NamesAreFull, HasNoneBelow, removed, put, cleared};
 ghost use Rattle.gix_object_editor.specs.Nodes.{slots_of, Way, onto, LeadsTo};
 ghost use Rattle.gix_object_editor.specs.Editor.{files_of, names_of, leaf_of_kind, LeadsThrough, LeadsInto, EditFault, LeafFault, IsFilled, IsFolder, IsChanged, ChangesNone, entry_over, entry_met, IsMadeAt, KeepsEntries, KeepsFolders, PutsEntry, MakesFolders, MakesFoldersAbove, ClearsEntries, HasFolderAt, IsOpenedAt, IsAsRead, IsAbove, EachEntryHas, ErrOverStored, OkOverStored, OverStored};

@@ -1,7 +1,7 @@
 //! Walking down opened trees, and opening more of them.
 
 ghost use Rattle.std.specs.Prelude.{◌≡◌, ◌<◌, ◌≤◌, ◌+◌, ◌∷◌, ◌++◌, ◌⊎◌, ℕ, length, map, drop, slice_index_or, if◌then◌else◌, is_ok, IfOk, IfErr, OnOk, OnErr, IsSome, Some, None, [], false};
-ghost use Rattle.gix_hash.specs.Id.{Id, id_of};
+ghost use Rattle.gix_hash_id.specs.Id.{Id, id_of};
 ghost use Rattle.gix_object_editor.specs.Files.{Bytes, Path, Trees, HasStored};
 ghost use Rattle.gix_object_editor.specs.Nodes.{slot_in, slots_of, child_of, IsForest, IsOpened, IsFolderAt, IsNoFolder, IsUnopened, IsStoppedAt, Way, onto, LeadsTo};
 ghost use Rattle.gix_object_editor.specs.Entries.{Property, EachHas, PassesDown};

@@ -2,8 +2,8 @@
 
 ghost use Rattle.std.specs.Prelude.{◌≡◌, ◌++◌, ◌∷◌, ◌↔◌, [], IsTrue, OnOk, OnErr, IsErrOf};
 ghost use Rattle.std.specs.Io.KnownBytes.{Appends};
-ghost use Rattle.gix_hash.specs.Id.{id_of};
-ghost use Rattle.gix_hash.specs.Spelling.{hex_text};
+ghost use Rattle.gix_hash_id.specs.Id.{id_of};
+ghost use Rattle.gix_hash_id.specs.Spelling.{hex_text};
 ghost use Rattle.gix_object_lines.specs.Actor.{IsPlain, IsSpellable, actor_text};
 ghost use Rattle.gix_object_lines.specs.Time.{IsSpellableOffset};
 ghost use Rattle.gix_object_lines.specs.Writes.{AppendsFront};

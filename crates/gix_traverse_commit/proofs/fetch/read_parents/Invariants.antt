@@ -1,5 +1,5 @@
 use Rattle.std.proofs.Common.{◌≡◌, [], map}
-use Rattle.gix_hash.specs.Id.{id_of}
+use Rattle.gix_hash_id.specs.Id.{id_of}
 use Rattle.gix_object_commit_tokens.specs.Tokens.{place_of}
 use Rattle.gix_traverse_commit.specs.Told.{TellsFront}
 use Rattle.gix_traverse_commit.specs.declared.parents.Parents.TheVariants.{First}

@@ -1,7 +1,7 @@
 use Rattle.std.proofs.Common.{List, [], get_or}
 use Rattle.std.proofs.lemmas.Option.{slice_get-get_or}
-use Rattle.gix_hash.specs.declared.object_id.ObjectId.{ObjectId}
-use Rattle.gix_hash.specs.declared.object_id.ObjectId.TheVariants.{Sha1}
+use Rattle.gix_hash_id.specs.declared.object_id.ObjectId.{ObjectId}
+use Rattle.gix_hash_id.specs.declared.object_id.ObjectId.TheVariants.{Sha1}
 use Rattle.gix_traverse_commit.specs.Order.{At}
 use Rattle.gix_traverse_topo.proofs.Meeting.{meet_more, met_all, keys_more}
 use Rattle.gix_traverse_topo.proofs.known.meet.Goals as goal

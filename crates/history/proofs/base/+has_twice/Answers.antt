@@ -4,9 +4,9 @@ use Rattle.std.proofs.lemmas.List.{take_rest}
 use Rattle.std.proofs.lemmas.Iterator.{YieldsList-from_slice}
 use Rattle.std.proofs.lemmas.Iterator.Search.{any_from_yields_List}
 use Rattle.history_model.specs.Bytes.{has_twice}
-use Rattle.gix_hash.specs.Id.{id_of}
-use Rattle.gix_hash.specs.Order.{id_eq}
-use Rattle.gix_hash.specs.declared.object_id.ObjectId.TheVariants.{Sha1}
+use Rattle.gix_hash_id.specs.Id.{id_of}
+use Rattle.gix_hash_id.specs.Order.{id_eq}
+use Rattle.gix_hash_id.specs.declared.object_id.ObjectId.TheVariants.{Sha1}
 use Rattle.history.proofs.BaseLemmas.{twice_told}
 use Rattle.history.proofs.base.+has_twice.Goals as goal
 

@@ -7,7 +7,7 @@ use Rattle.history_model.specs.Spelling.{Line, Field, parent_part, actor_parts, 
 use Rattle.history_store.specs.Formats.{own_actor}
 use Rattle.history.proofs.ReplyTexts.{map-map, pieces, same_line}
 use Rattle.history.proofs.showing.commit_text.Goals as goal
-use Rattle.gix_hash.specs.Id.{id_of}
+use Rattle.gix_hash_id.specs.Id.{id_of}
 
 pub returns : goal.returns
 returns c = λ kind plain.

@@ -13,7 +13,7 @@ use Rattle.history_files.proofs.Named.{base_inner, may_put, own_deeper, passes_d
 use Rattle.history_files.proofs.Parsed.{has_stored, trees_in}
 use Rattle.history_model.specs.FileMap.{components}
 use Rattle.history_files.specs.Edits.{name_count}
-use Rattle.gix_hash.specs.declared.object_id.ObjectId.TheVariants.{Sha1}
+use Rattle.gix_hash_id.specs.declared.object_id.ObjectId.TheVariants.{Sha1}
 use Rattle.history_model.specs.declared.FileKind.TheVariants.{File as PlainFile}
 use Rattle.history_files.specs.declared.edits.Change.TheVariants.{Put}
 use Rattle.history_files.specs.declared.edits.Edit.{Edit}

@@ -1,5 +1,5 @@
 use Rattle.std.proofs.Common.{◌≡◌, ◌≤◌, ◌<◌, ◌+◌, ◌^◌, List, [], drop, take}
-use Rattle.gix_hash.specs.declared.kind.Kind.{Kind}
+use Rattle.gix_hash_id.specs.declared.kind.Kind.{Kind}
 use Rattle.gix_object_editor.specs.Files.{Trees, HasStored}
 use Rattle.gix_object_editor.specs.Editor.{EachEntryHas, IsAsRead, asked_by, files_of}
 use Rattle.gix_object_editor.specs.Entries.{PassesDown, Property}

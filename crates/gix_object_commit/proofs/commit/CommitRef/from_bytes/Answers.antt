@@ -2,7 +2,7 @@ use Rattle.std.proofs.Common.{◌∙◌, ap, sym, subst, map, ◌++◌, ◌∷�
 use Rattle.std.specs.Prelude.{All, flat_map}
 use Rattle.std.specs.Option.{option_map}
 use Rattle.bstr.specs.BStr.{bstr_bytes}
-use Rattle.gix_hash.specs.Kind.{hex_len}
+use Rattle.gix_hash_id.specs.Kind.{hex_len}
 use Rattle.gix_object_lines.specs.HexLine.{IsHex}
 use Rattle.gix_object_commit_lines.specs.Commit.{encoding_text, field_text}
 use Rattle.gix_object_commit_lines.specs.Faults.{InAuthor, InCommitter, InEncoding}

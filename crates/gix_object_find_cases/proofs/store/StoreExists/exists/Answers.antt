@@ -1,5 +1,5 @@
 use Rattle.std.proofs.Common.{◌∙◌, sym}
-use Rattle.gix_hash.specs.Views.{viewed_id}
+use Rattle.gix_hash_id.specs.Views.{viewed_id}
 use Rattle.gix_object_find_cases.proofs.Listed.{listed_by}
 use Rattle.gix_object_find_cases.proofs.store.StoreExists.exists.Goals as goal
 

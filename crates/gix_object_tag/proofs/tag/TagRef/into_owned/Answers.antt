@@ -3,10 +3,10 @@ use Rattle.std.specs.Prelude.{◌⊎◌}
 use Rattle.std.proofs.lemmas.Result.{err_from_is_err_and}
 use Rattle.hex.specs.Hex.{hex_digit_value}
 use Rattle.bstr.specs.BStr.{bstr_bytes}
-use Rattle.gix_hash.specs.Id.{id_of}
-use Rattle.gix_hash.specs.Views.{IsFaultOf, IsHexOfId}
-use Rattle.gix_hash.proofs.PrefixLemmas.{refused_whole}
-use Rattle.gix_hash.proofs.ReadBack.{all_values}
+use Rattle.gix_hash_id.specs.Id.{id_of}
+use Rattle.gix_hash_id.specs.Views.{IsFaultOf, IsHexOfId}
+use Rattle.gix_hash_id.proofs.Reading.{refused_whole}
+use Rattle.gix_hash_id.proofs.ReadBack.{all_values}
 use Rattle.gix_object_lines.specs.declared.decode.Error.{Error}
 use Rattle.gix_object_lines.specs.declared.decode.Error.TheVariants.{InvalidTime, Memory}
 use Rattle.gix_object_tag.specs.Format.{TellsWhen}

@@ -2,8 +2,8 @@ use Rattle.std.proofs.Common.{◌≡◌, ◌∙◌, ◌<◌, sym, subst, List, S
 use Rattle.std.proofs.lemmas.Option.{slice_get-get_or}
 use Rattle.std.proofs.lemmas.Bool.Decides.{nat_tests}
 use Rattle.std.proofs.Common.{arith}
-use Rattle.gix_hash.specs.Id.{id_of}
-use Rattle.gix_hash.specs.Views.{viewed_id}
+use Rattle.gix_hash_id.specs.Id.{id_of}
+use Rattle.gix_hash_id.specs.Views.{viewed_id}
 use Rattle.gix_traverse_bench.specs.declared.store.Stored.{Stored}
 use Rattle.gix_traverse_bench.proofs.Listed.{in_ids}
 use Rattle.gix_traverse_bench.proofs.store.Store.at.Goals as goal

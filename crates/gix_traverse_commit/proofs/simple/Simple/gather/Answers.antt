@@ -1,6 +1,6 @@
 use Rattle.std.proofs.Common.{arith, ◌+◌, ◌≡◌, ◌∙◌, sym, ap, subst, inl, inr, List, [], ◌++◌}
 use Rattle.std.specs.Prelude.{Contains}
-use Rattle.gix_hash.specs.declared.object_id.ObjectId.{ObjectId}
+use Rattle.gix_hash_id.specs.declared.object_id.ObjectId.{ObjectId}
 use Rattle.gix_traverse_commit.specs.Rows.{AllHeld}
 use Rattle.std.proofs.lemmas.List.Elements.{Contains-append_cases}
 use Rattle.gix_traverse_commit.specs.Ending.{times_in, times_waiting}

@@ -1,6 +1,6 @@
 use Rattle.std.proofs.Common.{ap, arith, rules, ◌≡◌, sym, ◌∙◌, refl, subst, inl, inr, List, [], ◌∷◌, ◌++◌, length, Some, None}
-use Rattle.gix_hash.specs.Id.{Id}
-use Rattle.gix_hash.specs.declared.object_id.ObjectId.{ObjectId}
+use Rattle.gix_hash_id.specs.Id.{Id}
+use Rattle.gix_hash_id.specs.declared.object_id.ObjectId.{ObjectId}
 use Rattle.gix_traverse_commit.specs.Commits.{Commits, asked_parents}
 use Rattle.gix_traverse_commit.specs.Nodes.{Node, is_hidden, is_met}
 use Rattle.gix_traverse_commit.specs.Simply.{AcceptsAs, Answers, Asked, IsUnderWay, keep_of}

@@ -1,6 +1,6 @@
 use Rattle.std.proofs.Common.{inl, ◌<◌, ◌≡◌, ◌∙◌, sym, refl, ap, subst, arith, ℕ, length, List, [], ◌∷◌, ◌++◌, Option, None, true, false, cond, ◌+◌}
-use Rattle.gix_hash.specs.Id.{id_of}
-use Rattle.gix_hash.specs.declared.object_id.ObjectId.{ObjectId}
+use Rattle.gix_hash_id.specs.Id.{id_of}
+use Rattle.gix_hash_id.specs.declared.object_id.ObjectId.{ObjectId}
 use Rattle.std.specs.List.{sum_by}
 use Rattle.gix_traverse_commit.specs.Ending.{may_come}
 use Rattle.gix_traverse_commit.specs.Meeting.{CountsOne}

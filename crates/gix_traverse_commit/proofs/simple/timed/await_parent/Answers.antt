@@ -1,6 +1,6 @@
 use Rattle.std.proofs.Common.{List, ap, arith, rules, ◌≡◌, refl, true, false}
 use Rattle.std.specs.Prelude.{not, ◌&&◌}
-use Rattle.gix_hash.specs.Id.{id_of}
+use Rattle.gix_hash_id.specs.Id.{id_of}
 use Rattle.gix_traverse_commit.specs.Known.{turns_of}
 use Rattle.gix_traverse_commit.specs.Nodes.{is_hidden, is_met}
 use Rattle.gix_traverse_commit.specs.Sorting.{in_time}

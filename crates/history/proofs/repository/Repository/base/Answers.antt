@@ -6,7 +6,7 @@ use Rattle.std.proofs.lemmas.Result.{err_from_is_err_and}
 use Rattle.history_model.specs.Forms.{is_name}
 use Rattle.history_model.specs.Words.{word_reading}
 use Rattle.history_model.specs.declared.Fault.TheVariants.{Memory}
-use Rattle.gix_hash.specs.Id.{id_of}
+use Rattle.gix_hash_id.specs.Id.{id_of}
 use Rattle.history.specs.Bases.{IsBase, IsExpected, expected_readings, words_cause, parents_cause}
 use Rattle.history.specs.CommitCauses.{IsNamed, name_causes, name_form_causes, word_causes, held_causes, place_causes, parent_causes}
 use Rattle.history.specs.Readings.{reading_of, commit_in}

@@ -1,6 +1,6 @@
 use Rattle.history.proofs.Tables.{holds_known, root_of, read_told}
 use Rattle.history.proofs.repository.Repository.found_below.Goals as goal
-use Rattle.gix_hash.specs.Id.{id_of}
+use Rattle.gix_hash_id.specs.Id.{id_of}
 
 pub returns : goal.returns
 returns g c = λ r below stands at.

@@ -5,7 +5,7 @@ use Rattle.history_model.specs.Commands.{Files}
 use Rattle.history_model.specs.Replies.{FilesAre, reply_text}
 use Rattle.history.proofs.Answered.{reading_fault, unread, handed_on, files_refused, reads_commit, files_answered, folder_at}
 use Rattle.history.proofs.repository.Repository.list_files.Goals as goal
-use Rattle.gix_hash.specs.Id.{id_of}
+use Rattle.gix_hash_id.specs.Id.{id_of}
 
 pub returns-in_err-id : goal.returns-in_err-id
 returns-in_err-id g c = λ r s.

@@ -12,13 +12,13 @@ use Rattle.history_model.specs.Meaning.{edits_of, first_files, parents_of, new_c
 use Rattle.history_model.specs.CommandParts.{paths_in, contents_in}
 use Rattle.history_model.specs.Causes.{is_bad_path}
 use Rattle.gix_object_lines.specs.declared.kind.Kind.TheVariants as kinds
-use Rattle.gix_hash.specs.Id.{null_id, id_of}
+use Rattle.gix_hash_id.specs.Id.{null_id, id_of}
 use Rattle.history_model.specs.Repository.{HoldsCommit}
 use Rattle.history_model.specs.Wholeness.{IsSound}
 use Rattle.history_model.proofs.OfferedReads.{parents_are_commits}
 use Rattle.history_model.specs.Commands as commands
 use Rattle.history_model.specs.declared.Cause.TheVariants.{BadActor, BadPath, TooLarge}
-use Rattle.gix_hash.specs.declared.kind.Kind.{Kind}
+use Rattle.gix_hash_id.specs.declared.kind.Kind.{Kind}
 use Rattle.history_files.specs.Editing.{AreEdited}
 use Rattle.history_store.specs.Stores.{AreObjectsOf}
 use Rattle.history_store.specs.Formats.{actor_of}

@@ -7,7 +7,7 @@ use Rattle.history_store.specs.Commits.{IsCommitOf}
 use Rattle.history.proofs.Befores.{gives_stopped}
 use Rattle.history.proofs.StoredValues.{commit_formed}
 use Rattle.history.proofs.repository.Repository.read_commit.Goals as goal
-use Rattle.gix_hash.specs.Id.{id_of}
+use Rattle.gix_hash_id.specs.Id.{id_of}
 
 pub returns : goal.returns
 returns g c r value stands at =

@@ -6,7 +6,7 @@ use Rattle.history_model.proofs.TreePlaces.{text_itself, texts_apart}
 use Rattle.history.proofs.WordReads.{may_mean, all_left, next_passed, next_absent, next_found, found_reads, none_reads, stands_so, candidate_held, branch_reads}
 use Rattle.history.proofs.repository.Repository.read_word.Goals as goal
 use Rattle.history.proofs.repository.Repository.read_word.Goals.{then-is_candidate+in_ok-id-2+in_default, else-is_candidate}
-use Rattle.gix_hash.specs.Id.{id_of}
+use Rattle.gix_hash_id.specs.Id.{id_of}
 
 pub returns-in-Some : goal.returns-in-Some
 returns-in-Some g c = λ r stand.

@@ -9,7 +9,7 @@ use Rattle.history.proofs.Answered.{IsFound, reading_fault, handed_on, reads_com
 use Rattle.history.specs.Shown.{shown_content}
 use Rattle.history.proofs.FieldLemmas.{whole_path}
 use Rattle.history.proofs.repository.Repository.show_content.Goals as goal
-use Rattle.gix_hash.specs.Id.{id_of}
+use Rattle.gix_hash_id.specs.Id.{id_of}
 
 pub returns-then-is_bad_path : goal.returns-then-is_bad_path
 returns-then-is_bad_path g c = λ r word bytes s reads kept.

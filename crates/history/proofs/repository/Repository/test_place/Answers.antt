@@ -4,8 +4,8 @@ use Rattle.std.specs.Prelude.{⊤}
 use Rattle.history_model.specs.Bytes.{Bytes}
 use Rattle.history_model.specs.Forms.{is_name}
 use Rattle.history_model.specs.Meaning.{branch_or_name}
-use Rattle.gix_hash.specs.Id.{id_of}
-use Rattle.gix_hash.specs.declared.object_id.ObjectId.{ObjectId}
+use Rattle.gix_hash_id.specs.Id.{id_of}
+use Rattle.gix_hash_id.specs.declared.object_id.ObjectId.{ObjectId}
 use Rattle.history_store.specs.References.{TellsCollision}
 use Rattle.history.specs.CommitCauses.{place_causes}
 use Rattle.history.specs.Face.{names_part}

@@ -1,6 +1,6 @@
 use Rattle.std.proofs.Common.{◌<◌, ◌≤◌, ◌∙◌, sym, ap, subst, length}
 use Rattle.std.specs.List.{slice_index_or}
-use Rattle.gix_hash.specs.Id.{id_of}
+use Rattle.gix_hash_id.specs.Id.{id_of}
 use Rattle.history_store.specs.Ids.{joined}
 use Rattle.history_store.proofs.IdLists.{contains_found, no_list, Begins}
 use Rattle.history_store.proofs.IdSets.{contains-set_of}

@@ -1,7 +1,7 @@
 use Rattle.std.proofs.Common.{◌≡◌, ◌<◌, ◌∙◌, refl, rules, sym, ap, subst, true, if◌then◌else◌, is_ok, vec_len, vec_capacity, Vec, Global}
 use Rattle.std.specs.List.{insert}
-use Rattle.gix_hash.specs.Id.{id_of}
-use Rattle.gix_hash.specs.declared.object_id.ObjectId.{ObjectId}
+use Rattle.gix_hash_id.specs.Id.{id_of}
+use Rattle.gix_hash_id.specs.declared.object_id.ObjectId.{ObjectId}
 use Rattle.history_store.proofs.IdLists.{listed_again, listed_new, still_lists, Begins}
 use Rattle.history_store.proofs.ids.Ids.insert.Goals as goal
 

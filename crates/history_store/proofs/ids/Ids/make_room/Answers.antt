@@ -1,5 +1,5 @@
 use Rattle.std.proofs.Common.{◌≡◌, ◌<◌, ◌∙◌, sym, ap, subst, length, true, arith, Vec, Global}
-use Rattle.gix_hash.specs.declared.object_id.ObjectId.{ObjectId}
+use Rattle.gix_hash_id.specs.declared.object_id.ObjectId.{ObjectId}
 use Rattle.history_store.specs.Ids.{is_list_of, set_of}
 use Rattle.history_store.proofs.IdLists.{default_beyond, joined_same, list_at, set_list}
 use Rattle.history_store.proofs.ids.Ids.make_room.Goals as goal

@@ -15,7 +15,7 @@ use Rattle.history_store.proofs.Above.{then_above, appended_brings}
 use Rattle.history_store.proofs.Clearings.{caused, later_risen}
 use Rattle.history_store.proofs.Ways.{log_path}
 use Rattle.history_store.proofs.names.Names.append_to_log.Goals as goal
-use Rattle.gix_hash.specs.Id.{id_of}
+use Rattle.gix_hash_id.specs.Id.{id_of}
 
 pub returns-then-eq-clause-logged : goal.returns-then-eq-clause-logged
 returns-then-eq-clause-logged g c = λ honest.

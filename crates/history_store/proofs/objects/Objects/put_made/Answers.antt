@@ -18,7 +18,7 @@ use Rattle.history_model.specs.Bytes.{Bytes}
 use Rattle.history_store.proofs.Stored.{taken_by_other, none_other, same_other, untaken}
 use Rattle.history_store.proofs.objects.Objects.put_made.Goals as goal
 use Rattle.history_store.proofs.objects.Objects.put_made.Goals.{then-branch+in_ok-holds+else-not-branch, else-branch+in_ok-write}
-use Rattle.gix_hash.specs.Id.{id_of}
+use Rattle.gix_hash_id.specs.Id.{id_of}
 
 spelled : (object : NewObject) (content header : Bytes) → content ≡ object.content.items → header ≡ header_text object.kind (length content) → header ++ content ≡ text_of object
 spelled object content header same is = ap (λ h. h ++ content) is ∙ ap (object_text object.kind) same

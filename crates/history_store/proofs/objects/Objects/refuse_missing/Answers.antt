@@ -2,7 +2,7 @@ use Rattle.std.proofs.Common.{◌∙◌, arith, ap, get_or, map, length, suc, su
 use Rattle.std.specs.List.{All}
 use Rattle.std.proofs.lemmas.List.{get_or-map, take_all, take-append-drop}
 use Rattle.std.proofs.lemmas.List.Elements.{All-more}
-use Rattle.gix_hash.specs.declared.object_id.ObjectId.TheVariants.{Sha1}
+use Rattle.gix_hash_id.specs.declared.object_id.ObjectId.TheVariants.{Sha1}
 use Rattle.gix_object_lines.specs.declared.kind.Kind.TheVariants.{Tree}
 use Rattle.history_store.specs.KnownObjects.{table_of}
 use Rattle.history_store.specs.Puts.{IsStoredAs}

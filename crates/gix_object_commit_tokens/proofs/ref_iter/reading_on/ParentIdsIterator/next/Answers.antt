@@ -1,6 +1,6 @@
 use Rattle.std.proofs.Common.{◌<◌, ap, length, arith}
 use Rattle.std.specs.Option.{option_map}
-use Rattle.gix_hash.specs.Id.{id_of}
+use Rattle.gix_hash_id.specs.Id.{id_of}
 use Rattle.gix_object_commit_tokens.specs.Tokens.{part_of, place_of}
 use Rattle.gix_object_commit_tokens.specs.ReadingOn.{ids_place, parent_told}
 use Rattle.gix_object_commit_tokens.proofs.Readings.{given_on, given_one}

@@ -1,7 +1,7 @@
 use Rattle.std.proofs.Common.{◌≡◌, ◌∙◌, ◌<◌, ap, sym, refl, arith, length, None}
 use Rattle.gix_object_entries.specs.Entry.{item_of}
 use Rattle.gix_object_entries.specs.ModeText.{mode_of}
-use Rattle.gix_hash.specs.Id.{Id}
+use Rattle.gix_hash_id.specs.Id.{Id}
 use Rattle.gix_object_editor.specs.declared.tree.editor.node.Slot.{Slot}
 use Rattle.gix_object_editor.specs.Files.{Leaf, leaf_of}
 use Rattle.gix_object_editor.specs.Nodes.{slot_in, leaf_in}

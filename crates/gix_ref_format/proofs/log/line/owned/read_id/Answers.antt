@@ -1,8 +1,8 @@
 use Rattle.std.proofs.Common.{subst, refl}
 use Rattle.hex.specs.Hex.{hex_digit_value}
 use Rattle.bstr.specs.BStr.{bstr_bytes}
-use Rattle.gix_hash.specs.Id.{id_of}
-use Rattle.gix_hash.specs.Views.{IsFaultOf, IsHexOfId}
+use Rattle.gix_hash_id.specs.Id.{id_of}
+use Rattle.gix_hash_id.specs.Views.{IsFaultOf, IsHexOfId}
 use Rattle.gix_ref_format.proofs.LogHexDigits.{id_of_spelled, not_refused}
 use Rattle.gix_ref_format.proofs.log.line.owned.read_id.Goals as goal
 

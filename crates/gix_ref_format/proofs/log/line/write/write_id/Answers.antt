@@ -1,6 +1,6 @@
 use Rattle.std.proofs.Common.{◌∙◌, refl, subst, ◌∷◌, []}
-use Rattle.gix_hash.specs.Id.{id_of}
-use Rattle.gix_hash.specs.Spelling.{hex_text}
+use Rattle.gix_hash_id.specs.Id.{id_of}
+use Rattle.gix_hash_id.specs.Spelling.{hex_text}
 use Rattle.gix_object_lines.specs.Writes.{AppendsFront}
 use Rattle.gix_object_lines.proofs.Fronts.{front_of}
 use Rattle.gix_object_lines.proofs.Refusals.{on_err}

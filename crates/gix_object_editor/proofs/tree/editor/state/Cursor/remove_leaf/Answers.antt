@@ -3,7 +3,7 @@ use Rattle.gix_object_editor.specs.Editor.{files_of, entry_over, IsMadeAt, names
 use Rattle.gix_object_editor.specs.Files.{Trees, HasStored, SameFiles, HasNoneBelow, removed}
 use Rattle.gix_object_editor.proofs.Folders.{below_base}
 use Rattle.gix_object_editor.proofs.Leafs.{leaf_fault_folder}
-use Rattle.gix_hash.specs.Id.{Id}
+use Rattle.gix_hash_id.specs.Id.{Id}
 use Rattle.gix_object_editor.specs.Nodes.{slots_of}
 use Rattle.gix_object_editor.specs.Asked.{Asks}
 use Rattle.gix_object_editor.proofs.Asking.{asked_below}

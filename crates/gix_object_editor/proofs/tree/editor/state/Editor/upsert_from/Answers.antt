@@ -1,6 +1,6 @@
 use Rattle.std.proofs.Common.{refl, Some, List, ◌⊎◌, inl, true, false, ℕ, Bool, ◌≡◌, ◌≢◌, ◌∙◌, ◌<◌, ◌+◌, ◌-◌, ap, sym, subst, arith, length, drop, take, None, get_or, [], ◌∷◌, ◌++◌}
 use Rattle.std.proofs.lemmas.List.{length-drop, get_or-map}
-use Rattle.gix_hash.specs.Id.{id_of}
+use Rattle.gix_hash_id.specs.Id.{id_of}
 use Rattle.gix_object_entries.specs.Mode.{kind_value}
 use Rattle.gix_object_entries.specs.ModeText.{mode_of}
 use Rattle.gix_object_editor.specs.declared.tree.editor.node.Node.{Node}

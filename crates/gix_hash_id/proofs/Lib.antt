@@ -1,0 +1,10 @@
+pub mod ByteLists
+pub mod Compared
+pub mod EmptyObjects
+pub mod KindLemmas
+pub mod LawLemmas
+pub mod LowerCase
+pub mod ReadBack
+pub mod Reading
+pub mod TextOrder
+pub mod Texts

@@ -1,0 +1,13 @@
+pub mod Displays
+pub mod Hasher
+pub mod Id
+pub mod Kind
+pub mod Lending
+pub mod LetterCase
+pub mod Order
+pub mod OrderLaws
+pub mod Packed
+pub mod SameWrites
+pub mod Spelling
+pub mod Views
+pub mod Writes
