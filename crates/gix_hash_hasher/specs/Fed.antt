@@ -25,17 +25,22 @@ HasFed h kind fed = StateHasFed h.state kind fed
 
 -- whatever the one hasher was fed, the other was fed that and then these bytes
 abbrev pub FedMore : Hasher → Hasher → List ℕ → Type 0
-FedMore old new bytes = (kind : Kind) (fed : List ℕ) → HasFed old kind fed → HasFed new kind (fed ++ bytes)
+FedMore old new bytes =
+    (kind : Kind) (fed : List ℕ) → HasFed old kind fed → HasFed new kind (fed ++ bytes)
 
 -- the id is the digest of what the hasher was fed and then these bytes
 abbrev pub IsDigestOf : Hasher → Id → List ℕ → Type 0
-IsDigestOf hasher id bytes = (kind : Kind) (fed : List ℕ) → HasFed hasher kind fed → id ≡ id_of_message kind (fed ++ bytes)
+IsDigestOf hasher id bytes =
+    (kind : Kind) (fed : List ℕ) → HasFed hasher kind fed → id ≡ id_of_message kind (fed ++ bytes)
 
 -- a hasher that was fed nothing more
 pub fed_none : (hasher : Hasher) → FedMore hasher hasher []
-fed_none hasher kind fed h = subst (λ (all : List ℕ). HasFed hasher kind all) (sym (append-nil fed)) h
+fed_none hasher kind fed h =
+    subst (λ (all : List ℕ). HasFed hasher kind all) (sym (append-nil fed)) h
 
 -- two feeds in a row are one of both
-pub fed_then : (a b c : Hasher) (xs ys : List ℕ) → FedMore a b xs → FedMore b c ys → FedMore a c (xs ++ ys)
+pub fed_then : (a b c : Hasher) (xs ys : List ℕ) → FedMore a b xs → FedMore b c ys
+    → FedMore a c (xs ++ ys)
 fed_then a b c xs ys f g kind fed h =
-    subst (λ (all : List ℕ). HasFed c kind all) (append_assoc fed xs ys) (g kind (fed ++ xs) (f kind fed h))
+    subst (λ (all : List ℕ). HasFed c kind all) (append_assoc fed xs ys)
+    (g kind (fed ++ xs) (f kind fed h))

@@ -15,12 +15,14 @@ bytes_in_pieces n k = min n (65535 * k)
 -- the progress was told the length of each of the first k pieces of n bytes, and the interruption was
 -- asked after each and gave these answers
 pub record TellsPieces {P I : Type 0} (told : P → ℕ → P → Type 0) (answered : I → Bool → I → Type 0)
-    (progress progress_after : P) (interrupt interrupt_after : I) (n k : ℕ) (answers : List Bool) : Type 0 where
+    (progress progress_after : P) (interrupt interrupt_after : I) (n k : ℕ)
+    (answers : List Bool) : Type 0 where
   pub progressed : FoldsTo told progress (piece_lengths n k) progress_after
   pub asked : FoldsTo answered interrupt answers interrupt_after
 
 -- a reader gave the first k pieces of n bytes, which are these bytes, and each was told and asked about
-pub record ReadsPieces {R P I : Type 0} (remaining : R → Option (List ℕ)) (told : P → ℕ → P → Type 0) (answered : I → Bool → I → Type 0)
+pub record ReadsPieces {R P I : Type 0} (remaining : R → Option (List ℕ))
+    (told : P → ℕ → P → Type 0) (answered : I → Bool → I → Type 0)
     (reader reader_after : R) (progress progress_after : P) (interrupt interrupt_after : I)
     (n k : ℕ) (answers : List Bool) (bytes : List ℕ) : Type 0 where
   pub count : length bytes ≡ bytes_in_pieces n k
@@ -33,12 +35,15 @@ GivesFewer old new n = (bytes : List ℕ) × (length bytes < n) × Consumes old 
 
 -- a reader gave the first k pieces of n bytes, and some of the next piece but not all: these bytes. The
 -- pieces that it gave whole were told and asked about, and each answer was no
-pub record StopsAfterPieces {R P I : Type 0} (remaining : R → Option (List ℕ)) (told : P → ℕ → P → Type 0) (answered : I → Bool → I → Type 0)
-    (reader reader_after : R) (progress progress_after : P) (interrupt interrupt_after : I) (n k : ℕ) (bytes : List ℕ) : Type 0 where
+pub record StopsAfterPieces {R P I : Type 0} (remaining : R → Option (List ℕ))
+    (told : P → ℕ → P → Type 0) (answered : I → Bool → I → Type 0)
+    (reader reader_after : R) (progress progress_after : P) (interrupt interrupt_after : I)
+    (n k : ℕ) (bytes : List ℕ) : Type 0 where
   pub whole : bytes_in_pieces n k ≤ length bytes
   pub missing : length bytes < bytes_in_pieces n (suc k)
   pub read : Consumes (remaining reader) (remaining reader_after) bytes
-  pub tells : TellsPieces told answered progress progress_after interrupt interrupt_after n k (replicate k false)
+  pub tells : TellsPieces told answered progress progress_after interrupt interrupt_after n k
+      (replicate k false)
 
 -- k pieces, and not fewer, have all n bytes
 pub record IsPieceCount (n k : ℕ) : Type 0 where

@@ -28,7 +28,8 @@ pub fn hasher(kind: Kind) -> Hasher
 impl Hasher {
     /// Feeds these bytes. All bytes that a hasher is fed are at most 2^61 - 1, as FIPS 180-4 allows.
     pub fn update(&mut self, bytes: &[u8])
-        ensures { (kind : Kind) (fed : List ℕ) → HasFed self.old kind fed → HasFed self.new kind (fed ++ bytes.now) }
+        ensures { (kind : Kind) (fed : List ℕ) → HasFed self.old kind fed
+            → HasFed self.new kind (fed ++ bytes.now) }
     {
         match &mut self.state {
             State::Sha1(hasher) => hasher.update(bytes),
@@ -38,7 +39,8 @@ impl Hasher {
 
     /// The id that is the digest of all bytes fed.
     pub fn try_finalize(self) -> ObjectId
-        ensures { (kind : Kind) (fed : List ℕ) → HasFed self kind fed → id_of result ≡ id_of_message kind fed }
+        ensures { (kind : Kind) (fed : List ℕ) → HasFed self kind fed
+            → id_of result ≡ id_of_message kind fed }
     {
         match self.state {
             State::Sha1(hasher) => ObjectId::Sha1(hasher.finalize()),

@@ -84,7 +84,8 @@ pub fn bytes_of_file<F: Files, L: AsPath, P: Progress, I: Interrupt>(
         × (length bytes ≡ num_bytes_from_start) × (id_of id ≡ id_of_message kind bytes)
         × TellsPieces P.told I.answered progress.old progress.new should_interrupt.old should_interrupt.new
         num_bytes_from_start k (replicate k false)) }
-    ensures interrupted { IfErr result (λ e. IsInterrupted e → (k : ℕ) × HasPiece num_bytes_from_start k
+    ensures interrupted { IfErr result
+        (λ e. IsInterrupted e → (k : ℕ) × HasPiece num_bytes_from_start k
         × TellsPieces P.told I.answered progress.old progress.new should_interrupt.old should_interrupt.new
         num_bytes_from_start (suc k) (replicate k false ++ true ∷ [])) }
     ensures io { IfErr result (λ e. IsIo e → (k : ℕ) × (65535 * k ≤ num_bytes_from_start)
@@ -114,9 +115,11 @@ pub fn bytes<R: io::Read, P: Progress, I: Interrupt>(
         × ReadsPieces R.remaining P.told I.answered read.old read.new progress.old progress.new
         should_interrupt.old should_interrupt.new num_bytes_from_start k (replicate k false) bytes
         × (id_of id ≡ id_of_message kind bytes)) }
-    ensures interrupted { IfErr result (λ e. IsInterrupted e → (k : ℕ) × (bytes : List ℕ) × HasPiece num_bytes_from_start k
+    ensures interrupted { IfErr result
+        (λ e. IsInterrupted e → (k : ℕ) × (bytes : List ℕ) × HasPiece num_bytes_from_start k
         × ReadsPieces R.remaining P.told I.answered read.old read.new progress.old progress.new
-        should_interrupt.old should_interrupt.new num_bytes_from_start (suc k) (replicate k false ++ true ∷ []) bytes) }
+        should_interrupt.old should_interrupt.new num_bytes_from_start (suc k)
+        (replicate k false ++ true ∷ []) bytes) }
     ensures io { IfErr result (λ e. IsIo e → (k : ℕ) × (bytes : List ℕ)
         × StopsAfterPieces R.remaining P.told I.answered read.old read.new progress.old progress.new
         should_interrupt.old should_interrupt.new num_bytes_from_start k bytes) }
@@ -148,9 +151,11 @@ pub fn bytes_with_hasher<R: io::Read, P: Progress, I: Interrupt>(
         × ReadsPieces R.remaining P.told I.answered read.old read.new progress.old progress.new
         should_interrupt.old should_interrupt.new num_bytes_from_start k (replicate k false) bytes
         × IsDigestOf hasher (id_of id) bytes) }
-    ensures interrupted { IfErr result (λ e. IsInterrupted e → (k : ℕ) × (bytes : List ℕ) × HasPiece num_bytes_from_start k
+    ensures interrupted { IfErr result
+        (λ e. IsInterrupted e → (k : ℕ) × (bytes : List ℕ) × HasPiece num_bytes_from_start k
         × ReadsPieces R.remaining P.told I.answered read.old read.new progress.old progress.new
-        should_interrupt.old should_interrupt.new num_bytes_from_start (suc k) (replicate k false ++ true ∷ []) bytes) }
+        should_interrupt.old should_interrupt.new num_bytes_from_start (suc k)
+        (replicate k false ++ true ∷ []) bytes) }
     ensures io { IfErr result (λ e. IsIo e → (k : ℕ) × (bytes : List ℕ)
         × StopsAfterPieces R.remaining P.told I.answered read.old read.new progress.old progress.new
         should_interrupt.old should_interrupt.new num_bytes_from_start k bytes) }
@@ -172,9 +177,11 @@ pub fn bytes_with_hasher<R: io::Read, P: Progress, I: Interrupt>(
 // Reads a piece in full, and feeds it to the hasher.
 fn hash_piece<R: io::Read>(read: &mut R, piece: &mut [u8], hasher: &mut Hasher) -> Result<(), Error>
     ensures ok { OnOk result ((bytes : List ℕ) × (length bytes ≡ length piece.old)
-        × Consumes (R.remaining read.old) (R.remaining read.new) bytes × FedMore hasher.old hasher.new bytes) }
+        × Consumes (R.remaining read.old) (R.remaining read.new) bytes
+        × FedMore hasher.old hasher.new bytes) }
     ensures err { IfErr result (λ e. IsInterrupted e → ⊥) }
-    ensures stopped { OnErr result (GivesFewer (R.remaining read.old) (R.remaining read.new) (length piece.old)) }
+    ensures stopped { OnErr result
+        (GivesFewer (R.remaining read.old) (R.remaining read.new) (length piece.old)) }
 {
     fill(read, piece)?;
     hasher.update(piece);
@@ -184,7 +191,8 @@ fn hash_piece<R: io::Read>(read: &mut R, piece: &mut [u8], hasher: &mut Hasher) 
 // Fills a piece from the reader, whose early end is an error.
 fn fill<R: io::Read>(read: &mut R, piece: &mut [u8]) -> io::Result<()>
     ensures ok { OnOk result (Consumes (R.remaining read.old) (R.remaining read.new) piece.new) }
-    ensures err { OnErr result (GivesFewer (R.remaining read.old) (R.remaining read.new) (length piece.old)) }
+    ensures err { OnErr result
+        (GivesFewer (R.remaining read.old) (R.remaining read.new) (length piece.old)) }
 {
     let mut filled = 0;
     'reads: while filled < piece.len() {
@@ -239,8 +247,10 @@ impl<T> Write<T> {
 // One write, which is tried again where a signal interrupted it.
 fn write_some<T: io::Write>(writer: &mut Write<T>, buf: &[u8]) -> io::Result<usize>
     ensures bound { WritesAtMost result buf.now }
-    ensures bytes { WriteAppends (T.contents writer.old.inner) (T.contents writer.new.inner) result buf.now }
-    ensures hashed { MatchResult result (λ n. FedMore writer.old.hash writer.new.hash (take n buf.now))
+    ensures bytes { WriteAppends (T.contents writer.old.inner)
+        (T.contents writer.new.inner) result buf.now }
+    ensures hashed { MatchResult result
+        (λ n. FedMore writer.old.hash writer.new.hash (take n buf.now))
         (λ _. writer.new.hash ≡ writer.old.hash) }
 {
     'tries: for _ in 0..u64::MAX {
@@ -261,8 +271,10 @@ impl<T: io::Write> io::Write for Write<T> {
 
     fn write(&mut self, buf: &[u8]) -> io::Result<usize>
         ensures bound { WritesAtMost result buf.now }
-        ensures bytes { WriteAppends (T.contents self.old.inner) (T.contents self.new.inner) result buf.now }
-        ensures hashed { MatchResult result (λ n. FedMore self.old.hash self.new.hash (take n buf.now))
+        ensures bytes { WriteAppends (T.contents self.old.inner)
+            (T.contents self.new.inner) result buf.now }
+        ensures hashed { MatchResult result
+            (λ n. FedMore self.old.hash self.new.hash (take n buf.now))
             (λ _. self.new.hash ≡ self.old.hash) }
     {
         let written = self.inner.write(buf)?;
@@ -271,7 +283,8 @@ impl<T: io::Write> io::Write for Write<T> {
     }
 
     fn write_all(&mut self, buf: &[u8]) -> io::Result<()>
-        ensures bytes { OnOk result (Appends (T.contents self.old.inner) (T.contents self.new.inner) buf.now) }
+        ensures bytes { OnOk result
+            (Appends (T.contents self.old.inner) (T.contents self.new.inner) buf.now) }
         ensures hashed { OnOk result (FedMore self.old.hash self.new.hash buf.now) }
         ensures stopped { OnErr result ((count : ℕ) × (count < length buf.now)
             × Appends (T.contents self.old.inner) (T.contents self.new.inner) (take count buf.now)

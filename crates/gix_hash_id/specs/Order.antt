@@ -12,8 +12,11 @@ digits_cmp xs ys = slice_cmp nat_cmp xs ys
 
 -- one kind and the same digits
 abbrev pub id_eq : Id → Id → Bool
-id_eq = eq_of_both (on (λ (a : Id). kind_number a.kind) nat_eq) (on (λ (a : Id). a.digits) (pointwise nat_eq))
+id_eq =
+    eq_of_both (on (λ (a : Id). kind_number a.kind) nat_eq)
+    (on (λ (a : Id). a.digits) (pointwise nat_eq))
 
 -- the kind decides, and in one kind the digits
 abbrev pub id_cmp : Id → Id → Ordering
-id_cmp = then_cmp (on (λ (a : Id). kind_number a.kind) nat_cmp) (on (λ (a : Id). a.digits) digits_cmp)
+id_cmp =
+    then_cmp (on (λ (a : Id). kind_number a.kind) nat_cmp) (on (λ (a : Id). a.digits) digits_cmp)

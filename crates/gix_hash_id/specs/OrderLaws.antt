@@ -17,11 +17,15 @@ use Rattle.gix_hash_id.specs.Order.{id_eq, id_cmp, digits_cmp}
 
 -- the laws of the equality
 pub id_equivalence : IsEquivalence id_eq
-id_equivalence = and_equiv (on_equiv (λ (a : Id). kind_number a.kind) nat_eq_equiv) (on_equiv (λ (a : Id). a.digits) nat_list_eq_equiv)
+id_equivalence =
+    and_equiv (on_equiv (λ (a : Id). kind_number a.kind) nat_eq_equiv)
+    (on_equiv (λ (a : Id). a.digits) nat_list_eq_equiv)
 
 -- the laws of the order
 pub id_total : IsTotalOrder id_cmp
-id_total = then_total (on_total (λ (a : Id). kind_number a.kind) nat_cmp_total) (on_total (λ (a : Id). a.digits) nat_list_cmp_total)
+id_total =
+    then_total (on_total (λ (a : Id). kind_number a.kind) nat_cmp_total)
+    (on_total (λ (a : Id). a.digits) nat_list_cmp_total)
 
 tied_numbers : (x y : ℕ) → nat_eq x y ≡ is_eq (nat_cmp x y)
 tied_numbers x y = grind (arith, nat_tests)
@@ -29,8 +33,10 @@ tied_numbers x y = grind (arith, nat_tests)
 -- the order ties exactly what is equal
 pub id_tied : (a b : Id) → id_eq a b ≡ is_eq (id_cmp a b)
 id_tied a b =
-    ap (λ (t : Bool). t && pointwise nat_eq a.digits b.digits) (tied_numbers (kind_number a.kind) (kind_number b.kind))
-    ∙ (ap (λ (t : Bool). is_eq (nat_cmp (kind_number a.kind) (kind_number b.kind)) && t) (sym (is_eq-slice_cmp a.digits b.digits))
+    ap (λ (t : Bool). t && pointwise nat_eq a.digits b.digits)
+    (tied_numbers (kind_number a.kind) (kind_number b.kind))
+    ∙ (ap (λ (t : Bool). is_eq (nat_cmp (kind_number a.kind) (kind_number b.kind)) && t)
+    (sym (is_eq-slice_cmp a.digits b.digits))
     ∙ tied_then (nat_cmp (kind_number a.kind) (kind_number b.kind)) (digits_cmp a.digits b.digits))
 
 module _ {K : Type 0} (id : K → Id) where
@@ -47,8 +53,11 @@ module _ {K : Type 0} (id : K → Id) where
   total = on_total id id_total
 
   -- the laws of `PartialOrd`
-  pub order_laws : IsPartialOrder (λ (x y : K). id_eq (id x) (id y)) (λ (x y : K). Some (id_cmp (id x) (id y)))
-  order_laws = partial_order_from_agreeing_total (λ (x y : K). id_cmp (id x) (id y)) (on_total id id_total) (λ x y. refl) (λ x y. id_tied (id x) (id y))
+  pub order_laws : IsPartialOrder (λ (x y : K). id_eq (id x) (id y))
+      (λ (x y : K). Some (id_cmp (id x) (id y)))
+  order_laws =
+      partial_order_from_agreeing_total (λ (x y : K). id_cmp (id x) (id y)) (on_total id id_total)
+      (λ x y. refl) (λ x y. id_tied (id x) (id y))
 
 -- a kind is found by its number
 pub kind_number-injective : (a b : Kind) → kind_number a ≡ kind_number b → a ≡ b
@@ -66,8 +75,12 @@ same_id a b kinds digits =
 -- ids that test as equal are one id
 pub id_eq-same : (a b : Id) → IsTrue (id_eq a b) → a ≡ b
 id_eq-same a b h =
-    let parts = and_parts (nat_eq (kind_number a.kind) (kind_number b.kind)) (pointwise nat_eq a.digits b.digits) h in
-    let kinds = kind_number-injective a.kind b.kind (eqb-true (kind_number a.kind) (kind_number b.kind) parts.0) in
+    let parts =
+    and_parts (nat_eq (kind_number a.kind) (kind_number b.kind))
+    (pointwise nat_eq a.digits b.digits) h in
+    let kinds =
+    kind_number-injective a.kind b.kind
+    (eqb-true (kind_number a.kind) (kind_number b.kind) parts.0) in
     let digits : a.digits ≡ b.digits = (bytes_eq-Decides a.digits b.digits).0 parts.1 in
     same_id a b kinds digits
 
@@ -76,6 +89,8 @@ pub id_eq-itself : (a : Id) → IsTrue (id_eq a a)
 id_eq-itself a = id_equivalence.refl a
 
 -- equal values that one write feeds are fed alike
-pub same_feed : {K : Type 0} (id : K → Id) (bytes : Id → List ℕ) (x y : K) → IsTrue (id_eq (id x) (id y))
+pub same_feed : {K : Type 0} (id : K → Id) (bytes : Id → List ℕ) (x y : K)
+    → IsTrue (id_eq (id x) (id y))
     → ◌≡◌ {A = List (List ℕ)} (bytes (id x) ∷ []) (bytes (id y) ∷ [])
-same_feed id bytes x y h = ap (λ (a : Id). let one : List (List ℕ) = bytes a ∷ [] in one) (id_eq-same (id x) (id y) h)
+same_feed id bytes x y h =
+    ap (λ (a : Id). let one : List (List ℕ) = bytes a ∷ [] in one) (id_eq-same (id x) (id y) h)

@@ -6,7 +6,8 @@ use Rattle.std.proofs.lemmas.Bool.{false≢true}
 use Rattle.std.proofs.lemmas.Slice.Eq.{bytes_eq-Decides}
 
 -- the one write of equal bytes
-pub same_write : (xs ys : List ℕ) → IsTrue (pointwise nat_eq xs ys) → ◌≡◌ {A = List (List ℕ)} (xs ∷ []) (ys ∷ [])
+pub same_write : (xs ys : List ℕ) → IsTrue (pointwise nat_eq xs ys)
+    → ◌≡◌ {A = List (List ℕ)} (xs ∷ []) (ys ∷ [])
 same_write xs ys h = ap (λ (zs : List ℕ). zs ∷ []) ((bytes_eq-Decides xs ys).0 h)
 
 -- values that differ are not asked about

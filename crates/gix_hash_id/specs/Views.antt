@@ -11,7 +11,8 @@ use Rattle.gix_hash_id.specs.Spelling.{IsHexOf, hex_text}
 
 -- the id that a view shows
 abbrev pub viewed_id : oid → Id
-viewed_id v = record { kind = kind_of_byte_len (length v.bytes.now); digits = digits_of v.bytes.now }
+viewed_id v =
+    record { kind = kind_of_byte_len (length v.bytes.now); digits = digits_of v.bytes.now }
 
 -- the bytes of an id: as many as its kind has, and its digits two to a byte
 pub record IsBytesOf (bytes : List ℕ) (id : Id) : Type 0 where
@@ -26,7 +27,8 @@ pub record IsHexOfId (text : List ℕ) (id : Id) : Type 0 where
 -- why a text is no id, its characters read by `value`: its length comes before its characters
 abbrev pub IsFaultOf : (ℕ → Option ℕ) → List ℕ → Error → Type 0
 IsFaultOf value text (InvalidHexEncodingLength n) = (n ≡ length text) × (n ≢ 40) × (n ≢ 64)
-IsFaultOf value text Invalid = ((length text ≢ 40) → length text ≡ 64) × Any (λ c. value c ≡ None) text
+IsFaultOf value text Invalid =
+    ((length text ≢ 40) → length text ≡ 64) × Any (λ c. value c ≡ None) text
 
 -- bytes that are no id for their number, which the error tells
 abbrev pub IsWrongLength : List ℕ → borrowed.Error → Type 0

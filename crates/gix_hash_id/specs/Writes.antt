@@ -4,4 +4,5 @@ use Rattle.std.specs.Io.KnownBytes.{Appends}
 
 -- the first of the bytes were written, fewer than all
 abbrev pub AppendsFewer : Option (List ℕ) → Option (List ℕ) → List ℕ → Type 0
-AppendsFewer old new bytes = (count : ℕ) × (count < length bytes) × Appends old new (take count bytes)
+AppendsFewer old new bytes =
+    (count : ℕ) × (count < length bytes) × Appends old new (take count bytes)

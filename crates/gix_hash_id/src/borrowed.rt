@@ -115,8 +115,12 @@ impl<'a> oid<'a> {
     /// Writes the id in lower-case hexadecimal. An error is the writer's, which has then taken fewer than all of
     /// its characters: the first of them. A write that a signal interrupted is tried again.
     pub fn write_hex_to<W: io::Write>(&self, out: &mut W) -> io::Result<()>
-        ensures written { OnOk result (Appends (W.contents out.old) (W.contents out.new) (hex_text (viewed_id self.now).digits)) }
-        ensures stopped { OnErr result (AppendsFewer (W.contents out.old) (W.contents out.new) (hex_text (viewed_id self.now).digits)) }
+        ensures written { OnOk result
+            (Appends (W.contents out.old) (W.contents out.new)
+            (hex_text (viewed_id self.now).digits)) }
+        ensures stopped { OnErr result
+            (AppendsFewer (W.contents out.old) (W.contents out.new)
+            (hex_text (viewed_id self.now).digits)) }
     {
         let mut buffer = [0u8; 64];
         write_bytes(out, self.hex_to_buf(&mut buffer).as_bytes())
@@ -131,14 +135,16 @@ impl<'a> oid<'a> {
 
     /// Whether the id is that of the blob without content.
     pub fn is_empty_blob(&self) -> bool
-        ensures { IsTrue result ↔ (viewed_id self.now ≡ id_of_message (viewed_id self.now).kind empty_blob_text) }
+        ensures { IsTrue result
+            ↔ (viewed_id self.now ≡ id_of_message (viewed_id self.now).kind empty_blob_text) }
     {
         self.eq_oid(ObjectId::empty_blob(self.kind()).as_oid())
     }
 
     /// Whether the id is that of the tree without entries.
     pub fn is_empty_tree(&self) -> bool
-        ensures { IsTrue result ↔ (viewed_id self.now ≡ id_of_message (viewed_id self.now).kind empty_tree_text) }
+        ensures { IsTrue result
+            ↔ (viewed_id self.now ≡ id_of_message (viewed_id self.now).kind empty_tree_text) }
     {
         self.eq_oid(ObjectId::empty_tree(self.kind()).as_oid())
     }
@@ -182,7 +188,8 @@ impl<'a> oid<'a> {
     /// Whether the id is the expected one: if not, the error has both.
     pub fn verify(&self, expected: oid<'_>) -> Result<(), verify::Error>
         ensures { MatchResult result (λ _. viewed_id self.now ≡ viewed_id expected.entry)
-            (λ e. (viewed_id self.now ≢ viewed_id expected.entry) × (id_of e.actual ≡ viewed_id self.now)
+            (λ e. (viewed_id self.now ≢ viewed_id expected.entry)
+            × (id_of e.actual ≡ viewed_id self.now)
             × (id_of e.expected ≡ viewed_id expected.entry)) }
     {
         if self.eq_oid(expected) {

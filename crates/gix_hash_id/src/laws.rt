@@ -23,7 +23,8 @@ pub fn bytes_fit(bytes: &[u8])
 
 /// Ids are equal exactly if their lower-case hexadecimal texts are.
 pub fn ids_are_equal(one: &ObjectId, other: &ObjectId) -> bool
-    ensures { IsTrue result ↔ (hex_text (id_of one.now).digits ≡ hex_text (id_of other.now).digits) }
+    ensures { IsTrue result
+        ↔ (hex_text (id_of one.now).digits ≡ hex_text (id_of other.now).digits) }
 {
     bytes_fit(one.as_slice());
     bytes_fit(other.as_slice());
@@ -34,7 +35,8 @@ pub fn ids_are_equal(one: &ObjectId, other: &ObjectId) -> bool
 /// are equal.
 pub fn views_are_equal(one: oid<'_>, other: oid<'_>) -> bool
     ensures ids { IsTrue result ↔ (viewed_id one.entry ≡ viewed_id other.entry) }
-    ensures texts { IsTrue result ↔ (hex_text (viewed_id one.entry).digits ≡ hex_text (viewed_id other.entry).digits) }
+    ensures texts { IsTrue result
+        ↔ (hex_text (viewed_id one.entry).digits ≡ hex_text (viewed_id other.entry).digits) }
 {
     bytes_fit(one.as_bytes());
     bytes_fit(other.as_bytes());
@@ -43,10 +45,13 @@ pub fn views_are_equal(one: oid<'_>, other: oid<'_>) -> bool
 
 /// Ids are ordered by kind, and in one kind by their lower-case hexadecimal texts.
 pub fn order_of_ids(one: &ObjectId, other: &ObjectId) -> Ordering
-    ensures less { kind_number (id_of one.now).kind < kind_number (id_of other.now).kind → result ≡ Less }
-    ensures greater { kind_number (id_of other.now).kind < kind_number (id_of one.now).kind → result ≡ Greater }
+    ensures less { kind_number (id_of one.now).kind < kind_number (id_of other.now).kind
+        → result ≡ Less }
+    ensures greater { kind_number (id_of other.now).kind < kind_number (id_of one.now).kind
+        → result ≡ Greater }
     ensures texts { (id_of one.now).kind ≡ (id_of other.now).kind
-        → result ≡ digits_cmp (hex_text (id_of one.now).digits) (hex_text (id_of other.now).digits) }
+        → result
+        ≡ digits_cmp (hex_text (id_of one.now).digits) (hex_text (id_of other.now).digits) }
 {
     bytes_fit(one.as_slice());
     bytes_fit(other.as_slice());
@@ -55,8 +60,11 @@ pub fn order_of_ids(one: &ObjectId, other: &ObjectId) -> Ordering
 
 /// Views are ordered by their digits alone, a shorter beginning first: in one kind as their ids are.
 pub fn order_of_views(one: oid<'_>, other: oid<'_>) -> Ordering
-    ensures digits { result ≡ digits_cmp (viewed_id one.entry).digits (viewed_id other.entry).digits }
-    ensures texts { result ≡ digits_cmp (hex_text (viewed_id one.entry).digits) (hex_text (viewed_id other.entry).digits) }
+    ensures digits { result
+        ≡ digits_cmp (viewed_id one.entry).digits (viewed_id other.entry).digits }
+    ensures texts { result
+        ≡ digits_cmp (hex_text (viewed_id one.entry).digits)
+        (hex_text (viewed_id other.entry).digits) }
 {
     bytes_fit(one.as_bytes());
     bytes_fit(other.as_bytes());
@@ -81,7 +89,8 @@ pub fn printed_id_reads_back(id: &ObjectId)
 
 /// A text without a capital letter is the text of the digits that it spells.
 pub fn lower_case_is_written()
-    ensures { (text digits : List ℕ) → IsHexOf text digits → IsLowerCase text → hex_text digits ≡ text }
+    ensures { (text digits : List ℕ) → IsHexOf text digits → IsLowerCase text
+        → hex_text digits ≡ text }
 {}
 
 /// A text spells at most one id, whatever its letter case.

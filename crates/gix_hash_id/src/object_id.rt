@@ -193,8 +193,12 @@ impl ObjectId {
     /// Writes the id in lower-case hexadecimal. An error is the writer's, which has then taken fewer than all of
     /// its characters: the first of them. A write that a signal interrupted is tried again.
     pub fn write_hex_to<W: io::Write>(&self, out: &mut W) -> io::Result<()>
-        ensures written { OnOk result (Appends (W.contents out.old) (W.contents out.new) (hex_text (id_of self.now).digits)) }
-        ensures stopped { OnErr result (AppendsFewer (W.contents out.old) (W.contents out.new) (hex_text (id_of self.now).digits)) }
+        ensures written { OnOk result
+            (Appends (W.contents out.old) (W.contents out.new)
+            (hex_text (id_of self.now).digits)) }
+        ensures stopped { OnErr result
+            (AppendsFewer (W.contents out.old) (W.contents out.new)
+            (hex_text (id_of self.now).digits)) }
     {
         self.as_oid().write_hex_to(out)
     }
@@ -268,14 +272,16 @@ impl ObjectId {
 
     /// Whether the id is that of the blob without content.
     pub fn is_empty_blob(&self) -> bool
-        ensures { IsTrue result ↔ (id_of self.now ≡ id_of_message (id_of self.now).kind empty_blob_text) }
+        ensures { IsTrue result
+            ↔ (id_of self.now ≡ id_of_message (id_of self.now).kind empty_blob_text) }
     {
         self.as_oid().is_empty_blob()
     }
 
     /// Whether the id is that of the tree without entries.
     pub fn is_empty_tree(&self) -> bool
-        ensures { IsTrue result ↔ (id_of self.now ≡ id_of_message (id_of self.now).kind empty_tree_text) }
+        ensures { IsTrue result
+            ↔ (id_of self.now ≡ id_of_message (id_of self.now).kind empty_tree_text) }
     {
         self.as_oid().is_empty_tree()
     }

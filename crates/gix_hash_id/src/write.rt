@@ -11,7 +11,8 @@ use std::io;
 /// interrupted is tried again, and one that takes nothing is the error `WriteZero`.
 pub fn write_bytes<W: io::Write>(out: &mut W, bytes: &[u8]) -> io::Result<()>
     ensures written { OnOk result (Appends (W.contents out.old) (W.contents out.new) bytes.now) }
-    ensures stopped { OnErr result (AppendsFewer (W.contents out.old) (W.contents out.new) bytes.now) }
+    ensures stopped { OnErr result
+        (AppendsFewer (W.contents out.old) (W.contents out.new) bytes.now) }
 {
     let mut count = 0;
     'writes: while count < bytes.len() {

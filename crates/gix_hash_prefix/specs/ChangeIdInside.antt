@@ -16,4 +16,6 @@ change_inverse id = record { 0 = object_id_of id }
 
 -- a change id is found by its id
 pub change_inverse_ok : (c : Inside) → change_inverse (change_view c) ≡ c
-change_inverse_ok c = ap (λ (id : ObjectId). let inside : Inside = record { 0 = id } in inside) (object_id_of-id_of c.0)
+change_inverse_ok c =
+    ap (λ (id : ObjectId). let inside : Inside = record { 0 = id } in inside)
+    (object_id_of-id_of c.0)

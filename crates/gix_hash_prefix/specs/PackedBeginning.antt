@@ -23,14 +23,18 @@ pub record IsZeroFrom (id : ObjectId) (n : ℕ) : Type 0 where
   pub zeros : drop n (id_of id).digits ≡ replicate (hex_len (id_of id).kind - n) 0
 
 -- the number of digits of a beginning
-pub length-beginning_of : (id : ObjectId) (n : ℕ) → IsZeroFrom id n → length (beginning_of id n).digits ≡ n
-length-beginning_of id n h = let len = length-take n (id_of id).digits in omega (arith, len, h.whole, h.fits)
+pub length-beginning_of : (id : ObjectId) (n : ℕ) → IsZeroFrom id n
+    → length (beginning_of id n).digits ≡ n
+length-beginning_of id n h =
+    let len = length-take n (id_of id).digits in omega (arith, len, h.whole, h.fits)
 
 -- a value that is zero after a beginning is found by it
-pub padded_id_of-beginning_of : (id : ObjectId) (n : ℕ) → IsZeroFrom id n → padded_id_of (beginning_of id n) ≡ id
+pub padded_id_of-beginning_of : (id : ObjectId) (n : ℕ) → IsZeroFrom id n
+    → padded_id_of (beginning_of id n) ≡ id
 padded_id_of-beginning_of id n h =
     let ds = (id_of id).digits in
     let whole : take n ds ++ replicate (hex_len (id_of id).kind - length (take n ds)) 0 ≡ ds =
-    ap (λ (k : ℕ). take n ds ++ replicate (hex_len (id_of id).kind - k) 0) (length-beginning_of id n h)
+    ap (λ (k : ℕ). take n ds ++ replicate (hex_len (id_of id).kind - k) 0)
+    (length-beginning_of id n h)
     ∙ ap (λ (zeros : List ℕ). take n ds ++ zeros) (sym h.zeros) ∙ take-append-drop n ds in
     ap (λ (digits : List ℕ). packed (id_of id).kind digits) whole ∙ object_id_of-id_of id

@@ -26,7 +26,8 @@ IsLengthFault id n (made.TooLong kind len) = (len ≡ n) × (kind ≡ id.kind) �
 
 -- a text of at least so many characters spells a prefix by `value`: its digits, in the kind of the
 -- shortest ids that have as many
-pub record SpellsPrefix (value : ℕ → Option ℕ) (least : ℕ) (text : List ℕ) (prefix : Id) : Type 0 where
+pub record SpellsPrefix (value : ℕ → Option ℕ) (least : ℕ) (text : List ℕ)
+    (prefix : Id) : Type 0 where
   pub long_enough : least ≤ length text
   pub kind : kind_for_digits (length text) ≡ Some prefix.kind
   pub spelled : map value text ≡ map (λ (d : ℕ). Some d) prefix.digits
@@ -35,7 +36,8 @@ pub record SpellsPrefix (value : ℕ → Option ℕ) (least : ℕ) (text : List 
 abbrev pub IsTextFault : (ℕ → Option ℕ) → ℕ → List ℕ → reading.Error → Type 0
 IsTextFault value least text (TooShort n) = (n ≡ length text) × (n < least)
 IsTextFault value least text (TooLong n) = (n ≡ length text) × (64 < n)
-IsTextFault value least text Invalid = (least ≤ length text) × (length text ≤ 64) × Any (λ c. value c ≡ None) text
+IsTextFault value least text Invalid =
+    (least ≤ length text) × (length text ≤ 64) × Any (λ c. value c ≡ None) text
 
 -- no prefix has so many digits
 abbrev pub IsNoLength : ℕ → reading.Error → Type 0

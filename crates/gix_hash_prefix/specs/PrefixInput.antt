@@ -9,7 +9,9 @@ use Rattle.gix_hash_id.specs.OrderLaws.{id_eq-same}
 
 -- what a prefix feeds a hasher: its bytes with zeros after them, and then its number of digits
 abbrev pub prefix_input : Id → List (List ℕ)
-prefix_input p = (bytes_from (p.digits ++ replicate (hex_len p.kind - length p.digits) 0) ∷ []) ++ fed.usize (length p.digits)
+prefix_input p =
+    (bytes_from (p.digits ++ replicate (hex_len p.kind - length p.digits) 0) ∷ [])
+    ++ fed.usize (length p.digits)
 
 -- equal prefixes are fed alike
 pub same_input : (x y : Id) → IsTrue (id_eq x y) → prefix_input x ≡ prefix_input y

@@ -15,9 +15,11 @@ abbrev pub prefix_inverse : Id → Inside
 prefix_inverse v = record { bytes = padded_id_of v; hex_len = length v.digits }
 
 -- a prefix is found by its beginning
-pub prefix_inverse_ok : (p : Inside) → IsZeroFrom p.bytes p.hex_len → prefix_inverse (prefix_view p) ≡ p
+pub prefix_inverse_ok : (p : Inside) → IsZeroFrom p.bytes p.hex_len
+    → prefix_inverse (prefix_view p) ≡ p
 prefix_inverse_ok p h =
     let bytes = padded_id_of-beginning_of p.bytes p.hex_len h in
     let len = length-beginning_of p.bytes p.hex_len h in
     let make : ObjectId → ℕ → Inside = λ bytes n. record { bytes = bytes; hex_len = n } in
-    ap (λ (b : ObjectId). make b (length (beginning_of p.bytes p.hex_len).digits)) bytes ∙ ap (λ (n : ℕ). make p.bytes n) len
+    ap (λ (b : ObjectId). make b (length (beginning_of p.bytes p.hex_len).digits)) bytes ∙ ap
+    (λ (n : ℕ). make p.bytes n) len

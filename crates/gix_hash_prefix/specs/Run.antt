@@ -13,15 +13,19 @@ use Rattle.gix_hash_prefix.specs.Beginnings.{IsBeginningOf}
 
 -- the ids ascend by their digits; equal ones may stand side by side
 abbrev pub IsAscending : List ObjectId → Type 0
-IsAscending ids = AllPairs (λ (a b : ObjectId). is_gt (digits_cmp (id_of a).digits (id_of b).digits) ≡ false) ids
+IsAscending ids =
+    AllPairs
+    (λ (a b : ObjectId). is_gt (digits_cmp (id_of a).digits (id_of b).digits) ≡ false) ids
 
 -- each id has at least as many digits as the prefix
 abbrev pub HasEnoughDigits : List ObjectId → Id → Type 0
-HasEnoughDigits ids prefix = All (λ (id : ObjectId). length prefix.digits ≤ length (id_of id).digits) ids
+HasEnoughDigits ids prefix =
+    All (λ (id : ObjectId). length prefix.digits ≤ length (id_of id).digits) ids
 
 -- the ids that the prefix begins are those from `first` on and before `past`
 abbrev pub IsMatchingRun : List ObjectId → Id → ℕ → ℕ → Type 0
-IsMatchingRun ids prefix first past = (i : ℕ) (id : ObjectId) → i < length ids → slice_index_or ids i id ≡ id
+IsMatchingRun ids prefix first past =
+    (i : ℕ) (id : ObjectId) → i < length ids → slice_index_or ids i id ≡ id
     → IsBeginningOf prefix.digits (id_of id).digits ↔ ((first ≤ i) × (i < past))
 
 -- how the prefix compares with an id's first digits
@@ -30,9 +34,12 @@ against prefix id = digits_cmp prefix.digits (take (length prefix.digits) (id_of
 
 -- the prefix compares as greater before `first`, as equal from there up to `past`, and as less from `past` on
 pub record FallsAt (ids : List ObjectId) (prefix : Id) (first past : ℕ) : Type 0 where
-  pub greater : (i : ℕ) (id : ObjectId) → i < first → against prefix (slice_index_or ids i id) ≡ Greater
-  pub equal : (i : ℕ) (id : ObjectId) → first ≤ i → i < past → against prefix (slice_index_or ids i id) ≡ Equal
-  pub less : (i : ℕ) (id : ObjectId) → past ≤ i → i < length ids → against prefix (slice_index_or ids i id) ≡ Less
+  pub greater : (i : ℕ) (id : ObjectId) → i < first
+      → against prefix (slice_index_or ids i id) ≡ Greater
+  pub equal : (i : ℕ) (id : ObjectId) → first ≤ i → i < past
+      → against prefix (slice_index_or ids i id) ≡ Equal
+  pub less : (i : ℕ) (id : ObjectId) → past ≤ i → i < length ids
+      → against prefix (slice_index_or ids i id) ≡ Less
 
 -- the count is at most twice the number of binary digits of n: n has at most k exactly if n is below 2 ^ k
 abbrev pub IsWithinTwiceDigits : ℕ → ℕ → Type 0

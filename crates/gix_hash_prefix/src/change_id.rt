@@ -50,7 +50,8 @@ impl ChangeId {
     /// Another length is `InvalidHexEncodingLength`, and else a character that is no digit is
     /// `Invalid`.
     pub fn from_reverse_hex(buffer: &[u8]) -> Result<ChangeId, decode::Error>
-        ensures { MatchResult result (IsReverseHexOfId buffer.now) (IsFaultOf reverse_digit_value buffer.now) }
+        ensures { MatchResult result (IsReverseHexOfId buffer.now)
+            (IsFaultOf reverse_digit_value buffer.now) }
     {
         let len = buffer.len();
         if len != 40 && len != 64 {
@@ -135,8 +136,10 @@ impl ChangeId {
     /// Writes the id in lower-case hexadecimal. An error is the writer's, which has then taken fewer than all of
     /// its characters: the first of them. A write that a signal interrupted is tried again.
     pub fn write_hex_to<W: io::Write>(&self, out: &mut W) -> io::Result<()>
-        ensures written { OnOk result (Appends (W.contents out.old) (W.contents out.new) (hex_text self.now.digits)) }
-        ensures stopped { OnErr result (AppendsFewer (W.contents out.old) (W.contents out.new) (hex_text self.now.digits)) }
+        ensures written { OnOk result
+            (Appends (W.contents out.old) (W.contents out.new) (hex_text self.now.digits)) }
+        ensures stopped { OnErr result
+            (AppendsFewer (W.contents out.old) (W.contents out.new) (hex_text self.now.digits)) }
     {
         self.0.write_hex_to(out)
     }

@@ -20,7 +20,9 @@ use std::cmp::Ordering;
 
 /// Prefixes are equal exactly if their kinds and their lower-case hexadecimal texts are.
 pub fn prefixes_are_equal(one: &Prefix, other: &Prefix) -> bool
-    ensures { IsTrue result ↔ ((one.now.kind ≡ other.now.kind) × (hex_text one.now.digits ≡ hex_text other.now.digits)) }
+    ensures { IsTrue result
+        ↔ ((one.now.kind ≡ other.now.kind)
+        × (hex_text one.now.digits ≡ hex_text other.now.digits)) }
 {
     bytes_fit(one.as_oid().as_bytes());
     bytes_fit(other.as_oid().as_bytes());
@@ -48,7 +50,8 @@ pub fn own_prefix_is_equal(id: &ObjectId, hex_len: usize)
 
 /// A prefix compares with digits as equal exactly if it begins them.
 pub fn equal_is_beginning(prefix: &Prefix, id: &ObjectId)
-    ensures { digits_cmp prefix.now.digits (take (length prefix.now.digits) (id_of id.now).digits) ≡ Equal
+    ensures { digits_cmp prefix.now.digits (take (length prefix.now.digits) (id_of id.now).digits)
+        ≡ Equal
         ↔ IsBeginningOf prefix.now.digits (id_of id.now).digits }
 {}
 
@@ -56,7 +59,8 @@ pub fn equal_is_beginning(prefix: &Prefix, id: &ObjectId)
 pub fn comparisons_fall(ids: &[ObjectId], prefix: &Prefix)
     requires ascending { IsAscending ids.now }
     requires enough { HasEnoughDigits ids.now prefix.now }
-    ensures { (first past : ℕ) × (first ≤ past) × (past ≤ length ids.now) × FallsAt ids.now prefix.now first past }
+    ensures { (first past : ℕ) × (first ≤ past) × (past ≤ length ids.now)
+        × FallsAt ids.now prefix.now first past }
 {
     let _run = prefix_run(ids, prefix);
 }
@@ -65,7 +69,8 @@ pub fn comparisons_fall(ids: &[ObjectId], prefix: &Prefix)
 /// ids of one kind that two prefixes of that kind begin are nested or disjoint.
 pub fn matches_nest_or_are_disjoint(one: &Prefix, other: &Prefix)
     ensures { BeginsAllOf one.now.digits other.now.digits
-        ⊎ (BeginsAllOf other.now.digits one.now.digits ⊎ BeginNoneTogether one.now.digits other.now.digits) }
+        ⊎ (BeginsAllOf other.now.digits one.now.digits
+        ⊎ BeginNoneTogether one.now.digits other.now.digits) }
 {}
 
 /// A change id's lower-case text spells that id.
@@ -95,7 +100,8 @@ pub fn text_of_change_id_is_read(text: &[u8], id: &ChangeId) -> Result<ChangeId,
 pub fn printed_prefix_reads_back(prefix: &Prefix) -> Result<Prefix, from_hex::Error>
     requires { 1 ≤ length prefix.now.digits }
     ensures digits { IsOkAnd result (λ read. read.digits ≡ prefix.now.digits) }
-    ensures kind { IfOk result (λ read. kind_for_digits (length prefix.now.digits) ≡ Some read.kind) }
+    ensures kind { IfOk result
+        (λ read. kind_for_digits (length prefix.now.digits) ≡ Some read.kind) }
     ensures itself { IfOk result (λ read. (read ≡ prefix.now)
         ↔ (kind_for_digits (length prefix.now.digits) ≡ Some prefix.now.kind)) }
 {
@@ -107,7 +113,8 @@ pub fn printed_prefix_reads_back(prefix: &Prefix) -> Result<Prefix, from_hex::Er
 /// In one kind the order of reverse hexadecimal texts is the opposite of the order of the ids.
 pub fn reverse_texts_are_ordered_oppositely(one: &ChangeId, other: &ChangeId) -> Ordering
     requires { one.now.kind ≡ other.now.kind }
-    ensures { result ≡ digits_cmp (reverse_hex_text other.now.digits) (reverse_hex_text one.now.digits) }
+    ensures { result
+        ≡ digits_cmp (reverse_hex_text other.now.digits) (reverse_hex_text one.now.digits) }
 {
     bytes_fit(one.as_bytes());
     bytes_fit(other.as_bytes());

@@ -221,8 +221,10 @@ impl Prefix {
     /// Writes the prefix in lower-case hexadecimal. An error is the writer's, which has then taken fewer than all of
     /// its characters: the first of them. A write that a signal interrupted is tried again.
     pub fn write_hex_to<W: io::Write>(&self, out: &mut W) -> io::Result<()>
-        ensures written { OnOk result (Appends (W.contents out.old) (W.contents out.new) (hex_text self.now.digits)) }
-        ensures stopped { OnErr result (AppendsFewer (W.contents out.old) (W.contents out.new) (hex_text self.now.digits)) }
+        ensures written { OnOk result
+            (Appends (W.contents out.old) (W.contents out.new) (hex_text self.now.digits)) }
+        ensures stopped { OnErr result
+            (AppendsFewer (W.contents out.old) (W.contents out.new) (hex_text self.now.digits)) }
     {
         let digits = hex_digits(self.bytes.as_slice());
         write_bytes(out, &digits[..self.hex_len])
@@ -295,7 +297,8 @@ fn read_padded(text: &[u8; 64], hex_len: usize, kind: Kind) -> Result<Prefix, fr
 fn compare_digits(bytes: &[u8], candidate: &[u8], count: usize) -> Ordering
     requires bytes { count ≤ 2 * length bytes.now }
     requires candidate { count ≤ 2 * length candidate.now }
-    ensures { result ≡ digits_cmp (take count (digits_of bytes.now)) (take count (digits_of candidate.now)) }
+    ensures { result
+        ≡ digits_cmp (take count (digits_of bytes.now)) (take count (digits_of candidate.now)) }
 {
     let whole = count / 2;
     let order = bytes[..whole].cmp(&candidate[..whole]);

@@ -80,8 +80,10 @@ fn edge_of(ids: &[ObjectId], prefix: &Prefix, edge: Edge, calls: &mut usize) -> 
     requires enough { HasEnoughDigits ids.now prefix.now }
     requires room { calls.old ≤ 64 }
     ensures within { result ≤ length ids.now }
-    ensures before { (i : ℕ) (id : ObjectId) → i < result → comes_before edge (against prefix.now (slice_index_or ids.now i id)) ≡ true }
-    ensures after { (i : ℕ) (id : ObjectId) → result ≤ i → i < length ids.now → comes_before edge (against prefix.now (slice_index_or ids.now i id)) ≡ false }
+    ensures before { (i : ℕ) (id : ObjectId) → i < result
+        → comes_before edge (against prefix.now (slice_index_or ids.now i id)) ≡ true }
+    ensures after { (i : ℕ) (id : ObjectId) → result ≤ i → i < length ids.now
+        → comes_before edge (against prefix.now (slice_index_or ids.now i id)) ≡ false }
     ensures calls { (k : ℕ) → length ids.now < 2 ^ k → calls.new ≤ calls.old + k }
 {
     let mut low = 0;

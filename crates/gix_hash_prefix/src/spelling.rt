@@ -37,7 +37,9 @@ fn reverse_digit(letter: u8) -> Option<u8>
 pub(crate) fn hex_from_reverse(letters: &[u8]) -> Option<[u8; 64]>
     requires { length letters.now ≤ 64 }
     ensures { MatchOption result (Any (λ c. reverse_digit_value c ≡ None) letters.now)
-        (λ text. (map hex_digit_value (take (length letters.now) text) ≡ map reverse_digit_value letters.now)
+        (λ text.
+        (map hex_digit_value (take (length letters.now) text)
+        ≡ map reverse_digit_value letters.now)
         × (drop (length letters.now) text ≡ replicate (64 - length letters.now) 48)) }
 {
     let mut text = [b'0'; 64];

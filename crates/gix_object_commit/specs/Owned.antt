@@ -55,5 +55,6 @@ OwningFault parts FieldName = ⊥
 OwningFault parts HexDigits = SpellsNoId parts.tree ⊎ Any SpellsNoId parts.parents
 OwningFault parts LineEnd = ⊥
 OwningFault parts InvalidActor = ⊥
-OwningFault parts InvalidTime = SpellsIds parts × ((¬ TellsTime parts.author.time) ⊎ (¬ TellsTime parts.committer.time))
+OwningFault parts InvalidTime =
+    SpellsIds parts × ((¬ TellsTime parts.author.time) ⊎ (¬ TellsTime parts.committer.time))
 OwningFault parts Memory = ¬ SpellsNoId parts.tree

@@ -46,10 +46,16 @@ abbrev pub is_whole_offset : ℤ → Bool
 is_whole_offset offset = unsigned_abs offset % 60 == 0 && nat_lt (unsigned_abs offset) 360_000
 
 abbrev pub is_own_person : Actor → Bool
-is_own_person actor = is_plain actor.name && (is_plain actor.email && is_whole_offset actor.time.offset)
+is_own_person actor =
+    is_plain actor.name && (is_plain actor.email && is_whole_offset actor.time.offset)
 
 abbrev pub own_person_piece : List ℕ → Actor → Piece
-own_person_piece word actor = record { text = line word (actor_line (own_person actor)); cause = refused_unless (is_own_person actor) }
+own_person_piece word actor =
+    record {
+      text =
+          line word (actor_line (own_person actor));
+      cause = refused_unless (is_own_person actor);
+    }
 
 abbrev pub own_author_pieces : Commit → List Piece
 own_author_pieces commit = own_person_piece (codes "author") commit.author ∷ []
@@ -60,12 +66,20 @@ own_committer_pieces commit = own_person_piece (codes "committer") commit.commit
 -- all before the further headers, of which the first may not be named as the line for the encoding is
 abbrev pub own_front_pieces : List Field → Commit → List Piece
 own_front_pieces headers commit =
-    id_pieces (own_parts commit) ++ (own_author_pieces commit ++ (own_committer_pieces commit ++ encoding_piece commit.encoding headers ∷ []))
+    id_pieces (own_parts commit)
+    ++
+    (own_author_pieces commit
+    ++ (own_committer_pieces commit ++ encoding_piece commit.encoding headers ∷ []))
 
 abbrev pub own_pieces_with : List ExtraHeader → Commit → List Piece
 own_pieces_with headers commit =
     let parts = own_parts_with headers commit in
-    id_pieces parts ++ (own_author_pieces commit ++ (own_committer_pieces commit ++ (encoding_pieces parts ++ (header_pieces parts ++ message_pieces parts))))
+    id_pieces parts
+    ++
+    (own_author_pieces commit
+    ++
+    (own_committer_pieces commit
+    ++ (encoding_pieces parts ++ (header_pieces parts ++ message_pieces parts))))
 
 -- the first part that the format never writes, and all before it
 abbrev pub own_refusal_with : List ExtraHeader → Commit → Option Refusal

@@ -13,4 +13,5 @@ digits_left parents = map bstr_bytes (drop parents.place parents.digits.now)
 -- the id of the first digits that are left, and the others are left then; nothing where none are
 abbrev pub GivesId : ids.Parents → Option ObjectId → ids.Parents → Type 0
 GivesId old None new = (digits_left old ≡ []) × (digits_left new ≡ [])
-GivesId old (Some id) new = (digits : List ℕ) × (digits_left old ≡ digits ∷ digits_left new) × IsHexOfId digits (id_of id)
+GivesId old (Some id) new =
+    (digits : List ℕ) × (digits_left old ≡ digits ∷ digits_left new) × IsHexOfId digits (id_of id)

@@ -24,7 +24,9 @@ use Rattle.gix_object_commit_lines.specs.declared.header.ExtraHeader.{ExtraHeade
 -- ---- what is signed: the commit as it is written without signatures of either hash function
 
 abbrev pub is_signature : ExtraHeader → Bool
-is_signature header = pointwise nat_eq header.name (signature_name Sha1) || pointwise nat_eq header.name (signature_name Sha256)
+is_signature header =
+    pointwise nat_eq header.name (signature_name Sha1)
+    || pointwise nat_eq header.name (signature_name Sha256)
 
 abbrev pub unsigned : List ExtraHeader → List ExtraHeader
 unsigned headers = filter (λ header. not (is_signature header)) headers
@@ -40,12 +42,14 @@ unsigned_fault commit = cause_of (own_refusal_with (unsigned commit.extra_header
 
 -- named for the hash function of the commit's ids; the line feed that ends the header ends the signature's last line too
 abbrev pub signature_header : Commit → List ℕ → ExtraHeader
-signature_header commit signature = record { name = signature_name (id_of commit.tree).kind; value = without_last_feed signature }
+signature_header commit signature =
+    record { name = signature_name (id_of commit.tree).kind; value = without_last_feed signature }
 
 -- ---- what becomes of the commit
 
 -- the same commit with these further headers in the place of its own
-pub record IsWithHeaders (commit : Commit) (headers : List ExtraHeader) (other : Commit) : Type 0 where
+pub record IsWithHeaders (commit : Commit) (headers : List ExtraHeader)
+    (other : Commit) : Type 0 where
   pub tree : other.tree ≡ commit.tree
   pub parents : other.parents ≡ commit.parents
   pub author : other.author ≡ commit.author
@@ -59,10 +63,13 @@ IsAsBefore commit left = IsWithHeaders commit commit.extra_headers.items left
 
 -- the signature stands behind the other headers, in the place of all that were there
 abbrev pub IsSignedBy : List ℕ → Commit → Commit → Type 0
-IsSignedBy signature commit signed = IsWithHeaders commit (unsigned commit.extra_headers.items ++ signature_header commit signature ∷ []) signed
+IsSignedBy signature commit signed =
+    IsWithHeaders commit
+    (unsigned commit.extra_headers.items ++ signature_header commit signature ∷ []) signed
 
 -- the commit is signed, or as before: where there is no signature, and where no memory is left for its header
-abbrev pub TakesSignature : Commit → Result (List ℕ) Error → Result (Unit {0}) Error → Commit → Type 0
+abbrev pub TakesSignature : Commit → Result (List ℕ) Error → Result (Unit {0}) Error → Commit
+    → Type 0
 TakesSignature commit (Ok signature) (Ok _) left = IsSignedBy signature commit left
 TakesSignature commit (Ok signature) (Err error) left = (error ≡ Memory) × IsAsBefore commit left
 TakesSignature commit (Err cause) (Ok _) left = ⊥
@@ -71,14 +78,29 @@ TakesSignature commit (Err cause) (Err error) left = (error ≡ cause) × IsAsBe
 -- ---- signing
 
 -- a commit that isn't written without its signatures runs nothing, nor does one whose text has no memory; else its text is signed once
-pub data SignsCommit {R : Type 0} (answers : R → Request → Result Answer run.RunError → R → Type 0) (before : R) (commit : Commit) (options : Options) (result : Result (Unit {0}) Error) (after : R) (left : Commit) : Type 0 where
-  Unwritten : (fault : write.Error) → unsigned_fault commit ≡ Some fault → result ≡ Err (Encode fault) → after ≡ before → IsAsBefore commit left → SignsCommit answers before commit options result after left
-  NoMemory : result ≡ Err Memory → after ≡ before → IsAsBefore commit left → SignsCommit answers before commit options result after left
-  Asked : unsigned_fault commit ≡ None → (answer : Result (List ℕ) Error) → Signs answers before (unsigned_text commit) options answer after → TakesSignature commit answer result left
+pub data SignsCommit {R : Type 0}
+    (answers : R → Request → Result Answer run.RunError → R → Type 0) (before : R)
+    (commit : Commit) (options : Options) (result : Result (Unit {0}) Error) (after : R)
+    (left : Commit) : Type 0 where
+  Unwritten : (fault : write.Error) → unsigned_fault commit ≡ Some fault
+      → result ≡ Err (Encode fault) → after ≡ before → IsAsBefore commit left
+      → SignsCommit answers before commit options result after left
+  NoMemory : result ≡ Err Memory → after ≡ before → IsAsBefore commit left
+      → SignsCommit answers before commit options result after left
+  Asked : unsigned_fault commit ≡ None → (answer : Result (List ℕ) Error)
+      → Signs answers before (unsigned_text commit) options answer after
+      → TakesSignature commit answer result left
       → SignsCommit answers before commit options result after left
 
 -- the same of a borrowed commit's parts, which are owned first
-pub data SignsParts {R : Type 0} (answers : R → Request → Result Answer run.RunError → R → Type 0) (before : R) (parts : Parts) (options : Options) (result : Result Commit Error) (after : R) : Type 0 where
-  NotOwned : (fault : decode.Error) → OwningFault parts fault → result ≡ Err (reading_error fault) → after ≡ before → SignsParts answers before parts options result after
-  Signed : (own left : Commit) → IsCommitOf parts own → SignsCommit answers before own options (Ok tt) after left → result ≡ Ok left → SignsParts answers before parts options result after
-  Unsigned : (own left : Commit) (error : Error) → IsCommitOf parts own → SignsCommit answers before own options (Err error) after left → result ≡ Err error → SignsParts answers before parts options result after
+pub data SignsParts {R : Type 0} (answers : R → Request → Result Answer run.RunError → R → Type 0)
+    (before : R) (parts : Parts) (options : Options) (result : Result Commit Error)
+    (after : R) : Type 0 where
+  NotOwned : (fault : decode.Error) → OwningFault parts fault → result ≡ Err (reading_error fault)
+      → after ≡ before → SignsParts answers before parts options result after
+  Signed : (own left : Commit) → IsCommitOf parts own
+      → SignsCommit answers before own options (Ok tt) after left → result ≡ Ok left
+      → SignsParts answers before parts options result after
+  Unsigned : (own left : Commit) (error : Error) → IsCommitOf parts own
+      → SignsCommit answers before own options (Err error) after left → result ≡ Err error
+      → SignsParts answers before parts options result after

@@ -63,21 +63,35 @@ is_encoding_first (field ∷ _) = pointwise nat_eq field.name (codes "encoding")
 
 abbrev pub encoding_cause : Option (List ℕ) → List Field → Option encode.Error
 encoding_cause None headers = unspellable_unless (not (is_encoding_first headers))
-encoding_cause (Some name) headers = if is_empty name then Some EmptyValue else if holds 10 name then Some NewlineInHeaderValue else None
+encoding_cause (Some name) headers =
+    if is_empty name then Some EmptyValue else if holds 10 name then Some NewlineInHeaderValue
+    else None
 
 -- ---- the pieces of a commit
 
 abbrev pub tree_piece : List ℕ → Piece
-tree_piece digits = record { text = hex_line (codes "tree") digits; cause = refused_unless (is_id digits) }
+tree_piece digits =
+    record { text = hex_line (codes "tree") digits; cause = refused_unless (is_id digits) }
 
 abbrev pub parent_piece : List ℕ → List ℕ → Piece
-parent_piece tree digits = record { text = hex_line (codes "parent") digits; cause = refused_unless (is_id_like tree digits) }
+parent_piece tree digits =
+    record {
+      text =
+          hex_line (codes "parent") digits;
+      cause = refused_unless (is_id_like tree digits);
+    }
 
 abbrev pub person_piece : List ℕ → Person → Piece
-person_piece word person = record { text = line word (actor_line person); cause = refused_unless (is_person person) }
+person_piece word person =
+    record { text = line word (actor_line person); cause = refused_unless (is_person person) }
 
 abbrev pub encoding_piece : Option (List ℕ) → List Field → Piece
-encoding_piece encoding headers = record { text = encoding_text encoding; cause = option_map Header (encoding_cause encoding headers) }
+encoding_piece encoding headers =
+    record {
+      text =
+          encoding_text encoding;
+      cause = option_map Header (encoding_cause encoding headers);
+    }
 
 abbrev pub field_piece : Field → Piece
 field_piece field = record { text = field_text field; cause = refused_unless (is_field field) }
@@ -104,7 +118,13 @@ abbrev pub message_pieces : Parts → List Piece
 message_pieces parts = message_piece parts.message ∷ []
 
 abbrev pub commit_pieces : Parts → List Piece
-commit_pieces parts = id_pieces parts ++ (author_pieces parts ++ (committer_pieces parts ++ (encoding_pieces parts ++ (header_pieces parts ++ message_pieces parts))))
+commit_pieces parts =
+    id_pieces parts
+    ++
+    (author_pieces parts
+    ++
+    (committer_pieces parts
+    ++ (encoding_pieces parts ++ (header_pieces parts ++ message_pieces parts))))
 
 -- the first part that the format never writes, and all before it
 abbrev pub commit_refusal : Parts → Option Refusal

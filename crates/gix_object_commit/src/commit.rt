@@ -68,7 +68,8 @@ impl<'a> CommitRef<'a> {
     /// `from_bytes` gives.
     pub fn time(&self) -> Result<Time, Error>
         ensures told { IfOk result (SpellsTime (bstr_bytes self.now.committer.time)) }
-        ensures every { (time : Time) → SpellsTime (bstr_bytes self.now.committer.time) time → result ≡ Ok time }
+        ensures every { (time : Time) → SpellsTime (bstr_bytes self.now.committer.time) time
+            → result ≡ Ok time }
         ensures refused { IsOkUnless result InvalidTime }
     {
         let CommitRef { committer, .. } = self;

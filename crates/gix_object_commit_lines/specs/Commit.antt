@@ -66,7 +66,9 @@ IsFolded text = (value : List ℕ) × (text ≡ folded value)
 -- the text without each space behind a line feed; `fed` where one stands before the text
 abbrev pub unfolded_behind : Bool → List ℕ → List ℕ
 unfolded_behind fed [] = []
-unfolded_behind fed (byte ∷ rest) = if fed && byte == 32 then unfolded_behind false rest else byte ∷ unfolded_behind (byte == 10) rest
+unfolded_behind fed (byte ∷ rest) =
+    if fed && byte == 32 then unfolded_behind false rest
+    else byte ∷ unfolded_behind (byte == 10) rest
 
 -- what stands in a header, without them; of a value as it stands in one, the value
 abbrev pub unfolded : List ℕ → List ℕ

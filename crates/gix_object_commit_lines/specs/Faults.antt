@@ -15,13 +15,18 @@ abbrev pub PersonFault : List ℕ → List ℕ → Error → Type 0
 PersonFault word input FieldName = (rest : List ℕ) → input ≢ word ++ 32 ∷ rest
 PersonFault word input HexDigits = ⊥
 PersonFault word input LineEnd = (rest : List ℕ) × (input ≡ word ++ 32 ∷ rest) × Lacks 10 rest
-PersonFault word input InvalidActor = (text : List ℕ) × (rest : List ℕ) × (input ≡ word ++ 32 ∷ (text ++ 10 ∷ rest)) × Lacks 10 text × IsUncut text
-PersonFault word input InvalidTime = (text : List ℕ) × (rest : List ℕ) × (input ≡ word ++ 32 ∷ (text ++ 10 ∷ rest)) × Lacks 10 text × IsUntimed text
+PersonFault word input InvalidActor =
+    (text : List ℕ) × (rest : List ℕ) × (input ≡ word ++ 32 ∷ (text ++ 10 ∷ rest)) × Lacks 10 text
+    × IsUncut text
+PersonFault word input InvalidTime =
+    (text : List ℕ) × (rest : List ℕ) × (input ≡ word ++ 32 ∷ (text ++ 10 ∷ rest)) × Lacks 10 text
+    × IsUntimed text
 PersonFault word input Memory = ⊥
 
 -- the encoding's line begins, and has no end
 abbrev pub EncodingFault : List ℕ → Error → Type 0
-EncodingFault input error = (error ≡ LineEnd) × ((rest : List ℕ) × (input ≡ codes "encoding " ++ rest) × Lacks 10 rest)
+EncodingFault input error =
+    (error ≡ LineEnd) × ((rest : List ℕ) × (input ≡ codes "encoding " ++ rest) × Lacks 10 rest)
 
 -- a header's name and a space begin the text
 pub record IsNamed (text name rest : List ℕ) : Type 0 where
@@ -103,8 +108,10 @@ pub record HasHeader (input : List ℕ) : Type 0 where
 
 -- all before it stands
 pub data TakesMemory (hex_len : ℕ) (input : List ℕ) : Type 0 where
-  ForParents : (rest : List ℕ) → IsBehindTree hex_len input rest → HasTwoParents hex_len rest → TakesMemory hex_len input
-  ForHeaders : (rest : List ℕ) → IsBehindEncoding hex_len input rest → HasHeader rest → TakesMemory hex_len input
+  ForParents : (rest : List ℕ) → IsBehindTree hex_len input rest → HasTwoParents hex_len rest
+      → TakesMemory hex_len input
+  ForHeaders : (rest : List ℕ) → IsBehindEncoding hex_len input rest → HasHeader rest
+      → TakesMemory hex_len input
 
 -- ---- the first part that fails, behind those that stand
 
@@ -124,10 +131,15 @@ pub record HeadersFault (input : List ℕ) (error : Error) : Type 0 where
 
 pub data CommitFault (hex_len : ℕ) (input : List ℕ) (error : Error) : Type 0 where
   InTree : HexLineFault (codes "tree") hex_len input error → CommitFault hex_len input error
-  InParents : (rest : List ℕ) → IsBehindTree hex_len input rest → ParentFault hex_len rest error → CommitFault hex_len input error
-  InAuthor : (rest : List ℕ) → IsBehindParents hex_len input rest → PersonFault (codes "author") rest error → CommitFault hex_len input error
-  InCommitter : (rest : List ℕ) → IsBehindAuthor hex_len input rest → PersonFault (codes "committer") rest error → CommitFault hex_len input error
-  InEncoding : (rest : List ℕ) → IsBehindCommitter hex_len input rest → EncodingFault rest error → CommitFault hex_len input error
-  InHeaders : (rest : List ℕ) → IsBehindEncoding hex_len input rest → HeadersFault rest error → CommitFault hex_len input error
+  InParents : (rest : List ℕ) → IsBehindTree hex_len input rest → ParentFault hex_len rest error
+      → CommitFault hex_len input error
+  InAuthor : (rest : List ℕ) → IsBehindParents hex_len input rest
+      → PersonFault (codes "author") rest error → CommitFault hex_len input error
+  InCommitter : (rest : List ℕ) → IsBehindAuthor hex_len input rest
+      → PersonFault (codes "committer") rest error → CommitFault hex_len input error
+  InEncoding : (rest : List ℕ) → IsBehindCommitter hex_len input rest → EncodingFault rest error
+      → CommitFault hex_len input error
+  InHeaders : (rest : List ℕ) → IsBehindEncoding hex_len input rest → HeadersFault rest error
+      → CommitFault hex_len input error
   -- a growth of the lists of parents or headers was refused
   NoMemory : error ≡ Memory → TakesMemory hex_len input → CommitFault hex_len input error

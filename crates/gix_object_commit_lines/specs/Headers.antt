@@ -9,7 +9,8 @@ is_named name field = pointwise nat_eq field.name name
 -- the value of the first header of this name, as it stands
 abbrev pub first_value : List ℕ → List Field → Option (List ℕ)
 first_value name [] = None
-first_value name (field ∷ fields) = if is_named name field then Some field.value else first_value name fields
+first_value name (field ∷ fields) =
+    if is_named name field then Some field.value else first_value name fields
 
 -- the values of all headers of this name, in order, as they stand
 abbrev pub values_named : List ℕ → List Field → List (List ℕ)

@@ -13,9 +13,12 @@ use gix_object_lines::decode::Error;
 
 /// The name of the encoding, where its line begins the input, and what follows.
 pub fn read_encoding(input: &[u8]) -> Result<(Option<BStr<'_>>, &[u8]), Error>
-    ensures read { IfOk result (λ read. (input.now ≡ encoding_text (option_map bstr_bytes read.0) ++ read.1.now)
-        × IfSome (option_map bstr_bytes read.0) (Lacks 10) × (option_map bstr_bytes read.0 ≡ None → ¬ BeginsWith (codes "encoding ") input.now)) }
-    ensures every { (encoding : Option (List ℕ)) (rest : List ℕ) → IfSome encoding (Lacks 10) → (encoding ≡ None → ¬ BeginsWith (codes "encoding ") rest)
+    ensures read { IfOk result
+        (λ read. (input.now ≡ encoding_text (option_map bstr_bytes read.0) ++ read.1.now)
+        × IfSome (option_map bstr_bytes read.0) (Lacks 10)
+        × (option_map bstr_bytes read.0 ≡ None → ¬ BeginsWith (codes "encoding ") input.now)) }
+    ensures every { (encoding : Option (List ℕ)) (rest : List ℕ) → IfSome encoding (Lacks 10)
+        → (encoding ≡ None → ¬ BeginsWith (codes "encoding ") rest)
         → input.now ≡ encoding_text encoding ++ rest
         → IsOkAnd result (λ read. (option_map bstr_bytes read.0 ≡ encoding) × (read.1.now ≡ rest)) }
     ensures refused { IfErr result (λ error. EncodingFault input.now error) }

@@ -38,7 +38,8 @@ impl<'a> HeaderRef<'a> {
     /// nothing is left out. It is an error where no memory is left.
     pub fn unfolded(&self, alloc: Global) -> Result<ByteString, AllocError>
         ensures whole { IfOk result (λ value. value ≡ spec.unfolded (bstr_bytes self.now.value)) }
-        ensures told { IfOk result (λ value. (told : List ℕ) → bstr_bytes self.now.value ≡ folded told → value ≡ told) }
+        ensures told { IfOk result
+            (λ value. (told : List ℕ) → bstr_bytes self.now.value ≡ folded told → value ≡ told) }
     {
         unfold(alloc, self.value.as_bytes())
     }
@@ -63,8 +64,11 @@ fn unfold(alloc: Global, text: &[u8]) -> Result<ByteString, AllocError>
 
 /// A header that begins the input, and what follows it.
 pub fn read_header(input: &[u8]) -> Result<(HeaderRef<'_>, &[u8]), Error>
-    ensures read { IfOk result (λ read. (input.now ≡ field_text (field_of read.0) ++ read.1.now) × IsField (field_of read.0) × IsUnspaced read.1.now) }
-    ensures every { (field : Field) (rest : List ℕ) → IsField field → IsUnspaced rest → input.now ≡ field_text field ++ rest
+    ensures read { IfOk result
+        (λ read. (input.now ≡ field_text (field_of read.0) ++ read.1.now)
+        × IsField (field_of read.0) × IsUnspaced read.1.now) }
+    ensures every { (field : Field) (rest : List ℕ) → IsField field → IsUnspaced rest
+        → input.now ≡ field_text field ++ rest
         → IsOkAnd result (λ read. (field_of read.0 ≡ field) × (read.1.now ≡ rest)) }
     ensures refused { IfErr result (λ error. HeaderFault input.now error) }
 {
@@ -80,8 +84,10 @@ pub fn read_header(input: &[u8]) -> Result<(HeaderRef<'_>, &[u8]), Error>
 // A name that begins the input, and what follows it and a space.
 fn read_name(input: &[u8]) -> Option<(&[u8], &[u8])>
     ensures { MatchOption result
-        ((name rest : List ℕ) → name ≢ [] → Lacks 32 name → Lacks 10 name → input.now ≢ name ++ 32 ∷ rest)
-        (λ cut. (input.now ≡ cut.0.now ++ 32 ∷ cut.1.now) × (cut.0.now ≢ []) × Lacks 32 cut.0.now × Lacks 10 cut.0.now) }
+        ((name rest : List ℕ) → name ≢ [] → Lacks 32 name → Lacks 10 name
+        → input.now ≢ name ++ 32 ∷ rest)
+        (λ cut. (input.now ≡ cut.0.now ++ 32 ∷ cut.1.now) × (cut.0.now ≢ []) × Lacks 32 cut.0.now
+        × Lacks 10 cut.0.now) }
 {
     let (name, rest) = split_once(input, b' ')?;
     if name.is_empty() {
@@ -97,7 +103,8 @@ fn read_name(input: &[u8]) -> Option<(&[u8], &[u8])>
 fn split_value(input: &[u8]) -> Option<(&[u8], &[u8])>
     ensures { MatchOption result
         ((value rest : List ℕ) → IsFolded value → IsUnspaced rest → input.now ≢ value ++ 10 ∷ rest)
-        (λ cut. (input.now ≡ cut.0.now ++ 10 ∷ cut.1.now) × IsFolded cut.0.now × IsUnspaced cut.1.now) }
+        (λ cut. (input.now ≡ cut.0.now ++ 10 ∷ cut.1.now) × IsFolded cut.0.now
+        × IsUnspaced cut.1.now) }
 {
     let mut rest = input;
     'lines: while let Some((_line, after)) = split_once(rest, b'\n') {

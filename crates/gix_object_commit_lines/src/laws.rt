@@ -8,5 +8,6 @@ use gix_hash::Kind;
 
 /// Bytes spell one commit at most. Nothing is done: the contract is the law.
 pub fn one_commit(_input: &[u8], _hash_kind: Kind)
-    ensures { (a b : Parts) → SpellsCommit (hex_len _hash_kind) _input.now a → SpellsCommit (hex_len _hash_kind) _input.now b → a ≡ b }
+    ensures { (a b : Parts) → SpellsCommit (hex_len _hash_kind) _input.now a
+        → SpellsCommit (hex_len _hash_kind) _input.now b → a ≡ b }
 {}

@@ -11,8 +11,11 @@ use gix_object_lines::lines::{ActorRef, read_actor};
 
 /// The actor of a line of this word that begins the input, and what follows the line.
 pub fn read_person<'a>(input: &'a [u8], word: &[u8]) -> Result<(ActorRef<'a>, &'a [u8]), Error>
-    ensures read { IfOk result (λ read. (input.now ≡ line word.now (actor_line (person_of read.0)) ++ read.1.now) × IsPerson (person_of read.0)) }
-    ensures every { (person : Person) (rest : List ℕ) → IsPerson person → input.now ≡ line word.now (actor_line person) ++ rest
+    ensures read { IfOk result
+        (λ read. (input.now ≡ line word.now (actor_line (person_of read.0)) ++ read.1.now)
+        × IsPerson (person_of read.0)) }
+    ensures every { (person : Person) (rest : List ℕ) → IsPerson person
+        → input.now ≡ line word.now (actor_line person) ++ rest
         → IsOkAnd result (λ read. (person_of read.0 ≡ person) × (read.1.now ≡ rest)) }
     ensures refused { IfErr result (λ error. PersonFault word.now input.now error) }
 {

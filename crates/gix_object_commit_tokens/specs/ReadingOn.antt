@@ -18,7 +18,8 @@ Reads here (part ∷ parts) there = (next : Place) × IsNext here part next × R
 
 -- these are the values that the parts from here to there tell
 abbrev pub Tells : {X : Type 0} → (Part → Option X) → Place → List X → Place → Type 0
-Tells told here values there = (parts : List Part) × Reads here parts there × (filter_map told parts ≡ values)
+Tells told here values there =
+    (parts : List Part) × Reads here parts there × (filter_map told parts ≡ values)
 
 -- ---- the first value from here on
 
@@ -27,7 +28,9 @@ TellsFirst told here value = (there : Place) × Tells told here (value ∷ []) t
 
 -- what is answered where no part follows: `FieldName` at the input's end, and else the error that the reader gives
 abbrev pub IsStop : Place → Error → Type 0
-IsStop place error = ((place.input ≡ []) × (error ≡ FieldName)) ⊎ ((after : Place) × GivesToken place (Some (Err error)) after)
+IsStop place error =
+    ((place.input ≡ []) × (error ≡ FieldName))
+    ⊎ ((after : Place) × GivesToken place (Some (Err error)) after)
 
 -- no value is told from here on to where no part follows
 abbrev pub TellsNone : {X : Type 0} → (Part → Option X) → Place → Error → Type 0
@@ -36,7 +39,8 @@ TellsNone told here error = (there : Place) × Tells told here [] there × IsSto
 -- ---- all values from here on, one after another
 
 abbrev pub TellsNoMore : {X : Type 0} → (Part → Option X) → Place → Type 0
-TellsNoMore {X} told here = (values : List X) (there : Place) → Tells told here values there → values ≡ []
+TellsNoMore {X} told here =
+    (values : List X) (there : Place) → Tells told here values there → values ≡ []
 
 -- the next value, and where the reader is then; nothing where none follows, and then nothing again
 abbrev pub GivesTold : {X : Type 0} → (Part → Option X) → Place → Option X → Place → Type 0
@@ -85,4 +89,6 @@ tree_given (Some (Err error)) = Err error
 
 -- one token is read, and this is what it answers
 abbrev pub TakesTree : Place → Result ObjectId Error → Place → Type 0
-TakesTree before result after = (given : Option (Result Token Error)) × GivesToken before given after × (result ≡ tree_given given)
+TakesTree before result after =
+    (given : Option (Result Token Error)) × GivesToken before given after
+    × (result ≡ tree_given given)

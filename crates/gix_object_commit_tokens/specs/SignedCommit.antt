@@ -26,7 +26,8 @@ cut_of signature = record {
 
 -- a header of the signature's name tells the signature, and the message that there is none: no header follows it
 abbrev pub signature_told : Kind → Part → Option (Option Field)
-signature_told kind (Header field) = if is_named (signature_name kind) field then Some (Some field) else None
+signature_told kind (Header field) =
+    if is_named (signature_name kind) field then Some (Some field) else None
 signature_told kind (Message message) = Some None
 signature_told kind _ = None
 

@@ -17,11 +17,14 @@ ParentOrAuthorFault kind input error =
 
 -- no empty line begins, and no header
 abbrev pub FurtherHeaderFault : List ℕ → Error → Type 0
-FurtherHeaderFault input error = ((message : List ℕ) → input ≢ 10 ∷ message) × HeaderFault input error
+FurtherHeaderFault input error =
+    ((message : List ℕ) → input ≢ 10 ∷ message) × HeaderFault input error
 
 -- the encoding's line begins, and has no end; or it doesn't begin, and nothing that may stand in its place does
 abbrev pub FirstHeaderFault : List ℕ → Error → Type 0
-FirstHeaderFault input error = EncodingFault input error ⊎ ((¬ BeginsWith (codes "encoding ") input) × FurtherHeaderFault input error)
+FirstHeaderFault input error =
+    EncodingFault input error
+    ⊎ ((¬ BeginsWith (codes "encoding ") input) × FurtherHeaderFault input error)
 
 abbrev pub IsFaultAt : Kind → Stage → List ℕ → Error → Type 0
 IsFaultAt kind at.Tree input error = HexLineFault (codes "tree") (hex_len kind) input error

@@ -56,14 +56,23 @@ pub record IsIdLine (kind : Kind) (word input : List ℕ) (id : Id) (rest : List
 
 -- the part may stand there and begins the input, and the rest follows it
 abbrev pub IsPartAt : Kind → Stage → List ℕ → Part → List ℕ → Type 0
-IsPartAt kind stage input (Tree id) rest = (stage ≡ at.Tree) × IsIdLine kind (codes "tree") input id rest
-IsPartAt kind stage input (Parent id) rest = (stage ≡ at.Parents) × IsIdLine kind (codes "parent") input id rest
-IsPartAt kind stage input (Author person) rest = (stage ≡ at.Parents) × IsPerson person × (input ≡ line (codes "author") (actor_line person) ++ rest)
-IsPartAt kind stage input (Committer person) rest = (stage ≡ at.Committer) × IsPerson person × (input ≡ line (codes "committer") (actor_line person) ++ rest)
-IsPartAt kind stage input (Encoding name) rest = (stage ≡ at.Encoding) × Lacks 10 name × (input ≡ line (codes "encoding") name ++ rest)
+IsPartAt kind stage input (Tree id) rest =
+    (stage ≡ at.Tree) × IsIdLine kind (codes "tree") input id rest
+IsPartAt kind stage input (Parent id) rest =
+    (stage ≡ at.Parents) × IsIdLine kind (codes "parent") input id rest
+IsPartAt kind stage input (Author person) rest =
+    (stage ≡ at.Parents) × IsPerson person
+    × (input ≡ line (codes "author") (actor_line person) ++ rest)
+IsPartAt kind stage input (Committer person) rest =
+    (stage ≡ at.Committer) × IsPerson person
+    × (input ≡ line (codes "committer") (actor_line person) ++ rest)
+IsPartAt kind stage input (Encoding name) rest =
+    (stage ≡ at.Encoding) × Lacks 10 name × (input ≡ line (codes "encoding") name ++ rest)
 IsPartAt kind stage input (Header field) rest =
-    ((stage ≡ at.Headers) ⊎ ((stage ≡ at.Encoding) × (field.name ≢ codes "encoding"))) × IsField field × IsUnspaced rest × (input ≡ field_text field ++ rest)
-IsPartAt kind stage input (Message message) rest = ((stage ≡ at.Encoding) ⊎ (stage ≡ at.Headers)) × (input ≡ 10 ∷ message) × (rest ≡ [])
+    ((stage ≡ at.Headers) ⊎ ((stage ≡ at.Encoding) × (field.name ≢ codes "encoding")))
+    × IsField field × IsUnspaced rest × (input ≡ field_text field ++ rest)
+IsPartAt kind stage input (Message message) rest =
+    ((stage ≡ at.Encoding) ⊎ (stage ≡ at.Headers)) × (input ≡ 10 ∷ message) × (rest ≡ [])
 
 -- where the reader is once it has given the part
 abbrev pub stage_after : Part → Stage
@@ -90,14 +99,19 @@ start kind input = record { kind = kind; stage = at.Tree; input = input }
 
 -- the part stands next, and the reader moves behind it
 abbrev pub IsNext : Place → Part → Place → Type 0
-IsNext before part after = IsPartAt before.kind before.stage before.input part after.input × (after.stage ≡ stage_after part) × (after.kind ≡ before.kind)
+IsNext before part after =
+    IsPartAt before.kind before.stage before.input part after.input
+    × (after.stage ≡ stage_after part) × (after.kind ≡ before.kind)
 
 -- something stands next, and it is no part
 abbrev pub LacksPart : Place → Type 0
-LacksPart place = (place.input ≢ []) × ((part : Part) (rest : List ℕ) → ¬ IsPartAt place.kind place.stage place.input part rest)
+LacksPart place =
+    (place.input ≢ [])
+    × ((part : Part) (rest : List ℕ) → ¬ IsPartAt place.kind place.stage place.input part rest)
 
 -- the reader gives the part that stands next, nothing where its input has ended, and else why none stands there, and then nothing
 abbrev pub GivesToken : Place → Option (Result Token Error) → Place → Type 0
 GivesToken before None after = (before.input ≡ []) × (after ≡ before)
 GivesToken before (Some (Ok token)) after = IsNext before (part_of token) after
-GivesToken before (Some (Err error)) after = LacksPart before × IsFaultAt before.kind before.stage before.input error × (after.input ≡ [])
+GivesToken before (Some (Err error)) after =
+    LacksPart before × IsFaultAt before.kind before.stage before.input error × (after.input ≡ [])

@@ -29,8 +29,10 @@ pub record TellsParts (parts : Parts) (tokens : List Part) : Type 0 where
   pub parents : List Id
   pub tree_spelled : IsHexOfId parts.tree tree
   pub parents_spelled : AllZip IsHexOfId parts.parents parents
-  pub in_order : tokens ≡ Tree tree ∷ (parent_tokens parents ++ (Author parts.author ∷ (Committer parts.committer
-      ∷ (encoding_tokens parts.encoding ++ (header_tokens parts.headers ++ Message parts.message ∷ [])))))
+  pub in_order : tokens
+      ≡ Tree tree ∷ (parent_tokens parents ++ (Author parts.author ∷ (Committer parts.committer
+      ∷ (encoding_tokens parts.encoding
+      ++ (header_tokens parts.headers ++ Message parts.message ∷ [])))))
 
 abbrev pub is_message : Part → Bool
 is_message (Tree id) = false
@@ -43,4 +45,6 @@ is_message (Message message) = true
 
 -- from here the reader gives parts without an error, and the last of them is a message, with which the input ends
 abbrev pub ReadsToMessage : Place → Type 0
-ReadsToMessage here = (parts : List Part) × (message : List ℕ) × (there : Place) × Reads here (parts ++ Message message ∷ []) there
+ReadsToMessage here =
+    (parts : List Part) × (message : List ℕ) × (there : Place)
+    × Reads here (parts ++ Message message ∷ []) there

@@ -39,9 +39,13 @@ pub fn tokens_tell_a_commit(input: &[u8], hash_kind: Kind) -> bool
 /// Nothing is done: the contract is the law.
 pub fn tokens_are_the_parts(_input: &[u8], _hash_kind: Kind)
     ensures given { (parts : Parts) → SpellsCommit (hex_len _hash_kind) _input.now parts
-        → (tokens : List Part) × (there : Place) × Reads (start _hash_kind _input.now) tokens there × (there.input ≡ []) × TellsParts parts tokens }
-    ensures only { (parts : Parts) (tokens : List Part) (there : Place) → SpellsCommit (hex_len _hash_kind) _input.now parts
-        → Reads (start _hash_kind _input.now) tokens there → there.input ≡ [] → TellsParts parts tokens }
+        → (tokens : List Part) × (there : Place)
+        × Reads (start _hash_kind _input.now) tokens there × (there.input ≡ [])
+        × TellsParts parts tokens }
+    ensures only { (parts : Parts) (tokens : List Part) (there : Place)
+        → SpellsCommit (hex_len _hash_kind) _input.now parts
+        → Reads (start _hash_kind _input.now) tokens there → there.input ≡ []
+        → TellsParts parts tokens }
 {}
 
 fn is_message(token: Token<'_>) -> bool

@@ -153,7 +153,8 @@ fn read_token<'a>(
     input: &'a [u8],
     hash_kind: Kind,
 ) -> Result<(Token<'a>, &'a [u8]), Error>
-    ensures read { IfOk result (λ read. IsPartAt hash_kind stage input.now (part_of read.0) read.1.now) }
+    ensures read { IfOk result
+        (λ read. IsPartAt hash_kind stage input.now (part_of read.0) read.1.now) }
     ensures every { (part : Part) (rest : List ℕ) → IsPartAt hash_kind stage input.now part rest
         → IsOkAnd result (λ read. (part_of read.0 ≡ part) × (read.1.now ≡ rest)) }
     ensures refused { IfErr result (λ error. IsFaultAt hash_kind stage input.now error) }
@@ -168,8 +169,10 @@ fn read_token<'a>(
 }
 
 fn read_tree(input: &[u8], hash_kind: Kind) -> Result<(Token<'_>, &[u8]), Error>
-    ensures read { IfOk result (λ read. IsPartAt hash_kind stages.Tree input.now (part_of read.0) read.1.now) }
-    ensures every { (part : Part) (rest : List ℕ) → IsPartAt hash_kind stages.Tree input.now part rest
+    ensures read { IfOk result
+        (λ read. IsPartAt hash_kind stages.Tree input.now (part_of read.0) read.1.now) }
+    ensures every { (part : Part) (rest : List ℕ)
+        → IsPartAt hash_kind stages.Tree input.now part rest
         → IsOkAnd result (λ read. (part_of read.0 ≡ part) × (read.1.now ≡ rest)) }
     ensures refused { IfErr result (λ error. IsFaultAt hash_kind stages.Tree input.now error) }
 {
@@ -178,8 +181,10 @@ fn read_tree(input: &[u8], hash_kind: Kind) -> Result<(Token<'_>, &[u8]), Error>
 }
 
 fn read_parent_or_author(input: &[u8], hash_kind: Kind) -> Result<(Token<'_>, &[u8]), Error>
-    ensures read { IfOk result (λ read. IsPartAt hash_kind stages.Parents input.now (part_of read.0) read.1.now) }
-    ensures every { (part : Part) (rest : List ℕ) → IsPartAt hash_kind stages.Parents input.now part rest
+    ensures read { IfOk result
+        (λ read. IsPartAt hash_kind stages.Parents input.now (part_of read.0) read.1.now) }
+    ensures every { (part : Part) (rest : List ℕ)
+        → IsPartAt hash_kind stages.Parents input.now part rest
         → IsOkAnd result (λ read. (part_of read.0 ≡ part) × (read.1.now ≡ rest)) }
     ensures refused { IfErr result (λ error. IsFaultAt hash_kind stages.Parents input.now error) }
 {
@@ -193,8 +198,11 @@ fn read_parent_or_author(input: &[u8], hash_kind: Kind) -> Result<(Token<'_>, &[
 }
 
 fn read_committer(input: &[u8]) -> Result<(Token<'_>, &[u8]), Error>
-    ensures read { (kind : Kind) → IfOk result (λ read. IsPartAt kind stages.Committer input.now (part_of read.0) read.1.now) }
-    ensures every { (kind : Kind) (part : Part) (rest : List ℕ) → IsPartAt kind stages.Committer input.now part rest
+    ensures read { (kind : Kind)
+        → IfOk result
+        (λ read. IsPartAt kind stages.Committer input.now (part_of read.0) read.1.now) }
+    ensures every { (kind : Kind) (part : Part) (rest : List ℕ)
+        → IsPartAt kind stages.Committer input.now part rest
         → IsOkAnd result (λ read. (part_of read.0 ≡ part) × (read.1.now ≡ rest)) }
     ensures refused { IfErr result (λ error. PersonFault (codes "committer") input.now error) }
 {
@@ -204,8 +212,11 @@ fn read_committer(input: &[u8]) -> Result<(Token<'_>, &[u8]), Error>
 
 // An encoding, or what may stand in its place.
 fn read_first_header(input: &[u8]) -> Result<(Token<'_>, &[u8]), Error>
-    ensures read { (kind : Kind) → IfOk result (λ read. IsPartAt kind stages.Encoding input.now (part_of read.0) read.1.now) }
-    ensures every { (kind : Kind) (part : Part) (rest : List ℕ) → IsPartAt kind stages.Encoding input.now part rest
+    ensures read { (kind : Kind)
+        → IfOk result
+        (λ read. IsPartAt kind stages.Encoding input.now (part_of read.0) read.1.now) }
+    ensures every { (kind : Kind) (part : Part) (rest : List ℕ)
+        → IsPartAt kind stages.Encoding input.now part rest
         → IsOkAnd result (λ read. (part_of read.0 ≡ part) × (read.1.now ≡ rest)) }
     ensures refused { IfErr result (λ error. FirstHeaderFault input.now error) }
 {
@@ -217,8 +228,11 @@ fn read_first_header(input: &[u8]) -> Result<(Token<'_>, &[u8]), Error>
 
 // A header or the message.
 fn read_further_header(input: &[u8]) -> Result<(Token<'_>, &[u8]), Error>
-    ensures read { (kind : Kind) → IfOk result (λ read. IsPartAt kind stages.Headers input.now (part_of read.0) read.1.now) }
-    ensures every { (kind : Kind) (part : Part) (rest : List ℕ) → IsPartAt kind stages.Headers input.now part rest
+    ensures read { (kind : Kind)
+        → IfOk result
+        (λ read. IsPartAt kind stages.Headers input.now (part_of read.0) read.1.now) }
+    ensures every { (kind : Kind) (part : Part) (rest : List ℕ)
+        → IsPartAt kind stages.Headers input.now part rest
         → IsOkAnd result (λ read. (part_of read.0 ≡ part) × (read.1.now ≡ rest)) }
     ensures refused { IfErr result (λ error. FurtherHeaderFault input.now error) }
 {
@@ -234,10 +248,12 @@ fn read_further_header(input: &[u8]) -> Result<(Token<'_>, &[u8]), Error>
 
 // The id of a line of this word that begins the input, and what follows the line.
 fn read_id<'a>(input: &'a [u8], word: &[u8], hash_kind: Kind) -> Result<(ObjectId, &'a [u8]), Error>
-    ensures read { IfOk result (λ read. IsIdLine hash_kind word.now input.now (id_of read.0) read.1.now) }
+    ensures read { IfOk result
+        (λ read. IsIdLine hash_kind word.now input.now (id_of read.0) read.1.now) }
     ensures every { (id : Id) (rest : List ℕ) → IsIdLine hash_kind word.now input.now id rest
         → IsOkAnd result (λ read. (id_of read.0 ≡ id) × (read.1.now ≡ rest)) }
-    ensures refused { IfErr result (λ error. HexLineFault word.now (hex_len hash_kind) input.now error) }
+    ensures refused { IfErr result
+        (λ error. HexLineFault word.now (hex_len hash_kind) input.now error) }
 {
     let (digits, rest) = read_hex_line(input, word, hash_kind.len_in_hex())?;
     Ok((id_of_digits(digits), rest))

@@ -135,7 +135,8 @@ names_of path = map (λ name. name.now) path
 
 -- what an entry of this kind and id is
 abbrev pub leaf_of_kind : EntryKind → ObjectId → Leaf
-leaf_of_kind kind id = record { mode = record { value = kind_value kind; padded = false }; id = id_of id }
+leaf_of_kind kind id =
+    record { mode = record { value = kind_value kind; padded = false }; id = id_of id }
 
 abbrev pub IsTreeNamed : Id → Option Leaf → Type 0
 IsTreeNamed id None = ⊥

@@ -138,4 +138,5 @@ module _ {F E : Type 0} (calls : Mut F (Bor Tree × Unit {0}) (Result ObjectId E
 
   -- the same of the tree at a path of an editor, which has this number
   abbrev pub WriteFault : {S : Type 0} → Editor S → ℕ → Path → F → Error E → F → Type 0
-  WriteFault editor from path out error after = StopsWriting editor.nodes.items from path out error after
+  WriteFault editor from path out error after =
+      StopsWriting editor.nodes.items from path out error after

@@ -20,7 +20,13 @@ pub record Item : Type 0 where
   pub id : Id
 
 abbrev pub item_of : EntryRef → Item
-item_of entry = record { mode = mode_of entry.mode; name = bstr_bytes entry.filename; id = viewed_id entry.oid }
+item_of entry =
+    record {
+      mode =
+          mode_of entry.mode;
+      name = bstr_bytes entry.filename;
+      id = viewed_id entry.oid;
+    }
 
 abbrev pub own_item : Entry → Item
 own_item entry = record { mode = mode_of entry.mode; name = entry.filename; id = id_of entry.oid }
@@ -41,7 +47,8 @@ SpellsNoEntry ids input = (item : Item) (rest : List ℕ) → SpellsEntry ids in
 -- the entries begin the input in order, and the rest follows them
 abbrev pub SpellsEntries : Kind → List ℕ → List Item → List ℕ → Type 0
 SpellsEntries ids input [] rest = input ≡ rest
-SpellsEntries ids input (item ∷ items) rest = (after : List ℕ) × SpellsEntry ids input item after × SpellsEntries ids after items rest
+SpellsEntries ids input (item ∷ items) rest =
+    (after : List ℕ) × SpellsEntry ids input item after × SpellsEntries ids after items rest
 
 -- the content spells the entries of a tree, and nothing else
 abbrev pub SpellsTree : Kind → List ℕ → List Item → Type 0
@@ -50,7 +57,8 @@ SpellsTree ids content items = SpellsEntries ids content items []
 -- ---- why no entry begins the input: the mode, the name's end, or the id
 
 abbrev pub LacksMode : List ℕ → Type 0
-LacksMode input = (text rest : List ℕ) → Lacks 32 text → input ≡ text ++ 32 ∷ rest → SpellsNoMode text
+LacksMode input =
+    (text rest : List ℕ) → Lacks 32 text → input ≡ text ++ 32 ∷ rest → SpellsNoMode text
 
 pub record LacksNameEnd (input : List ℕ) : Type 0 where
   pub text : List ℕ

@@ -8,7 +8,9 @@ use Rattle.gix_object_entries.specs.OrderLaws.{item_eq}
 use Rattle.gix_object_entries.specs.SameItem.{one_item}
 
 abbrev pub item_input : Item → fed.HashWrites
-item_input item = fed.u16 item.mode.value ++ fed.bool item.mode.padded ++ fed.slice fed.u8 item.name ++ (raw_bytes item.id ∷ [])
+item_input item =
+    fed.u16 item.mode.value ++ fed.bool item.mode.padded ++ fed.slice fed.u8 item.name
+    ++ (raw_bytes item.id ∷ [])
 
 -- equal entries are fed alike
 pub same_input : (a b : Item) → IsTrue (item_eq a b) → item_input a ≡ item_input b

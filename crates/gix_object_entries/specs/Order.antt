@@ -23,7 +23,11 @@ abbrev pub name_cmp : List ℕ → Bool → List ℕ → Bool → Ordering
 name_cmp a a_is_tree b b_is_tree = digits_cmp (git_key a a_is_tree) (git_key b b_is_tree)
 
 abbrev pub mode_cmp : Item → Item → Ordering
-mode_cmp = then_cmp (on (λ (a : Item). a.mode.value) nat_cmp) (on (λ (a : Item). a.mode.padded) bool_cmp)
+mode_cmp =
+    then_cmp (on (λ (a : Item). a.mode.value) nat_cmp) (on (λ (a : Item). a.mode.padded) bool_cmp)
 
 abbrev pub item_cmp : Item → Item → Ordering
-item_cmp = then_cmp (then_cmp (then_cmp (on item_key digits_cmp) mode_cmp) (on (λ (a : Item). a.name) digits_cmp)) (on (λ (a : Item). a.id) id_cmp)
+item_cmp =
+    then_cmp
+    (then_cmp (then_cmp (on item_key digits_cmp) mode_cmp) (on (λ (a : Item). a.name) digits_cmp))
+    (on (λ (a : Item). a.id) id_cmp)

@@ -12,7 +12,8 @@ item_total =
     then_total
     (then_total
     (then_total (on_total item_key nat_list_cmp_total)
-    (then_total (on_total (λ (a : Item). a.mode.value) nat_cmp_total) (on_total (λ (a : Item). a.mode.padded) bool_cmp_total)))
+    (then_total (on_total (λ (a : Item). a.mode.value) nat_cmp_total)
+    (on_total (λ (a : Item). a.mode.padded) bool_cmp_total)))
     (on_total (λ (a : Item). a.name) nat_list_cmp_total))
     (on_total (λ (a : Item). a.id) id_total)
 
@@ -30,5 +31,6 @@ module _ {K : Type 0} (item : K → Item) where
   pub eq_laws : IsPartialEquivalence (λ (x y : K). item_eq (item x) (item y))
   eq_laws = partial_equiv_from_equiv equivalence
 
-  pub order_laws : IsPartialOrder (λ (x y : K). item_eq (item x) (item y)) (λ (x y : K). Some (item_cmp (item x) (item y)))
+  pub order_laws : IsPartialOrder (λ (x y : K). item_eq (item x) (item y))
+      (λ (x y : K). Some (item_cmp (item x) (item y)))
   order_laws = partial_order_from_total total

@@ -21,11 +21,15 @@ start kind input = record { kind = kind; input = input }
 -- at the input's end the entries end; else the one that begins it is given, or why none does, and then nothing
 abbrev pub Steps : Place → Option (Result EntryRef Error) → Place → Type 0
 Steps before None after = (before.input ≡ []) × (after ≡ before)
-Steps before (Some (Ok entry)) after = (after.kind ≡ before.kind) × SpellsEntry before.kind before.input (item_of entry) after.input
+Steps before (Some (Ok entry)) after =
+    (after.kind ≡ before.kind) × SpellsEntry before.kind before.input (item_of entry) after.input
 Steps before (Some (Err error)) after =
-    (before.input ≢ []) × SpellsNoEntry before.kind before.input × EntryFault before.kind before.input error × (after.kind ≡ before.kind) × (after.input ≡ [])
+    (before.input ≢ []) × SpellsNoEntry before.kind before.input
+    × EntryFault before.kind before.input error × (after.kind ≡ before.kind)
+    × (after.input ≡ [])
 
 -- the reader gives these entries one after another, and then stands there
 abbrev pub Gives : Place → List EntryRef → Place → Type 0
 Gives before [] there = there ≡ before
-Gives before (entry ∷ entries) there = (next : Place) × Steps before (Some (Ok entry)) next × Gives next entries there
+Gives before (entry ∷ entries) there =
+    (next : Place) × Steps before (Some (Ok entry)) next × Gives next entries there

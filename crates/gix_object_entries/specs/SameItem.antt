@@ -25,7 +25,8 @@ tied_of Equal e = refl
 tied_of Greater e = absurd cc
 
 one_number : (a b : ℕ) → nat_cmp a b ≡ Equal → a ≡ b
-one_number a b e = subst (λ o. MatchOrdering o (a < b) (a ≡ b) (b < a)) e (ranked a b (nat_cmp a b) refl)
+one_number a b e =
+    subst (λ o. MatchOrdering o (a < b) (a ≡ b) (b < a)) e (ranked a b (nat_cmp a b) refl)
 
 one_bool : (a b : Bool) → bool_cmp a b ≡ Equal → a ≡ b
 one_bool true true e = refl
@@ -42,10 +43,17 @@ one_id a b e = id_eq-same a b (id_tied a b ∙ ap is_eq e)
 
 pub one_item : (a b : Item) → IsTrue (item_eq a b) → a ≡ b
 one_item a b e =
-    let all = both_tie (ordering_then (ordering_then (digits_cmp (item_key a) (item_key b)) (mode_cmp a b)) (digits_cmp a.name b.name)) (id_cmp a.id b.id) (tied_of (item_cmp a b) e) in
-    let names = both_tie (ordering_then (digits_cmp (item_key a) (item_key b)) (mode_cmp a b)) (digits_cmp a.name b.name) all.0 in
+    let all =
+    both_tie
+    (ordering_then (ordering_then (digits_cmp (item_key a) (item_key b)) (mode_cmp a b))
+    (digits_cmp a.name b.name)) (id_cmp a.id b.id) (tied_of (item_cmp a b) e) in
+    let names =
+    both_tie (ordering_then (digits_cmp (item_key a) (item_key b)) (mode_cmp a b))
+    (digits_cmp a.name b.name) all.0 in
     let modes = both_tie (digits_cmp (item_key a) (item_key b)) (mode_cmp a b) names.0 in
-    let parts = both_tie (nat_cmp a.mode.value b.mode.value) (bool_cmp a.mode.padded b.mode.padded) modes.1 in
+    let parts =
+    both_tie (nat_cmp a.mode.value b.mode.value)
+    (bool_cmp a.mode.padded b.mode.padded) modes.1 in
     let value = one_number a.mode.value b.mode.value parts.0 in
     let padded = one_bool a.mode.padded b.mode.padded parts.1 in
     let name = one_key a.name b.name names.1 in

@@ -27,7 +27,11 @@ written_front items = take_while (λ item. not (has_zero item)) items
 
 -- the first entry whose name holds a zero byte is refused, and nothing of it is written
 abbrev pub tree_refusal : List Item → Option Refusal
-tree_refusal items = if list_any has_zero items then Some (record { before = tree_text (written_front items); cause = Filename NullbyteInFilename }) else None
+tree_refusal items =
+    if list_any has_zero items
+    then Some
+    (record { before = tree_text (written_front items); cause = Filename NullbyteInFilename })
+    else None
 
 -- ---- what is read again
 
@@ -44,4 +48,5 @@ HasIds ids items = All (λ item. item.id.kind ≡ ids) items
 abbrev pub SpellsAsWritten : Kind → List ℕ → List Item → Type 0
 SpellsAsWritten ids content [] = content ≡ []
 SpellsAsWritten ids content (item ∷ items) =
-    (rest : List ℕ) × (is : SpellsEntry ids content item rest) × (is.text ≡ mode_text item.mode) × SpellsAsWritten ids rest items
+    (rest : List ℕ) × (is : SpellsEntry ids content item rest) × (is.text ≡ mode_text item.mode)
+    × SpellsAsWritten ids rest items

@@ -19,7 +19,8 @@ use gix_hash::Kind;
 
 /// Bytes spell at most one tree.
 pub fn bytes_spell_one_tree(_content: &[u8], _hash_kind: Kind)
-    ensures { (one other : List Item) → SpellsTree _hash_kind _content.now one → SpellsTree _hash_kind _content.now other → one ≡ other }
+    ensures { (one other : List Item) → SpellsTree _hash_kind _content.now one
+        → SpellsTree _hash_kind _content.now other → one ≡ other }
 {}
 
 /// The text that is written of a mode is read as that mode.
@@ -35,7 +36,8 @@ pub fn written_mode_is_read_back(mode: EntryMode)
 /// tree.
 pub fn written_tree_is_read_back(tree: &TreeRef<'_>, _hash_kind: Kind)
     ensures { let items = map item_of tree.now.entries.items in
-        tree_refusal items ≡ None → HasIds _hash_kind items → SpellsTree _hash_kind (tree_text items) items }
+        tree_refusal items ≡ None → HasIds _hash_kind items
+        → SpellsTree _hash_kind (tree_text items) items }
 {
     entries_are_told_again(tree.entries.as_slice());
 }
@@ -43,7 +45,8 @@ pub fn written_tree_is_read_back(tree: &TreeRef<'_>, _hash_kind: Kind)
 /// The same of a tree that owns its entries.
 pub fn owned_written_tree_is_read_back(tree: &Tree, _hash_kind: Kind)
     ensures { let items = map own_item tree.now.entries.items in
-        tree_refusal items ≡ None → HasIds _hash_kind items → SpellsTree _hash_kind (tree_text items) items }
+        tree_refusal items ≡ None → HasIds _hash_kind items
+        → SpellsTree _hash_kind (tree_text items) items }
 {
     entries_are_told_again(tree.entries.as_slice());
 }
@@ -51,9 +54,12 @@ pub fn owned_written_tree_is_read_back(tree: &Tree, _hash_kind: Kind)
 /// A tree that was read has ids of its hash function, and is written without a refusal: to the bytes that it was read from, where
 /// each mode stands in the digits that are written of it.
 pub fn read_tree_is_written(_content: &[u8], _hash_kind: Kind)
-    ensures ids { (items : List Item) → SpellsTree _hash_kind _content.now items → HasIds _hash_kind items }
-    ensures accepted { (items : List Item) → SpellsTree _hash_kind _content.now items → tree_refusal items ≡ None }
-    ensures bytes { (items : List Item) → SpellsAsWritten _hash_kind _content.now items → tree_text items ≡ _content.now }
+    ensures ids { (items : List Item) → SpellsTree _hash_kind _content.now items
+        → HasIds _hash_kind items }
+    ensures accepted { (items : List Item) → SpellsTree _hash_kind _content.now items
+        → tree_refusal items ≡ None }
+    ensures bytes { (items : List Item) → SpellsAsWritten _hash_kind _content.now items
+        → tree_text items ≡ _content.now }
 {}
 
 /// A well-formed tree is written without a refusal.
@@ -64,13 +70,15 @@ pub fn well_formed_tree_is_written()
 /// The entries that a content spells are those that the reader gives one after another, to the end of the content: so it gives no
 /// error exactly where `TreeRef::from_bytes` reads a tree, and then the same entries.
 pub fn entries_are_read_one_by_one(_content: &[u8], _hash_kind: Kind)
-    ensures { (entries : List borrowed.EntryRef) → SpellsTree _hash_kind _content.now (map item_of entries)
+    ensures { (entries : List borrowed.EntryRef)
+        → SpellsTree _hash_kind _content.now (map item_of entries)
         ↔ Gives (start _hash_kind _content.now) entries (start _hash_kind []) }
 {}
 
 /// Entries are equal exactly where their modes, names and ids are.
 pub fn equal_entries_are_one(_entry: &Entry, _other: &Entry)
-    ensures { IsTrue (item_eq (own_item _entry.now) (own_item _other.now)) ↔ (own_item _entry.now ≡ own_item _other.now) }
+    ensures { IsTrue (item_eq (own_item _entry.now) (own_item _other.now))
+        ↔ (own_item _entry.now ≡ own_item _other.now) }
 {}
 
 /// Equal entries feed a hasher the same bytes, also where one borrows its parts and the other owns them.

@@ -28,7 +28,8 @@ Stands table id kind content = table id ≡ Some (record { kind = kind; content 
 
 -- the object that stands under the id tells this value
 abbrev pub StandsAs : Table → Id → Kind → Value → Type 0
-StandsAs table id kind value = (content : List ℕ) × Stands table id kind content × Tells id.kind kind content value
+StandsAs table id kind value =
+    (content : List ℕ) × Stands table id kind content × Tells id.kind kind content value
 
 -- the values of a tree, a commit and a tag that were read
 abbrev pub tree_value : TreeRef → Value
@@ -56,23 +57,33 @@ HasOtherKind honest table id kind told actual expected =
 -- an object of the kind stands, its content isn't read for this cause, and the error tells the id
 abbrev pub IsUnread : Type 0 → Table → Id → Kind → Id → decode.Error → Type 0
 IsUnread honest table id kind told cause =
-    (told ≡ id) × ((content : List ℕ) × (honest → Stands table id kind content) × ContentFault id.kind kind content cause)
+    (told ≡ id)
+    × ((content : List ℕ) × (honest → Stands table id kind content)
+    × ContentFault id.kind kind content cause)
 
 abbrev pub ExistingFault : Type 0 → Type 0 → Table → Id → existing.Error → Type 0
 ExistingFault honest may_fail table id (existing_case.Find error) = LookupFault may_fail error
-ExistingFault honest may_fail table id (existing_case.NotFound oid) = IsAbsent honest table id (id_of oid)
+ExistingFault honest may_fail table id (existing_case.NotFound oid) =
+    IsAbsent honest table id (id_of oid)
 
 abbrev pub KindFault : Type 0 → Type 0 → Table → Id → Kind → existing_iter.Error → Type 0
 KindFault honest may_fail table id kind (iter_case.Find error) = LookupFault may_fail error
-KindFault honest may_fail table id kind (iter_case.NotFound oid) = IsAbsent honest table id (id_of oid)
-KindFault honest may_fail table id kind (iter_case.ObjectKind oid actual expected) = HasOtherKind honest table id kind (id_of oid) actual expected
+KindFault honest may_fail table id kind (iter_case.NotFound oid) =
+    IsAbsent honest table id (id_of oid)
+KindFault honest may_fail table id kind (iter_case.ObjectKind oid actual expected) =
+    HasOtherKind honest table id kind (id_of oid) actual expected
 
 abbrev pub ObjectFault : Type 0 → Type 0 → Table → Id → Kind → existing_object.Error → Type 0
 ObjectFault honest may_fail table id kind (object_case.Find error) = LookupFault may_fail error
-ObjectFault honest may_fail table id kind (object_case.Decode oid source) = IsUnread honest table id kind (id_of oid) source
-ObjectFault honest may_fail table id kind (object_case.NotFound oid) = IsAbsent honest table id (id_of oid)
-ObjectFault honest may_fail table id kind (object_case.ObjectKind oid actual expected) = HasOtherKind honest table id kind (id_of oid) actual expected
+ObjectFault honest may_fail table id kind (object_case.Decode oid source) =
+    IsUnread honest table id kind (id_of oid) source
+ObjectFault honest may_fail table id kind (object_case.NotFound oid) =
+    IsAbsent honest table id (id_of oid)
+ObjectFault honest may_fail table id kind (object_case.ObjectKind oid actual expected) =
+    HasOtherKind honest table id kind (id_of oid) actual expected
 
 -- the reader begins the content of the object that stands under the id
-abbrev pub ReadsStanding : {R : Type 0} → (hash.Kind → List ℕ → R → Type 0) → Table → Id → Kind → R → Type 0
-ReadsStanding reads table id kind reader = (content : List ℕ) × Stands table id kind content × reads id.kind content reader
+abbrev pub ReadsStanding : {R : Type 0} → (hash.Kind → List ℕ → R → Type 0) → Table → Id → Kind
+    → R → Type 0
+ReadsStanding reads table id kind reader =
+    (content : List ℕ) × Stands table id kind content × reads id.kind content reader

@@ -30,4 +30,5 @@ abbrev pub content_at : Table → Id → List ℕ
 content_at table id = content_or_none (table id)
 
 abbrev pub header_at : Table → Id → Option Header
-header_at table id = option_map (λ object. record { kind = object.kind; size = length object.content }) (table id)
+header_at table id =
+    option_map (λ object. record { kind = object.kind; size = length object.content }) (table id)

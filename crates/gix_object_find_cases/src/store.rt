@@ -52,7 +52,9 @@ impl Store {
     }
 
     fn at(&self, id: oid<'_>) -> Option<&Stored>
-        ensures { option_copied result ≡ find (λ stored. id_eq (id_of stored.id) (viewed_id id.entry)) self.now.objects.items }
+        ensures { option_copied result
+            ≡ find
+            (λ stored. id_eq (id_of stored.id) (viewed_id id.entry)) self.now.objects.items }
     {
         self.objects.iter().find(|stored| has_id(stored, id))
     }

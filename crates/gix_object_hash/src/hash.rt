@@ -11,7 +11,8 @@ use gix_object_lines::{Kind, encode};
 
 /// The id of an object of this kind and content: the digest of its header and its content.
 pub fn compute_hash(hash_kind: gix_hash::Kind, object_kind: Kind, content: &[u8]) -> ObjectId
-    ensures { id_of result ≡ id_of_message hash_kind (header_text object_kind (length content.now) ++ content.now) }
+    ensures { id_of result
+        ≡ id_of_message hash_kind (header_text object_kind (length content.now) ++ content.now) }
 {
     let header = encode::loose_header(object_kind, content.len() as u64);
     let mut digest = hasher(hash_kind);

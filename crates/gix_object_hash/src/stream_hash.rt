@@ -27,13 +27,17 @@ pub fn compute_stream_hash<R: io::Read, P: Progress, I: Interrupt>(
     progress: &mut P,
     should_interrupt: &mut I,
 ) -> Result<ObjectId, Error>
-    ensures ok { IfOk result (λ id. (k : ℕ) × (content : List ℕ) × IsPieceCount stream_len k × (length content ≡ stream_len)
+    ensures ok { IfOk result
+        (λ id. (k : ℕ) × (content : List ℕ) × IsPieceCount stream_len k
+        × (length content ≡ stream_len)
         × ReadsPieces R.remaining P.told I.answered stream.old stream.new progress.old progress.new
         should_interrupt.old should_interrupt.new stream_len k (replicate k false) content
         × (id_of id ≡ id_of_message hash_kind (header_text object_kind stream_len ++ content))) }
-    ensures interrupted { IfErr result (λ e. IsInterrupted e → (k : ℕ) × (content : List ℕ) × HasPiece stream_len k
+    ensures interrupted { IfErr result
+        (λ e. IsInterrupted e → (k : ℕ) × (content : List ℕ) × HasPiece stream_len k
         × ReadsPieces R.remaining P.told I.answered stream.old stream.new progress.old progress.new
-        should_interrupt.old should_interrupt.new stream_len (suc k) (replicate k false ++ true ∷ []) content) }
+        should_interrupt.old should_interrupt.new stream_len (suc k)
+        (replicate k false ++ true ∷ []) content) }
     ensures io { IfErr result (λ e. IsIo e → (k : ℕ) × (content : List ℕ)
         × StopsAfterPieces R.remaining P.told I.answered stream.old stream.new progress.old progress.new
         should_interrupt.old should_interrupt.new stream_len k content) }

@@ -30,7 +30,9 @@ pub record SpellsActor (line name email time : List ℕ) : Type 0 where
 
 -- the line has a name and an email, but tells no time
 abbrev pub IsUntimed : List ℕ → Type 0
-IsUntimed line = (name : List ℕ) × (email : List ℕ) × (rest : List ℕ) × IsCut line name email rest × ¬ TellsTime rest
+IsUntimed line =
+    (name : List ℕ) × (email : List ℕ) × (rest : List ℕ) × IsCut line name email rest
+    × ¬ TellsTime rest
 
 -- ---- what is written
 

@@ -11,4 +11,5 @@ BeginsWith front text = (rest : List ℕ) × (text ≡ front ++ rest)
 
 -- the text without the line feed that ends it, where one does
 abbrev pub without_last_feed : List ℕ → List ℕ
-without_last_feed text = if ends_with nat_eq text (10 ∷ []) then take (length text - 1) text else text
+without_last_feed text =
+    if ends_with nat_eq text (10 ∷ []) then take (length text - 1) text else text

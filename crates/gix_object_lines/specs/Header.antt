@@ -21,11 +21,13 @@ HasNoKind input = (word rest : List ℕ) × (input ≡ word ++ 32 ∷ rest) × L
 
 -- a kind and a space begin the input, and no zero byte follows
 abbrev pub HasNoZero : List ℕ → Type 0
-HasNoZero input = (kind : Kind) × ((rest : List ℕ) × (input ≡ kind_word kind ++ 32 ∷ rest) × Lacks 0 rest)
+HasNoZero input =
+    (kind : Kind) × ((rest : List ℕ) × (input ≡ kind_word kind ++ 32 ∷ rest) × Lacks 0 rest)
 
 -- between a kind with its space and the next zero byte stands no size
 abbrev pub HasNoSize : List ℕ → Type 0
-HasNoSize input = (kind : Kind) × ((digits rest : List ℕ) × (input ≡ kind_word kind ++ 32 ∷ digits ++ 0 ∷ rest)
+HasNoSize input =
+    (kind : Kind) × ((digits rest : List ℕ) × (input ≡ kind_word kind ++ 32 ∷ digits ++ 0 ∷ rest)
     × Lacks 0 digits × IsNoUnsigned digits)
 
 -- the first part that the header lacks

@@ -25,7 +25,8 @@ abbrev pub HexLineFault : List ℕ → ℕ → List ℕ → Error → Type 0
 HexLineFault word count input FieldName = (rest : List ℕ) → input ≢ word ++ 32 ∷ rest
 HexLineFault word count input HexDigits = (rest : List ℕ) × (input ≡ word ++ 32 ∷ rest)
     × ((digits after : List ℕ) → IsHex count digits → rest ≢ digits ++ after)
-HexLineFault word count input LineEnd = (digits rest : List ℕ) × (input ≡ word ++ 32 ∷ digits ++ rest) × IsHex count digits
+HexLineFault word count input LineEnd =
+    (digits rest : List ℕ) × (input ≡ word ++ 32 ∷ digits ++ rest) × IsHex count digits
     × ((after : List ℕ) → rest ≢ 10 ∷ after)
 HexLineFault word count input InvalidActor = ⊥
 HexLineFault word count input InvalidTime = ⊥

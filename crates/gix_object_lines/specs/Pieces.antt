@@ -18,7 +18,10 @@ refused_or (Some cause) before later = Some (record { before = before; cause = c
 -- the first piece that is refused, and all before it
 abbrev pub first_refused : List ℕ → List Piece → Option Refusal
 first_refused before [] = None
-first_refused before (piece ∷ pieces) = refused_or piece.cause before (first_refused (before ++ piece.text) pieces)
+first_refused before (piece ∷ pieces) =
+    refused_or piece.cause before (first_refused (before ++ piece.text) pieces)
 
-abbrev pub WritesPieces : {U : Type 0} → Option (List ℕ) → Option (List ℕ) → List Piece → Result U Error → Type 0
-WritesPieces old new pieces result = Writes old new (pieces_text pieces) (first_refused [] pieces) result
+abbrev pub WritesPieces : {U : Type 0} → Option (List ℕ) → Option (List ℕ) → List Piece
+    → Result U Error → Type 0
+WritesPieces old new pieces result =
+    Writes old new (pieces_text pieces) (first_refused [] pieces) result

@@ -10,7 +10,8 @@ use Rattle.gix_object_lines.specs.declared.lines.time.Time.{Time}
 -- digits, or `-` and digits for a time before 1970; leading zeros say nothing
 pub data SpellsSeconds (text : List ℕ) (seconds : ℤ) : Type 0 where
   Since : IsNumeral 10 text → seconds ≡ pos (digits_value 10 text) → SpellsSeconds text seconds
-  Before : (digits : List ℕ) → text ≡ 45 ∷ digits → IsNumeral 10 digits → seconds ≡ neg_ℤ (pos (digits_value 10 digits)) → SpellsSeconds text seconds
+  Before : (digits : List ℕ) → text ≡ 45 ∷ digits → IsNumeral 10 digits
+      → seconds ≡ neg_ℤ (pos (digits_value 10 digits)) → SpellsSeconds text seconds
 
 -- a number below 100
 abbrev pub two_digits : ℕ → List ℕ
@@ -18,8 +19,12 @@ two_digits n = (48 + n / 10) ∷ (48 + n % 10) ∷ []
 
 -- `+` or `-`, two digits of hours and two of minutes, any four: `+0060` is an hour. `-0000` is zero seconds.
 pub data SpellsOffset (text : List ℕ) (offset : ℤ) : Type 0 where
-  Ahead : (hours minutes : ℕ) → hours < 100 → minutes < 100 → text ≡ 43 ∷ two_digits hours ++ two_digits minutes → offset ≡ pos (3600 * hours + 60 * minutes) → SpellsOffset text offset
-  Behind : (hours minutes : ℕ) → hours < 100 → minutes < 100 → text ≡ 45 ∷ two_digits hours ++ two_digits minutes → offset ≡ neg_ℤ (pos (3600 * hours + 60 * minutes)) → SpellsOffset text offset
+  Ahead : (hours minutes : ℕ) → hours < 100 → minutes < 100
+      → text ≡ 43 ∷ two_digits hours ++ two_digits minutes
+      → offset ≡ pos (3600 * hours + 60 * minutes) → SpellsOffset text offset
+  Behind : (hours minutes : ℕ) → hours < 100 → minutes < 100
+      → text ≡ 45 ∷ two_digits hours ++ two_digits minutes
+      → offset ≡ neg_ℤ (pos (3600 * hours + 60 * minutes)) → SpellsOffset text offset
 
 -- the text spells the time
 pub record SpellsTime (text : List ℕ) (time : Time) : Type 0 where

@@ -7,7 +7,9 @@ use Rattle.gix_object_lines.specs.declared.write.Error.TheVariants.{Writer, Head
 
 -- a beginning of the bytes was written
 abbrev pub AppendsFront : Option (List ℕ) → Option (List ℕ) → List ℕ → Type 0
-AppendsFront old new bytes = (front back : List ℕ) × (bytes ≡ front ++ back) × (length front < length bytes) × Appends old new front
+AppendsFront old new bytes =
+    (front back : List ℕ) × (bytes ≡ front ++ back) × (length front < length bytes)
+    × Appends old new front
 
 -- a part of a value that the format never writes: the parts before it, and why it is refused
 pub record Refusal : Type 0 where
@@ -24,10 +26,12 @@ cause_of refusal = option_map (λ r. r.cause) refusal
 
 -- the value was refused for this cause, and all that is to be written was
 abbrev pub IsRefused : Option (List ℕ) → Option (List ℕ) → List ℕ → Option Refusal → Error → Type 0
-IsRefused old new text refusal cause = (cause_of refusal ≡ Some cause) × Appends old new (writable text refusal)
+IsRefused old new text refusal cause =
+    (cause_of refusal ≡ Some cause) × Appends old new (writable text refusal)
 
 -- what the call's answer tells of what was written
-abbrev pub Writes : {U : Type 0} → Option (List ℕ) → Option (List ℕ) → List ℕ → Option Refusal → Result U Error → Type 0
+abbrev pub Writes : {U : Type 0} → Option (List ℕ) → Option (List ℕ) → List ℕ → Option Refusal
+    → Result U Error → Type 0
 Writes old new text refusal (Ok _) = (cause_of refusal ≡ None) × Appends old new text
 Writes old new text refusal (Err (Writer error)) = AppendsFront old new (writable text refusal)
 Writes old new text refusal (Err (Header error)) = IsRefused old new text refusal (Header error)

@@ -64,7 +64,8 @@ pub fn loose_header(input: &[u8]) -> Result<(Kind, u64, usize), LooseHeaderDecod
     ensures read { IfOk result (λ header. (header.2 ≡ length (header_text header.0 header.1))
         × (input.now ≡ header_text header.0 header.1 ++ drop header.2 input.now)) }
     ensures back { (kind : Kind) (size : ℕ) (content : List ℕ) → size < 2 ^ 64
-        → input.now ≡ header_text kind size ++ content → result ≡ Ok (kind, size, length (header_text kind size)) }
+        → input.now ≡ header_text kind size ++ content
+        → result ≡ Ok (kind, size, length (header_text kind size)) }
     ensures refused { IfErr result (λ error. HeaderFault input.now error) }
 {
     let (word, rest) = split_once(input, b' ').ok_or(LooseHeaderDecodeError::InvalidHeader)?;

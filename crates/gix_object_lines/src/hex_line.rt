@@ -23,8 +23,11 @@ pub fn read_hex_line<'a>(
     word: &[u8],
     hex_len: usize,
 ) -> Result<(&'a [u8], &'a [u8]), Error>
-    ensures read { IfOk result (λ line. (input.now ≡ hex_line word.now line.0.now ++ line.1.now) × IsHex hex_len line.0.now) }
-    ensures back { (digits rest : List ℕ) → IsHex hex_len digits → input.now ≡ hex_line word.now digits ++ rest
+    ensures read { IfOk result
+        (λ line. (input.now ≡ hex_line word.now line.0.now ++ line.1.now)
+        × IsHex hex_len line.0.now) }
+    ensures back { (digits rest : List ℕ) → IsHex hex_len digits
+        → input.now ≡ hex_line word.now digits ++ rest
         → IsOkAnd result (λ line. (line.0.now ≡ digits) × (line.1.now ≡ rest)) }
     ensures refused { IfErr result (λ error. HexLineFault word.now hex_len input.now error) }
 {
@@ -64,8 +67,10 @@ pub fn id_of_digits(digits: &[u8]) -> ObjectId
 /// Writes a line: the word, a space, the digits as they are, and a line feed. Where the writer fails it has taken a
 /// beginning of the line.
 pub fn write_hex_line<W: io::Write>(word: &[u8], digits: &[u8], out: &mut W) -> io::Result<()>
-    ensures ok { OnOk result (Appends (W.contents out.old) (W.contents out.new) (hex_line word.now digits.now)) }
-    ensures err { OnErr result (AppendsFront (W.contents out.old) (W.contents out.new) (hex_line word.now digits.now)) }
+    ensures ok { OnOk result
+        (Appends (W.contents out.old) (W.contents out.new) (hex_line word.now digits.now)) }
+    ensures err { OnErr result
+        (AppendsFront (W.contents out.old) (W.contents out.new) (hex_line word.now digits.now)) }
 {
     write_bytes(out, word)?;
     write_bytes(out, b" ")?;

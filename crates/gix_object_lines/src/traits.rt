@@ -24,7 +24,8 @@ pub trait WriteTo {
     /// Writes the content. A value that is refused leaves exactly the parts before the refused one; a writer that fails
     /// has taken a beginning of what was to be written.
     fn write_to<W: io::Write>(&self, out: &mut W) -> Result<(), Error>
-        ensures { Writes (W.contents out.old) (W.contents out.new) (text self.now) (refusal self.now) result };
+        ensures { Writes (W.contents out.old) (W.contents out.new) (text self.now)
+            (refusal self.now) result };
 
     /// The kind of the object.
     fn kind(&self) -> Kind
@@ -33,7 +34,8 @@ pub trait WriteTo {
     /// The length of the content in bytes, as `write_to` writes it (for a value that it refuses: of all parts). `None`
     /// where that is more than 18,446,744,073,709,551,615.
     fn size(&self) -> Option<u64>
-        ensures { MatchOption result (2 ^ 64 ≤ length (text self.now)) (λ size. size ≡ length (text self.now)) };
+        ensures { MatchOption result (2 ^ 64 ≤ length (text self.now))
+            (λ size. size ≡ length (text self.now)) };
 
     /// The header of the object, and `None` where its size is.
     fn loose_header(&self) -> Option<ArrayVec<u8, 28>>

@@ -32,4 +32,7 @@ is_author token = is_signed_off_by token || is_co_authored_by token
 -- any of the six
 abbrev pub is_attribution : List ℕ → Bool
 is_attribution token =
-    is_author token || (is_assisted_by token || (is_acked_by token || (is_reviewed_by token || is_tested_by token)))
+    is_author token
+    ||
+    (is_assisted_by token
+    || (is_acked_by token || (is_reviewed_by token || is_tested_by token)))

@@ -10,12 +10,14 @@ pub record Block : Type 0 where
 -- the paragraph stands before the message of the first block
 abbrev pub onto_message : List ℕ → List Block → List Block
 onto_message paragraph [] = record { message = paragraph; trailers = [] } ∷ []
-onto_message paragraph (block ∷ blocks) = record { message = paragraph ++ block.message; trailers = block.trailers } ∷ blocks
+onto_message paragraph (block ∷ blocks) =
+    record { message = paragraph ++ block.message; trailers = block.trailers } ∷ blocks
 
 -- and before the trailers of the first block
 abbrev pub onto_trailers : List ℕ → List Block → List Block
 onto_trailers paragraph [] = record { message = []; trailers = paragraph } ∷ []
-onto_trailers paragraph (block ∷ blocks) = record { message = block.message; trailers = paragraph ++ block.trailers } ∷ blocks
+onto_trailers paragraph (block ∷ blocks) =
+    record { message = block.message; trailers = paragraph ++ block.trailers } ∷ blocks
 
 abbrev pub trailers_come : List (List ℕ) → Bool
 trailers_come [] = false
@@ -42,7 +44,8 @@ block_bytes block = block.message ++ block.trailers
 -- each paragraph of the run is a trailer paragraph, or none is
 abbrev pub AllOfKind : Bool → List (List ℕ) → Type 0
 AllOfKind trailers [] = ⊤
-AllOfKind trailers (paragraph ∷ run) = (is_trailer_paragraph paragraph ≡ trailers) × AllOfKind trailers run
+AllOfKind trailers (paragraph ∷ run) =
+    (is_trailer_paragraph paragraph ≡ trailers) × AllOfKind trailers run
 
 -- none of that kind comes first
 abbrev pub StopsKind : Bool → List (List ℕ) → Type 0
@@ -50,7 +53,8 @@ StopsKind trailers [] = ⊤
 StopsKind trailers (paragraph ∷ paragraphs) = is_trailer_paragraph paragraph ≢ trailers
 
 -- a run of paragraphs without trailers, perhaps none, and all trailer paragraphs that follow; only the last block may have none
-pub record IsFirstBlock (paragraphs : List (List ℕ)) (block : Block) (rest : List (List ℕ)) : Type 0 where
+pub record IsFirstBlock (paragraphs : List (List ℕ)) (block : Block)
+    (rest : List (List ℕ)) : Type 0 where
   pub plain : List (List ℕ)
   pub with_trailers : List (List ℕ)
   pub spelled : paragraphs ≡ plain ++ (with_trailers ++ rest)
@@ -65,4 +69,5 @@ pub record IsFirstBlock (paragraphs : List (List ℕ)) (block : Block) (rest : L
 -- the blocks are those of the paragraphs, in order
 abbrev pub AreBlocks : List (List ℕ) → List Block → Type 0
 AreBlocks paragraphs [] = paragraphs ≡ []
-AreBlocks paragraphs (block ∷ blocks) = (rest : List (List ℕ)) × IsFirstBlock paragraphs block rest × AreBlocks rest blocks
+AreBlocks paragraphs (block ∷ blocks) =
+    (rest : List (List ℕ)) × IsFirstBlock paragraphs block rest × AreBlocks rest blocks

@@ -11,7 +11,8 @@ abbrev pub body_text : BodyRef → List ℕ
 body_text body = body.text.now
 
 abbrev pub block_text : MessageBlock → Block
-block_text block = record { message = bstr_bytes block.message; trailers = bstr_bytes block.trailer_bytes }
+block_text block =
+    record { message = bstr_bytes block.message; trailers = bstr_bytes block.trailer_bytes }
 
 -- the blocks that are left
 abbrev pub blocks_left : MessageBlocks → List Block

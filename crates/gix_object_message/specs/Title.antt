@@ -17,7 +17,8 @@ long_break = 13 ∷ 10 ∷ 13 ∷ 10 ∷ []
 unfoldable pub title_of : List ℕ → List ℕ
 title_of [] = []
 title_of (byte ∷ text) =
-    if begins_with short_break (byte ∷ text) || begins_with long_break (byte ∷ text) then [] else byte ∷ title_of text
+    if begins_with short_break (byte ∷ text) || begins_with long_break (byte ∷ text) then []
+    else byte ∷ title_of text
 
 -- all behind the first break; without one, nothing
 unfoldable pub behind_title : List ℕ → List ℕ
@@ -44,7 +45,8 @@ pub record IsFirstBreak (message title rest : List ℕ) : Type 0 where
   pub gap : List ℕ
   pub is_break : IsBreak gap
   pub spelled : message ≡ title ++ (gap ++ rest)
-  pub first : (front other back : List ℕ) → IsBreak other → message ≡ front ++ (other ++ back) → length title ≤ length front
+  pub first : (front other back : List ℕ) → IsBreak other → message ≡ front ++ (other ++ back)
+      → length title ≤ length front
 
 pub record IsAllTitle (message title rest : List ℕ) : Type 0 where
   pub no_break : (front other back : List ℕ) → IsBreak other → message ≢ front ++ (other ++ back)

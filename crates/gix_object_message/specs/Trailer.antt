@@ -20,13 +20,19 @@ token_len line = prefix_len is_token_byte line
 
 -- a token of at least one byte, and `: ` behind it
 abbrev pub is_trailer_line : List ℕ → Bool
-is_trailer_line line = nat_lt 0 (token_len line) && begins_with (codes ": ") (drop (token_len line) line)
+is_trailer_line line =
+    nat_lt 0 (token_len line) && begins_with (codes ": ") (drop (token_len line) line)
 
 -- the token, and what follows `: ` without white space at its ends
 abbrev pub trailer_of : List ℕ → Option Trailer
 trailer_of line =
     if is_trailer_line line then
-    Some (record { token = take (token_len line) line; value = trim (drop 2 (drop (token_len line) line)) })
+    Some
+    (record {
+      token =
+          take (token_len line) line;
+      value = trim (drop 2 (drop (token_len line) line));
+    })
     else None
 
 -- the same as a relation: a token of at least one byte, `: ` and the value

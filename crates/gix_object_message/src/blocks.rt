@@ -69,7 +69,8 @@ impl<'a> MessageBlock<'a> {
 
     // The first block, and what follows; `None` where nothing is left.
     fn split(text: &'a [u8]) -> Option<(MessageBlock<'a>, &'a [u8])>
-        ensures { MatchOption result (text.now ≡ []) (λ cut. blocks_of text.now ≡ block_text cut.0 ∷ blocks_of cut.1.now) }
+        ensures { MatchOption result (text.now ≡ [])
+            (λ cut. blocks_of text.now ≡ block_text cut.0 ∷ blocks_of cut.1.now) }
     {
         if text.is_empty() {
             return None;

@@ -7,7 +7,8 @@ use memchr::memchr;
 
 /// The first line, with its line feed, and what follows; `None` where nothing is left.
 pub(crate) fn split_line(text: &[u8]) -> Option<(&[u8], &[u8])>
-    ensures { MatchOption result (text.now ≡ []) (λ cut. (text.now ≡ cut.0.now ++ cut.1.now) × (0 < length cut.0.now)
+    ensures { MatchOption result (text.now ≡ [])
+        (λ cut. (text.now ≡ cut.0.now ++ cut.1.now) × (0 < length cut.0.now)
         × (lines_of text.now ≡ cut.0.now ∷ lines_of cut.1.now)) }
 {
     if text.is_empty() {

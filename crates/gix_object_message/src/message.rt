@@ -49,8 +49,10 @@ impl<'a> MessageRef<'a> {
     ///
     /// A title of one line is borrowed. Else the bytes take memory, and it is an error where none is left.
     pub fn summary(self, alloc: Global) -> Result<CowSlice<'a, u8>, AllocError>
-        ensures line { IfOk result (λ summary. cow_slice_items summary ≡ summary_of (bstr_bytes self.entry.title)) }
-        ensures borrowed { Lacks 10 (trim (bstr_bytes self.entry.title)) → IsOkAnd result IsBorrowed }
+        ensures line { IfOk result
+            (λ summary. cow_slice_items summary ≡ summary_of (bstr_bytes self.entry.title)) }
+        ensures borrowed { Lacks 10 (trim (bstr_bytes self.entry.title))
+            → IsOkAnd result IsBorrowed }
     {
         let title = trim(self.title.as_bytes());
         match memchr(b'\n', title) {

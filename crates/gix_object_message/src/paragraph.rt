@@ -11,7 +11,8 @@ use crate::trailer::read_trailer;
 
 /// The first paragraph, with the empty lines behind it, and what follows; `None` where nothing is left.
 pub(crate) fn split_paragraph(text: &[u8]) -> Option<(&[u8], &[u8])>
-    ensures { MatchOption result (text.now ≡ []) (λ cut. (text.now ≡ cut.0.now ++ cut.1.now) × (0 < length cut.0.now)
+    ensures { MatchOption result (text.now ≡ [])
+        (λ cut. (text.now ≡ cut.0.now ++ cut.1.now) × (0 < length cut.0.now)
         × (paragraphs_of text.now ≡ cut.0.now ∷ paragraphs_of cut.1.now)) }
 {
     if text.is_empty() {

@@ -11,7 +11,8 @@ use std::alloc::{AllocError, Global};
 
 /// The lines of a text, each without white space at its end, with one space between them.
 pub(crate) fn join_lines(alloc: Global, text: &[u8]) -> Result<Vec<u8>, AllocError>
-    ensures { IfOk result (λ joined. joined.items ≡ join_with_byte 32 (map trim_end (lines_of text.now))) }
+    ensures { IfOk result
+        (λ joined. joined.items ≡ join_with_byte 32 (map trim_end (lines_of text.now))) }
 {
     let mut joined = Vec::with_capacity(alloc, text.len())?;
     let mut rest = text;

@@ -24,35 +24,41 @@ impl<'a> Trailers<'a> {
 
     /// Those whose token is `Signed-off-by`, letter case aside.
     pub fn signed_off_by(self) -> SelectedTrailers<'a>
-        ensures { selected_left result ≡ filter (λ trailer. spec.is_signed_off_by trailer.token) (trailers_left self.entry) }
+        ensures { selected_left result
+            ≡ filter (λ trailer. spec.is_signed_off_by trailer.token) (trailers_left self.entry) }
     {
         self.select(Wanted::SignedOffBy)
     }
 
     /// Those whose token is `Co-authored-by`, letter case aside.
     pub fn co_authored_by(self) -> SelectedTrailers<'a>
-        ensures { selected_left result ≡ filter (λ trailer. spec.is_co_authored_by trailer.token) (trailers_left self.entry) }
+        ensures { selected_left result
+            ≡ filter (λ trailer. spec.is_co_authored_by trailer.token)
+            (trailers_left self.entry) }
     {
         self.select(Wanted::CoAuthoredBy)
     }
 
     /// Those whose token is `Assisted-by`, letter case aside.
     pub fn assisted_by(self) -> SelectedTrailers<'a>
-        ensures { selected_left result ≡ filter (λ trailer. spec.is_assisted_by trailer.token) (trailers_left self.entry) }
+        ensures { selected_left result
+            ≡ filter (λ trailer. spec.is_assisted_by trailer.token) (trailers_left self.entry) }
     {
         self.select(Wanted::AssistedBy)
     }
 
     /// Those that `TrailerRef::is_attribution` tells.
     pub fn attributions(self) -> SelectedTrailers<'a>
-        ensures { selected_left result ≡ filter (λ trailer. spec.is_attribution trailer.token) (trailers_left self.entry) }
+        ensures { selected_left result
+            ≡ filter (λ trailer. spec.is_attribution trailer.token) (trailers_left self.entry) }
     {
         self.select(Wanted::Attribution)
     }
 
     /// Those that name an author: whose token is `Signed-off-by` or `Co-authored-by`, letter case aside.
     pub fn authors(self) -> SelectedTrailers<'a>
-        ensures { selected_left result ≡ filter (λ trailer. spec.is_author trailer.token) (trailers_left self.entry) }
+        ensures { selected_left result
+            ≡ filter (λ trailer. spec.is_author trailer.token) (trailers_left self.entry) }
     {
         self.select(Wanted::Author)
     }

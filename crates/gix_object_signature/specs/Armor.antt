@@ -6,7 +6,9 @@ use Rattle.gix_object_signature.specs.declared.format.Format.TheVariants.{OpenPg
 
 -- an armor of this format begins the text
 abbrev pub BeginsArmor : List ℕ → Format → Type 0
-BeginsArmor text OpenPgp = BeginsWith (codes "-----BEGIN PGP SIGNATURE-----") text ⊎ BeginsWith (codes "-----BEGIN PGP MESSAGE-----") text
+BeginsArmor text OpenPgp =
+    BeginsWith (codes "-----BEGIN PGP SIGNATURE-----") text
+    ⊎ BeginsWith (codes "-----BEGIN PGP MESSAGE-----") text
 BeginsArmor text X509 = BeginsWith (codes "-----BEGIN SIGNED MESSAGE-----") text
 BeginsArmor text Ssh = BeginsWith (codes "-----BEGIN SSH SIGNATURE-----") text
 

@@ -18,6 +18,9 @@ told (Err cause) = Err (error_of cause)
 told (Ok answer) = Ok answer
 
 -- the request is run once, and its answer is the result; or its words had no memory, and nothing is run
-pub data Asks {R : Type 0} (answers : R → Request → Result Answer run.RunError → R → Type 0) (before : R) (request : Request) (result : Result Answer verify.Error) (after : R) : Type 0 where
-  Answered : (answer : Result Answer run.RunError) → answers before request answer after → result ≡ told answer → Asks answers before request result after
+pub data Asks {R : Type 0} (answers : R → Request → Result Answer run.RunError → R → Type 0)
+    (before : R) (request : Request) (result : Result Answer verify.Error)
+    (after : R) : Type 0 where
+  Answered : (answer : Result Answer run.RunError) → answers before request answer after
+      → result ≡ told answer → Asks answers before request result after
   NoMemory : result ≡ Err Memory → after ≡ before → Asks answers before request result after

@@ -26,7 +26,8 @@ abbrev pub request_of : List Word → List ℕ → Request
 request_of words input = record { words = map argument_of words; input = input }
 
 -- the runner, called with words and an input that make the request, gives the result, and is what follows then
-pub record Answers {F R : Type 0} (calls : Mut F (Bor (List Word) × (Bor (List ℕ) × Unit {0})) R) (before : F) (request : Request) (result : R) (after : F) : Type 0 where
+pub record Answers {F R : Type 0} (calls : Mut F (Bor (List Word) × (Bor (List ℕ) × Unit {0})) R)
+    (before : F) (request : Request) (result : R) (after : F) : Type 0 where
   pub words : Bor (List Word)
   pub input : Bor (List ℕ)
   pub asked : request_of words.now input.now ≡ request

@@ -11,7 +11,9 @@ use Rattle.gix_object_lines.specs.declared.lines.time.Time.{Time}
 
 -- all lines before the first empty one
 abbrev pub header_lines : List ℕ → List (List ℕ)
-header_lines content = take (prefix_len (λ line. not (length line == 0)) (slice_split (λ byte. byte == 10) content)) (slice_split (λ byte. byte == 10) content)
+header_lines content =
+    take (prefix_len (λ line. not (length line == 0)) (slice_split (λ byte. byte == 10) content))
+    (slice_split (λ byte. byte == 10) content)
 
 -- what stands behind the word of a commit's committer or a tag's tagger
 unfoldable pub signer_of : List ℕ → Option (List ℕ)
@@ -49,8 +51,18 @@ pub record IsStamp (text : List ℕ) (seconds : ℤ) : Type 0 where
   pub hour_low : hour < 24
   pub minute_low : minute < 60
   pub second_low : second < 60
-  pub moment : seconds ≡ days_from_civil (pos year) month day *ℤ pos 86_400 +ℤ pos (3600 * hour + 60 * minute + second)
-  pub spelled : text ≡ two_digits (year / 100) ++ (two_digits (year % 100) ++ (two_digits month ++ (two_digits day ++ (two_digits hour ++ (two_digits minute ++ (two_digits second ++ codes "Z"))))))
+  pub moment : seconds
+      ≡ days_from_civil (pos year) month day *ℤ pos 86_400 +ℤ pos
+      (3600 * hour + 60 * minute + second)
+  pub spelled : text
+      ≡ two_digits (year / 100)
+      ++
+      (two_digits (year % 100)
+      ++
+      (two_digits month
+      ++
+      (two_digits day
+      ++ (two_digits hour ++ (two_digits minute ++ (two_digits second ++ codes "Z"))))))
 
 -- a second behind 1970-01-01T00:00:00 and before the year 10000; ssh-keygen takes no other
 pub record IsStampable (seconds : ℤ) : Type 0 where
@@ -60,9 +72,12 @@ pub record IsStampable (seconds : ℤ) : Type 0 where
 -- the words that tell the time, or none: for no such line, and for zero seconds, which are no time to Git
 pub data TimeWord (content : List ℕ) (word : Option (List ℕ)) : Type 0 where
   NoLine : signer_line content ≡ None → word ≡ None → TimeWord content word
-  NoSeconds : (line : List ℕ) → signer_line content ≡ Some line → TellsSeconds line (pos 0) → word ≡ None → TimeWord content word
-  AtTime : (line : List ℕ) → signer_line content ≡ Some line → (seconds : ℤ) → TellsSeconds line seconds → IsStampable seconds
-      → (text : List ℕ) → IsStamp text seconds → word ≡ Some (codes "-Overify-time=" ++ text) → TimeWord content word
+  NoSeconds : (line : List ℕ) → signer_line content ≡ Some line → TellsSeconds line (pos 0)
+      → word ≡ None → TimeWord content word
+  AtTime : (line : List ℕ) → signer_line content ≡ Some line → (seconds : ℤ)
+      → TellsSeconds line seconds → IsStampable seconds
+      → (text : List ℕ) → IsStamp text seconds → word ≡ Some (codes "-Overify-time=" ++ text)
+      → TimeWord content word
 
 -- the line is there and tells no time, or none that ssh-keygen takes
 abbrev pub TellsNoTime : List ℕ → Type 0

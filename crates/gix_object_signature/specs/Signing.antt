@@ -53,7 +53,9 @@ key_words key (Some literal) = File literal ∷ Plain (codes "-U") ∷ []
 
 abbrev pub ssh_request_by : List Argument → List ℕ → List ℕ → Request
 ssh_request_by key program content = record {
-  words = Plain program ∷ Plain (codes "-Y") ∷ Plain (codes "sign") ∷ Plain (codes "-n") ∷ Plain (codes "git") ∷ Plain (codes "-f") ∷ (key ++ ToSign content ∷ []);
+  words =
+      Plain program ∷ Plain (codes "-Y") ∷ Plain (codes "sign") ∷ Plain (codes "-n")
+      ∷ Plain (codes "git") ∷ Plain (codes "-f") ∷ (key ++ ToSign content ∷ []);
   input = [];
 }
 
@@ -80,22 +82,30 @@ reading_error fault = Decode fault
 
 -- a line of the status tells that a signature was made (GnuPG, doc/DETAILS)
 abbrev pub is_confirmed : List ℕ → Bool
-is_confirmed text = list_any (λ line. starts_with nat_eq line (codes "[GNUPG:] SIG_CREATED ")) (slice_split (λ byte. byte == 10) text)
+is_confirmed text =
+    list_any (λ line. starts_with nat_eq line (codes "[GNUPG:] SIG_CREATED "))
+    (slice_split (λ byte. byte == 10) text)
 
 -- the text without each carriage return that a line feed follows
 abbrev pub without_cr : List ℕ → List ℕ
 without_cr [] = []
-without_cr (byte ∷ rest) = if byte == 13 && starts_with nat_eq rest (10 ∷ []) then without_cr rest else byte ∷ without_cr rest
+without_cr (byte ∷ rest) =
+    if byte == 13 && starts_with nat_eq rest (10 ∷ []) then without_cr rest
+    else byte ∷ without_cr rest
 
 abbrev pub gpg_signature : Answer → Result (List ℕ) Error
 gpg_signature answer =
     if not answer.succeeded then Err Failed
-    else (if is_confirmed answer.errors then Ok (without_cr answer.output) else Err MissingSignatureConfirmation)
+    else
+    (if is_confirmed answer.errors then Ok (without_cr answer.output)
+    else Err MissingSignatureConfirmation)
 
 abbrev pub ssh_signature : Answer → Result (List ℕ) Error
 ssh_signature answer =
     if not answer.succeeded then Err Failed
-    else (if bytes_eq answer.output [] then Err MissingSshSignature else Ok (without_cr answer.output))
+    else
+    (if bytes_eq answer.output [] then Err MissingSshSignature
+    else Ok (without_cr answer.output))
 
 abbrev pub signature_of : Format → Result Answer run.RunError → Result (List ℕ) Error
 signature_of format (Err cause) = Err (error_of cause)
@@ -110,13 +120,18 @@ abbrev pub IsOrMemory : Result (List ℕ) Error → Result (List ℕ) Error → 
 IsOrMemory wanted result = (result ≡ wanted) ⊎ (IsOk wanted × (result ≡ Err Memory))
 
 -- the request is run once, and the answer's signature is the result
-pub record Asks {R : Type 0} (answers : R → Request → Result Answer run.RunError → R → Type 0) (before : R) (request : Request) (format : Format) (result : Result (List ℕ) Error) (after : R) : Type 0 where
+pub record Asks {R : Type 0} (answers : R → Request → Result Answer run.RunError → R → Type 0)
+    (before : R) (request : Request) (format : Format) (result : Result (List ℕ) Error)
+    (after : R) : Type 0 where
   pub answer : Result Answer run.RunError
   pub answered : answers before request answer after
   pub told : IsOrMemory (signature_of format answer) result
 
 -- without a key nothing is run
-abbrev pub Signs : {R : Type 0} → (R → Request → Result Answer run.RunError → R → Type 0) → R → List ℕ → Options → Result (List ℕ) Error → R → Type 0
+abbrev pub Signs : {R : Type 0} → (R → Request → Result Answer run.RunError → R → Type 0) → R
+    → List ℕ → Options → Result (List ℕ) Error → R → Type 0
 Signs answers before content options result after =
     MatchOption (key_of options) ((result ≡ Err MissingSigningKey) × (after ≡ before))
-    (λ key. Asks answers before (request_for options.format (bstr_bytes options.program) key content) options.format result after)
+    (λ key. Asks answers before
+    (request_for options.format
+    (bstr_bytes options.program) key content) options.format result after)

@@ -17,7 +17,9 @@ without_space_behind line = take (length line - suffix_len is_ascii_whitespace l
 
 -- the first line that isn't blank
 abbrev pub first_line : List ℕ → Option (List ℕ)
-first_line text = find (λ line. not (length line == 0)) (map without_space_behind (slice_split (λ byte. byte == 10) text))
+first_line text =
+    find (λ line. not (length line == 0))
+    (map without_space_behind (slice_split (λ byte. byte == 10) text))
 
 -- where each line is blank, it is empty
 abbrev pub verdict_line : List ℕ → List ℕ
@@ -43,7 +45,9 @@ holds part (byte ∷ rest) = starts_with nat_eq (byte ∷ rest) part || holds pa
 
 -- what stands behind the signer's name, where one is named
 unfoldable pub behind_signer : List ℕ → Option (List ℕ)
-behind_signer line = option_and_then (behind_last (codes " with ")) (behind (codes "Good \"git\" signature for ") line)
+behind_signer line =
+    option_and_then (behind_last (codes " with "))
+    (behind (codes "Good \"git\" signature for ") line)
 
 -- what stands in its place, where none is
 unfoldable pub behind_no_signer : List ℕ → Option (List ℕ)
@@ -65,7 +69,9 @@ trust_among None (Some told) = Undefined
 trust_among None None = Never
 
 abbrev pub status_of : List ℕ → Status
-status_of text = status_among (behind_signer (verdict_line text)) (behind_no_signer (verdict_line text))
+status_of text =
+    status_among (behind_signer (verdict_line text)) (behind_no_signer (verdict_line text))
 
 abbrev pub trust_of : List ℕ → TrustLevel
-trust_of text = trust_among (behind_signer (verdict_line text)) (behind_no_signer (verdict_line text))
+trust_of text =
+    trust_among (behind_signer (verdict_line text)) (behind_no_signer (verdict_line text))

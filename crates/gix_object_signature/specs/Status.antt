@@ -26,7 +26,8 @@ verdict_of line =
 -- the word of a line of trust, up to a space
 unfoldable pub trust_word : List ℕ → Option (List ℕ)
 trust_word line =
-    if starts_with nat_eq line (codes "[GNUPG:] TRUST_") then Some (before_first (λ byte. byte == 32) (drop 15 line))
+    if starts_with nat_eq line (codes "[GNUPG:] TRUST_")
+    then Some (before_first (λ byte. byte == 32) (drop 15 line))
     else None
 
 unfoldable pub level_named : List ℕ → Option TrustLevel
@@ -57,7 +58,9 @@ or_error None verdict = verdict
 or_error (Some seen) verdict = Error
 
 abbrev pub status_of : List ℕ → Status
-status_of text = if list_any is_strange (lines_of text) then Error else told_by (filter_map verdict_of (lines_of text))
+status_of text =
+    if list_any is_strange (lines_of text) then Error
+    else told_by (filter_map verdict_of (lines_of text))
 
 -- the last level that is told
 abbrev pub trust_of : List ℕ → TrustLevel

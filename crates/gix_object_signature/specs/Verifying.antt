@@ -28,19 +28,38 @@ format_of (Ssh program allowed revoked minimum) = format.Ssh
 
 -- what the programs of OpenPGP and X.509 are told alike
 abbrev pub verifying_words : List ℕ → List Argument
-verifying_words signature = Plain (codes "--status-fd=1") ∷ Plain (codes "--verify") ∷ File signature ∷ Plain (codes "-") ∷ []
+verifying_words signature =
+    Plain (codes "--status-fd=1") ∷ Plain (codes "--verify") ∷ File signature ∷ Plain (codes "-")
+    ∷ []
 
 abbrev pub gpg_request : List ℕ → List ℕ → List ℕ → Request
-gpg_request program signature content = record { words = Plain program ∷ Plain (codes "--keyid-format=long") ∷ verifying_words signature; input = content }
+gpg_request program signature content =
+    record {
+      words =
+          Plain program ∷ Plain (codes "--keyid-format=long") ∷ verifying_words signature;
+      input =
+          content;
+    }
 
 abbrev pub gpgsm_request : List ℕ → List ℕ → List ℕ → Request
-gpgsm_request program signature content = record { words = Plain program ∷ verifying_words signature; input = content }
+gpgsm_request program signature content =
+    record { words = Plain program ∷ verifying_words signature; input = content }
 
 -- ---- what the answer means
 
 abbrev pub outcome_of : TrustLevel → Result Answer run.RunError → Result Outcome verify.Error
 outcome_of minimum (Err cause) = Err (error_of cause)
-outcome_of minimum (Ok answer) = Ok (record { status = status_of answer.output; trust = trust_of answer.output; minimum_trust = minimum; has_signer = true; answer = answer })
+outcome_of minimum (Ok answer) =
+    Ok
+    (record {
+      status =
+          status_of answer.output;
+      trust =
+          trust_of answer.output;
+      minimum_trust = minimum;
+      has_signer = true;
+      answer = answer;
+    })
 
 -- from least to most
 abbrev pub rank_of : TrustLevel → ℕ
@@ -60,19 +79,35 @@ pub record IsValid (outcome : Outcome) : Type 0 where
 -- ---- verifying
 
 -- the request is run once
-pub record AsksOnce {R : Type 0} (answers : R → Request → Result Answer run.RunError → R → Type 0) (before : R) (request : Request) (minimum : TrustLevel) (result : Result Outcome verify.Error) (after : R) : Type 0 where
+pub record AsksOnce {R : Type 0} (answers : R → Request → Result Answer run.RunError → R → Type 0)
+    (before : R) (request : Request) (minimum : TrustLevel) (result : Result Outcome verify.Error)
+    (after : R) : Type 0 where
   pub answer : Result Answer run.RunError
   pub answered : answers before request answer after
   pub told : result ≡ outcome_of minimum answer
 
-abbrev pub VerifiesBy : {R : Type 0} → (R → Request → Result Answer run.RunError → R → Type 0) → R → List ℕ → List ℕ → Options → Result Outcome verify.Error → R → Type 0
-VerifiesBy answers before content signature (OpenPgp program minimum) result after = AsksOnce answers before (gpg_request (bstr_bytes program) signature content) minimum result after
-VerifiesBy answers before content signature (X509 program minimum) result after = AsksOnce answers before (gpgsm_request (bstr_bytes program) signature content) minimum result after
-VerifiesBy answers before content signature (Ssh program allowed revoked minimum) result after = VerifiesSsh answers before program allowed revoked minimum signature content result after
+abbrev pub VerifiesBy : {R : Type 0} → (R → Request → Result Answer run.RunError → R → Type 0) → R
+    → List ℕ → List ℕ → Options → Result Outcome verify.Error → R → Type 0
+VerifiesBy answers before content signature (OpenPgp program minimum) result after =
+    AsksOnce answers before
+    (gpg_request (bstr_bytes program) signature content) minimum result after
+VerifiesBy answers before content signature (X509 program minimum) result after =
+    AsksOnce answers before
+    (gpgsm_request (bstr_bytes program) signature content) minimum result after
+VerifiesBy answers before content signature (Ssh program allowed revoked minimum) result after =
+    VerifiesSsh answers before program allowed revoked minimum signature content result after
 
 -- a signature of another format runs nothing, nor does one whose content has no memory
-pub data Verifies {R : Type 0} (answers : R → Request → Result Answer run.RunError → R → Type 0) (before : R) (content signature : List ℕ) (options : Options) (result : Result Outcome verify.Error) (after : R) : Type 0 where
-  NoFormat : BeginsNoArmor signature → result ≡ Err UnsupportedFormat → after ≡ before → Verifies answers before content signature options result after
-  OtherFormat : (other : Format) → BeginsArmor signature other → other ≢ format_of options → result ≡ Err FormatMismatch → after ≡ before → Verifies answers before content signature options result after
-  NoMemory : BeginsArmor signature (format_of options) → result ≡ Err Memory → after ≡ before → Verifies answers before content signature options result after
-  Asked : BeginsArmor signature (format_of options) → VerifiesBy answers before content signature options result after → Verifies answers before content signature options result after
+pub data Verifies {R : Type 0} (answers : R → Request → Result Answer run.RunError → R → Type 0)
+    (before : R) (content signature : List ℕ) (options : Options)
+    (result : Result Outcome verify.Error) (after : R) : Type 0 where
+  NoFormat : BeginsNoArmor signature → result ≡ Err UnsupportedFormat → after ≡ before
+      → Verifies answers before content signature options result after
+  OtherFormat : (other : Format) → BeginsArmor signature other → other ≢ format_of options
+      → result ≡ Err FormatMismatch → after ≡ before
+      → Verifies answers before content signature options result after
+  NoMemory : BeginsArmor signature (format_of options) → result ≡ Err Memory → after ≡ before
+      → Verifies answers before content signature options result after
+  Asked : BeginsArmor signature (format_of options)
+      → VerifiesBy answers before content signature options result after
+      → Verifies answers before content signature options result after

@@ -33,7 +33,17 @@ path_of None = None
 path_of (Some path) = Some (bstr_bytes path)
 
 abbrev pub question_of : Keygen → Question
-question_of keygen = record { program = bstr_bytes keygen.program; allowed = bstr_bytes keygen.allowed; revoked = path_of keygen.revoked; signature = bstr_bytes keygen.signature; time = path_of keygen.time }
+question_of keygen =
+    record {
+      program =
+          bstr_bytes keygen.program;
+      allowed =
+          bstr_bytes keygen.allowed;
+      revoked =
+          path_of keygen.revoked;
+      signature = bstr_bytes keygen.signature;
+      time = path_of keygen.time;
+    }
 
 abbrev pub time_words : Option (List ℕ) → List Argument
 time_words None = []
@@ -46,7 +56,9 @@ revoked_words (Some path) = Plain (codes "-r") ∷ Plain path ∷ []
 -- who may have made the signature
 abbrev pub find_request : Question → Request
 find_request question = record {
-  words = Plain question.program ∷ Plain (codes "-Y") ∷ Plain (codes "find-principals") ∷ Plain (codes "-f") ∷ Plain question.allowed
+  words =
+      Plain question.program ∷ Plain (codes "-Y") ∷ Plain (codes "find-principals")
+      ∷ Plain (codes "-f") ∷ Plain question.allowed
       ∷ Plain (codes "-s") ∷ File question.signature ∷ time_words question.time;
   input = [];
 }
@@ -54,7 +66,9 @@ find_request question = record {
 -- whether it is a signature of the content at all
 abbrev pub check_request : Question → List ℕ → Request
 check_request question content = record {
-  words = Plain question.program ∷ Plain (codes "-Y") ∷ Plain (codes "check-novalidate") ∷ Plain (codes "-n") ∷ Plain (codes "git")
+  words =
+      Plain question.program ∷ Plain (codes "-Y") ∷ Plain (codes "check-novalidate")
+      ∷ Plain (codes "-n") ∷ Plain (codes "git")
       ∷ Plain (codes "-s") ∷ File question.signature ∷ time_words question.time;
   input = content;
 }
@@ -62,8 +76,11 @@ check_request question content = record {
 -- whether it is this one's
 abbrev pub verify_request : Question → List ℕ → List ℕ → Request
 verify_request question content principal = record {
-  words = Plain question.program ∷ Plain (codes "-Y") ∷ Plain (codes "verify") ∷ Plain (codes "-n") ∷ Plain (codes "git") ∷ Plain (codes "-f") ∷ Plain question.allowed
-      ∷ Plain (codes "-I") ∷ Plain principal ∷ Plain (codes "-s") ∷ File question.signature ∷ (time_words question.time ++ revoked_words question.revoked);
+  words =
+      Plain question.program ∷ Plain (codes "-Y") ∷ Plain (codes "verify") ∷ Plain (codes "-n")
+      ∷ Plain (codes "git") ∷ Plain (codes "-f") ∷ Plain question.allowed
+      ∷ Plain (codes "-I") ∷ Plain principal ∷ Plain (codes "-s") ∷ File question.signature
+      ∷ (time_words question.time ++ revoked_words question.revoked);
   input = content;
 }
 
@@ -75,7 +92,8 @@ finds answer = answer.succeeded && not (bytes_eq answer.output [])
 
 -- each line that isn't empty, without a carriage return at its end
 abbrev pub principals : List ℕ → List (List ℕ)
-principals text = filter (λ line. not (length line == 0)) (slice_split (λ byte. byte == 10) (without_cr text))
+principals text =
+    filter (λ line. not (length line == 0)) (slice_split (λ byte. byte == 10) (without_cr text))
 
 -- it is this one's
 abbrev pub agrees : Answer → Bool
@@ -84,7 +102,17 @@ agrees answer = answer.succeeded && starts_with nat_eq answer.output (codes "Goo
 -- a signature of no principal is never valid, whatever is told of it
 abbrev pub outcome_of : TrustLevel → Bool → Result Answer verify.Error → Result Outcome verify.Error
 outcome_of minimum known (Err error) = Err error
-outcome_of minimum known (Ok answer) = Ok (record { status = status_of answer.output; trust = trust_of answer.output; minimum_trust = minimum; has_signer = known; answer = answer })
+outcome_of minimum known (Ok answer) =
+    Ok
+    (record {
+      status =
+          status_of answer.output;
+      trust =
+          trust_of answer.output;
+      minimum_trust = minimum;
+      has_signer = known;
+      answer = answer;
+    })
 
 -- ---- one request after another
 
@@ -94,34 +122,70 @@ Ends (Err error) = ⊤
 Ends (Ok answer) = IsTrue (agrees answer)
 
 -- each name is asked for in turn, up to the first that it is or an error; else the last answer counts
-pub data Tries {R : Type 0} (answers : R → Request → Result Answer run.RunError → R → Type 0) (ask : List ℕ → Request) : R → List (List ℕ) → Answer → Result Answer verify.Error → R → Type 0 where
+pub data Tries {R : Type 0} (answers : R → Request → Result Answer run.RunError → R → Type 0)
+    (ask : List ℕ → Request) : R → List (List ℕ) → Answer → Result Answer verify.Error → R
+    → Type 0 where
   NoneLeft : (before : R) (last : Answer) → Tries answers ask before [] last (Ok last) before
-  Ended : (before after : R) (name : List ℕ) (more : List (List ℕ)) (last : Answer) (result : Result Answer verify.Error) → Asks answers before (ask name) result after → Ends result
+  Ended : (before after : R) (name : List ℕ) (more : List (List ℕ)) (last : Answer)
+      (result : Result Answer verify.Error) → Asks answers before (ask name) result after
+      → Ends result
       → Tries answers ask before (name ∷ more) last result after
-  Refused : (before between after : R) (name : List ℕ) (more : List (List ℕ)) (last answer : Answer) (result : Result Answer verify.Error) → Asks answers before (ask name) (Ok answer) between → IsFalse (agrees answer)
-      → Tries answers ask between more answer result after → Tries answers ask before (name ∷ more) last result after
+  Refused : (before between after : R) (name : List ℕ) (more : List (List ℕ))
+      (last answer : Answer) (result : Result Answer verify.Error)
+      → Asks answers before (ask name) (Ok answer) between → IsFalse (agrees answer)
+      → Tries answers ask between more answer result after
+      → Tries answers ask before (name ∷ more) last result after
 
 -- each of the principals that an answer tells is asked for in turn; or their names had no memory, and nothing is run
-pub data TriesFound {R : Type 0} (answers : R → Request → Result Answer run.RunError → R → Type 0) (question : Question) (content : List ℕ) (before : R) (found : Answer) (result : Result Answer verify.Error) (after : R) : Type 0 where
-  NoMemory : result ≡ Err Memory → after ≡ before → TriesFound answers question content before found result after
-  TriedAll : Tries answers (verify_request question content) before (principals found.output) found result after → TriesFound answers question content before found result after
+pub data TriesFound {R : Type 0} (answers : R → Request → Result Answer run.RunError → R → Type 0)
+    (question : Question) (content : List ℕ) (before : R) (found : Answer)
+    (result : Result Answer verify.Error) (after : R) : Type 0 where
+  NoMemory : result ≡ Err Memory → after ≡ before
+      → TriesFound answers question content before found result after
+  TriedAll : Tries answers (verify_request question content) before
+      (principals found.output) found result after
+      → TriesFound answers question content before found result after
 
 -- the principals are asked for first; where none is found, whether it is a signature at all
-pub data Asked {R : Type 0} (answers : R → Request → Result Answer run.RunError → R → Type 0) (before : R) (question : Question) (content : List ℕ) (minimum : TrustLevel) (result : Result Outcome verify.Error) (after : R) : Type 0 where
-  NotFound : (error : verify.Error) → Asks answers before (find_request question) (Err error) after → result ≡ Err error
+pub data Asked {R : Type 0} (answers : R → Request → Result Answer run.RunError → R → Type 0)
+    (before : R) (question : Question) (content : List ℕ) (minimum : TrustLevel)
+    (result : Result Outcome verify.Error) (after : R) : Type 0 where
+  NotFound : (error : verify.Error)
+      → Asks answers before (find_request question) (Err error) after → result ≡ Err error
       → Asked answers before question content minimum result after
-  NoSigner : (found : Answer) (between : R) → Asks answers before (find_request question) (Ok found) between → IsFalse (finds found)
-      → (last : Result Answer verify.Error) → Asks answers between (check_request question content) last after → result ≡ outcome_of minimum false last
+  NoSigner : (found : Answer) (between : R)
+      → Asks answers before (find_request question) (Ok found) between → IsFalse (finds found)
+      → (last : Result Answer verify.Error)
+      → Asks answers between (check_request question content) last after
+      → result ≡ outcome_of minimum false last
       → Asked answers before question content minimum result after
-  NoNames : (found : Answer) → Asks answers before (find_request question) (Ok found) after → IsTrue (finds found) → result ≡ Err Memory
+  NoNames : (found : Answer) → Asks answers before (find_request question) (Ok found) after
+      → IsTrue (finds found) → result ≡ Err Memory
       → Asked answers before question content minimum result after
-  Tried : (found : Answer) (between : R) → Asks answers before (find_request question) (Ok found) between → IsTrue (finds found)
-      → (last : Result Answer verify.Error) → Tries answers (verify_request question content) between (principals found.output) found last after → result ≡ outcome_of minimum true last
+  Tried : (found : Answer) (between : R)
+      → Asks answers before (find_request question) (Ok found) between → IsTrue (finds found)
+      → (last : Result Answer verify.Error)
+      → Tries answers (verify_request question content) between
+      (principals found.output) found last after → result ≡ outcome_of minimum true last
       → Asked answers before question content minimum result after
 
 -- a content that tells no time runs nothing
-pub data VerifiesSsh {R : Type 0} (answers : R → Request → Result Answer run.RunError → R → Type 0) (before : R) (program allowed : BStr) (revoked : Option BStr) (minimum : TrustLevel) (signature content : List ℕ) (result : Result Outcome verify.Error) (after : R) : Type 0 where
-  NoTime : TellsNoTime content → result ≡ Err CommitTime → after ≡ before → VerifiesSsh answers before program allowed revoked minimum signature content result after
+pub data VerifiesSsh {R : Type 0}
+    (answers : R → Request → Result Answer run.RunError → R → Type 0) (before : R)
+    (program allowed : BStr) (revoked : Option BStr) (minimum : TrustLevel)
+    (signature content : List ℕ) (result : Result Outcome verify.Error) (after : R) : Type 0 where
+  NoTime : TellsNoTime content → result ≡ Err CommitTime → after ≡ before
+      → VerifiesSsh answers before program allowed revoked minimum signature content result after
   Timed : (time : Option (List ℕ)) → TimeWord content time
-      → Asked answers before (record { program = bstr_bytes program; allowed = bstr_bytes allowed; revoked = path_of revoked; signature = signature; time = time }) content minimum result after
+      → Asked answers before
+      (record {
+        program =
+            bstr_bytes program;
+        allowed =
+            bstr_bytes allowed;
+        revoked =
+            path_of revoked;
+        signature = signature;
+        time = time;
+      }) content minimum result after
       → VerifiesSsh answers before program allowed revoked minimum signature content result after

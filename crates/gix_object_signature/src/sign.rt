@@ -148,7 +148,9 @@ fn run_for<'a, F: FnMut(&[Word<'_>], &[u8]) -> Result<Answer, RunError>>(
     runner: &mut F,
 ) -> Result<Answer, RunError>
     requires { F.IsAlwaysCallable runner.old }
-    ensures asked { Answers F.FnMut runner.old (request_for options.now.format (bstr_bytes options.now.program) (bstr_bytes key.entry) content.now) result runner.new }
+    ensures asked { Answers F.FnMut runner.old
+        (request_for options.now.format (bstr_bytes options.now.program)
+        (bstr_bytes key.entry) content.now) result runner.new }
     ensures callable { F.IsAlwaysCallable runner.new }
 {
     match options.format {
@@ -203,7 +205,9 @@ fn run_gpg<'a, F: FnMut(&[Word<'_>], &[u8]) -> Result<Answer, RunError>>(
     runner: &mut F,
 ) -> Result<Answer, RunError>
     requires { F.IsAlwaysCallable runner.old }
-    ensures asked { Answers F.FnMut runner.old (gpg_request (bstr_bytes program.entry) (bstr_bytes key.entry) content.now) result runner.new }
+    ensures asked { Answers F.FnMut runner.old
+        (gpg_request (bstr_bytes program.entry)
+        (bstr_bytes key.entry) content.now) result runner.new }
     ensures callable { F.IsAlwaysCallable runner.new }
 {
     let words = [
@@ -222,7 +226,9 @@ fn run_ssh<'a, F: FnMut(&[Word<'_>], &[u8]) -> Result<Answer, RunError>>(
     runner: &mut F,
 ) -> Result<Answer, RunError>
     requires { F.IsAlwaysCallable runner.old }
-    ensures asked { Answers F.FnMut runner.old (ssh_request (bstr_bytes program.entry) (bstr_bytes key.entry) content.now) result runner.new }
+    ensures asked { Answers F.FnMut runner.old
+        (ssh_request (bstr_bytes program.entry)
+        (bstr_bytes key.entry) content.now) result runner.new }
     ensures callable { F.IsAlwaysCallable runner.new }
 {
     match is_literal_ssh_key(key.as_bytes()) {
@@ -239,7 +245,9 @@ fn run_with_literal<'a, F: FnMut(&[Word<'_>], &[u8]) -> Result<Answer, RunError>
     runner: &mut F,
 ) -> Result<Answer, RunError>
     requires { F.IsAlwaysCallable runner.old }
-    ensures asked { Answers F.FnMut runner.old (ssh_request_by (File (bstr_bytes literal.entry) ∷ Plain (codes "-U") ∷ []) (bstr_bytes program.entry) content.now) result runner.new }
+    ensures asked { Answers F.FnMut runner.old
+        (ssh_request_by (File (bstr_bytes literal.entry) ∷ Plain (codes "-U") ∷ [])
+        (bstr_bytes program.entry) content.now) result runner.new }
     ensures callable { F.IsAlwaysCallable runner.new }
 {
     let words = [
@@ -264,7 +272,9 @@ fn run_with_file<'a, F: FnMut(&[Word<'_>], &[u8]) -> Result<Answer, RunError>>(
     runner: &mut F,
 ) -> Result<Answer, RunError>
     requires { F.IsAlwaysCallable runner.old }
-    ensures asked { Answers F.FnMut runner.old (ssh_request_by (Plain (bstr_bytes file.entry) ∷ []) (bstr_bytes program.entry) content.now) result runner.new }
+    ensures asked { Answers F.FnMut runner.old
+        (ssh_request_by (Plain (bstr_bytes file.entry) ∷ [])
+        (bstr_bytes program.entry) content.now) result runner.new }
     ensures callable { F.IsAlwaysCallable runner.new }
 {
     let words = [

@@ -71,7 +71,8 @@ impl<'a> Options<'a> {
         runner: &mut F,
     ) -> Result<Outcome, Error>
         requires { F.IsAlwaysCallable runner.old }
-        ensures told { VerifiesBy (Answers F.FnMut) runner.old content.now signature.now self.now result runner.new }
+        ensures told { VerifiesBy
+            (Answers F.FnMut) runner.old content.now signature.now self.now result runner.new }
         ensures callable { F.IsAlwaysCallable runner.new }
     {
         match *self {
@@ -215,7 +216,8 @@ impl<'a> SignedData<'a> {
         runner: &mut F,
     ) -> Result<Outcome, Error>
         requires { F.IsAlwaysCallable runner.old }
-        ensures told { Verifies (Answers F.FnMut) runner.old (signed_bytes self.now) signature.now options.now result runner.new }
+        ensures told { Verifies (Answers F.FnMut) runner.old
+            (signed_bytes self.now) signature.now options.now result runner.new }
         ensures callable { F.IsAlwaysCallable runner.new }
     {
         let Some(format) = Format::from_signature(signature) else {

@@ -24,22 +24,26 @@ abbrev pub NamesNoKind : List ℕ → Type 0
 NamesNoKind input = (word after : List ℕ) × IsLine (codes "type ") input word after × IsNoKind word
 
 abbrev pub KindFault : List ℕ → Error → Type 0
-KindFault input error = LineFault (codes "type ") input error ⊎ ((error ≡ FieldName) × NamesNoKind input)
+KindFault input error =
+    LineFault (codes "type ") input error ⊎ ((error ≡ FieldName) × NamesNoKind input)
 
 -- the line is there, and its name is empty
 abbrev pub HasEmptyName : List ℕ → Type 0
 HasEmptyName input = (after : List ℕ) × IsLine (codes "tag ") input [] after
 
 abbrev pub NameFault : List ℕ → Error → Type 0
-NameFault input error = LineFault (codes "tag ") input error ⊎ ((error ≡ FieldName) × HasEmptyName input)
+NameFault input error =
+    LineFault (codes "tag ") input error ⊎ ((error ≡ FieldName) × HasEmptyName input)
 
 -- a tagger's line begins, and has no end; or it is there, and is no actor's
 abbrev pub TaggerFault : List ℕ → Error → Type 0
 TaggerFault input FieldName = ⊥
 TaggerFault input HexDigits = ⊥
 TaggerFault input LineEnd = LineFault (codes "tagger ") input LineEnd
-TaggerFault input InvalidActor = (text after : List ℕ) × IsLine (codes "tagger ") input text after × IsUncut text
-TaggerFault input InvalidTime = (text after : List ℕ) × IsLine (codes "tagger ") input text after × IsUntimed text
+TaggerFault input InvalidActor =
+    (text after : List ℕ) × IsLine (codes "tagger ") input text after × IsUncut text
+TaggerFault input InvalidTime =
+    (text after : List ℕ) × IsLine (codes "tagger ") input text after × IsUntimed text
 TaggerFault input Memory = ⊥
 
 -- something stands there, and no line feed begins it
@@ -49,7 +53,15 @@ RestFault input error = (error ≡ FieldName) × (input ≢ []) × ((body : List
 -- the first part that fails, behind those that stand
 pub data TagFault (kind : hash.Kind) (input : List ℕ) (error : Error) : Type 0 where
   InTarget : HexLineFault (codes "object") (hex_len kind) input error → TagFault kind input error
-  InKind : (digits after : List ℕ) → SpellsTarget kind input digits after → KindFault after error → TagFault kind input error
-  InName : (digits behind : List ℕ) (target : Kind) (after : List ℕ) → SpellsTarget kind input digits behind → SpellsKind behind target after → NameFault after error → TagFault kind input error
-  InTagger : (digits behind : List ℕ) (target : Kind) (later name after : List ℕ) → SpellsTarget kind input digits behind → SpellsKind behind target later → SpellsName later name after → TaggerFault after error → TagFault kind input error
-  InRest : (digits behind : List ℕ) (target : Kind) (later name last : List ℕ) (tagger : Option Tagger) (after : List ℕ) → SpellsTarget kind input digits behind → SpellsKind behind target later → SpellsName later name last → SpellsTagger last tagger after → RestFault after error → TagFault kind input error
+  InKind : (digits after : List ℕ) → SpellsTarget kind input digits after → KindFault after error
+      → TagFault kind input error
+  InName : (digits behind : List ℕ) (target : Kind) (after : List ℕ)
+      → SpellsTarget kind input digits behind → SpellsKind behind target after
+      → NameFault after error → TagFault kind input error
+  InTagger : (digits behind : List ℕ) (target : Kind) (later name after : List ℕ)
+      → SpellsTarget kind input digits behind → SpellsKind behind target later
+      → SpellsName later name after → TaggerFault after error → TagFault kind input error
+  InRest : (digits behind : List ℕ) (target : Kind) (later name last : List ℕ)
+      (tagger : Option Tagger) (after : List ℕ) → SpellsTarget kind input digits behind
+      → SpellsKind behind target later → SpellsName later name last → SpellsTagger last tagger after
+      → RestFault after error → TagFault kind input error

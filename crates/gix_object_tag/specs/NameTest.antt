@@ -14,4 +14,6 @@ is_partial name = names.is_partial_name name
 
 -- why a name isn't written, if it isn't
 abbrev pub name_fault : List ℕ → Option TagNameError
-name_fault name = if is_partial name then (if begins (codes "-") name then Some StartsWithDash else None) else Some InvalidRefName
+name_fault name =
+    if is_partial name then (if begins (codes "-") name then Some StartsWithDash else None)
+    else Some InvalidRefName

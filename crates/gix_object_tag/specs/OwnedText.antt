@@ -10,7 +10,8 @@ use Rattle.gix_object_tag.specs.declared.tag.owned.Tag.{Tag}
 
 abbrev pub own_person : Option Actor → Option Tagger
 own_person None = None
-own_person (Some actor) = Some (record { name = actor.name; email = actor.email; time = time_text actor.time })
+own_person (Some actor) =
+    Some (record { name = actor.name; email = actor.email; time = time_text actor.time })
 
 -- the id's digits are written in lower case
 abbrev pub own_parts : Tag → Parts
@@ -25,8 +26,10 @@ own_parts tag = record {
 
 -- not whole minutes, or 100 hours and more
 abbrev pub is_bad_offset : ℤ → Bool
-is_bad_offset offset = not (unsigned_abs offset % 60 == 0) || not (nat_lt (unsigned_abs offset) 360_000)
+is_bad_offset offset =
+    not (unsigned_abs offset % 60 == 0) || not (nat_lt (unsigned_abs offset) 360_000)
 
 abbrev pub is_bad_actor : Option Actor → Bool
 is_bad_actor None = false
-is_bad_actor (Some actor) = (is_marked actor.name || is_marked actor.email) || is_bad_offset actor.time.offset
+is_bad_actor (Some actor) =
+    (is_marked actor.name || is_marked actor.email) || is_bad_offset actor.time.offset

@@ -14,7 +14,8 @@ all_text (piece ∷ pieces) = piece.text ++ all_text pieces
 -- a refusal behind some text
 abbrev pub behind : List ℕ → Option Refusal → Option Refusal
 behind text None = None
-behind text (Some refusal) = Some (record { before = text ++ refusal.before; cause = refusal.cause })
+behind text (Some refusal) =
+    Some (record { before = text ++ refusal.before; cause = refusal.cause })
 
 abbrev pub first_of : Option Refusal → List ℕ → Option Refusal → Option Refusal
 first_of (Some refusal) text later = Some refusal

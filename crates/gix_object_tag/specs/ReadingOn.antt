@@ -16,7 +16,8 @@ Reads here (part ∷ parts) there = (next : Place) × IsNext here part next × R
 
 -- these are the values that the parts from here to there tell
 abbrev pub Tells : {X : Type 0} → (Part → Option X) → Place → List X → Place → Type 0
-Tells told here values there = (parts : List Part) × Reads here parts there × (filter_map told parts ≡ values)
+Tells told here values there =
+    (parts : List Part) × Reads here parts there × (filter_map told parts ≡ values)
 
 -- ---- the first value from here on
 
@@ -25,7 +26,9 @@ TellsFirst told here value = (there : Place) × Tells told here (value ∷ []) t
 
 -- what is answered where no part follows: `FieldName` at the input's end, and else the error that the reader gives
 abbrev pub IsStop : Place → Error → Type 0
-IsStop place error = ((place.input ≡ []) × (error ≡ FieldName)) ⊎ ((after : Place) × GivesToken place (Some (Err error)) after)
+IsStop place error =
+    ((place.input ≡ []) × (error ≡ FieldName))
+    ⊎ ((after : Place) × GivesToken place (Some (Err error)) after)
 
 -- no value is told from here on to where no part follows
 abbrev pub TellsNone : {X : Type 0} → (Part → Option X) → Place → Error → Type 0
@@ -44,11 +47,13 @@ IsBehindName place = (place.stage ≡ at.Tagger) × (place.input ≡ [])
 -- the first tagger from here on is this one; or none is told up to the name, with which the input ends
 abbrev pub TellsTagger : Place → Option tag.Tagger → Type 0
 TellsTagger here tagger =
-    TellsFirst tagger_told here tagger ⊎ ((there : Place) × Tells tagger_told here [] there × IsBehindName there × (tagger ≡ None))
+    TellsFirst tagger_told here tagger
+    ⊎ ((there : Place) × Tells tagger_told here [] there × IsBehindName there × (tagger ≡ None))
 
 -- none is told up to where no part follows, and that isn't behind the name
 abbrev pub TellsNoTagger : Place → Error → Type 0
-TellsNoTagger here error = (there : Place) × Tells tagger_told here [] there × IsStop there error × ¬ IsBehindName there
+TellsNoTagger here error =
+    (there : Place) × Tells tagger_told here [] there × IsStop there error × ¬ IsBehindName there
 
 -- ---- the target
 
@@ -63,4 +68,6 @@ target_given (Some (Err error)) = Err error
 
 -- one token is read, and this is what it answers
 abbrev pub TakesTarget : Place → Result ObjectId Error → Type 0
-TakesTarget here result = (given : Option (Result Token Error)) × (after : Place) × GivesToken here given after × (result ≡ target_given given)
+TakesTarget here result =
+    (given : Option (Result Token Error)) × (after : Place) × GivesToken here given after
+    × (result ≡ target_given given)

@@ -40,4 +40,5 @@ IsSignedBy input None None = ⊤
 IsSignedBy input None (Some found) = ⊥
 IsSignedBy input (Some signature) None = ⊥
 IsSignedBy input (Some signature) (Some (found, signed)) =
-    IsSignatureOf (Some signature) found × (input ≡ bstr_bytes signed.before ++ signature) × (bstr_bytes signed.behind ≡ [])
+    IsSignatureOf (Some signature) found × (input ≡ bstr_bytes signed.before ++ signature)
+    × (bstr_bytes signed.behind ≡ [])

@@ -29,11 +29,13 @@ parted (Some _) message = message
 
 -- the tag with this signature in the place of its own
 abbrev pub with_signature : List ℕ → Tag → Tag
-with_signature signature tag = record tag { message = parted tag.pgp_signature tag.message; pgp_signature = Some signature }
+with_signature signature tag =
+    record tag { message = parted tag.pgp_signature tag.message; pgp_signature = Some signature }
 
 -- what is written of the tag before its signature, whichever that is
 abbrev pub IsTextToSign : Tag → List ℕ → Type 0
-IsTextToSign tag text = (signature : List ℕ) → tag_text (own_parts (with_signature signature tag)) ≡ text ++ signature
+IsTextToSign tag text =
+    (signature : List ℕ) → tag_text (own_parts (with_signature signature tag)) ≡ text ++ signature
 
 -- why a line of the tag isn't written, if one isn't
 abbrev pub write_fault : Tag → Option write.Error
@@ -52,20 +54,30 @@ left_of (Ok _) tag = Ok tag
 left_of (Err error) tag = Err error
 
 -- a tag with a line that can't be written runs nothing, nor does one whose text has no memory; else its text is signed once
-pub data SignsTag {R : Type 0} (answers : R → Request → Result Answer run.RunError → R → Type 0) (before : R) (tag : Tag) (options : Options) (result : Result Tag Error) (after : R) : Type 0 where
-  Unwritten : (fault : write.Error) → write_fault tag ≡ Some fault → result ≡ Err (Encode fault) → after ≡ before → SignsTag answers before tag options result after
+pub data SignsTag {R : Type 0} (answers : R → Request → Result Answer run.RunError → R → Type 0)
+    (before : R) (tag : Tag) (options : Options) (result : Result Tag Error)
+    (after : R) : Type 0 where
+  Unwritten : (fault : write.Error) → write_fault tag ≡ Some fault → result ≡ Err (Encode fault)
+      → after ≡ before → SignsTag answers before tag options result after
   NoMemory : result ≡ Err Memory → after ≡ before → SignsTag answers before tag options result after
-  Asked : write_fault tag ≡ None → (text : List ℕ) → IsTextToSign tag text → (answer : Result (List ℕ) Error) → Signs answers before text options answer after
+  Asked : write_fault tag ≡ None → (text : List ℕ) → IsTextToSign tag text
+      → (answer : Result (List ℕ) Error) → Signs answers before text options answer after
       → result ≡ signed_with tag answer → SignsTag answers before tag options result after
 
 -- the same of a borrowed tag's parts, which are owned first
-pub data SignsParts {R : Type 0} (answers : R → Request → Result Answer run.RunError → R → Type 0) (before : R) (parts : Parts) (options : Options) (result : Result Tag Error) (after : R) : Type 0 where
-  NotOwned : (fault : decode.Error) → OwningFault parts.target parts.tagger fault → result ≡ Err (reading_error fault) → after ≡ before → SignsParts answers before parts options result after
-  Owned : (tag : Tag) → IsTagOf parts tag → SignsTag answers before tag options result after → SignsParts answers before parts options result after
+pub data SignsParts {R : Type 0} (answers : R → Request → Result Answer run.RunError → R → Type 0)
+    (before : R) (parts : Parts) (options : Options) (result : Result Tag Error)
+    (after : R) : Type 0 where
+  NotOwned : (fault : decode.Error) → OwningFault parts.target parts.tagger fault
+      → result ≡ Err (reading_error fault) → after ≡ before
+      → SignsParts answers before parts options result after
+  Owned : (tag : Tag) → IsTagOf parts tag → SignsTag answers before tag options result after
+      → SignsParts answers before parts options result after
 
 -- ---- reading a signed tag
 
 -- this signature is told, and this text is what it signs
 abbrev pub TellsSigned : List ℕ → List ℕ → Option (SignatureRef × SignedData) → Type 0
 TellsSigned text signature None = ⊥
-TellsSigned text signature (Some (found, signed)) = (bstr_bytes found.signature ≡ signature) × (signed_bytes signed ≡ text)
+TellsSigned text signature (Some (found, signed)) =
+    (bstr_bytes found.signature ≡ signature) × (signed_bytes signed ≡ text)

@@ -63,12 +63,14 @@ IsMessageOf front message = (front ≡ message ++ 10 ∷ []) ⊎ ((front ≡ [])
 
 abbrev pub SpellsBody : List ℕ → List ℕ → Option (List ℕ) → Type 0
 SpellsBody body message None = (body ≡ message) × IsUnsigned body
-SpellsBody body message (Some signature) = (front : List ℕ) × IsSigned body front signature × IsMessageOf front message
+SpellsBody body message (Some signature) =
+    (front : List ℕ) × IsSigned body front signature × IsMessageOf front message
 
 -- an empty line and the body; or nothing, which is the empty message
 pub data SpellsRest (input message : List ℕ) (signature : Option (List ℕ)) : Type 0 where
   Nothing : input ≡ [] → message ≡ [] → signature ≡ None → SpellsRest input message signature
-  Body : (body : List ℕ) → input ≡ 10 ∷ body → SpellsBody body message signature → SpellsRest input message signature
+  Body : (body : List ℕ) → input ≡ 10 ∷ body → SpellsBody body message signature
+      → SpellsRest input message signature
 
 -- ---- the whole
 

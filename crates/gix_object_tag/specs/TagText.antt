@@ -38,7 +38,8 @@ body_text (byte ∷ message) (Some signature) = 10 ∷ ((byte ∷ message) ++ 10
 
 -- a part that has no written form: nothing of it
 abbrev pub unspellable_unless : Bool → Option Refusal
-unspellable_unless fine = if fine then None else Some (record { before = []; cause = Header Unspellable })
+unspellable_unless fine =
+    if fine then None else Some (record { before = []; cause = Header Unspellable })
 
 -- a name that is no tag's: nothing of its line
 abbrev pub name_refusal : Option TagNameError → Option Refusal
@@ -64,25 +65,35 @@ tagger_refusal bad = unspellable_unless (not bad)
 -- ---- the whole, from its parts, whether its tagger has no line, and whether its body is whole
 
 abbrev pub head_piece : Parts → Piece
-head_piece parts = record { text = head_text parts.target (kind_word parts.target_kind); refusal = unspellable_unless (is_id parts.target) }
+head_piece parts =
+    record {
+      text =
+          head_text parts.target (kind_word parts.target_kind);
+      refusal =
+          unspellable_unless (is_id parts.target);
+    }
 
 abbrev pub name_piece : Parts → Piece
-name_piece parts = record { text = name_line parts.name; refusal = name_refusal (name_fault parts.name) }
+name_piece parts =
+    record { text = name_line parts.name; refusal = name_refusal (name_fault parts.name) }
 
 abbrev pub tagger_piece : Parts → Bool → Piece
 tagger_piece parts bad = record { text = tagger_line parts.tagger; refusal = tagger_refusal bad }
 
 abbrev pub body_piece : Parts → Bool → Piece
-body_piece parts whole = record { text = body_text parts.message parts.signature; refusal = unspellable_unless whole }
+body_piece parts whole =
+    record { text = body_text parts.message parts.signature; refusal = unspellable_unless whole }
 
 abbrev pub pieces_of : Parts → Bool → Bool → List Piece
-pieces_of parts bad whole = head_piece parts ∷ name_piece parts ∷ tagger_piece parts bad ∷ body_piece parts whole ∷ []
+pieces_of parts bad whole =
+    head_piece parts ∷ name_piece parts ∷ tagger_piece parts bad ∷ body_piece parts whole ∷ []
 
 abbrev pub tag_text : Parts → List ℕ
 tag_text parts = all_text (pieces_of parts false true)
 
 abbrev pub tag_refusal : Parts → Bool → Option Refusal
-tag_refusal parts bad = first_refusal (pieces_of parts bad (is_whole_body parts.message parts.signature))
+tag_refusal parts bad =
+    first_refusal (pieces_of parts bad (is_whole_body parts.message parts.signature))
 
 -- the same of the lines alone, whatever the body
 abbrev pub line_refusal : Parts → Bool → Option Refusal

@@ -48,10 +48,13 @@ pub record IsIdLine (kind : hash.Kind) (input : List ℕ) (id : Id) (rest : List
 -- the part may stand there and begins the input, and the rest follows it
 abbrev pub IsPartAt : hash.Kind → Stage → List ℕ → Part → List ℕ → Type 0
 IsPartAt kind stage input (Target id) rest = (stage ≡ at.Target) × IsIdLine kind input id rest
-IsPartAt kind stage input (TargetKind target) rest = (stage ≡ at.TargetKind) × SpellsKind input target rest
+IsPartAt kind stage input (TargetKind target) rest =
+    (stage ≡ at.TargetKind) × SpellsKind input target rest
 IsPartAt kind stage input (Name name) rest = (stage ≡ at.Name) × SpellsName input name rest
-IsPartAt kind stage input (Tagger tagger) rest = (stage ≡ at.Tagger) × SpellsTagger input tagger rest
-IsPartAt kind stage input (Body message signature) rest = (stage ≡ at.Body) × SpellsRest input message signature × (rest ≡ [])
+IsPartAt kind stage input (Tagger tagger) rest =
+    (stage ≡ at.Tagger) × SpellsTagger input tagger rest
+IsPartAt kind stage input (Body message signature) rest =
+    (stage ≡ at.Body) × SpellsRest input message signature × (rest ≡ [])
 
 -- where the reader is once it has given the part
 abbrev pub stage_after : Part → Stage
@@ -77,11 +80,14 @@ start kind input = record { kind = kind; stage = at.Target; input = input }
 -- something stands next, the part does, and the reader moves behind it
 abbrev pub IsNext : Place → Part → Place → Type 0
 IsNext before part after =
-    (before.input ≢ []) × IsPartAt before.kind before.stage before.input part after.input × (after.stage ≡ stage_after part) × (after.kind ≡ before.kind)
+    (before.input ≢ []) × IsPartAt before.kind before.stage before.input part after.input
+    × (after.stage ≡ stage_after part) × (after.kind ≡ before.kind)
 
 -- something stands next, and it is no part
 abbrev pub LacksPart : Place → Type 0
-LacksPart place = (place.input ≢ []) × ((part : Part) (rest : List ℕ) → ¬ IsPartAt place.kind place.stage place.input part rest)
+LacksPart place =
+    (place.input ≢ [])
+    × ((part : Part) (rest : List ℕ) → ¬ IsPartAt place.kind place.stage place.input part rest)
 
 -- the reader is at the end, where no part but a body may come
 abbrev pub IsAtEnd : Place → Place → Type 0
@@ -91,7 +97,9 @@ IsAtEnd before after = (after.input ≡ []) × (after.stage ≡ at.Body) × (aft
 abbrev pub GivesToken : Place → Option (Result Token Error) → Place → Type 0
 GivesToken before None after = (before.input ≡ []) × (after ≡ before)
 GivesToken before (Some (Ok token)) after = IsNext before (part_of token) after
-GivesToken before (Some (Err error)) after = LacksPart before × IsFaultAt before.kind before.stage before.input error × IsAtEnd before after
+GivesToken before (Some (Err error)) after =
+    LacksPart before × IsFaultAt before.kind before.stage before.input error
+    × IsAtEnd before after
 
 -- how many tokens come at most
 abbrev pub stages_left : Stage → ℕ

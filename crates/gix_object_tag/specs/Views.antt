@@ -9,7 +9,14 @@ use Rattle.gix_object_tag.specs.Tag.{Tagger, Parts}
 
 abbrev pub tagger_of : Option ActorRef → Option Tagger
 tagger_of None = None
-tagger_of (Some actor) = Some (record { name = bstr_bytes actor.name; email = bstr_bytes actor.email; time = bstr_bytes actor.time })
+tagger_of (Some actor) =
+    Some
+    (record {
+      name =
+          bstr_bytes actor.name;
+      email = bstr_bytes actor.email;
+      time = bstr_bytes actor.time;
+    })
 
 abbrev pub text_of : Option BStr → Option (List ℕ)
 text_of text = option_map bstr_bytes text

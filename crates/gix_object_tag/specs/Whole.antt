@@ -22,14 +22,18 @@ tells_name (Body message signature) = false
 -- ---- the tokens that tell these parts, each once and in their order
 
 -- the body, whose token isn't given where nothing is left for it
-pub data TellsBody (message : List ℕ) (signature : Option (List ℕ)) (tokens : List Part) : Type 0 where
+pub data TellsBody (message : List ℕ) (signature : Option (List ℕ))
+    (tokens : List Part) : Type 0 where
   NoBody : message ≡ [] → signature ≡ None → tokens ≡ [] → TellsBody message signature tokens
   ABody : tokens ≡ Body message signature ∷ [] → TellsBody message signature tokens
 
 -- the tagger, and the body; neither token is given where nothing is left behind the name
-pub data TellsLast (tagger : Option tag.Tagger) (message : List ℕ) (signature : Option (List ℕ)) (tokens : List Part) : Type 0 where
-  NoTagger : tagger ≡ None → message ≡ [] → signature ≡ None → tokens ≡ [] → TellsLast tagger message signature tokens
-  ATagger : (body : List Part) → tokens ≡ Tagger tagger ∷ body → TellsBody message signature body → TellsLast tagger message signature tokens
+pub data TellsLast (tagger : Option tag.Tagger) (message : List ℕ) (signature : Option (List ℕ))
+    (tokens : List Part) : Type 0 where
+  NoTagger : tagger ≡ None → message ≡ [] → signature ≡ None → tokens ≡ []
+      → TellsLast tagger message signature tokens
+  ATagger : (body : List Part) → tokens ≡ Tagger tagger ∷ body → TellsBody message signature body
+      → TellsLast tagger message signature tokens
 
 pub record TellsParts (parts : Parts) (tokens : List Part) : Type 0 where
   pub target : Id
@@ -40,4 +44,6 @@ pub record TellsParts (parts : Parts) (tokens : List Part) : Type 0 where
 
 -- from here the reader gives parts to the input's end, without an error, and the name among them
 abbrev pub ReadsWithName : Place → Type 0
-ReadsWithName here = (parts : List Part) × (there : Place) × Reads here parts there × (there.input ≡ []) × IsTrue (list_any tells_name parts)
+ReadsWithName here =
+    (parts : List Part) × (there : Place) × Reads here parts there × (there.input ≡ [])
+    × IsTrue (list_any tells_name parts)

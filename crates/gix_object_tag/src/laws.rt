@@ -23,7 +23,8 @@ use crate::{TagRef, TagRefIter};
 
 /// Bytes spell one tag at most.
 pub fn one_tag(input: &[u8], hash_kind: gix_hash::Kind)
-    ensures { (a b : Parts) → SpellsTag hash_kind input.now a → SpellsTag hash_kind input.now b → a ≡ b }
+    ensures { (a b : Parts) → SpellsTag hash_kind input.now a → SpellsTag hash_kind input.now b
+        → a ≡ b }
 {
     let _tag = TagRef::from_bytes(input, hash_kind);
 }
@@ -48,7 +49,8 @@ pub fn written_is_read(_hash_kind: gix_hash::Kind)
 
 /// The target of a tag that was read is an id's digits, as `TagRef::target` asks. Nothing is done: the contract is the law.
 pub fn ids_read_are_ids(_input: &[u8], _hash_kind: gix_hash::Kind)
-    ensures { (parts : Parts) → SpellsTag _hash_kind _input.now parts → IsTrue (is_id parts.target) }
+    ensures { (parts : Parts) → SpellsTag _hash_kind _input.now parts
+        → IsTrue (is_id parts.target) }
 {}
 
 /// A tag that was read is written without a refusal, unless its name is none that Git makes, or its tagger's name or email
@@ -64,7 +66,8 @@ pub fn read_is_written(_input: &[u8], _hash_kind: gix_hash::Kind)
 /// A tag that was read is in the format: its target is an id's digits, its tagger tells a time, and its message holds no armor
 /// or its signature has its only armor at its start. Nothing is done: the contract is the law.
 pub fn read_is_in_format(_input: &[u8], _hash_kind: gix_hash::Kind)
-    ensures { (parts : Parts) → SpellsTag _hash_kind _input.now parts → IsInFormat _hash_kind parts }
+    ensures { (parts : Parts) → SpellsTag _hash_kind _input.now parts
+        → IsInFormat _hash_kind parts }
 {}
 
 /// Whether the token reader gives its tokens to the end of the bytes without an error, and the name among them: exactly where
@@ -87,8 +90,10 @@ pub fn tokens_tell_a_tag(input: &[u8], hash_kind: gix_hash::Kind) -> bool
 /// The tokens of a tag are its parts, each once and in their order. That of the body isn't given where the bytes end behind the
 /// lines, nor that of the tagger where they end behind the name.
 pub fn tokens_are_the_parts(input: &[u8], hash_kind: gix_hash::Kind)
-    ensures { (parts : Parts) (tokens : List Part) (there : Place) → SpellsTag hash_kind input.now parts
-        → Reads (start hash_kind input.now) tokens there → there.input ≡ [] → TellsParts parts tokens }
+    ensures { (parts : Parts) (tokens : List Part) (there : Place)
+        → SpellsTag hash_kind input.now parts
+        → Reads (start hash_kind input.now) tokens there → there.input ≡ []
+        → TellsParts parts tokens }
 {
     one_tag(input, hash_kind);
 }

@@ -10,7 +10,8 @@ use memchr::memrchr;
 
 /// Cuts a text where its signature begins: at the last armor at a line's start. `None` where it has none.
 pub(crate) fn split_signature(text: &[u8]) -> Option<(&[u8], &[u8])>
-    ensures { MatchOption result (IsUnsigned text.now) (λ cut. IsSigned text.now cut.0.now cut.1.now) }
+    ensures { MatchOption result (IsUnsigned text.now)
+        (λ cut. IsSigned text.now cut.0.now cut.1.now) }
 {
     let mut end = text.len();
     'lines: while let Some(line_feed) = memrchr(b'\n', &text[..end]) {

@@ -54,7 +54,8 @@ impl<'a> TagRef<'a> {
     /// unknown, the name is empty, or neither a tagger's line nor an empty line follows the name.
     pub fn from_bytes(input: &'a [u8], hash_kind: gix_hash::Kind) -> Result<TagRef<'a>, Error>
         ensures read { IfOk result (λ tag. SpellsTag hash_kind input.now (parts_of tag)) }
-        ensures every { (parts : Parts) → SpellsTag hash_kind input.now parts → IsOkAnd result (λ tag. parts_of tag ≡ parts) }
+        ensures every { (parts : Parts) → SpellsTag hash_kind input.now parts
+            → IsOkAnd result (λ tag. parts_of tag ≡ parts) }
         ensures refused { IfErr result (λ error. TagFault hash_kind input.now error) }
     {
         let (target, rest) = read_hex_line(input, b"object", hash_kind.len_in_hex())?;
@@ -89,7 +90,8 @@ impl<'a> TagRef<'a> {
 
     /// The tag's signature with the format of its armor; `None` where no armor begins it.
     pub fn signature(&self) -> Option<SignatureRef<'a>>
-        ensures { MatchOption result (IsBare (text_of self.now.pgp_signature)) (IsSignatureOf (text_of self.now.pgp_signature)) }
+        ensures { MatchOption result (IsBare (text_of self.now.pgp_signature))
+            (IsSignatureOf (text_of self.now.pgp_signature)) }
     {
         let signature = self.pgp_signature?;
         let format = Format::from_signature(signature.as_bytes())?;

@@ -10,7 +10,8 @@ use std::io;
 
 /// Writes the parts in order. Where the writer fails it has taken a beginning of them.
 pub(crate) fn write_all<W: io::Write>(parts: &[&[u8]], out: &mut W) -> Result<(), Error>
-    ensures { Writes (W.contents out.old) (W.contents out.new) (flat_map (λ part. part.now) parts.now) None result }
+    ensures { Writes (W.contents out.old) (W.contents out.new)
+        (flat_map (λ part. part.now) parts.now) None result }
 {
     if let Err(error) = write_parts(out, parts) {
         return Err(Error::Writer(error));
@@ -24,7 +25,8 @@ pub(crate) fn write_spellable<W: io::Write>(
     parts: &[&[u8]],
     out: &mut W,
 ) -> Result<(), Error>
-    ensures { Writes (W.contents out.old) (W.contents out.new) (flat_map (λ part. part.now) parts.now) (unspellable_unless fine) result }
+    ensures { Writes (W.contents out.old) (W.contents out.new)
+        (flat_map (λ part. part.now) parts.now) (unspellable_unless fine) result }
 {
     if !fine {
         return Err(Error::Header(encode::Error::Unspellable));

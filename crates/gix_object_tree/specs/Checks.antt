@@ -6,4 +6,5 @@ use Rattle.gix_object_tree.specs.declared.data.verify.Error.TheVariants.{Verify}
 
 -- the error tells the id that was there and the expected one
 abbrev pub TellsBoth : Error → Id → Id → Type 0
-TellsBoth (Verify mismatch) actual expected = (id_of mismatch.actual ≡ actual) × (id_of mismatch.expected ≡ expected)
+TellsBoth (Verify mismatch) actual expected =
+    (id_of mismatch.actual ≡ actual) × (id_of mismatch.expected ≡ expected)

@@ -39,10 +39,13 @@ CutFault input OutOfMemory = ⊥
 
 -- header and content are there, and the content isn't read
 abbrev pub HasUnreadContent : hash.Kind → List ℕ → Error → Type 0
-HasUnreadContent ids input error = (kind : Kind) × (content : List ℕ) × (input ≡ loose_text kind content) × ContentFault ids kind content error
+HasUnreadContent ids input error =
+    (kind : Kind) × (content : List ℕ) × (input ≡ loose_text kind content)
+    × ContentFault ids kind content error
 
 abbrev pub LooseFault : hash.Kind → List ℕ → LooseDecodeError → Type 0
 LooseFault ids input (InvalidHeader error) = HeaderFault input error
 LooseFault ids input (InvalidContent None) = HasOtherLength input
-LooseFault ids input (InvalidContent (Some error)) = HasUnreadContent ids input error × (error ≢ Memory)
+LooseFault ids input (InvalidContent (Some error)) =
+    HasUnreadContent ids input error × (error ≢ Memory)
 LooseFault ids input OutOfMemory = HasUnreadContent ids input Memory

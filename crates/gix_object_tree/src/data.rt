@@ -51,10 +51,16 @@ impl<'a> Data<'a> {
 
     /// The object that the content spells. The errors are those of `ObjectRef::from_bytes`.
     pub fn decode(&self, alloc: Global) -> Result<ObjectRef<'a>, Error>
-        ensures read { IfOk result (λ object. Tells self.now.object_hash self.now.kind self.now.content.now (value_of object)) }
-        ensures every { (value : Value) → Tells self.now.object_hash self.now.kind self.now.content.now value
-            → MatchResult result (λ object. value_of object ≡ value) (λ fault. ((self.now.kind ≡ kinds.Tree) ⊎ (self.now.kind ≡ kinds.Commit)) × (fault ≡ Memory)) }
-        ensures refused { IfErr result (λ fault. ContentFault self.now.object_hash self.now.kind self.now.content.now fault) }
+        ensures read { IfOk result
+            (λ object. Tells self.now.object_hash self.now.kind self.now.content.now
+            (value_of object)) }
+        ensures every { (value : Value)
+            → Tells self.now.object_hash self.now.kind self.now.content.now value
+            → MatchResult result (λ object. value_of object ≡ value)
+            (λ fault. ((self.now.kind ≡ kinds.Tree) ⊎ (self.now.kind ≡ kinds.Commit))
+            × (fault ≡ Memory)) }
+        ensures refused { IfErr result
+            (λ fault. ContentFault self.now.object_hash self.now.kind self.now.content.now fault) }
     {
         ObjectRef::from_bytes(alloc, self.kind, self.content, self.object_hash)
     }
@@ -62,7 +68,8 @@ impl<'a> Data<'a> {
     /// A reader of the tree's entries; `None` where the object is of another kind.
     pub fn try_into_tree_iter(self) -> Option<TreeRefIter<'a>>
         ensures { MatchOption result (self.entry.kind ≢ kinds.Tree)
-            (λ reader. (self.entry.kind ≡ kinds.Tree) × ReadsTree self.entry.object_hash self.entry.content.now reader) }
+            (λ reader. (self.entry.kind ≡ kinds.Tree)
+            × ReadsTree self.entry.object_hash self.entry.content.now reader) }
     {
         match self.kind {
             Kind::Tree => Some(TreeRefIter::from_bytes(self.content, self.object_hash)),
@@ -73,7 +80,8 @@ impl<'a> Data<'a> {
     /// A reader of the commit's parts; `None` where the object is of another kind.
     pub fn try_into_commit_iter(self) -> Option<CommitRefIter<'a>>
         ensures { MatchOption result (self.entry.kind ≢ kinds.Commit)
-            (λ reader. (self.entry.kind ≡ kinds.Commit) × ReadsCommit self.entry.object_hash self.entry.content.now reader) }
+            (λ reader. (self.entry.kind ≡ kinds.Commit)
+            × ReadsCommit self.entry.object_hash self.entry.content.now reader) }
     {
         match self.kind {
             Kind::Commit => Some(CommitRefIter::from_bytes(self.content, self.object_hash)),
@@ -84,7 +92,8 @@ impl<'a> Data<'a> {
     /// A reader of the tag's parts; `None` where the object is of another kind.
     pub fn try_into_tag_iter(self) -> Option<TagRefIter<'a>>
         ensures { MatchOption result (self.entry.kind ≢ kinds.Tag)
-            (λ reader. (self.entry.kind ≡ kinds.Tag) × ReadsTag self.entry.object_hash self.entry.content.now reader) }
+            (λ reader. (self.entry.kind ≡ kinds.Tag)
+            × ReadsTag self.entry.object_hash self.entry.content.now reader) }
     {
         match self.kind {
             Kind::Tag => Some(TagRefIter::from_bytes(self.content, self.object_hash)),
@@ -95,9 +104,11 @@ impl<'a> Data<'a> {
     /// The object's id: the digest of its header and content. It is `Verify`, with both ids, where that isn't the expected
     /// one.
     pub fn verify_checksum(&self, expected: oid<'_>) -> Result<ObjectId, verify::Error>
-        ensures { let id = id_of_message self.now.object_hash (loose_text self.now.kind self.now.content.now) in
+        ensures { let id =
+            id_of_message self.now.object_hash (loose_text self.now.kind self.now.content.now) in
             MatchResult result (λ found. (id_of found ≡ id) × (viewed_id expected.entry ≡ id))
-            (λ fault. (viewed_id expected.entry ≢ id) × TellsBoth fault id (viewed_id expected.entry)) }
+            (λ fault. (viewed_id expected.entry ≢ id)
+            × TellsBoth fault id (viewed_id expected.entry)) }
     {
         let actual = compute_hash(self.object_hash, self.kind, self.content);
         actual.as_oid().verify(expected)?;

@@ -38,7 +38,8 @@ pub fn one_value(content: &[u8], hash_kind: gix_hash::Kind)
 
 /// Bytes are one loose object at most, so they alone tell what `ObjectRef::from_loose` reads.
 pub fn one_loose_object(bytes: &[u8], hash_kind: gix_hash::Kind)
-    ensures { (one other : Value) → IsLoose hash_kind bytes.now one → IsLoose hash_kind bytes.now other → one ≡ other }
+    ensures { (one other : Value) → IsLoose hash_kind bytes.now one
+        → IsLoose hash_kind bytes.now other → one ≡ other }
 {
     one_kind_and_content(bytes);
     one_value(content_of(bytes), hash_kind);
@@ -68,9 +69,11 @@ pub fn read_object_has_ids(_bytes: &[u8], _hash_kind: gix_hash::Kind)
 /// or a tag with an empty message: such a tag may end behind its lines, or have a line feed more before its signature. Its writing is refused only where a name or
 /// an email holds `<` or `>`, a commit's encoding has no name, or a tag's name is none that Git makes.
 pub fn read_object_is_written_back(bytes: &[u8], hash_kind: gix_hash::Kind)
-    ensures bytes { (value : Value) → (is : IsLoose hash_kind bytes.now value) → IsSpelledAsWritten hash_kind is.content value
+    ensures bytes { (value : Value) → (is : IsLoose hash_kind bytes.now value)
+        → IsSpelledAsWritten hash_kind is.content value
         → loose_text (kind_of value) (value_text value) ≡ bytes.now }
-    ensures accepted { (value : Value) → IsLoose hash_kind bytes.now value → IsWritable value → value_refusal value ≡ None }
+    ensures accepted { (value : Value) → IsLoose hash_kind bytes.now value → IsWritable value
+        → value_refusal value ≡ None }
 {
     let content = content_of(bytes);
     read_tree_is_written(content, hash_kind);
@@ -80,7 +83,8 @@ pub fn read_object_is_written_back(bytes: &[u8], hash_kind: gix_hash::Kind)
 
 // What stands behind the header of a loose object.
 fn content_of(bytes: &[u8]) -> &[u8]
-    ensures { (kind : Kind) (content : List ℕ) → bytes.now ≡ loose_text kind content → result.now ≡ content }
+    ensures { (kind : Kind) (content : List ℕ) → bytes.now ≡ loose_text kind content
+        → result.now ≡ content }
 {
     match loose_header(bytes) {
         Ok((_, _, header)) => &bytes[header..],

@@ -61,7 +61,8 @@ impl<'a> ObjectRef<'a> {
 
     /// The blob; `None` where the object is of another kind.
     pub fn as_blob(&self) -> Option<&BlobRef<'a>>
-        ensures { MatchOption result (kind_of (value_of self.now) ≢ kinds.Blob) (λ blob. self.now ≡ object.Blob blob.now) }
+        ensures { MatchOption result (kind_of (value_of self.now) ≢ kinds.Blob)
+            (λ blob. self.now ≡ object.Blob blob.now) }
     {
         match self {
             ObjectRef::Blob(blob) => Some(blob),
@@ -71,7 +72,8 @@ impl<'a> ObjectRef<'a> {
 
     /// The tree; `None` where the object is of another kind.
     pub fn as_tree(&self) -> Option<&TreeRef<'a>>
-        ensures { MatchOption result (kind_of (value_of self.now) ≢ kinds.Tree) (λ tree. self.now ≡ object.Tree tree.now) }
+        ensures { MatchOption result (kind_of (value_of self.now) ≢ kinds.Tree)
+            (λ tree. self.now ≡ object.Tree tree.now) }
     {
         match self {
             ObjectRef::Tree(tree) => Some(tree),
@@ -81,7 +83,8 @@ impl<'a> ObjectRef<'a> {
 
     /// The commit; `None` where the object is of another kind.
     pub fn as_commit(&self) -> Option<&CommitRef<'a>>
-        ensures { MatchOption result (kind_of (value_of self.now) ≢ kinds.Commit) (λ commit. self.now ≡ object.Commit commit.now) }
+        ensures { MatchOption result (kind_of (value_of self.now) ≢ kinds.Commit)
+            (λ commit. self.now ≡ object.Commit commit.now) }
     {
         match self {
             ObjectRef::Commit(commit) => Some(commit),
@@ -91,7 +94,8 @@ impl<'a> ObjectRef<'a> {
 
     /// The tag; `None` where the object is of another kind.
     pub fn as_tag(&self) -> Option<&TagRef<'a>>
-        ensures { MatchOption result (kind_of (value_of self.now) ≢ kinds.Tag) (λ tag. self.now ≡ object.Tag tag.now) }
+        ensures { MatchOption result (kind_of (value_of self.now) ≢ kinds.Tag)
+            (λ tag. self.now ≡ object.Tag tag.now) }
     {
         match self {
             ObjectRef::Tag(tag) => Some(tag),
@@ -101,28 +105,32 @@ impl<'a> ObjectRef<'a> {
 
     /// The blob itself; `None` where the object is of another kind.
     pub fn into_blob(self) -> Option<BlobRef<'a>>
-        ensures { MatchOption result (kind_of (value_of self.entry) ≢ kinds.Blob) (λ blob. self.entry ≡ object.Blob blob) }
+        ensures { MatchOption result (kind_of (value_of self.entry) ≢ kinds.Blob)
+            (λ blob. self.entry ≡ object.Blob blob) }
     {
         BlobRef::try_from(self).ok()
     }
 
     /// The tree itself; `None` where the object is of another kind.
     pub fn into_tree(self) -> Option<TreeRef<'a>>
-        ensures { MatchOption result (kind_of (value_of self.entry) ≢ kinds.Tree) (λ tree. self.entry ≡ object.Tree tree) }
+        ensures { MatchOption result (kind_of (value_of self.entry) ≢ kinds.Tree)
+            (λ tree. self.entry ≡ object.Tree tree) }
     {
         TreeRef::try_from(self).ok()
     }
 
     /// The commit itself; `None` where the object is of another kind.
     pub fn into_commit(self) -> Option<CommitRef<'a>>
-        ensures { MatchOption result (kind_of (value_of self.entry) ≢ kinds.Commit) (λ commit. self.entry ≡ object.Commit commit) }
+        ensures { MatchOption result (kind_of (value_of self.entry) ≢ kinds.Commit)
+            (λ commit. self.entry ≡ object.Commit commit) }
     {
         CommitRef::try_from(self).ok()
     }
 
     /// The tag itself; `None` where the object is of another kind.
     pub fn into_tag(self) -> Option<TagRef<'a>>
-        ensures { MatchOption result (kind_of (value_of self.entry) ≢ kinds.Tag) (λ tag. self.entry ≡ object.Tag tag) }
+        ensures { MatchOption result (kind_of (value_of self.entry) ≢ kinds.Tag)
+            (λ tag. self.entry ≡ object.Tag tag) }
     {
         TagRef::try_from(self).ok()
     }

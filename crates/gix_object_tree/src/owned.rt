@@ -49,7 +49,8 @@ impl Object {
 
     /// The blob; `None` where the object is of another kind.
     pub fn as_blob(&self) -> Option<&Blob>
-        ensures { MatchOption result (kind_of (own_value self.now) ≢ kinds.Blob) (λ blob. self.now ≡ object.Blob blob.now) }
+        ensures { MatchOption result (kind_of (own_value self.now) ≢ kinds.Blob)
+            (λ blob. self.now ≡ object.Blob blob.now) }
     {
         match self {
             Object::Blob(blob) => Some(blob),
@@ -59,7 +60,8 @@ impl Object {
 
     /// The tree; `None` where the object is of another kind.
     pub fn as_tree(&self) -> Option<&Tree>
-        ensures { MatchOption result (kind_of (own_value self.now) ≢ kinds.Tree) (λ tree. self.now ≡ object.Tree tree.now) }
+        ensures { MatchOption result (kind_of (own_value self.now) ≢ kinds.Tree)
+            (λ tree. self.now ≡ object.Tree tree.now) }
     {
         match self {
             Object::Tree(tree) => Some(tree),
@@ -69,7 +71,8 @@ impl Object {
 
     /// The commit; `None` where the object is of another kind.
     pub fn as_commit(&self) -> Option<&Commit>
-        ensures { MatchOption result (kind_of (own_value self.now) ≢ kinds.Commit) (λ commit. self.now ≡ object.Commit commit.now) }
+        ensures { MatchOption result (kind_of (own_value self.now) ≢ kinds.Commit)
+            (λ commit. self.now ≡ object.Commit commit.now) }
     {
         match self {
             Object::Commit(commit) => Some(commit),
@@ -79,7 +82,8 @@ impl Object {
 
     /// The tag; `None` where the object is of another kind.
     pub fn as_tag(&self) -> Option<&Tag>
-        ensures { MatchOption result (kind_of (own_value self.now) ≢ kinds.Tag) (λ tag. self.now ≡ object.Tag tag.now) }
+        ensures { MatchOption result (kind_of (own_value self.now) ≢ kinds.Tag)
+            (λ tag. self.now ≡ object.Tag tag.now) }
     {
         match self {
             Object::Tag(tag) => Some(tag),
@@ -89,35 +93,40 @@ impl Object {
 
     /// The blob itself, or the object where it is of another kind.
     pub fn try_into_blob(self) -> Result<Blob, Object>
-        ensures { MatchResult result (λ blob. self ≡ object.Blob blob) (λ back. (back ≡ self) × (kind_of (own_value self) ≢ kinds.Blob)) }
+        ensures { MatchResult result (λ blob. self ≡ object.Blob blob)
+            (λ back. (back ≡ self) × (kind_of (own_value self) ≢ kinds.Blob)) }
     {
         Blob::try_from(self)
     }
 
     /// The blob, borrowed; `None` where the object is of another kind.
     pub fn try_into_blob_ref(&self) -> Option<BlobRef<'_>>
-        ensures { MatchOption result (kind_of (own_value self.now) ≢ kinds.Blob) (λ blob. value.Blob blob.content.now ≡ own_value self.now) }
+        ensures { MatchOption result (kind_of (own_value self.now) ≢ kinds.Blob)
+            (λ blob. value.Blob blob.content.now ≡ own_value self.now) }
     {
         Some(self.as_blob()?.to_ref())
     }
 
     /// The tree itself, or the object where it is of another kind.
     pub fn try_into_tree(self) -> Result<Tree, Object>
-        ensures { MatchResult result (λ tree. self ≡ object.Tree tree) (λ back. (back ≡ self) × (kind_of (own_value self) ≢ kinds.Tree)) }
+        ensures { MatchResult result (λ tree. self ≡ object.Tree tree)
+            (λ back. (back ≡ self) × (kind_of (own_value self) ≢ kinds.Tree)) }
     {
         Tree::try_from(self)
     }
 
     /// The commit itself, or the object where it is of another kind.
     pub fn try_into_commit(self) -> Result<Commit, Object>
-        ensures { MatchResult result (λ commit. self ≡ object.Commit commit) (λ back. (back ≡ self) × (kind_of (own_value self) ≢ kinds.Commit)) }
+        ensures { MatchResult result (λ commit. self ≡ object.Commit commit)
+            (λ back. (back ≡ self) × (kind_of (own_value self) ≢ kinds.Commit)) }
     {
         Commit::try_from(self)
     }
 
     /// The tag itself, or the object where it is of another kind.
     pub fn try_into_tag(self) -> Result<Tag, Object>
-        ensures { MatchResult result (λ tag. self ≡ object.Tag tag) (λ back. (back ≡ self) × (kind_of (own_value self) ≢ kinds.Tag)) }
+        ensures { MatchResult result (λ tag. self ≡ object.Tag tag)
+            (λ back. (back ≡ self) × (kind_of (own_value self) ≢ kinds.Tag)) }
     {
         Tag::try_from(self)
     }

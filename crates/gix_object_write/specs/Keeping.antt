@@ -20,7 +20,8 @@ IsAsBefore old new = (id : Id) → new id ≡ old id
 -- why an object isn't kept under an id: the store, which may fail, did, and holds the object or doesn't; the object can't be had; or
 -- no memory is left
 abbrev pub KeepFault : Type 0 → Type 0 → Type 0 → Table → Table → Id → Object → Error → Type 0
-KeepFault unread honest may_refuse old new id object Failed = may_refuse × (honest → IsAsBefore old new ⊎ Puts old new id object)
+KeepFault unread honest may_refuse old new id object Failed =
+    may_refuse × (honest → IsAsBefore old new ⊎ Puts old new id object)
 KeepFault unread honest may_refuse old new id object Read = unread × (honest → IsAsBefore old new)
 KeepFault unread honest may_refuse old new id object Memory = honest → IsAsBefore old new
 
@@ -32,6 +33,9 @@ told_as (TagName error) = Read
 told_as (Filename error) = Read
 
 -- the object is kept under the id, which is told; or it isn't
-abbrev pub Keeps : Type 0 → Type 0 → Type 0 → Table → Table → Id → Object → Result ObjectId Error → Type 0
-Keeps unread honest may_refuse old new id object (Ok told) = (id_of told ≡ id) × (honest → Puts old new id object)
-Keeps unread honest may_refuse old new id object (Err error) = KeepFault unread honest may_refuse old new id object error
+abbrev pub Keeps : Type 0 → Type 0 → Type 0 → Table → Table → Id → Object → Result ObjectId Error
+    → Type 0
+Keeps unread honest may_refuse old new id object (Ok told) =
+    (id_of told ≡ id) × (honest → Puts old new id object)
+Keeps unread honest may_refuse old new id object (Err error) =
+    KeepFault unread honest may_refuse old new id object error

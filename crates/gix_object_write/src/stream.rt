@@ -20,8 +20,10 @@ pub(crate) fn read_content<R: io::Read>(
     from: &mut R,
     size: u64,
 ) -> Result<Vec<u8>, Error>
-    ensures read { IfOk result (λ content. IsNext (R.remaining from.old) (R.remaining from.new) size content.items) }
-    ensures refused { IfErr result (UnreadFault (R.remaining from.old) (R.remaining from.new) size) }
+    ensures read { IfOk result
+        (λ content. IsNext (R.remaining from.old) (R.remaining from.new) size content.items) }
+    ensures refused { IfErr result
+        (UnreadFault (R.remaining from.old) (R.remaining from.new) size) }
 {
     let mut content = Vec::new(alloc);
     let mut piece = [0u8; 4_096];
@@ -44,7 +46,8 @@ fn read_piece<'p, R: io::Read>(
     requires { wanted ≤ length piece.old }
     ensures some { IfOk result (λ bytes. (0 < length bytes.now) × (length bytes.now ≤ wanted)
         × Consumes (R.remaining from.old) (R.remaining from.new) bytes.now) }
-    ensures none { IfErr result (λ error. (error ≡ Read) × Consumes (R.remaining from.old) (R.remaining from.new) []) }
+    ensures none { IfErr result
+        (λ error. (error ≡ Read) × Consumes (R.remaining from.old) (R.remaining from.new) []) }
 {
     let piece = &mut piece[..wanted];
     match read_some(from, piece) {

@@ -44,14 +44,18 @@ pub trait Write: Lookup {
         from: &[u8],
         id: ObjectId,
     ) -> Result<ObjectId, Error>
-        ensures kept { Keeps ⊥ (Self.is_honest self.old) (Self.may_refuse self.old) (Self.table self.old) (Self.table self.new) (id_of id) (record { kind = object; content = from.now }) result }
+        ensures kept { Keeps ⊥ (Self.is_honest self.old) (Self.may_refuse self.old)
+            (Self.table self.old) (Self.table self.new) (id_of id)
+            (record { kind = object; content = from.now }) result }
         ensures honest { Self.is_honest self.old → Self.is_honest self.new }
         ensures ids { Self.ids_kind self.new ≡ Self.ids_kind self.old };
 
     /// Keeps the object of this kind and content, and answers its id. The errors are those of `write_buf_with_known_id`.
     fn write_buf(&mut self, object: Kind, from: &[u8]) -> Result<ObjectId, Error>
-        ensures kept { Keeps ⊥ (Self.is_honest self.old) (Self.may_refuse self.old) (Self.table self.old) (Self.table self.new)
-            (id_of_message (Self.ids_kind self.old) (loose_text object from.now)) (record { kind = object; content = from.now }) result }
+        ensures kept { Keeps ⊥ (Self.is_honest self.old) (Self.may_refuse self.old)
+            (Self.table self.old) (Self.table self.new)
+            (id_of_message (Self.ids_kind self.old) (loose_text object from.now))
+            (record { kind = object; content = from.now }) result }
         ensures honest { Self.is_honest self.old → Self.is_honest self.new }
         ensures ids { Self.ids_kind self.new ≡ Self.ids_kind self.old }
     {
@@ -62,8 +66,11 @@ pub trait Write: Lookup {
     /// Keeps the object, and answers its id. It is `Read` where `write_to` refuses the value; else the errors are those of
     /// `write_buf`.
     fn write<T: WriteTo>(&mut self, alloc: Global, object: &T) -> Result<ObjectId, Error>
-        ensures kept { Keeps (IsSome (cause_of (T.refusal object.now))) (Self.is_honest self.old) (Self.may_refuse self.old) (Self.table self.old) (Self.table self.new)
-            (id_of_message (Self.ids_kind self.old) (loose_text (T.object_kind object.now) (T.text object.now))) (record { kind = T.object_kind object.now; content = T.text object.now }) result }
+        ensures kept { Keeps (IsSome (cause_of (T.refusal object.now))) (Self.is_honest self.old)
+            (Self.may_refuse self.old) (Self.table self.old) (Self.table self.new)
+            (id_of_message (Self.ids_kind self.old)
+            (loose_text (T.object_kind object.now) (T.text object.now)))
+            (record { kind = T.object_kind object.now; content = T.text object.now }) result }
         ensures honest { Self.is_honest self.old → Self.is_honest self.new }
         ensures ids { Self.ids_kind self.new ≡ Self.ids_kind self.old }
     {
@@ -83,8 +90,10 @@ pub trait Write: Lookup {
         size: u64,
         from: &mut R,
     ) -> Result<ObjectId, Error>
-        ensures kept { KeepsNext (R.remaining from.old) (R.remaining from.new) size kind (λ content. id_of_message (Self.ids_kind self.old) (loose_text kind content))
-            (Self.is_honest self.old) (Self.may_refuse self.old) (Self.table self.old) (Self.table self.new) result }
+        ensures kept { KeepsNext (R.remaining from.old) (R.remaining from.new) size kind
+            (λ content. id_of_message (Self.ids_kind self.old) (loose_text kind content))
+            (Self.is_honest self.old) (Self.may_refuse self.old) (Self.table self.old)
+            (Self.table self.new) result }
         ensures honest { Self.is_honest self.old → Self.is_honest self.new }
         ensures ids { Self.ids_kind self.new ≡ Self.ids_kind self.old }
     {
@@ -102,8 +111,10 @@ pub trait Write: Lookup {
         from: &mut R,
         id: ObjectId,
     ) -> Result<ObjectId, Error>
-        ensures kept { KeepsNext (R.remaining from.old) (R.remaining from.new) size kind (λ _. id_of id)
-            (Self.is_honest self.old) (Self.may_refuse self.old) (Self.table self.old) (Self.table self.new) result }
+        ensures kept { KeepsNext (R.remaining from.old) (R.remaining from.new) size kind
+            (λ _. id_of id)
+            (Self.is_honest self.old) (Self.may_refuse self.old) (Self.table self.old)
+            (Self.table self.new) result }
         ensures honest { Self.is_honest self.old → Self.is_honest self.new }
         ensures ids { Self.ids_kind self.new ≡ Self.ids_kind self.old }
     {

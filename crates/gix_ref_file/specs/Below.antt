@@ -19,5 +19,7 @@ IsEnd _ _ = ⊥
 -- behind a path, and perhaps behind all of a folder that it stands in and that lies deeper than this one
 abbrev pub IsBehind : List ℕ → List ℕ → Bound (Vec ℕ Global) → Type 0
 IsBehind folder path (Excluded last) = last.items ≡ path
-IsBehind folder path (Included next) = (sub : List ℕ) × (rest : List ℕ) × (path ≡ sub ++ 47 ∷ rest) × (next.items ≡ sub ++ 48 ∷ []) × (length folder < length sub)
+IsBehind folder path (Included next) =
+    (sub : List ℕ) × (rest : List ℕ) × (path ≡ sub ++ 47 ∷ rest) × (next.items ≡ sub ++ 48 ∷ [])
+    × (length folder < length sub)
 IsBehind folder path Unbounded = ⊥

@@ -9,16 +9,21 @@ abbrev pub Finds : {F : Type 0} → (F → Type 0) → (F → History) → F →
 Finds IsHonest history files What = IsHonest files → What (history files).tree
 
 -- this holds of the tree before the call and of the one after it
-abbrev pub Leaves : {F : Type 0} → (F → Type 0) → (F → History) → F → F → (Tree → Tree → Type 0) → Type 0
+abbrev pub Leaves : {F : Type 0} → (F → Type 0) → (F → History) → F → F → (Tree → Tree → Type 0)
+    → Type 0
 Leaves IsHonest history old new What = IsHonest old → What (history old).tree (history new).tree
 
 -- and so it does where the call succeeds
-abbrev pub Achieves : {F T E : Type 0} → (F → Type 0) → (F → History) → F → F → Result T E → (Tree → Tree → Type 0) → Type 0
-Achieves IsHonest history old new result What = IsHonest old → OnOk result (What (history old).tree (history new).tree)
+abbrev pub Achieves : {F T E : Type 0} → (F → Type 0) → (F → History) → F → F → Result T E
+    → (Tree → Tree → Type 0) → Type 0
+Achieves IsHonest history old new result What =
+    IsHonest old → OnOk result (What (history old).tree (history new).tree)
 
 -- this holds of the tree before the call and of each that came to stand, the last being the one after it
-abbrev pub Passes : {F : Type 0} → (F → Type 0) → (F → History) → F → F → (Tree → Tree → Type 0) → Type 0
-Passes IsHonest history old new What = IsHonest old → Adds (What (history old).tree) (history old) (history new)
+abbrev pub Passes : {F : Type 0} → (F → Type 0) → (F → History) → F → F → (Tree → Tree → Type 0)
+    → Type 0
+Passes IsHonest history old new What =
+    IsHonest old → Adds (What (history old).tree) (history old) (history new)
 
 -- a failure of a change was counted, or a reading may fail
 abbrev pub HasFault : {F : Type 0} → (F → ℕ) → Type 0 → F → F → Type 0

@@ -30,7 +30,8 @@ is_file_at tree path = is_some (bytes_of (node_at tree path))
 
 -- whether a file may stand at a path: it is one, in a folder, and no folder stands there
 abbrev pub may_hold_file : Tree → List ℕ → Bool
-may_hold_file tree path = is_path path && is_folder (node_at tree (parent path)) && not (is_folder (node_at tree path))
+may_hold_file tree path =
+    is_path path && is_folder (node_at tree (parent path)) && not (is_folder (node_at tree path))
 
 -- no path stands right in this one
 abbrev pub is_empty_at : Tree → List ℕ → Bool
@@ -44,11 +45,13 @@ allows tree (to_append path bytes) = may_hold_file tree path
 allows tree (to_rename from to) = is_file_at tree from && may_hold_file tree to
 allows tree (to_remove_file path) = is_file_at tree path
 allows tree (to_make_folder path) = is_none (node_at tree path) && may_hold_file tree path
-allows tree (to_remove_folder path) = is_path path && is_folder (node_at tree path) && is_empty_at tree path
+allows tree (to_remove_folder path) =
+    is_path path && is_folder (node_at tree path) && is_empty_at tree path
 
 -- the tree after a change that it allows
 abbrev pub after : Change → Tree → Tree
-after (to_create path) tree = if is_some (node_at tree path) then tree else insert tree path (file [])
+after (to_create path) tree =
+    if is_some (node_at tree path) then tree else insert tree path (file [])
 after (to_write path bytes) tree = insert tree path (file bytes)
 after (to_append path bytes) tree = insert tree path (file (bytes_at tree path ++ bytes))
 after (to_rename from to) tree = insert (remove tree from) to (file (bytes_at tree from))
@@ -68,4 +71,5 @@ cut n (to_remove_folder path) = to_remove_folder path
 
 -- what a change leaves, that is made, fails or is stopped: the tree as it was, or as after any beginning of the bytes
 abbrev pub MayLeave : Change → Tree → Tree → Type 0
-MayLeave change old new = (new ≡ old) ⊎ ((n : ℕ) × IsTrue (allows old change) × (new ≡ after (cut n change) old))
+MayLeave change old new =
+    (new ≡ old) ⊎ ((n : ℕ) × IsTrue (allows old change) × (new ≡ after (cut n change) old))

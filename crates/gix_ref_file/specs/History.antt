@@ -30,7 +30,8 @@ pub record Adds (P : Tree → Type 0) (old new : History) : Type 0 where
   pub all : AllByRecursion P during
 
 -- what a call does that is to make this change: at Ok it is made, and at each moment what the change may leave stands
-pub record Makes {T : Type 0} (change : Change) (old new : History) (result : Result T FileError) : Type 0 where
+pub record Makes {T : Type 0} (change : Change) (old new : History)
+    (result : Result T FileError) : Type 0 where
   pub allowed : OnOk result (IsTrue (allows old.tree change))
   pub made : OnOk result (new.tree ≡ after change old.tree)
   pub moments : Adds (MayLeave change old.tree) old new

@@ -45,7 +45,9 @@ node_from-bytes_or_none (file bytes) = refl
 node_from-bytes_or_none folder = refl
 
 abbrev pub coded_node : Coded Node
-coded_node = code_by (Option (List ℕ)) (coded_option (coded_list coded_ℕ)) bytes_or_none node_from node_from-bytes_or_none
+coded_node =
+    code_by (Option (List ℕ))
+    (coded_option (coded_list coded_ℕ)) bytes_or_none node_from node_from-bytes_or_none
 
 abbrev pub coded_tree : Coded Tree
 coded_tree = finite.code (coded_list coded_ℕ) coded_node

@@ -11,7 +11,9 @@ use Rattle.gix_ref_file.specs.declared.memory.record.Undo.TheVariants.{Restore, 
 -- the tree before a change, from the tree after it
 abbrev pub undone : Undo → Tree → Tree
 undone (Restore path before) tree = with_node tree path.items (option_map node_of before)
-undone (Return from to replaced) tree = with_node (with_node tree to.items (option_map node_of replaced)) from.items (get tree to.items)
+undone (Return from to replaced) tree =
+    with_node (with_node tree to.items (option_map node_of replaced)) from.items
+    (get tree to.items)
 undone (Shorten path len) tree = insert tree path.items (file (take len (bytes_at tree path.items)))
 
 -- the tree before these changes, of which the first is the oldest

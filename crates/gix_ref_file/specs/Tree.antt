@@ -33,7 +33,9 @@ is_slash byte = byte == 47
 
 -- a component of a path: it has a byte, isn't `.` or `..`, and holds no zero byte
 abbrev pub is_component : List ℕ → Bool
-is_component part = nat_lt 0 (length part) && not (bytes_eq part (46 ∷ [])) && not (bytes_eq part (46 ∷ 46 ∷ [])) && not (list_any (λ byte. byte == 0) part)
+is_component part =
+    nat_lt 0 (length part) && not (bytes_eq part (46 ∷ [])) && not (bytes_eq part (46 ∷ 46 ∷ []))
+    && not (list_any (λ byte. byte == 0) part)
 
 -- a path: at most 4096 bytes, components with slashes between
 abbrev pub is_path : List ℕ → Bool
@@ -76,12 +78,14 @@ name_in place path = if same_path (parent path) place then Some (after_last is_s
 
 -- the names in a folder, in order, none where no folder stands
 abbrev pub names_at : Tree → List ℕ → List (List ℕ)
-names_at tree place = if is_folder (node_at tree place) then filter_map (name_in place) (keys tree) else []
+names_at tree place =
+    if is_folder (node_at tree place) then filter_map (name_in place) (keys tree) else []
 
 -- each path, or name, comes before those behind it
 abbrev pub IsAscending : List (List ℕ) → Type 0
 IsAscending [] = ⊤
-IsAscending (path ∷ paths) = AllByRecursion (λ later. path_cmp path later ≡ Less) paths × IsAscending paths
+IsAscending (path ∷ paths) =
+    AllByRecursion (λ later. path_cmp path later ≡ Less) paths × IsAscending paths
 
 -- what stands from a place on, at most so many bytes
 abbrev pub part : List ℕ → ℕ → ℕ → List ℕ
@@ -93,4 +97,6 @@ overwritten buffer bytes = bytes ++ drop (length bytes) buffer
 
 -- each path that stands is one, in a folder
 abbrev pub IsRooted : Tree → Type 0
-IsRooted tree = (path : List ℕ) → IsSome (get tree path) → IsTrue (is_path path) × IsTrue (is_folder (node_at tree (parent path)))
+IsRooted tree =
+    (path : List ℕ) → IsSome (get tree path)
+    → IsTrue (is_path path) × IsTrue (is_folder (node_at tree (parent path)))

@@ -9,8 +9,12 @@ use Rattle.gix_hash_id.specs.declared.kind.Kind.{Kind}
 -- the digits that hexadecimal characters of either case spell
 abbrev pub digits_read : List ℕ → Option (List ℕ)
 digits_read text =
-    if list_all (λ c. is_some (hex_digit_value c)) text then Some (map (λ c. unwrap_or (hex_digit_value c) 0) text) else None
+    if list_all (λ c. is_some (hex_digit_value c)) text
+    then Some (map (λ c. unwrap_or (hex_digit_value c) 0) text) else None
 
 -- the id that as many digits as the kind has spell
 abbrev pub id_from_hex : Kind → List ℕ → Option Id
-id_from_hex kind text = if length text == hex_len kind then option_map (λ digits. record { kind = kind; digits = digits }) (digits_read text) else None
+id_from_hex kind text =
+    if length text == hex_len kind
+    then option_map (λ digits. record { kind = kind; digits = digits }) (digits_read text)
+    else None

@@ -8,8 +8,11 @@ lines [] = []
 lines (byte ∷ rest) = if byte == 10 then (10 ∷ []) ∷ lines rest else onto_first byte (lines rest)
 
 abbrev pub without_last : ℕ → List ℕ → List ℕ
-without_last byte text = if ends_with nat_eq text (byte ∷ []) then take (length text - 1) text else text
+without_last byte text =
+    if ends_with nat_eq text (byte ∷ []) then take (length text - 1) text else text
 
 -- the text of a line that ends with a line feed, or with a carriage return and a line feed
 abbrev pub line_text : List ℕ → Option (List ℕ)
-line_text line = if ends_with nat_eq line (10 ∷ []) then Some (without_last 13 (take (length line - 1) line)) else None
+line_text line =
+    if ends_with nat_eq line (10 ∷ []) then Some (without_last 13 (take (length line - 1) line))
+    else None

@@ -29,19 +29,25 @@ written_parts line = record {
 
 -- the line that is written, without the line feed behind it
 abbrev pub written_text : Line → List ℕ
-written_text line = line_text (hex_text (id_of line.previous_oid).digits) (hex_text (id_of line.new_oid).digits)
+written_text line =
+    line_text (hex_text (id_of line.previous_oid).digits) (hex_text (id_of line.new_oid).digits)
     (actor_text line.signature.name line.signature.email line.signature.time) line.message
 
 abbrev pub IsWritable : Line → Type 0
-IsWritable line = Lacks 10 line.message × IsSpellable line.signature.name line.signature.email line.signature.time
+IsWritable line =
+    Lacks 10 line.message
+    × IsSpellable line.signature.name line.signature.email line.signature.time
 
 -- All of the line was written; or a beginning of it, since the writer failed; or nothing, since the line has no text.
-abbrev pub WritesLogLine : {U : Type 0} → Option (List ℕ) → Option (List ℕ) → Line → Result U Error → Type 0
+abbrev pub WritesLogLine : {U : Type 0} → Option (List ℕ) → Option (List ℕ) → Line
+    → Result U Error → Type 0
 WritesLogLine old new line (Ok _) = IsWritable line × Appends old new (written_text line ++ 10 ∷ [])
-WritesLogLine old new line (Err (Writer error)) = IsWritable line × AppendsFront old new (written_text line ++ 10 ∷ [])
+WritesLogLine old new line (Err (Writer error)) =
+    IsWritable line × AppendsFront old new (written_text line ++ 10 ∷ [])
 WritesLogLine old new line (Err MessageWithNewlines) = (¬ Lacks 10 line.message) × Keeps old new
 WritesLogLine old new line (Err Unspellable) =
-    (¬ IsSpellable line.signature.name line.signature.email line.signature.time) × Lacks 10 line.message × Keeps old new
+    (¬ IsSpellable line.signature.name line.signature.email line.signature.time)
+    × Lacks 10 line.message × Keeps old new
 
 -- the ids that the digits spell, the time that the text tells, and each other part as it is told
 pub record IsLineOf (parts : LineParts) (line : Line) : Type 0 where

@@ -6,7 +6,9 @@ use Rattle.gix_ref_format.specs.PackedBuffer.{hit}
 
 -- names of which each worktree has its own
 abbrev pub is_own : List ℕ → Bool
-is_own name = is_capitals name || begins (codes "refs/bisect/") name || begins (codes "refs/rewritten/") name || begins (codes "refs/worktree/") name
+is_own name =
+    is_capitals name || begins (codes "refs/bisect/") name
+    || begins (codes "refs/rewritten/") name || begins (codes "refs/worktree/") name
 
 -- what stands behind the first slash
 abbrev pub behind_slash : List ℕ → Option (List ℕ)
@@ -23,7 +25,8 @@ in_worktree name =
 -- the name by which a record may stand for it, given what stands behind a worktree's front: own names have none
 abbrev pub key_by : List ℕ → Option (List ℕ) → Option (List ℕ)
 key_by name None = if is_own name then None else Some name
-key_by name (Some rest) = if is_own rest then None else if begins (codes "refs/") rest then Some rest else Some name
+key_by name (Some rest) =
+    if is_own rest then None else if begins (codes "refs/") rest then Some rest else Some name
 
 abbrev pub packed_key : List ℕ → Option (List ℕ)
 packed_key name = key_by name (in_worktree name)
@@ -34,14 +37,18 @@ packed_hit records name = option_and_then (hit records) (packed_key name)
 
 -- a name that no rule completes
 abbrev pub is_complete : List ℕ → Bool
-is_complete name = begins (codes "refs/") name || begins (codes "main-worktree/") name || begins (codes "worktrees/") name || is_capitals name
+is_complete name =
+    begins (codes "refs/") name || begins (codes "main-worktree/") name
+    || begins (codes "worktrees/") name || is_capitals name
 
 -- a word between other texts
 abbrev pub placed : List ℕ → List ℕ → List ℕ → List ℕ
 placed front word back = front ++ (word ++ back)
 
 abbrev pub remote_names : List ℕ → List (List ℕ)
-remote_names word = placed (codes "refs/remotes/") word [] ∷ placed (codes "refs/remotes/") word (codes "/HEAD") ∷ []
+remote_names word =
+    placed (codes "refs/remotes/") word [] ∷ placed (codes "refs/remotes/") word (codes "/HEAD")
+    ∷ []
 
 abbrev pub branch_names : List ℕ → List (List ℕ)
 branch_names word = placed (codes "refs/heads/") word [] ∷ remote_names word

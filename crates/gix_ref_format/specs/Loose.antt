@@ -41,16 +41,20 @@ referent text = without_last 13 (without_last 10 (without_spaces (drop 5 text)))
 
 -- the id that begins the text
 abbrev pub leading_id : Kind → List ℕ → Option Id
-leading_id kind text = if ends_word (drop (hex_len kind) text) then id_from_hex kind (take (hex_len kind) text) else None
+leading_id kind text =
+    if ends_word (drop (hex_len kind) text) then id_from_hex kind (take (hex_len kind) text)
+    else None
 
 -- the target that a text tells
 abbrev pub loose_target : Kind → List ℕ → Option Points
 loose_target kind text =
-    if is_symbolic text then (if is_full_name (referent text) then Some (ToName (referent text)) else None)
+    if is_symbolic text
+    then (if is_full_name (referent text) then Some (ToName (referent text)) else None)
     else option_map ToObject (leading_id kind text)
 
 -- why a text tells none
 abbrev pub LooseFault : Kind → List ℕ → Error → Type 0
 LooseFault kind text Parse = IsFalse (is_symbolic text) × (leading_id kind text ≡ None)
-LooseFault kind text RefnameValidation = IsTrue (is_symbolic text) × IsFalse (is_full_name (referent text))
+LooseFault kind text RefnameValidation =
+    IsTrue (is_symbolic text) × IsFalse (is_full_name (referent text))
 LooseFault kind text Memory = Unit {0}

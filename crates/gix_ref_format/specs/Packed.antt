@@ -34,7 +34,8 @@ header_by words = record { peeled = peeled_by words; sorted = has_word words (co
 -- words behind `# pack-refs with:`, parted by spaces
 abbrev pub header_of : List ℕ → Option Header
 header_of text =
-    if begins (codes "# pack-refs with:") text then Some (header_by (slice_split (λ byte. byte == 32) (drop 17 text))) else None
+    if begins (codes "# pack-refs with:") text
+    then Some (header_by (slice_split (λ byte. byte == 32) (drop 17 text))) else None
 
 abbrev pub header_line : List ℕ → Option Header
 header_line line = option_and_then header_of (line_text line)
@@ -53,7 +54,8 @@ without_peel name id = record { name = name; target = id; peeled = None }
 abbrev pub record_text : Kind → List ℕ → Option Record
 record_text kind text =
     if begins (32 ∷ []) (drop (hex_len kind) text) && is_full_name (drop (hex_len kind + 1) text)
-    then option_map (without_peel (drop (hex_len kind + 1) text)) (id_from_hex kind (take (hex_len kind) text))
+    then option_map (without_peel (drop (hex_len kind + 1) text))
+    (id_from_hex kind (take (hex_len kind) text))
     else None
 
 -- `^<hex>`
@@ -82,7 +84,8 @@ peel_behind kind (Some r) (line ∷ rest) = peel_line kind line
 
 abbrev pub item_of : ℕ → List ℕ → Option Id → Option Record → Item
 item_of number line peel None = Bad number line
-item_of number line peel (Some r) = Good (record { name = r.name; target = r.target; peeled = peel })
+item_of number line peel (Some r) =
+    Good (record { name = r.name; target = r.target; peeled = peel })
 
 -- numbers of lines stay at their last value
 abbrev pub next_number : ℕ → ℕ
@@ -94,18 +97,22 @@ items kind number taken [] = []
 items kind number true (line ∷ rest) = items kind (next_number number) false rest
 items kind number false (line ∷ rest) =
     let peel = peel_behind kind (record_line kind line) rest in
-    item_of number line peel (record_line kind line) ∷ items kind (next_number number) (is_some peel) rest
+    item_of number line peel (record_line kind line)
+    ∷ items kind (next_number number) (is_some peel) rest
 
 abbrev pub is_headed : List ℕ → Bool
 is_headed text = begins (codes "#") text
 
 abbrev pub items_behind_header : Kind → List (List ℕ) → Option (List Item)
 items_behind_header kind [] = None
-items_behind_header kind (first ∷ rest) = option_map (λ _. items kind 2 false rest) (header_line first)
+items_behind_header kind (first ∷ rest) =
+    option_map (λ _. items kind 2 false rest) (header_line first)
 
 -- what a file gives; none where its header is none
 abbrev pub packed_items : Kind → List ℕ → Option (List Item)
-packed_items kind text = if is_headed text then items_behind_header kind (lines text) else Some (items kind 1 false (lines text))
+packed_items kind text =
+    if is_headed text then items_behind_header kind (lines text)
+    else Some (items kind 1 false (lines text))
 
 -- ---- whole files
 
@@ -125,7 +132,8 @@ packed_records kind text = option_and_then all_good (packed_items kind text)
 -- ---- what contracts see
 
 abbrev pub record_of : Reference → Record
-record_of r = record { name = name_of r.name; target = id_of r.target; peeled = option_map id_of r.object }
+record_of r =
+    record { name = name_of r.name; target = id_of r.target; peeled = option_map id_of r.object }
 
 abbrev pub item_view : Result Reference Error → Item
 item_view (Ok r) = Good (record_of r)
@@ -134,7 +142,8 @@ item_view (Err (faults.Header line)) = BadHeader (bstr_bytes line)
 
 -- the first line, which is no header
 abbrev pub IsHeaderFault : List ℕ → Error → Type 0
-IsHeaderFault text (faults.Header line) = (rest : List ℕ) × (text ≡ bstr_bytes line ++ rest) × (header_line (bstr_bytes line) ≡ None)
+IsHeaderFault text (faults.Header line) =
+    (rest : List ℕ) × (text ≡ bstr_bytes line ++ rest) × (header_line (bstr_bytes line) ≡ None)
 IsHeaderFault text (faults.Reference line number) = ⊥
 
 -- the peeled id in the first of the lines, and what the lines behind a record give

@@ -12,7 +12,8 @@ use Rattle.gix_ref_format.specs.declared.packed.buffer.Error.{Error}
 use Rattle.gix_ref_format.specs.declared.packed.buffer.Error.TheVariants.{Iter, HeaderParsing, Io, Memory}
 
 abbrev pub entry_record : Entry → Record
-entry_record e = record { name = e.name; target = id_of e.target; peeled = option_map id_of e.object }
+entry_record e =
+    record { name = e.name; target = id_of e.target; peeled = option_map id_of e.object }
 
 abbrev pub entry_records : List Entry → List Record
 entry_records entries = map entry_record entries
@@ -46,10 +47,12 @@ pub record Holds (records kept : List Record) : Type 0 where
 
 -- the file's records in the order of their names
 abbrev pub Keeps : Kind → List ℕ → List Record → Type 0
-Keeps kind text kept = (records : List Record) × (packed_records kind text ≡ Some records) × Holds records kept
+Keeps kind text kept =
+    (records : List Record) × (packed_records kind text ≡ Some records) × Holds records kept
 
 abbrev pub OpenFault : Kind → List ℕ → Error → Type 0
-OpenFault kind text (Iter number) = (items : List Item) × (packed_items kind text ≡ Some items) × (first_bad items ≡ Some number)
+OpenFault kind text (Iter number) =
+    (items : List Item) × (packed_items kind text ≡ Some items) × (first_bad items ≡ Some number)
 OpenFault kind text HeaderParsing = packed_items kind text ≡ None
 OpenFault kind text Io = ⊥
 OpenFault kind text Memory = Unit {0}

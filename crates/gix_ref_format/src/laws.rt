@@ -12,7 +12,8 @@ use gix_ref_name::FullNameRef;
 
 /// The text that is written of an id is read as that id.
 pub fn written_id_is_read(id: &ObjectId)
-    ensures { loose_target (id_of id.now).kind (loose_text (ToObject (id_of id.now))) ≡ Some (ToObject (id_of id.now)) }
+    ensures { loose_target (id_of id.now).kind (loose_text (ToObject (id_of id.now)))
+        ≡ Some (ToObject (id_of id.now)) }
 {
     printed_id_reads_back(id);
     let _bytes = id.as_slice();
@@ -20,7 +21,8 @@ pub fn written_id_is_read(id: &ObjectId)
 
 /// The text that is written of a name is read as that name.
 pub fn written_name_is_read(name: FullNameRef<'_>, kind: Kind)
-    ensures { loose_target kind (loose_text (ToName (name_of name.entry))) ≡ Some (ToName (name_of name.entry)) }
+    ensures { loose_target kind (loose_text (ToName (name_of name.entry)))
+        ≡ Some (ToName (name_of name.entry)) }
 {
     let _bytes = name.as_bstr();
 }

@@ -69,7 +69,8 @@ impl Reference {
 
 /// The target that the text of a loose file tells, of ids of this kind; else the reasons of `Reference::try_from_path`.
 pub fn decode(alloc: Global, text: &[u8], kind: Kind) -> Result<Target, Error>
-    ensures { MatchResult result (λ t. loose_target kind text.now ≡ Some (target_view t)) (LooseFault kind text.now) }
+    ensures { MatchResult result (λ t. loose_target kind text.now ≡ Some (target_view t))
+        (LooseFault kind text.now) }
 {
     if text.starts_with(b"ref: ") {
         let Ok(name) = FullNameRef::new(name_in(text)) else {
@@ -85,7 +86,8 @@ pub fn decode(alloc: Global, text: &[u8], kind: Kind) -> Result<Target, Error>
 
 // A target that is a copy of the name.
 fn owned(alloc: Global, name: FullNameRef<'_>) -> Result<Target, Error>
-    ensures { MatchResult result (λ t. target_view t ≡ ToName (name_of name.entry)) (λ e. e ≡ Memory) }
+    ensures { MatchResult result (λ t. target_view t ≡ ToName (name_of name.entry))
+        (λ e. e ≡ Memory) }
 {
     match name.to_owned(alloc) {
         Ok(name) => Ok(Target::Symbolic(name)),
@@ -140,7 +142,8 @@ fn is_space(byte: u8) -> bool
 
 /// Appends the text of a loose file of this target: an id in lower-case digits or `ref: ` and the name, and a line feed.
 pub fn write(target: TargetRef<'_>, out: &mut Vec<u8>) -> Result<(), AllocError>
-    ensures { OnOk result (out.new.items ≡ out.old.items ++ loose_text (target_ref_view target.entry)) }
+    ensures { OnOk result
+        (out.new.items ≡ out.old.items ++ loose_text (target_ref_view target.entry)) }
 {
     match target {
         TargetRef::Object(id) => {

@@ -13,7 +13,8 @@ IsBelow word name short = (name ≡ codes "refs/" ++ short) × BeginsWith word s
 
 -- a name that another worktree's front stands before: the front, and what stands behind it
 abbrev pub IsOfWorktree : List ℕ → List ℕ → List ℕ → Type 0
-IsOfWorktree worktree name short = (name ≡ codes "worktrees/" ++ (worktree ++ 47 ∷ short)) × Lacks 47 worktree
+IsOfWorktree worktree name short =
+    (name ≡ codes "worktrees/" ++ (worktree ++ 47 ∷ short)) × Lacks 47 worktree
 
 -- the name has this category, and this short name
 abbrev pub Tells : List ℕ → Category → List ℕ → Type 0
@@ -25,17 +26,22 @@ Tells name Bisect short = IsBelow (codes "bisect/") name short
 Tells name Rewritten short = IsBelow (codes "rewritten/") name short
 Tells name WorktreePrivate short = IsBelow (codes "worktree/") name short
 Tells name PseudoRef short = (name ≡ short) × IsTrue (is_capitals short)
-Tells name MainPseudoRef short = (name ≡ codes "main-worktree/" ++ short) × IsTrue (is_capitals short)
-Tells name MainRef short = (name ≡ codes "main-worktree/" ++ short) × BeginsWith (codes "refs/") short
-Tells name (LinkedPseudoRef worktree) short = IsOfWorktree (bstr_bytes worktree) name short × IsTrue (is_capitals short)
-Tells name (LinkedRef worktree) short = IsOfWorktree (bstr_bytes worktree) name short × BeginsWith (codes "refs/") short
+Tells name MainPseudoRef short =
+    (name ≡ codes "main-worktree/" ++ short) × IsTrue (is_capitals short)
+Tells name MainRef short =
+    (name ≡ codes "main-worktree/" ++ short) × BeginsWith (codes "refs/") short
+Tells name (LinkedPseudoRef worktree) short =
+    IsOfWorktree (bstr_bytes worktree) name short × IsTrue (is_capitals short)
+Tells name (LinkedRef worktree) short =
+    IsOfWorktree (bstr_bytes worktree) name short × BeginsWith (codes "refs/") short
 
 abbrev pub HasNoCategory : List ℕ → Type 0
 HasNoCategory name = (category : Category) (short : List ℕ) → ¬ Tells name category short
 
 -- the short name that some category tells, or the whole name where none does
 abbrev pub IsShortName : List ℕ → List ℕ → Type 0
-IsShortName name short = ((category : Category) × Tells name category short) ⊎ (HasNoCategory name × (name ≡ short))
+IsShortName name short =
+    ((category : Category) × Tells name category short) ⊎ (HasNoCategory name × (name ≡ short))
 
 -- what begins all names of the category, without the name of a linked worktree
 abbrev pub prefix_text : Category → List ℕ
@@ -84,7 +90,9 @@ repeated_word (LinkedRef worktree) = codes "refs/"
 
 -- the front and the short name, neither the word nor the front twice
 abbrev pub full_text : Category → List ℕ → List ℕ
-full_text category short = with_front (prefix_text category ++ middle_text category) (without_front (repeated_word category) short)
+full_text category short =
+    with_front (prefix_text category ++ middle_text category)
+    (without_front (repeated_word category) short)
 
 -- names of which each worktree has its own
 abbrev pub is_private : Category → Bool

@@ -13,4 +13,5 @@ with_front front text = if begins front text then text else front ++ text
 
 -- the last component of a name
 abbrev pub IsLastPart : List ℕ → List ℕ → Type 0
-IsLastPart name part = Lacks 47 part × ((name ≡ part) ⊎ ((front : List ℕ) × (name ≡ front ++ 47 ∷ part)))
+IsLastPart name part =
+    Lacks 47 part × ((name ≡ part) ⊎ ((front : List ℕ) × (name ≡ front ++ 47 ∷ part)))

@@ -14,4 +14,5 @@ expanded name = flat_map level (slice_split (λ byte. byte == 47) name)
 
 -- the name without the namespace, where that is a full name
 abbrev pub outside_of : List ℕ → List ℕ → List ℕ
-outside_of namespace name = let rest = without_front namespace name in if is_full_name rest then rest else name
+outside_of namespace name =
+    let rest = without_front namespace name in if is_full_name rest then rest else name

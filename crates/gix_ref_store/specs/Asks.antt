@@ -7,7 +7,8 @@ use Rattle.gix_ref_store.specs.declared.store.file.asked.Asked.{Asked}
 
 -- the name begins so; or it is this one, or stands below it
 abbrev pub fits : Asked → List ℕ → Bool
-fits asked name = if asked.is_whole then is_within asked.front.now name else begins asked.front.now name
+fits asked name =
+    if asked.is_whole then is_within asked.front.now name else begins asked.front.now name
 
 abbrev pub is_asked : Asked → List ℕ → Bool
 is_asked asked = is_listed asked.composes (fits asked)

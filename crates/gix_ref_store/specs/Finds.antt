@@ -45,7 +45,8 @@ LookupFault met ReadFileContents = Unit {0}
 LookupFault met Memory = Unit {0}
 
 -- The packed records can't be read, and the first of the names has no file of its own.
-pub record PackedFault (b : Base) (tree : Tree) (names : List (List ℕ)) (error : OpenError) : Type 0 where
+pub record PackedFault (b : Base) (tree : Tree) (names : List (List ℕ))
+    (error : OpenError) : Type 0 where
   pub why : FileFault b.kind (packed_text_in b tree) error
   pub first : List ℕ
   pub rest : List (List ℕ)
@@ -68,7 +69,10 @@ OpenedFault b tree met Memory = Unit {0}
 
 -- what a lookup answers that goes by the packed records of the tree
 abbrev pub FindsOpened : Base → Tree → List (List ℕ) → Result (Option Reference) Error → Type 0
-FindsOpened b tree names result = let met = first_met (reading b tree) names in MatchResult result (λ found. option_map met_of found ≡ met) (OpenedFault b tree met)
+FindsOpened b tree names result =
+    let met =
+    first_met (reading b tree) names
+    in MatchResult result (λ found. option_map met_of found ≡ met) (OpenedFault b tree met)
 
 -- a failed reading of a file is told only where a reading may fail
 abbrev pub MayTell : Type 0 → Error → Type 0
@@ -98,8 +102,10 @@ TellsReading name reading (Err Memory) = Unit {0}
 -- what is told of a file of its own, whatever is told where none stands
 abbrev pub TellsFile : Kind → Option (List ℕ) → Result (Option Target) Error → Type 0
 TellsFile kind text (Ok None) = (other : Reading) → read_by kind text other ≡ other
-TellsFile kind text (Ok (Some target)) = (other : Reading) → read_by kind text other ≡ Stands (target_view target) None
-TellsFile kind text (Err (ReferenceCreation error)) = (other : Reading) → read_by kind text other ≡ Faulty (InFile error)
+TellsFile kind text (Ok (Some target)) =
+    (other : Reading) → read_by kind text other ≡ Stands (target_view target) None
+TellsFile kind text (Err (ReferenceCreation error)) =
+    (other : Reading) → read_by kind text other ≡ Faulty (InFile error)
 TellsFile kind text (Err (PackedOpen error)) = ⊥
 TellsFile kind text (Err ReadFileContents) = Unit {0}
 TellsFile kind text (Err Memory) = Unit {0}

@@ -14,7 +14,9 @@ is_folder_path folder = bytes_eq folder [] || is_path folder
 
 -- `refs` or `logs`, or a path below one of them
 abbrev pub is_of_names : List ℕ → Bool
-is_of_names path = bytes_eq path (codes "refs") || begins (codes "refs/") path || bytes_eq path (codes "logs") || begins (codes "logs/") path
+is_of_names path =
+    bytes_eq path (codes "refs") || begins (codes "refs/") path || bytes_eq path (codes "logs")
+    || begins (codes "logs/") path
 
 -- the path begins with the folder and a slash
 abbrev pub is_below : List ℕ → List ℕ → Bool
@@ -23,7 +25,8 @@ is_below folder path = begins folder path && begins (47 ∷ []) (drop (length fo
 -- the path lies in the `refs` or `logs` of the folder
 abbrev pub lies_in_names : List ℕ → List ℕ → Bool
 lies_in_names folder path =
-    if bytes_eq folder [] then is_of_names path else is_below folder path && is_of_names (drop (length folder + 1) path)
+    if bytes_eq folder [] then is_of_names path
+    else is_below folder path && is_of_names (drop (length folder + 1) path)
 
 -- neither lies in the `refs` or `logs` of the other
 abbrev pub are_apart : List ℕ → List ℕ → Bool
@@ -42,7 +45,8 @@ abbrev pub usual_threshold : ℕ
 usual_threshold = 32768
 
 -- a store of these files and folders
-pub record IsStoreOf {F : Type 0} (files : F) (git : List ℕ) (common : Option (List ℕ)) (options : Options) (store : Store F) : Type 0 where
+pub record IsStoreOf {F : Type 0} (files : F) (git : List ℕ) (common : Option (List ℕ))
+    (options : Options) (store : Store F) : Type 0 where
   pub holds : store.files ≡ files
   pub told : store.options ≡ options
   pub git_is : store.git_dir.items ≡ git
@@ -58,4 +62,5 @@ IsFolderFault git common Nested = IsTrue (are_clean git common) × IsFalse (are_
 
 -- the files come back, with why they are refused
 abbrev pub IsRefused : {F : Type 0} → F → List ℕ → Option (List ℕ) → Refused F → Type 0
-IsRefused files git common refused = (refused.files ≡ files) × IsFolderFault git common refused.error
+IsRefused files git common refused =
+    (refused.files ≡ files) × IsFolderFault git common refused.error

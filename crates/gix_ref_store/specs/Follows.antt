@@ -35,7 +35,8 @@ abbrev pub follow : (List ℕ → Reading) → ℕ → List (List ℕ) → List 
 follow read left seen from Absent = Dangles
 follow read left seen from (Faulty why) = Breaks why
 follow read left seen from (Stands (ToObject id) peeled) = Ends from id peeled
-follow read zero seen from (Stands (ToName name) peeled) = if is_among seen name then Cycles else TooDeep
+follow read zero seen from (Stands (ToName name) peeled) =
+    if is_among seen name then Cycles else TooDeep
 follow read (suc left) seen from (Stands (ToName name) peeled) =
     if is_among seen name then Cycles else follow read left (seen ++ name ∷ []) name (read name)
 
@@ -49,7 +50,9 @@ EndsAt id followed = (name : List ℕ) × (peeled : Option Id) × (followed ≡ 
 
 -- the chain ends at this reference, which points to an object of this id
 abbrev pub EndsBy : Reference → ObjectId → Followed → Type 0
-EndsBy r id followed = (target_view r.target ≡ ToObject (id_of id)) × (followed ≡ Ends r.name (id_of id) (option_map id_of r.peeled))
+EndsBy r id followed =
+    (target_view r.target ≡ ToObject (id_of id))
+    × (followed ≡ Ends r.name (id_of id) (option_map id_of r.peeled))
 
 -- ---- what is told, where `Unopened` says why packed references aren't opened
 
@@ -69,15 +72,18 @@ ReadFault Unopened Broken find.ReadFileContents = Unit {0}
 ReadFault Unopened Broken find.Memory = Unit {0}
 
 -- what is told of a name that must stand
-abbrev pub TellsExisting : (OpenError → Type 0) → (List ℕ → Reading) → List ℕ → Result Reference ExistingError → Type 0
+abbrev pub TellsExisting : (OpenError → Type 0) → (List ℕ → Reading) → List ℕ
+    → Result Reference ExistingError → Type 0
 TellsExisting Unopened read name result =
     MatchResult result (λ r. (r.name ≡ name) × (read name ≡ reading_of r))
     (OnExisting (read name ≡ Absent) (ReadFault Unopened (λ why. read name ≡ Faulty why)))
 
 -- the reference that a target names: none where it is an object
-abbrev pub FollowsTo : (OpenError → Type 0) → (List ℕ → Reading) → Points → Option (Result Reference ExistingError) → Type 0
+abbrev pub FollowsTo : (OpenError → Type 0) → (List ℕ → Reading) → Points
+    → Option (Result Reference ExistingError) → Type 0
 FollowsTo Unopened read target None = IsObject target
-FollowsTo Unopened read target (Some (Ok r)) = (target ≡ ToName r.name) × (read r.name ≡ reading_of r)
+FollowsTo Unopened read target (Some (Ok r)) =
+    (target ≡ ToName r.name) × (read r.name ≡ reading_of r)
 FollowsTo Unopened read target (Some (Err error)) =
     (name : List ℕ) × (target ≡ ToName name)
     × OnExisting (read name ≡ Absent) (ReadFault Unopened (λ why. read name ≡ Faulty why)) error

@@ -9,4 +9,10 @@ folder_below folder None = folder
 folder_below folder (Some worktree) = under folder worktree
 
 abbrev pub home_of : Held → Home
-home_of held = record { folder = folder_below held.folder.now (option_map (λ front. front.now) held.worktree); path = held.path.now }
+home_of held =
+    record {
+      folder =
+          folder_below held.folder.now (option_map (λ front. front.now) held.worktree);
+      path =
+          held.path.now;
+    }

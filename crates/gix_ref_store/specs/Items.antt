@@ -37,14 +37,17 @@ kept_in (Some buffer) = kept buffer
 
 -- The next of what is to come, and the rest stays; nothing at the end. A failed reading or refused memory takes the next, or
 -- none, where it concerns a name that has no reference.
-abbrev pub GivesNext : (List ℕ → Reading) → List Met → Option (Result Reference Error) → List Met → Type 0
+abbrev pub GivesNext : (List ℕ → Reading) → List Met → Option (Result Reference Error) → List Met
+    → Type 0
 GivesNext read left None after = (left ≡ []) × (after ≡ [])
 GivesNext read left (Some (Ok r)) after = left ≡ met_of r ∷ after
 GivesNext read left (Some (Err (ReferenceCreation name reason))) after =
     left ≡ record { name = name; reading = Faulty (InFile reason) } ∷ after
 GivesNext read left (Some (Err (ReadFileContents name))) after =
-    ((read name ≡ Absent) × (left ≡ after)) ⊎ ((r : Reading) × (left ≡ record { name = name; reading = r } ∷ after))
-GivesNext read left (Some (Err Memory)) after = (left ≡ after) ⊎ ((met : Met) × (left ≡ met ∷ after))
+    ((read name ≡ Absent) × (left ≡ after))
+    ⊎ ((r : Reading) × (left ≡ record { name = name; reading = r } ∷ after))
+GivesNext read left (Some (Err Memory)) after =
+    (left ≡ after) ⊎ ((met : Met) × (left ≡ met ∷ after))
 GivesNext read left (Some (Err Traversal)) after = ⊥
 
 -- what is told of one name: nothing where it reads as absent
@@ -53,7 +56,8 @@ TellsName name r None = r ≡ Absent
 TellsName name r (Some (Ok found)) = (name ≡ found.name) × (r ≡ reading_of found)
 TellsName name r (Some (Err Traversal)) = ⊥
 TellsName name r (Some (Err (ReadFileContents n))) = name ≡ n
-TellsName name r (Some (Err (ReferenceCreation n reason))) = (name ≡ n) × (r ≡ Faulty (InFile reason))
+TellsName name r (Some (Err (ReferenceCreation n reason))) =
+    (name ≡ n) × (r ≡ Faulty (InFile reason))
 TellsName name r (Some (Err Memory)) = Unit {0}
 
 -- what an item tells of failed readings

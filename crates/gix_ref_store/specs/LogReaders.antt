@@ -8,7 +8,9 @@ use Rattle.gix_ref_store.specs.declared.store.file.log.LogFile.{LogFile}
 
 -- the reader reads the file at the place of the name's log
 abbrev pub IsOfLog : {F : Type 0} → Store F → List ℕ → Reverse (LogFile F) → Type 0
-IsOfLog store name reader = (reader.log.files.now ≡ store.files) × (reader.log.path.items ≡ log_place (base_of store) name)
+IsOfLog store name reader =
+    (reader.log.files.now ≡ store.files)
+    × (reader.log.path.items ≡ log_place (base_of store) name)
 
 -- it has given no line, and has a buffer of so many bytes
 abbrev pub IsBegun : {R : Type 0} → ℕ → Reverse R → Type 0

@@ -30,35 +30,45 @@ reads_kept store tree packed = reading_among (base_of store) tree (kept_in packe
 -- the first of the names that doesn't read as absent is found, or why it isn't
 abbrev pub FindsNames : Base → Tree → List (List ℕ) → Result (Option Reference) Error → Type 0
 FindsNames b tree names result =
-    let met = first_met (reading b tree) names in MatchResult result (λ found. option_map met_of found ≡ met) (FindFault b tree names met)
+    let met =
+    first_met (reading b tree) names
+    in MatchResult result (λ found. option_map met_of found ≡ met) (FindFault b tree names met)
 
 -- the same of the names that a word may stand for
-abbrev pub FindsWord : {F : Type 0} → Store F → Tree → List ℕ → Result (Option Reference) Error → Type 0
+abbrev pub FindsWord : {F : Type 0} → Store F → Tree → List ℕ → Result (Option Reference) Error
+    → Type 0
 FindsWord store tree word result = FindsNames (base_of store) tree (names_of store word) result
 
 -- the same with these packed references
-abbrev pub FindsWith : {F : Type 0} → Store F → Tree → Option (Bor Buffer) → List ℕ → Result (Option Reference) Error → Type 0
-FindsWith store tree packed word result = Finds (reads_with store tree packed) (names_of store word) result
+abbrev pub FindsWith : {F : Type 0} → Store F → Tree → Option (Bor Buffer) → List ℕ
+    → Result (Option Reference) Error → Type 0
+FindsWith store tree packed word result =
+    Finds (reads_with store tree packed) (names_of store word) result
 
 -- the same of references with files of their own
-abbrev pub FindsLoose : {F : Type 0} → Store F → Tree → List ℕ → Result (Option Loose) Error → Type 0
+abbrev pub FindsLoose : {F : Type 0} → Store F → Tree → List ℕ → Result (Option Loose) Error
+    → Type 0
 FindsLoose store tree word result =
     let met = first_met (reads_with store tree None) (names_of store word) in
     MatchResult result (λ found. option_map loose_met found ≡ met) (LookupFault met)
 
 -- ---- one must stand
 
-abbrev pub FindsOne : {F : Type 0} → Store F → Tree → List ℕ → Result Reference ExistingError → Type 0
+abbrev pub FindsOne : {F : Type 0} → Store F → Tree → List ℕ → Result Reference ExistingError
+    → Type 0
 FindsOne store tree word result =
     let names = names_of store word in let met = first_met (reads_now store tree) names in
-    MatchResult result (λ r. met ≡ Some (met_of r)) (OnExisting (met ≡ None) (FindFault (base_of store) tree names met))
+    MatchResult result (λ r. met ≡ Some (met_of r))
+    (OnExisting (met ≡ None) (FindFault (base_of store) tree names met))
 
-abbrev pub FindsOneWith : {F : Type 0} → Store F → Tree → Option (Bor Buffer) → List ℕ → Result Reference ExistingError → Type 0
+abbrev pub FindsOneWith : {F : Type 0} → Store F → Tree → Option (Bor Buffer) → List ℕ
+    → Result Reference ExistingError → Type 0
 FindsOneWith store tree packed word result =
     let met = first_met (reads_with store tree packed) (names_of store word) in
     MatchResult result (λ r. met ≡ Some (met_of r)) (OnExisting (met ≡ None) (LookupFault met))
 
-abbrev pub FindsOneLoose : {F : Type 0} → Store F → Tree → List ℕ → Result Loose ExistingError → Type 0
+abbrev pub FindsOneLoose : {F : Type 0} → Store F → Tree → List ℕ → Result Loose ExistingError
+    → Type 0
 FindsOneLoose store tree word result =
     let met = first_met (reads_with store tree None) (names_of store word) in
     MatchResult result (λ r. met ≡ Some (loose_met r)) (OnExisting (met ≡ None) (LookupFault met))

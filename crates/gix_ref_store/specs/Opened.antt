@@ -11,7 +11,8 @@ use Rattle.gix_ref_store.specs.declared.store.file.Store.{Store}
 
 -- the buffer keeps the records of the file that stands in this tree, and there is none where no file stands
 abbrev pub KeepsPacked : {F : Type 0} → Store F → Tree → Option Buffer → Type 0
-KeepsPacked store tree found = KeepsFile (base_of store).kind (packed_text_in (base_of store) tree) (option_map kept found)
+KeepsPacked store tree found =
+    KeepsFile (base_of store).kind (packed_text_in (base_of store) tree) (option_map kept found)
 
 -- the buffer's bytes are the file's
 abbrev pub HasPackedText : {F : Type 0} → Store F → Tree → Option Buffer → Type 0
@@ -19,8 +20,10 @@ HasPackedText store tree found = option_map text_of found ≡ packed_text_in (ba
 
 -- why the file can't be opened
 abbrev pub PackedUnread : {F : Type 0} → Store F → Tree → Error → Type 0
-PackedUnread store tree error = FileFault (base_of store).kind (packed_text_in (base_of store) tree) error
+PackedUnread store tree error =
+    FileFault (base_of store).kind (packed_text_in (base_of store) tree) error
 
 -- each of its lines can be read
 abbrev pub CanOpenPacked : {F : Type 0} → Store F → Tree → Type 0
-CanOpenPacked store tree = IsSome (records_of (base_of store).kind (packed_text_in (base_of store) tree))
+CanOpenPacked store tree =
+    IsSome (records_of (base_of store).kind (packed_text_in (base_of store) tree))

@@ -25,12 +25,15 @@ use Rattle.gix_ref_store.specs.declared.store.file.peel.Error.TheVariants.{Follo
 
 -- the tag under the first id names the second
 abbrev pub TagNames : Table → Id → Id → Type 0
-TagNames table id target = (content digits after : List ℕ) × Stands table id kinds.Tag content × SpellsTarget id.kind content digits after × IsHexOfId digits target
+TagNames table id target =
+    (content digits after : List ℕ) × Stands table id kinds.Tag content
+    × SpellsTarget id.kind content digits after × IsHexOfId digits target
 
 -- tags lead from the first id over these to the second
 abbrev pub LeadsOver : Table → Id → List Id → Id → Type 0
 LeadsOver table id [] end = id ≡ end
-LeadsOver table id (tag ∷ tags) end = (tag ≡ id) × ((next : Id) × TagNames table id next × LeadsOver table next tags end)
+LeadsOver table id (tag ∷ tags) end =
+    (tag ≡ id) × ((next : Id) × TagNames table id next × LeadsOver table next tags end)
 
 -- an object stands there that is no tag
 abbrev pub IsPlain : Table → Id → Type 0
@@ -42,7 +45,9 @@ PeelsTo table id end = (tags : List Id) × LeadsOver table id tags end × IsPlai
 
 -- a tag stands there, and no id is told in its first line
 abbrev pub NamesNone : Table → Id → Type 0
-NamesNone table id = (content : List ℕ) × (error : decode.Error) × Stands table id kinds.Tag content × HexLineFault (codes "object") (hex_len id.kind) content error
+NamesNone table id =
+    (content : List ℕ) × (error : decode.Error) × Stands table id kinds.Tag content
+    × HexLineFault (codes "object") (hex_len id.kind) content error
 
 -- tags lead to an id where nothing stands, or a tag that names none, or one of those that lead there
 abbrev pub IsLost : Table → Id → Id → Type 0
@@ -60,7 +65,8 @@ TagFault H M table id Memory = ⊤
 abbrev pub StepFault : Type 0 → Type 0 → Table → Id → Error → Type 0
 StepFault H M table id (FollowToObject error) = ⊥
 StepFault H M table id (Find error) = LookupFault M error
-StepFault H M table id (NotFound oid) = (id_of oid ≡ id) × (H → (table id ≡ None) ⊎ NamesNone table id)
+StepFault H M table id (NotFound oid) =
+    (id_of oid ≡ id) × (H → (table id ≡ None) ⊎ NamesNone table id)
 StepFault H M table id Memory = ⊥
 
 -- ---- references
@@ -68,11 +74,14 @@ StepFault H M table id Memory = ⊥
 -- from a name: the object that its record tells, or the one that tags lead to from where the chain ends, and the name there
 abbrev pub PeelsBy : Followed → Table → List ℕ → Option Id → List ℕ → Id → Type 0
 PeelsBy followed table from (Some told) name id = (name ≡ from) × (id ≡ told)
-PeelsBy followed table from None name id = (first : Id) × (peeled : Option Id) × (followed ≡ Ends name first peeled) × PeelsTo table first id
+PeelsBy followed table from None name id =
+    (first : Id) × (peeled : Option Id) × (followed ≡ Ends name first peeled)
+    × PeelsTo table first id
 
 -- a reference stands for this object, which the reference of this name leads to
 abbrev pub Peels : (List ℕ → Reading) → Table → Reference → List ℕ → Id → Type 0
-Peels read table r name id = PeelsBy (follow_from read r) table r.name (option_map id_of r.peeled) name id
+Peels read table r name id =
+    PeelsBy (follow_from read r) table r.name (option_map id_of r.peeled) name id
 
 abbrev pub IsPeeled : (List ℕ → Reading) → Table → Reference → Id → Type 0
 IsPeeled read table r id = (name : List ℕ) × Peels read table r name id
@@ -82,10 +91,14 @@ abbrev pub unopened : OpenError → Error
 unopened error = FollowToObject (Follow (existing.Find (finds.PackedOpen error)))
 
 -- why it stands for none, where `Unopened` says why packed references aren't opened
-abbrev pub PeelFault : (OpenError → Type 0) → (List ℕ → Reading) → Table → Reference → Error → Type 0
-PeelFault Unopened read table r (FollowToObject error) = FollowFault Unopened (follow_from read r) error
+abbrev pub PeelFault : (OpenError → Type 0) → (List ℕ → Reading) → Table → Reference → Error
+    → Type 0
+PeelFault Unopened read table r (FollowToObject error) =
+    FollowFault Unopened (follow_from read r) error
 PeelFault Unopened read table r (Find error) = ⊤
-PeelFault Unopened read table r (NotFound oid) = (r.peeled ≡ None) × ((first : Id) × EndsAt first (follow_from read r) × IsLost table first (id_of oid))
+PeelFault Unopened read table r (NotFound oid) =
+    (r.peeled ≡ None)
+    × ((first : Id) × EndsAt first (follow_from read r) × IsLost table first (id_of oid))
 PeelFault Unopened read table r Memory = ⊤
 
 -- a failed reading is told only where a reading may fail, and a failed lookup where a lookup may

@@ -25,7 +25,9 @@ shared_home b path = record { folder = b.common; path = path }
 
 -- what stands behind `main-worktree/` is a name of the main worktree, whose folder is the shared one
 abbrev pub main_home : Base → List ℕ → List ℕ → Home
-main_home b name rest = if is_capitals rest || begins (codes "refs/") rest then shared_home b rest else shared_home b name
+main_home b name rest =
+    if is_capitals rest || begins (codes "refs/") rest then shared_home b rest
+    else shared_home b name
 
 -- what stands before the rest, without the slash between them
 abbrev pub front_of : List ℕ → List ℕ → List ℕ

@@ -20,7 +20,9 @@ PointsNowhere r = (points : Points) (peeled : Option Id) → r ≢ Stands points
 
 -- one of the names asked for points to something
 abbrev pub SomeStands : (List ℕ → Reading) → (List ℕ → Bool) → Type 0
-SomeStands read asked = (name : List ℕ) × (points : Points) × (peeled : Option Id) × IsTrue (asked name) × (read name ≡ Stands points peeled)
+SomeStands read asked =
+    (name : List ℕ) × (points : Points) × (peeled : Option Id) × IsTrue (asked name)
+    × (read name ≡ Stands points peeled)
 
 -- `HEAD` points to this name; there are no packed references, and no name below `refs/` that a store knows has a file that tells a
 -- target

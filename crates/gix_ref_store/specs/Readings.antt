@@ -48,7 +48,9 @@ loose_text_at b tree name = bytes_of (node_at tree (place b name))
 -- what a name reads as where these records are packed
 abbrev pub reading_among : Base → Tree → List Record → List ℕ → Reading
 reading_among b tree records name =
-    if is_full_name name then read_by b.kind (loose_text_at b tree name) (packed_reading (packed_hit records name)) else Absent
+    if is_full_name name
+    then read_by b.kind (loose_text_at b tree name) (packed_reading (packed_hit records name))
+    else Absent
 
 -- the text of the packed records
 abbrev pub packed_text_in : Base → Tree → Option (List ℕ)
@@ -67,7 +69,9 @@ told_by None name = if is_some (packed_key name) then Faulty InRecords else Abse
 -- what a name reads as
 abbrev pub reading : Base → Tree → List ℕ → Reading
 reading b tree name =
-    if is_full_name name then read_by b.kind (loose_text_at b tree name) (told_by (records_of b.kind (packed_text_in b tree)) name)
+    if is_full_name name
+    then read_by b.kind (loose_text_at b tree name)
+    (told_by (records_of b.kind (packed_text_in b tree)) name)
     else Absent
 
 -- ---- lookups
@@ -79,7 +83,8 @@ pub record Met : Type 0 where
 
 abbrev pub met_or : List ℕ → Reading → Option Met → Option Met
 met_or name Absent later = later
-met_or name (Stands points peeled) later = Some (record { name = name; reading = Stands points peeled })
+met_or name (Stands points peeled) later =
+    Some (record { name = name; reading = Stands points peeled })
 met_or name (Faulty why) later = Some (record { name = name; reading = Faulty why })
 
 -- the first of the names that stands or can't be read

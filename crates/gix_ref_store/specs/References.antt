@@ -11,7 +11,8 @@ use Rattle.gix_ref_store.specs.declared.reference.Reference.{Reference}
 -- the reference that a packed record holds
 abbrev pub IsOfRecord : Packed → Reference → Type 0
 IsOfRecord held r =
-    (r.name ≡ name_of held.name) × (target_view r.target ≡ ToObject (id_of held.target)) × (r.peeled ≡ held.object)
+    (r.name ≡ name_of held.name) × (target_view r.target ≡ ToObject (id_of held.target))
+    × (r.peeled ≡ held.object)
 
 -- the same without a namespace's front in its name and target
 abbrev pub IsOutside : List ℕ → Reference → Reference → Type 0

@@ -16,17 +16,22 @@ reads_in tree search = reading_among (base_of search.store.now) tree (records_in
 
 -- what a search over these names answers
 abbrev pub Finds : (List ℕ → Reading) → List (List ℕ) → Result (Option Reference) Error → Type 0
-Finds read names result = MatchResult result (λ found. option_map met_of found ≡ first_met read names) (LookupFault (first_met read names))
+Finds read names result =
+    MatchResult result (λ found. option_map met_of found ≡ first_met read names)
+    (LookupFault (first_met read names))
 
 -- what it answers of one name
 abbrev pub AnswersName : (List ℕ → Reading) → List ℕ → Result (Option Reference) Error → Type 0
 AnswersName read name result = TellsReading name (read name) result
 
 -- what it answers of the first of the names
-abbrev pub AnswersFirst : (List ℕ → Reading) → List (List ℕ) → Result (Option Reference) Error → Type 0
+abbrev pub AnswersFirst : (List ℕ → Reading) → List (List ℕ) → Result (Option Reference) Error
+    → Type 0
 AnswersFirst read names result =
-    (first : List ℕ) × (rest : List (List ℕ)) × (names ≡ first ∷ rest) × TellsReading first (read first) result
+    (first : List ℕ) × (rest : List (List ℕ)) × (names ≡ first ∷ rest)
+    × TellsReading first (read first) result
 
 -- the record of the name is told
 abbrev pub AnswersRecord : List Record → List ℕ → Option Reference → Type 0
-AnswersRecord records name found = TellsReading name (packed_reading (packed_hit records name)) (Ok found)
+AnswersRecord records name found =
+    TellsReading name (packed_reading (packed_hit records name)) (Ok found)

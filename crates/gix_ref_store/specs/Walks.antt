@@ -22,30 +22,37 @@ Keeps old new = (name : List ℕ) → IsTrue (has old name) → IsTrue (has new 
 
 -- and come only where they are asked for
 abbrev pub BringsAsked : (List ℕ → Bool) → List (List ℕ) → List (List ℕ) → Type 0
-BringsAsked asked old new = (name : List ℕ) → IsTrue (has new name) → IsTrue (has old name) ⊎ IsTrue (asked name)
+BringsAsked asked old new =
+    (name : List ℕ) → IsTrue (has new name) → IsTrue (has old name) ⊎ IsTrue (asked name)
 
 -- a name with a file at its path below this folder
-pub record HasFile (tree : Tree) (base : List ℕ) (asked : List ℕ → Bool) (name : List ℕ) : Type 0 where
+pub record HasFile (tree : Tree) (base : List ℕ) (asked : List ℕ → Bool)
+    (name : List ℕ) : Type 0 where
   pub file : IsTrue (is_file_at tree (under base name))
   pub full : IsTrue (is_full_name name)
   pub asked_for : IsTrue (asked name)
 
 -- the names asked for that have a file below a folder of names are there
 abbrev pub GathersBelow : Tree → List ℕ → (List ℕ → Bool) → List ℕ → List (List ℕ) → Type 0
-GathersBelow tree base asked folder names = (name rest : List ℕ) → under base name ≡ under base folder ++ 47 ∷ rest
+GathersBelow tree base asked folder names =
+    (name rest : List ℕ) → under base name ≡ under base folder ++ 47 ∷ rest
     → HasFile tree base asked name → IsTrue (has names name)
 
 -- all names asked for that have a file are there
 abbrev pub Gathers : Tree → List ℕ → (List ℕ → Bool) → List (List ℕ) → Type 0
-Gathers tree base asked names = (name : List ℕ) → HasFile tree base asked name → IsTrue (has names name)
+Gathers tree base asked names =
+    (name : List ℕ) → HasFile tree base asked name → IsTrue (has names name)
 
 -- all names asked for that have a file of their own are there
 abbrev pub GathersPlaces : Base → Tree → (List ℕ → Bool) → List (List ℕ) → Type 0
-GathersPlaces b tree asked names = (name : List ℕ) → IsTrue (is_file_at tree (place b name)) → IsTrue (is_full_name name) → IsTrue (asked name) → IsTrue (has names name)
+GathersPlaces b tree asked names =
+    (name : List ℕ) → IsTrue (is_file_at tree (place b name)) → IsTrue (is_full_name name)
+    → IsTrue (asked name) → IsTrue (has names name)
 
 -- and all that have a record
 abbrev pub GathersRecords : List Record → (List ℕ → Bool) → List (List ℕ) → Type 0
-GathersRecords records asked names = (name : List ℕ) → IsSome (hit records name) → IsTrue (asked name) → IsTrue (has names name)
+GathersRecords records asked names =
+    (name : List ℕ) → IsSome (hit records name) → IsTrue (asked name) → IsTrue (has names name)
 
 -- a failed reading is told only where a reading may fail
 abbrev pub MayTell : Type 0 → Error → Type 0

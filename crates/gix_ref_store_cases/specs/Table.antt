@@ -9,5 +9,7 @@ abbrev pub ids_of : List Stored → List Id
 ids_of objects = map (λ (stored : Stored). id_of stored.id) objects
 
 abbrev pub table_of : List Stored → Table
-table_of objects = λ id. option_map (λ (stored : Stored). record { kind = stored.kind; content = stored.content.items })
+table_of objects =
+    λ id. option_map
+    (λ (stored : Stored). record { kind = stored.kind; content = stored.content.items })
     (find (λ (stored : Stored). id_eq (id_of stored.id) id) objects)

@@ -48,7 +48,9 @@ impl Objects {
     }
 
     fn at(&self, id: oid<'_>) -> Option<&Stored>
-        ensures { option_copied result ≡ find (λ stored. id_eq (id_of stored.id) (viewed_id id.entry)) self.now.stored.items }
+        ensures { option_copied result
+            ≡ find
+            (λ stored. id_eq (id_of stored.id) (viewed_id id.entry)) self.now.stored.items }
     {
         self.stored.iter().find(|stored| has_id(stored, id))
     }

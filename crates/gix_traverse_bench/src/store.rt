@@ -45,7 +45,8 @@ impl Store {
 
     // The object of this id.
     fn at(&self, id: oid<'_>) -> Option<&Stored>
-        ensures { IfSome result (λ _. Contains (ids_of self.now.objects.items) (viewed_id id.entry)) }
+        ensures { IfSome result
+            (λ _. Contains (ids_of self.now.objects.items) (viewed_id id.entry)) }
     {
         let number = self.numbers.get(&id.to_owned())?;
         let stored = self.objects.get(*number)?;

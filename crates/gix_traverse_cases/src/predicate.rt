@@ -20,7 +20,8 @@ pub struct Refusing<'a> {
 
 impl Refusing<'_> {
     fn refuses(&self, id: oid<'_>) -> bool
-        ensures { result ≡ list_any (λ it. id_eq (id_of it) (viewed_id id.entry)) self.now.refused.items }
+        ensures { result
+            ≡ list_any (λ it. id_eq (id_of it) (viewed_id id.entry)) self.now.refused.items }
     {
         self.refused.iter().any(|it| is_of(it, id))
     }

@@ -4,16 +4,23 @@ use Rattle.std.specs.Int.Signed.{le_z, lt_z}
 use Rattle.std.specs.Ordering.{int_eq}
 
 -- at each place one that is fit, and that comes before the others that are fit then
-abbrev pub check_chosen : {I : Type 0} → (List I → I → Bool) → (List I → I → I → Bool) → List I → List I → Bool
+abbrev pub check_chosen : {I : Type 0} → (List I → I → Bool) → (List I → I → I → Bool) → List I
+    → List I → Bool
 check_chosen fit comes before [] = true
-check_chosen fit comes before (x ∷ rest) = fit before x && (list_all (λ y. not (fit before y) || comes before x y) rest && check_chosen fit comes (before ++ x ∷ []) rest)
+check_chosen fit comes before (x ∷ rest) =
+    fit before x
+    &&
+    (list_all (λ y. not (fit before y) || comes before x y) rest
+    && check_chosen fit comes (before ++ x ∷ []) rest)
 
 abbrev pub is_open : {I : Type 0} → (I → I → Bool) → (I → List I) → List I → List I → I → Bool
-is_open eq along tips before x = list_any (eq x) tips || list_any (λ c. list_any (eq x) (along c)) before
+is_open eq along tips before x =
+    list_any (eq x) tips || list_any (λ c. list_any (eq x) (along c)) before
 
 -- zs are the members of the set
 abbrev pub is_ready : {I : Type 0} → (I → I → Bool) → (I → List I) → List I → List I → I → Bool
-is_ready eq along zs before x = list_all (λ c. not (list_any (eq x) (along c)) || list_any (eq c) before) zs
+is_ready eq along zs before x =
+    list_all (λ c. not (list_any (eq x) (along c)) || list_any (eq c) before) zs
 
 abbrev pub newest_first : {I : Type 0} → (I → ℤ) → List I → I → I → Bool
 newest_first time before x y = le_z (time y) (time x)
@@ -58,7 +65,16 @@ outranks_by None None loose = loose
 
 -- of two without a child: the newer, and of one time the tip that was given later
 abbrev pub outranks_alone : {I : Type 0} → (I → I → Bool) → List I → (I → ℤ) → I → I → Bool
-outranks_alone eq tips time x y = lt_z (time y) (time x) || (int_eq (time y) (time x) && (list_any (eq x) tips && (list_any (eq y) tips && nat_lt (first_index eq y tips) (first_index eq x tips))))
+outranks_alone eq tips time x y =
+    lt_z (time y) (time x)
+    ||
+    (int_eq (time y) (time x)
+    &&
+    (list_any (eq x) tips
+    && (list_any (eq y) tips && nat_lt (first_index eq y tips) (first_index eq x tips))))
 
-abbrev pub outranks : {I : Type 0} → (I → I → Bool) → (I → List I) → List I → (I → ℤ) → List I → I → I → Bool
-outranks eq along tips time before x y = outranks_by (last_name eq along x before) (last_name eq along y before) (outranks_alone eq tips time x y)
+abbrev pub outranks : {I : Type 0} → (I → I → Bool) → (I → List I) → List I → (I → ℤ) → List I → I
+    → I → Bool
+outranks eq along tips time before x y =
+    outranks_by (last_name eq along x before) (last_name eq along y before)
+    (outranks_alone eq tips time x y)

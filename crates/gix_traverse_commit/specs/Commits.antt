@@ -22,9 +22,11 @@ asked_parents All g x = (g x).parents
 asked_parents First g x = take 1 (g x).parents
 
 -- reached from the tips along these parents, where each commit on the way passes
-pub data Reached {I : Type 0} (along : I → List I) (passes : I → Type 0) (tips : List I) : I → Type 0 where
+pub data Reached {I : Type 0} (along : I → List I) (passes : I → Type 0) (tips : List I) : I
+    → Type 0 where
   tip : {x : I} → Contains tips x → passes x → Reached along passes tips x
-  parent : {x y : I} → Reached along passes tips x → Contains (along x) y → passes y → Reached along passes tips y
+  parent : {x y : I} → Reached along passes tips x → Contains (along x) y → passes y
+      → Reached along passes tips y
 
 -- what a walk is asked_parents for
 pub record WalkRequest (I : Type 0) : Type 0 where

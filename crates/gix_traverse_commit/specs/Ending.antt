@@ -25,7 +25,8 @@ may_come nodes queued id = (if met_under nodes id then 0 else 1) + queued id
 
 -- no commit may come more often than before
 abbrev pub NoneGains : List Node → (Id → ℕ) → List Node → (Id → ℕ) → Type 0
-NoneGains nodes queued nodes' queued' = (x : ObjectId) → may_come nodes' queued' (id_of x) ≤ may_come nodes queued (id_of x)
+NoneGains nodes queued nodes' queued' =
+    (x : ObjectId) → may_come nodes' queued' (id_of x) ≤ may_come nodes queued (id_of x)
 
 -- the list has nothing
 abbrev pub is_empty : {X : Type 0} → List X → Bool

@@ -22,16 +22,21 @@ use Rattle.gix_traverse_commit.specs.declared.rows.Row.{Row}
 -- all parents, or the first alone
 abbrev pub ReadsParents : Parents → Place → List Id → Type 0
 ReadsParents All here ids = TellsParents here ids
-ReadsParents First here ids = (TellsParents here ids × (ids ≡ [])) ⊎ ((id : Id) × (ids ≡ id ∷ []) × TellsFirst parent_told here id)
+ReadsParents First here ids =
+    (TellsParents here ids × (ids ≡ []))
+    ⊎ ((id : Id) × (ids ≡ id ∷ []) × TellsFirst parent_told here id)
 
 -- the generation in its row, and none without a row
 abbrev pub HasRowsGeneration : List Row → ObjectId → Option ℕ → Type 0
 HasRowsGeneration rows id None = ¬ Holds rows id
-HasRowsGeneration rows id (Some n) = (row : Row) × Contains rows row × (row.id ≡ id) × (row.generation ≡ n)
+HasRowsGeneration rows id (Some n) =
+    (row : Row) × Contains rows row × (row.id ≡ id) × (row.generation ≡ n)
 
 -- behind the tree and some parents a line stands that is no part, for this cause
 abbrev pub LacksParents : Place → decode.Error → Type 0
-LacksParents here error = (ids : List Id) × (there : Place) × (after : Place) × TellsFront here ids there × GivesToken there (Some (Err error)) after
+LacksParents here error =
+    (ids : List Id) × (there : Place) × (after : Place) × TellsFront here ids there
+    × GivesToken there (Some (Err error)) after
 
 abbrev pub ParentsFault : Place → FetchError → Type 0
 ParentsFault here (fault.Find error) = ⊥
@@ -43,25 +48,37 @@ abbrev pub find_error : existing_iter.Error → FetchError
 find_error (iter_case.Find lookup.Memory) = fault.Memory
 find_error (iter_case.Find lookup.Failed) = fault.Find (iter_case.Find lookup.Failed)
 find_error (iter_case.NotFound oid) = fault.Find (iter_case.NotFound oid)
-find_error (iter_case.ObjectKind oid actual expected) = fault.Find (iter_case.ObjectKind oid actual expected)
+find_error (iter_case.ObjectKind oid actual expected) =
+    fault.Find (iter_case.ObjectKind oid actual expected)
 
 -- why a commit isn't read: it has no row, and its object isn't found or is no commit, or its lines aren't a commit's
 abbrev pub FetchFault : Type 0 → Type 0 → List Row → Table → ObjectId → FetchError → Type 0
-FetchFault honest may_fail rows table id (fault.Find error) = (¬ Holds rows id) × KindFault honest may_fail table (id_of id) kinds.Commit error
+FetchFault honest may_fail rows table id (fault.Find error) =
+    (¬ Holds rows id) × KindFault honest may_fail table (id_of id) kinds.Commit error
 FetchFault honest may_fail rows table id (fault.ObjectDecode error) =
-    (¬ Holds rows id) × (honest → (content : List ℕ) × Stands table (id_of id) kinds.Commit content × LacksParents (start (id_of id).kind content) error)
+    (¬ Holds rows id)
+    × (honest
+    → (content : List ℕ) × Stands table (id_of id) kinds.Commit content
+    × LacksParents (start (id_of id).kind content) error)
 FetchFault honest may_fail rows table id fault.Memory = ⊤
 
 -- why a commit's time isn't read: it has no row, and its object isn't found or is no commit, or tells no committer
 abbrev pub TimeFault : Type 0 → Type 0 → List Row → Table → ObjectId → FetchError → Type 0
-TimeFault honest may_fail rows table id (fault.Find error) = (¬ Holds rows id) × KindFault honest may_fail table (id_of id) kinds.Commit error
+TimeFault honest may_fail rows table id (fault.Find error) =
+    (¬ Holds rows id) × KindFault honest may_fail table (id_of id) kinds.Commit error
 TimeFault honest may_fail rows table id (fault.ObjectDecode error) =
-    (¬ Holds rows id) × (honest → (content : List ℕ) × Stands table (id_of id) kinds.Commit content × TellsNone committer_told (start (id_of id).kind content) error)
+    (¬ Holds rows id)
+    × (honest
+    → (content : List ℕ) × Stands table (id_of id) kinds.Commit content
+    × TellsNone committer_told (start (id_of id).kind content) error)
 TimeFault honest may_fail rows table id fault.Memory = ⊤
 
 -- a row or an object tells the commit's time
 abbrev pub TimeIsTold : List Row → Table → ObjectId → Type 0
-TimeIsTold rows table id = Holds rows id ⊎ ((content : List ℕ) × (seconds : ℤ) × Stands table (id_of id) kinds.Commit content × TellsSeconds (start (id_of id).kind content) seconds)
+TimeIsTold rows table id =
+    Holds rows id
+    ⊎ ((content : List ℕ) × (seconds : ℤ) × Stands table (id_of id) kinds.Commit content
+    × TellsSeconds (start (id_of id).kind content) seconds)
 
 -- the count of lookups after one more, which stays at its greatest value
 abbrev pub one_more : ℕ → ℕ

@@ -27,7 +27,8 @@ ids_at nodes numbers = map (id_at nodes) numbers
 
 -- each of these numbers has a node
 abbrev pub HaveNodes : List Node → List Number → Type 0
-HaveNodes nodes numbers = (n : Number) → Contains numbers n → (x : ObjectId) × At (ids_of nodes) n.0 x
+HaveNodes nodes numbers =
+    (n : Number) → Contains numbers n → (x : ObjectId) × At (ids_of nodes) n.0 x
 
 -- the turn of one that waits
 abbrev pub turn_at : List Node → Pending → Turn
@@ -42,6 +43,7 @@ abbrev pub waited_of : KnownCommits → List ObjectId
 waited_of known = ids_at known.nodes (numbers_of (still_among known.pending known.order))
 
 -- all that is queued or waits has nodes
-pub record AreKnown (nodes : List Node) (queue : List Number) (pending : List Pending) : Type 0 where
+pub record AreKnown (nodes : List Node) (queue : List Number)
+    (pending : List Pending) : Type 0 where
   pub queued : HaveNodes nodes queue
   pub wait : HaveNodes nodes (numbers_of pending)

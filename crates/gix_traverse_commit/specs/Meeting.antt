@@ -43,7 +43,8 @@ pub record CountsOne (rows : List Row) (id : ObjectId) (before after : ℕ) : Ty
 -- one after the other was asked for, but those that have rows
 abbrev pub CountsAll : List Row → List ObjectId → ℕ → ℕ → Type 0
 CountsAll rows [] before after = after ≡ before
-CountsAll rows (x ∷ xs) before after = (mid : ℕ) × CountsOne rows x before mid × CountsAll rows xs mid after
+CountsAll rows (x ∷ xs) before after =
+    (mid : ℕ) × CountsOne rows x before mid × CountsAll rows xs mid after
 
 -- by time these were asked for, for their times, and in breadth order none
 abbrev pub CountsTimes : Option Timing → List Row → List ObjectId → ℕ → ℕ → Type 0
@@ -51,7 +52,8 @@ CountsTimes None rows timed before after = after ≡ before
 CountsTimes (Some _) rows timed before after = CountsAll rows timed before after
 
 -- the same of all commits of the set, of each once
-pub record CountsTips (timing : Option Timing) (S : ObjectId → Type 0) (rows : List Row) (before after : ℕ) : Type 0 where
+pub record CountsTips (timing : Option Timing) (S : ObjectId → Type 0) (rows : List Row)
+    (before after : ℕ) : Type 0 where
   pub timed : List ObjectId
   pub each : CountsTimes timing rows timed before after
   pub list : IsSome timing → IsListOf S timed

@@ -20,7 +20,8 @@ same_id x y = id_eq (id_of x) (id_of y)
 -- the first n rows are numbered, each by its place
 pub record NumbersBelow (rows : List Row) (n : ℕ) (numbers : NumberMap) : Type 0 where
   pub each : (k : ℕ) (row : Row) → k < n → At rows k row → get same_id numbers row.id ≡ Some k
-  pub only : (id : ObjectId) (k : ℕ) → get same_id numbers id ≡ Some k → (k < n) × ((row : Row) × At rows k row × (row.id ≡ id))
+  pub only : (id : ObjectId) (k : ℕ) → get same_id numbers id ≡ Some k
+      → (k < n) × ((row : Row) × At rows k row × (row.id ≡ id))
 
 -- all rows are numbered
 abbrev pub Numbers : List Row → NumberMap → Type 0

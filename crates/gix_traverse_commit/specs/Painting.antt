@@ -36,9 +36,12 @@ pub record IsPainted (nodes : List Node) (xs : List ObjectId) : Type 0 where
 -- a commit that the hidden ones reach isn't read, for this cause
 abbrev pub StopsPainting : Type 0 → Type 0 → List Row → Table → List ObjectId → FetchError → Type 0
 StopsPainting honest may_fail rows table hidden error =
-    (id : ObjectId) × FetchFault honest may_fail rows table id error × (honest → (g : Commits ObjectId) → AreTold rows table g → ReachedFrom g hidden id)
+    (id : ObjectId) × FetchFault honest may_fail rows table id error
+    × (honest → (g : Commits ObjectId) → AreTold rows table g → ReachedFrom g hidden id)
 
 abbrev pub PaintFault : Type 0 → Type 0 → List Row → Table → List ObjectId → FetchError → Type 0
-PaintFault honest may_fail rows table hidden (fault.Find error) = StopsPainting honest may_fail rows table hidden (fault.Find error)
-PaintFault honest may_fail rows table hidden (fault.ObjectDecode error) = StopsPainting honest may_fail rows table hidden (fault.ObjectDecode error)
+PaintFault honest may_fail rows table hidden (fault.Find error) =
+    StopsPainting honest may_fail rows table hidden (fault.Find error)
+PaintFault honest may_fail rows table hidden (fault.ObjectDecode error) =
+    StopsPainting honest may_fail rows table hidden (fault.ObjectDecode error)
 PaintFault honest may_fail rows table hidden fault.Memory = ⊤

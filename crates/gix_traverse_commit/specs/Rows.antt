@@ -29,7 +29,8 @@ LacksParent rows row p = Contains row.parents.items p × (¬ Holds rows p)
 -- of the generations of these commits' rows the greatest, and 0 of none
 pub record IsGreatest (rows : List Row) (ids : List ObjectId) (n : ℕ) : Type 0 where
   pub none_above : (s : Row) → Contains rows s → Contains ids s.id → s.generation ≤ n
-  pub attained : ((ids ≡ []) × (n ≡ 0)) ⊎ ((s : Row) × Contains rows s × Contains ids s.id × (s.generation ≡ n))
+  pub attained : ((ids ≡ []) × (n ≡ 0))
+      ⊎ ((s : Row) × Contains rows s × Contains ids s.id × (s.generation ≡ n))
 
 -- the generation of a row: 1 without parents, else one more than the parents' greatest, up to the limit
 pub record HasGeneration (rows : List Row) (row : Row) : Type 0 where
@@ -46,8 +47,12 @@ pub record AreRows (rows : List Row) : Type 0 where
 
 -- why rows make no graph
 abbrev pub IsRowsFault : List Row → RowsError → Type 0
-IsRowsFault rows (Twice id) = (j : ℕ) × (k : ℕ) × (r : Row) × (s : Row) × (j < k) × At rows j r × At rows k s × (r.id ≡ id) × (s.id ≡ id)
-IsRowsFault rows (MissingParent id p) = IsOnce rows × ((row : Row) × Contains rows row × (row.id ≡ id) × LacksParent rows row p)
-IsRowsFault rows (BadGeneration id) = IsOnce rows × ((r : Row) → Contains rows r → HasParents rows r)
+IsRowsFault rows (Twice id) =
+    (j : ℕ) × (k : ℕ) × (r : Row) × (s : Row) × (j < k) × At rows j r × At rows k s × (r.id ≡ id)
+    × (s.id ≡ id)
+IsRowsFault rows (MissingParent id p) =
+    IsOnce rows × ((row : Row) × Contains rows row × (row.id ≡ id) × LacksParent rows row p)
+IsRowsFault rows (BadGeneration id) =
+    IsOnce rows × ((r : Row) → Contains rows r → HasParents rows r)
     × ((row : Row) × Contains rows row × (row.id ≡ id) × (¬ HasGeneration rows row))
 IsRowsFault rows Memory = ⊤

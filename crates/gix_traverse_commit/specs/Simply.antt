@@ -79,7 +79,8 @@ times_queued walk id = times_in walk.known.queue id + times_waiting (turns_of wa
 
 -- no commit may come more often than before
 abbrev pub GainsNone : {F P : Type 0} → Simple F P → Simple F P → Type 0
-GainsNone before after = NoneGains before.known.nodes (times_queued before) after.known.nodes (times_queued after)
+GainsNone before after =
+    NoneGains before.known.nodes (times_queued before) after.known.nodes (times_queued after)
 
 -- the ids of the rows, and these
 abbrev pub known_ids : List Row → List Id → List Id
@@ -88,7 +89,9 @@ known_ids rows ids = map (λ (row : Row). id_of row.id) rows ++ ids
 -- what is left of a walk, of the ids of its rows and these: each once where it isn't met, and as often as it is queued or waits. An id
 -- that is a row's and one of these as well counts twice
 abbrev pub left_of : {F P : Type 0} → List Id → Simple F P → ℕ
-left_of ids walk = sum_by (may_come walk.known.nodes (times_queued walk)) (known_ids (rows_of walk.source.rows) ids)
+left_of ids walk =
+    sum_by (may_come walk.known.nodes (times_queued walk))
+    (known_ids (rows_of walk.source.rows) ids)
 
 -- ---- what it is asked for
 
@@ -106,7 +109,16 @@ timing a = timing_of a.parents a.sorting
 
 -- the same in the words of all walks
 abbrev pub request_in : Option Timing → Asked → WalkRequest ObjectId
-request_in t a = record { tips = a.tips; hidden = a.hidden; parents = a.parents; since = cutoff_in t; accepts = λ x. a.accepts (id_of x) }
+request_in t a =
+    record {
+      tips =
+          a.tips;
+      hidden =
+          a.hidden;
+      parents = a.parents;
+      since = cutoff_in t;
+      accepts = λ x. a.accepts (id_of x);
+    }
 
 -- the list is what the walk is asked for
 abbrev pub Answers : Commits ObjectId → Asked → List ObjectId → Type 0
@@ -117,16 +129,20 @@ abbrev pub IsSure : Type 0 → Asked → Type 0
 IsSure may_fail a = (timing a ≡ None) ⊎ (¬ may_fail)
 
 -- the tips that are refused are marked, and of the others only what is refused; nothing is painted
-pub record AreRefused (accepts : Id → Bool) (tips : List ObjectId) (nodes : List Node) : Type 0 where
+pub record AreRefused (accepts : Id → Bool) (tips : List ObjectId)
+    (nodes : List Node) : Type 0 where
   pub refused : (x : ObjectId) → is_met nodes x ≡ true → accepts (id_of x) ≡ false
-  pub accepted : (x : ObjectId) → Contains tips x → is_met nodes x ≡ false → accepts (id_of x) ≡ true
+  pub accepted : (x : ObjectId) → Contains tips x → is_met nodes x ≡ false
+      → accepts (id_of x) ≡ true
   pub unpainted : IsUnpainted nodes
 
 -- the same, where the predicate was asked of these tips
 pub record AreAsked (accepts : Id → Bool) (tips : List ObjectId) (nodes : List Node) : Type 0 where
   pub refused : (x : ObjectId) → is_met nodes x ≡ true → accepts (id_of x) ≡ false
-  pub accepted : (x : ObjectId) → Contains tips x → is_met nodes x ≡ false → accepts (id_of x) ≡ true
-  pub asked : (x : ObjectId) → is_asked nodes x ≡ true → is_met nodes x ≡ false → accepts (id_of x) ≡ true
+  pub accepted : (x : ObjectId) → Contains tips x → is_met nodes x ≡ false
+      → accepts (id_of x) ≡ true
+  pub asked : (x : ObjectId) → is_asked nodes x ≡ true → is_met nodes x ≡ false
+      → accepts (id_of x) ≡ true
   pub unpainted : IsUnpainted nodes
 
 -- the walk goes to no commit that the predicate refuses, and of those that weren't met to each that it accepts
@@ -139,7 +155,8 @@ abbrev pub IsKnown : List Row → List Id → ObjectId → Type 0
 IsKnown rows ids x = Holds rows x ⊎ Contains ids (id_of x)
 
 -- a walk that has not begun, from these tips
-pub record IsNew {F P : Type 0} (accepts : P → Id → Bool) (a : Asked) (walk : Simple F P) : Type 0 where
+pub record IsNew {F P : Type 0} (accepts : P → Id → Bool) (a : Asked)
+    (walk : Simple F P) : Type 0 where
   pub begun : walk.begun ≡ false
   pub tips : walk.tips.items ≡ a.tips
   pub hidden : walk.hidden.items ≡ a.hidden
@@ -151,7 +168,8 @@ pub record IsNew {F P : Type 0} (accepts : P → Id → Bool) (a : Asked) (walk 
   pub none_waits : turns_of walk.known ≡ []
 
 -- a walk that begins anew, from what is queued: it goes to no other commit that was met before
-pub record IsTurned {F P : Type 0} (accepts : P → Id → Bool) (a : Asked) (walk : Simple F P) : Type 0 where
+pub record IsTurned {F P : Type 0} (accepts : P → Id → Bool) (a : Asked)
+    (walk : Simple F P) : Type 0 where
   pub begun : walk.begun ≡ false
   pub no_tips : walk.tips.items ≡ []
   pub queued : queued_in walk ≡ a.tips
@@ -161,21 +179,24 @@ pub record IsTurned {F P : Type 0} (accepts : P → Id → Bool) (a : Asked) (wa
   pub sorting : walk.sorting ≡ a.sorting
   pub accepts_as : AcceptsAs (accepts walk.predicate) walk.known.nodes a
   pub accepted : (x : ObjectId) → Contains a.tips x → a.accepts (id_of x) ≡ true
-  pub refused : (x : ObjectId) → is_met walk.known.nodes x ≡ true → (¬ Contains a.tips x) → a.accepts (id_of x) ≡ false
+  pub refused : (x : ObjectId) → is_met walk.known.nodes x ≡ true → (¬ Contains a.tips x)
+      → a.accepts (id_of x) ≡ false
 
 -- a walk that was asked for this, and has not begun, or begins anew
 abbrev pub IsMade : {F P : Type 0} → (P → Id → Bool) → Asked → Simple F P → Type 0
 IsMade accepts a walk = IsNew accepts a walk ⊎ IsTurned accepts a walk
 
 -- a walk that was asked for this, with its hidden commits painted
-pub record IsPaintedFor {F P : Type 0} (accepts : P → Id → Bool) (g : Commits ObjectId) (a : Asked) (walk : Simple F P) : Type 0 where
+pub record IsPaintedFor {F P : Type 0} (accepts : P → Id → Bool) (g : Commits ObjectId)
+    (a : Asked) (walk : Simple F P) : Type 0 where
   pub tips : walk.tips.items ≡ a.tips
   pub hidden : walk.hidden.items ≡ a.hidden
   pub parents : walk.parents ≡ a.parents
   pub sorting : walk.sorting ≡ a.sorting
   pub accepts_as : AcceptsAs (accepts walk.predicate) walk.known.nodes a
   pub refused : (x : ObjectId) → is_met walk.known.nodes x ≡ true → a.accepts (id_of x) ≡ false
-  pub accepted : (x : ObjectId) → Contains a.tips x → is_met walk.known.nodes x ≡ false → a.accepts (id_of x) ≡ true
+  pub accepted : (x : ObjectId) → Contains a.tips x → is_met walk.known.nodes x ≡ false
+      → a.accepts (id_of x) ≡ true
   pub painted : (x : ObjectId) → (is_hidden walk.known.nodes x ≡ true) ↔ ReachedFrom g a.hidden x
   pub empty : walk.known.queue ≡ []
   pub none_waits : turns_of walk.known ≡ []
@@ -186,7 +207,8 @@ keep_of hides accepts x = not (hides x) && accepts (id_of x)
 
 -- a walk that has begun and given this list, of commits that have a row or are among these ids: the list with its queue has
 -- all that the list's parents name
-pub record IsGoing {F P : Type 0} (accepts : P → Id → Bool) (ids : List Id) (g : Commits ObjectId) (a : Asked) (listed : List ObjectId) (walk : Simple F P) : Type 0 where
+pub record IsGoing {F P : Type 0} (accepts : P → Id → Bool) (ids : List Id) (g : Commits ObjectId)
+    (a : Asked) (listed : List ObjectId) (walk : Simple F P) : Type 0 where
   pub begun : walk.begun ≡ true
   pub hidden_same : walk.hidden.items ≡ a.hidden
   pub parents : walk.parents ≡ a.parents
@@ -198,10 +220,12 @@ pub record IsGoing {F P : Type 0} (accepts : P → Id → Bool) (ids : List Id) 
   pub hidden : (x : ObjectId) → is_hidden walk.known.nodes x ≡ hides x
   pub painted : (x : ObjectId) → (hides x ≡ true) ↔ ReachedFrom g a.hidden x
   pub known : (x : ObjectId) → Contains listed x → IsKnown (rows_of walk.source.rows) ids x
-  pub walked : KeptAll (asked_parents a.parents g) a.tips (keep_of hides a.accepts) (is_met walk.known.nodes) (listed ++ walk.known.queue) (length listed)
+  pub walked : KeptAll (asked_parents a.parents g) a.tips (keep_of hides a.accepts)
+      (is_met walk.known.nodes) (listed ++ walk.known.queue) (length listed)
 
 -- the same of a walk by time: of what the list names, the commits that are kept are listed or wait
-pub record IsGoingByTime {F P : Type 0} (accepts : P → Id → Bool) (ids : List Id) (g : Commits ObjectId) (a : Asked) (listed : List ObjectId) (walk : Simple F P) : Type 0 where
+pub record IsGoingByTime {F P : Type 0} (accepts : P → Id → Bool) (ids : List Id)
+    (g : Commits ObjectId) (a : Asked) (listed : List ObjectId) (walk : Simple F P) : Type 0 where
   pub begun : walk.begun ≡ true
   pub hidden_same : walk.hidden.items ≡ a.hidden
   pub parents : walk.parents ≡ a.parents
@@ -214,16 +238,23 @@ pub record IsGoingByTime {F P : Type 0} (accepts : P → Id → Bool) (ids : Lis
   pub hidden : (x : ObjectId) → is_hidden walk.known.nodes x ≡ hides x
   pub painted : (x : ObjectId) → (hides x ≡ true) ↔ ReachedFrom g a.hidden x
   pub known : (x : ObjectId) → Contains listed x → IsKnown (rows_of walk.source.rows) ids x
-  pub met : IsMetSoFar g (keep_since by_time.since g hides a.accepts) (is_met walk.known.nodes) (IsOpen (asked_parents a.parents g) a.tips listed) listed (turns_of walk.known)
-  pub chosen : IsChosenSoFar (asked_parents a.parents g) a.tips (keep_since by_time.since g hides a.accepts) (ComesFirst by_time.order (λ x. (g x).time)) listed
+  pub met : IsMetSoFar g (keep_since by_time.since g hides a.accepts) (is_met walk.known.nodes)
+      (IsOpen (asked_parents a.parents g) a.tips listed) listed (turns_of walk.known)
+  pub chosen : IsChosenSoFar (asked_parents a.parents g) a.tips
+      (keep_since by_time.since g hides a.accepts)
+      (ComesFirst by_time.order (λ x. (g x).time)) listed
 
 -- a walk that has begun and given this list
-abbrev pub IsUnderWay : {F P : Type 0} → (P → Id → Bool) → List Id → Commits ObjectId → Asked → List ObjectId → Simple F P → Type 0
-IsUnderWay accepts ids g a listed walk = IsGoing accepts ids g a listed walk ⊎ IsGoingByTime accepts ids g a listed walk
+abbrev pub IsUnderWay : {F P : Type 0} → (P → Id → Bool) → List Id → Commits ObjectId → Asked
+    → List ObjectId → Simple F P → Type 0
+IsUnderWay accepts ids g a listed walk =
+    IsGoing accepts ids g a listed walk ⊎ IsGoingByTime accepts ids g a listed walk
 
 -- a walk that was asked for this and has given this list
-abbrev pub Stands : {F P : Type 0} → (P → Id → Bool) → List Id → Commits ObjectId → Asked → List ObjectId → Simple F P → Type 0
-Stands accepts ids g a listed walk = ((listed ≡ []) × IsMade accepts a walk) ⊎ IsUnderWay accepts ids g a listed walk
+abbrev pub Stands : {F P : Type 0} → (P → Id → Bool) → List Id → Commits ObjectId → Asked
+    → List ObjectId → Simple F P → Type 0
+Stands accepts ids g a listed walk =
+    ((listed ≡ []) × IsMade accepts a walk) ⊎ IsUnderWay accepts ids g a listed walk
 
 -- it gives nothing more
 pub record IsOver {F P : Type 0} (walk : Simple F P) : Type 0 where
@@ -246,10 +277,13 @@ pub record IsRest {F P : Type 0} (a rest : Asked) (walk : Simple F P) : Type 0 w
   pub hidden : rest.hidden ≡ a.hidden
   pub parents : rest.parents ≡ a.parents
   pub sorting : rest.sorting ≡ a.sorting
-  pub accepts : (x : ObjectId) → (rest.accepts (id_of x) ≡ true) ↔ ((a.accepts (id_of x) ≡ true) × (Contains rest.tips x ⊎ (¬ HasMet walk x)))
+  pub accepts : (x : ObjectId)
+      → (rest.accepts (id_of x) ≡ true)
+      ↔ ((a.accepts (id_of x) ≡ true) × (Contains rest.tips x ⊎ (¬ HasMet walk x)))
 
 -- a walk that has begun and isn't over, of which this is left
-pub record IsUnderWayTo {F P : Type 0} (accepts : P → Id → Bool) (rest : Asked) (walk : Simple F P) : Type 0 where
+pub record IsUnderWayTo {F P : Type 0} (accepts : P → Id → Bool) (rest : Asked)
+    (walk : Simple F P) : Type 0 where
   pub ids : List Id
   pub g : Commits ObjectId
   pub a : Asked
@@ -263,7 +297,8 @@ abbrev pub HasAhead : {F P : Type 0} → (P → Id → Bool) → Asked → Simpl
 HasAhead accepts a walk = IsMade accepts a walk ⊎ IsUnderWayTo accepts a walk
 
 -- it comes to the parents of this commit, which it gives next
-pub record Enters {F P : Type 0} (accepts : P → Id → Bool) (ids : List Id) (g : Commits ObjectId) (a : Asked) (listed : List ObjectId) (id : ObjectId) (walk : Simple F P) : Type 0 where
+pub record Enters {F P : Type 0} (accepts : P → Id → Bool) (ids : List Id) (g : Commits ObjectId)
+    (a : Asked) (listed : List ObjectId) (id : ObjectId) (walk : Simple F P) : Type 0 where
   pub begun : walk.begun ≡ true
   pub hidden_same : walk.hidden.items ≡ a.hidden
   pub parents : walk.parents ≡ a.parents
@@ -275,11 +310,15 @@ pub record Enters {F P : Type 0} (accepts : P → Id → Bool) (ids : List Id) (
   pub hidden : (x : ObjectId) → is_hidden walk.known.nodes x ≡ hides x
   pub painted : (x : ObjectId) → (hides x ≡ true) ↔ ReachedFrom g a.hidden x
   pub known : (x : ObjectId) → Contains listed x → IsKnown (rows_of walk.source.rows) ids x
-  pub walked : Kept (asked_parents a.parents g) a.tips (keep_of hides a.accepts) (is_met walk.known.nodes) ((listed ++ id ∷ []) ++ walk.known.queue) (length (listed ++ id ∷ [])) 0
+  pub walked : Kept (asked_parents a.parents g) a.tips (keep_of hides a.accepts)
+      (is_met walk.known.nodes) ((listed ++ id ∷ []) ++ walk.known.queue)
+      (length (listed ++ id ∷ [])) 0
   pub reads : Reads ((listed ++ id ∷ []) ++ walk.known.queue) (length (listed ++ id ∷ [])) id
 
 -- the same in a walk by time
-pub record EntersByTime {F P : Type 0} (accepts : P → Id → Bool) (ids : List Id) (g : Commits ObjectId) (a : Asked) (listed : List ObjectId) (id : ObjectId) (walk : Simple F P) : Type 0 where
+pub record EntersByTime {F P : Type 0} (accepts : P → Id → Bool) (ids : List Id)
+    (g : Commits ObjectId) (a : Asked) (listed : List ObjectId) (id : ObjectId)
+    (walk : Simple F P) : Type 0 where
   pub begun : walk.begun ≡ true
   pub hidden_same : walk.hidden.items ≡ a.hidden
   pub parents : walk.parents ≡ a.parents
@@ -292,12 +331,17 @@ pub record EntersByTime {F P : Type 0} (accepts : P → Id → Bool) (ids : List
   pub hidden : (x : ObjectId) → is_hidden walk.known.nodes x ≡ hides x
   pub painted : (x : ObjectId) → (hides x ≡ true) ↔ ReachedFrom g a.hidden x
   pub known : (x : ObjectId) → Contains listed x → IsKnown (rows_of walk.source.rows) ids x
-  pub met : IsMetSoFar g (keep_since by_time.since g hides a.accepts) (is_met walk.known.nodes) (IsOpen (asked_parents a.parents g) a.tips listed) (listed ++ id ∷ []) (turns_of walk.known)
-  pub chosen : IsChosenSoFar (asked_parents a.parents g) a.tips (keep_since by_time.since g hides a.accepts) (ComesFirst by_time.order (λ x. (g x).time)) (listed ++ id ∷ [])
+  pub met : IsMetSoFar g (keep_since by_time.since g hides a.accepts) (is_met walk.known.nodes)
+      (IsOpen (asked_parents a.parents g) a.tips listed) (listed ++ id ∷ []) (turns_of walk.known)
+  pub chosen : IsChosenSoFar (asked_parents a.parents g) a.tips
+      (keep_since by_time.since g hides a.accepts) (ComesFirst by_time.order (λ x. (g x).time))
+      (listed ++ id ∷ [])
 
 -- it gives this commit next
-abbrev pub IsAtTurn : {F P : Type 0} → (P → Id → Bool) → List Id → Commits ObjectId → Asked → List ObjectId → ObjectId → Simple F P → Type 0
-IsAtTurn accepts ids g a listed id walk = Enters accepts ids g a listed id walk ⊎ EntersByTime accepts ids g a listed id walk
+abbrev pub IsAtTurn : {F P : Type 0} → (P → Id → Bool) → List Id → Commits ObjectId → Asked
+    → List ObjectId → ObjectId → Simple F P → Type 0
+IsAtTurn accepts ids g a listed id walk =
+    Enters accepts ids g a listed id walk ⊎ EntersByTime accepts ids g a listed id walk
 
 -- the commit's time, where the walk goes by time
 abbrev pub IsTime : Option Timing → Commit ObjectId → Option ℤ → Type 0
@@ -305,7 +349,8 @@ IsTime None commit time = time ≡ None
 IsTime (Some _) commit time = time ≡ Some commit.time
 
 -- what is given of a commit
-pub record IsInfo (g : Commits ObjectId) (rows : List Row) (parents : Parents) (sorting : Sorting) (info : Info) : Type 0 where
+pub record IsInfo (g : Commits ObjectId) (rows : List Row) (parents : Parents) (sorting : Sorting)
+    (info : Info) : Type 0 where
   pub parents_asked : info.parent_ids.items ≡ asked_parents parents g info.id
   pub by_row : HasRowsGeneration rows info.id info.generation
   pub timed : IsTime (timing_of parents sorting) (g info.id) info.commit_time
@@ -322,21 +367,30 @@ hidden_error fetch.Memory = fault.Memory
 
 -- a commit whose turn it is isn't read, for this cause
 abbrev pub StopsAt : (ObjectId → Type 0) → Type 0 → Type 0 → List Row → Table → FetchError → Type 0
-StopsAt Turn honest may_fail rows table error = (id : ObjectId) × Turn id × FetchFault honest may_fail rows table id error
+StopsAt Turn honest may_fail rows table error =
+    (id : ObjectId) × Turn id × FetchFault honest may_fail rows table id error
 
 -- this commit isn't read, for this cause
 abbrev pub StopsFetch : Type 0 → Type 0 → List Row → Table → ObjectId → Error → Type 0
-StopsFetch honest may_fail rows table id (fault.Find error) = FetchFault honest may_fail rows table id (fetch.Find error)
-StopsFetch honest may_fail rows table id (fault.ObjectDecode error) = FetchFault honest may_fail rows table id (fetch.ObjectDecode error)
+StopsFetch honest may_fail rows table id (fault.Find error) =
+    FetchFault honest may_fail rows table id (fetch.Find error)
+StopsFetch honest may_fail rows table id (fault.ObjectDecode error) =
+    FetchFault honest may_fail rows table id (fetch.ObjectDecode error)
 StopsFetch honest may_fail rows table id (fault.HiddenGraph error) = ⊥
 StopsFetch honest may_fail rows table id fault.Memory = ⊤
 
 -- why the walk ends: a commit whose turn it is, or one that the hidden commits reach, isn't read
-abbrev pub SimpleFault : (ObjectId → Type 0) → Type 0 → Type 0 → List Row → Table → List ObjectId → Error → Type 0
-SimpleFault Turn honest may_fail rows table hidden (fault.Find error) = StopsAt Turn honest may_fail rows table (fetch.Find error)
-SimpleFault Turn honest may_fail rows table hidden (fault.ObjectDecode error) = StopsAt Turn honest may_fail rows table (fetch.ObjectDecode error)
-SimpleFault Turn honest may_fail rows table hidden (fault.HiddenGraph (hidden_fault.Find error)) = StopsPainting honest may_fail rows table hidden (fetch.Find error)
-SimpleFault Turn honest may_fail rows table hidden (fault.HiddenGraph (hidden_fault.ObjectDecode error)) = StopsPainting honest may_fail rows table hidden (fetch.ObjectDecode error)
+abbrev pub SimpleFault : (ObjectId → Type 0) → Type 0 → Type 0 → List Row → Table → List ObjectId
+    → Error → Type 0
+SimpleFault Turn honest may_fail rows table hidden (fault.Find error) =
+    StopsAt Turn honest may_fail rows table (fetch.Find error)
+SimpleFault Turn honest may_fail rows table hidden (fault.ObjectDecode error) =
+    StopsAt Turn honest may_fail rows table (fetch.ObjectDecode error)
+SimpleFault Turn honest may_fail rows table hidden (fault.HiddenGraph (hidden_fault.Find error)) =
+    StopsPainting honest may_fail rows table hidden (fetch.Find error)
+SimpleFault Turn honest may_fail rows table hidden
+    (fault.HiddenGraph (hidden_fault.ObjectDecode error)) =
+    StopsPainting honest may_fail rows table hidden (fetch.ObjectDecode error)
 SimpleFault Turn honest may_fail rows table hidden fault.Memory = ⊤
 
 -- its turn is next
@@ -344,18 +398,23 @@ abbrev pub IsTurn : Commits ObjectId → Asked → List ObjectId → ObjectId �
 IsTurn g a listed id = IsNextIn (timing a) g (request_in (timing a) a) listed id
 
 -- the first of the wanted tips whose time isn't read, for this cause
-pub record IsFirstUnread (honest may_fail : Type 0) (rows : List Row) (table : Table) (tips : List ObjectId) (wanted : ObjectId → Type 0) (error : FetchError) : Type 0 where
+pub record IsFirstUnread (honest may_fail : Type 0) (rows : List Row) (table : Table)
+    (tips : List ObjectId) (wanted : ObjectId → Type 0) (error : FetchError) : Type 0 where
   pub id : ObjectId
   pub place : ℕ
   pub at : At tips place id
   pub is_wanted : wanted id
   pub cause : TimeFault honest may_fail rows table id error
-  pub before : honest → (x : ObjectId) → Contains (take place tips) x → wanted x → TimeIsTold rows table x
+  pub before : honest → (x : ObjectId) → Contains (take place tips) x → wanted x
+      → TimeIsTold rows table x
 
 -- why the time of one of these tips isn't read
-abbrev pub TipFault : Type 0 → Type 0 → List Row → Table → List ObjectId → (ObjectId → Type 0) → Error → Type 0
-TipFault honest may_fail rows table tips wanted (fault.Find error) = IsFirstUnread honest may_fail rows table tips wanted (fetch.Find error)
-TipFault honest may_fail rows table tips wanted (fault.ObjectDecode error) = IsFirstUnread honest may_fail rows table tips wanted (fetch.ObjectDecode error)
+abbrev pub TipFault : Type 0 → Type 0 → List Row → Table → List ObjectId → (ObjectId → Type 0)
+    → Error → Type 0
+TipFault honest may_fail rows table tips wanted (fault.Find error) =
+    IsFirstUnread honest may_fail rows table tips wanted (fetch.Find error)
+TipFault honest may_fail rows table tips wanted (fault.ObjectDecode error) =
+    IsFirstUnread honest may_fail rows table tips wanted (fetch.ObjectDecode error)
 TipFault honest may_fail rows table tips wanted (fault.HiddenGraph error) = ⊥
 TipFault honest may_fail rows table tips wanted fault.Memory = ⊤
 
@@ -365,7 +424,9 @@ IsUnmet nodes x = is_met nodes x ≡ false
 
 -- of the tips before this place the times are told
 abbrev pub IsReadBefore : Type 0 → List Row → Table → List Node → List ObjectId → ℕ → Type 0
-IsReadBefore honest rows table nodes tips place = honest → (x : ObjectId) → Contains (take place tips) x → IsUnmet nodes x → TimeIsTold rows table x
+IsReadBefore honest rows table nodes tips place =
+    honest → (x : ObjectId) → Contains (take place tips) x → IsUnmet nodes x
+    → TimeIsTold rows table x
 
 -- the predicate accepts the commit
 abbrev pub IsAccepted : Asked → ObjectId → Type 0
@@ -379,17 +440,20 @@ pub record InRows {F P : Type 0} (walk : Simple F P) : Type 0 where
   pub waiting_rows : AllRowed (rows_of walk.source.rows) (turns_of walk.known)
 
 -- the content is the commit's where its object told it, and else nothing
-pub record IsContentOf (honest : Type 0) (rows : List Row) (table : Table) (id : ObjectId) (content : List ℕ) : Type 0 where
+pub record IsContentOf (honest : Type 0) (rows : List Row) (table : Table) (id : ObjectId)
+    (content : List ℕ) : Type 0 where
   pub rowed : Holds rows id → content ≡ []
   pub stored : honest → ¬ Holds rows id → object.Stands table (id_of id) kinds.Commit content
 
 -- a walk begins: all that is hidden was asked for, each commit once, and by time the tips that are accepted and not hidden, each
 -- once, for their times
-pub record CountsBeginning (honest : Type 0) (rows : List Row) (table : Table) (a : Asked) (before after : ℕ) : Type 0 where
+pub record CountsBeginning (honest : Type 0) (rows : List Row) (table : Table) (a : Asked)
+    (before after : ℕ) : Type 0 where
   pub painted : List ObjectId
   pub behind : ℕ
   pub each : CountsAll rows painted before behind
-  pub is_list : honest → (g : Commits ObjectId) → AreTold rows table g → IsListOf (ReachedFrom g a.hidden) painted
+  pub is_list : honest → (g : Commits ObjectId) → AreTold rows table g
+      → IsListOf (ReachedFrom g a.hidden) painted
   pub in_breadth : timing a ≡ None → after ≡ behind
   pub least : behind ≤ after
   pub most : after ≤ behind + length a.tips
@@ -406,7 +470,9 @@ pub record CountsUpTo (rows : List Row) (id : ObjectId) (more before after : ℕ
 
 -- a commit comes: it is asked for once, and its parents are met that were not met before and are not hidden; the predicate is asked
 -- of each of them once, and of no other commit, and by time those that it accepts are asked for, for their times
-pub record MeetsParents {P : Type 0} (accepts : P → Id → Bool) (goes : P → Id → P → Type 0) (rows : List Row) (nodes : List Node) (t : Option Timing) (info : Info) (before : P) (lookups : ℕ) (after : P) (lookups' : ℕ) : Type 0 where
+pub record MeetsParents {P : Type 0} (accepts : P → Id → Bool) (goes : P → Id → P → Type 0)
+    (rows : List Row) (nodes : List Node) (t : Option Timing) (info : Info) (before : P)
+    (lookups : ℕ) (after : P) (lookups' : ℕ) : Type 0 where
   pub met : List ObjectId
   pub are_met : IsListOf (IsFresh nodes info.parent_ids.items) met
   pub asked : Asks goes met before after
@@ -415,18 +481,27 @@ pub record MeetsParents {P : Type 0} (accepts : P → Id → Bool) (goes : P →
   pub times : CountsTimes t rows (accepted (accepts before) met) read lookups'
 
 -- a walk gives this commit so
-abbrev pub Meets : {F P : Type 0} → (P → Id → Bool) → (P → Id → P → Type 0) → List Row → Simple F P → Info → Simple F P → Type 0
-Meets accepts goes rows before info after = MeetsParents accepts goes rows before.known.nodes (timing_of before.parents before.sorting) info before.predicate before.source.lookups after.predicate after.source.lookups
+abbrev pub Meets : {F P : Type 0} → (P → Id → Bool) → (P → Id → P → Type 0) → List Row
+    → Simple F P → Info → Simple F P → Type 0
+Meets accepts goes rows before info after =
+    MeetsParents accepts goes rows before.known.nodes
+    (timing_of before.parents before.sorting) info before.predicate before.source.lookups after.predicate after.source.lookups
 
 -- the walk begins, for which the predicate isn't asked, and the first commit comes
-pub record CountsFirst {F P : Type 0} (accepts : P → Id → Bool) (goes : P → Id → P → Type 0) (honest may_fail : Type 0) (table : Table) (ids : List Id) (a : Asked) (before : Simple F P) (info : Info) (after : Simple F P) : Type 0 where
+pub record CountsFirst {F P : Type 0} (accepts : P → Id → Bool) (goes : P → Id → P → Type 0)
+    (honest may_fail : Type 0) (table : Table) (ids : List Id) (a : Asked) (before : Simple F P)
+    (info : Info) (after : Simple F P) : Type 0 where
   pub begun : Simple F P
-  pub under_way : honest → (g : Commits ObjectId) → AreTold (rows_of before.source.rows) table g → IsSure may_fail a → IsUnderWay accepts ids g a [] begun
+  pub under_way : honest → (g : Commits ObjectId) → AreTold (rows_of before.source.rows) table g
+      → IsSure may_fail a → IsUnderWay accepts ids g a [] begun
   pub unasked : begun.predicate ≡ before.predicate
-  pub beginning : CountsBeginning honest (rows_of before.source.rows) table a before.source.lookups begun.source.lookups
+  pub beginning : CountsBeginning honest
+      (rows_of before.source.rows) table a before.source.lookups begun.source.lookups
   pub meets : Meets accepts goes (rows_of before.source.rows) begun info after
-  pub one : timing a ≡ None → CountsOne (rows_of before.source.rows) info.id begun.source.lookups after.source.lookups
-  pub more : CountsUpTo (rows_of before.source.rows) info.id (length info.parent_ids.items) begun.source.lookups after.source.lookups
+  pub one : timing a ≡ None
+      → CountsOne (rows_of before.source.rows) info.id begun.source.lookups after.source.lookups
+  pub more : CountsUpTo (rows_of before.source.rows) info.id
+      (length info.parent_ids.items) begun.source.lookups after.source.lookups
 
 -- one object was asked for where a commit isn't read; where memory is wanting none that was counted is lost
 abbrev pub CountsFault : ℕ → ℕ → Error → Type 0
@@ -436,36 +511,77 @@ CountsFault before after (fault.HiddenGraph error) = ⊥
 CountsFault before after fault.Memory = before ≤ after
 
 -- what the next commit is, after this list
-pub record IsNext {F P : Type 0} (accepts : P → Id → Bool) (ids : List Id) (g : Commits ObjectId) (a : Asked) (listed : List ObjectId) (rows : List Row) (info : Info) (after : Simple F P) : Type 0 where
+pub record IsNext {F P : Type 0} (accepts : P → Id → Bool) (ids : List Id) (g : Commits ObjectId)
+    (a : Asked) (listed : List ObjectId) (rows : List Row) (info : Info)
+    (after : Simple F P) : Type 0 where
   pub told : IsInfo g rows a.parents a.sorting info
   pub fewer : length listed < length rows + length ids
   pub stands : IsUnderWay accepts ids g a (listed ++ info.id ∷ []) after
 
 -- the answer to one that asks a walk for its next commit, of a store that is honest, may fail, has this table and finds none but these ids
-pub record GivesNext {F P : Type 0} (accepts : P → Id → Bool) (goes : P → Id → P → Type 0) (honest may_fail : Type 0) (table : Table) (ids : List Id) (before : Simple F P) (item : Option (Result Info Error)) (after : Simple F P) : Type 0 where
+pub record GivesNext {F P : Type 0} (accepts : P → Id → Bool) (goes : P → Id → P → Type 0)
+    (honest may_fail : Type 0) (table : Table) (ids : List Id) (before : Simple F P)
+    (item : Option (Result Info Error)) (after : Simple F P) : Type 0 where
   pub objects : after.source.objects ≡ before.source.objects
   pub rows : after.source.rows ≡ before.source.rows
-  pub given : honest → (g : Commits ObjectId) → AreTold (rows_of before.source.rows) table g → (a : Asked) (listed : List ObjectId) → IsSure may_fail a → Stands accepts ids g a listed before
-      → IfSome item (λ answer. IfOk answer (λ info. IsNext accepts ids g a listed (rows_of before.source.rows) info after))
-  pub end : honest → (g : Commits ObjectId) → AreTold (rows_of before.source.rows) table g → (a : Asked) (listed : List ObjectId) → IsSure may_fail a → Stands accepts ids g a listed before
+  pub given : honest → (g : Commits ObjectId) → AreTold (rows_of before.source.rows) table g
+      → (a : Asked) (listed : List ObjectId) → IsSure may_fail a
+      → Stands accepts ids g a listed before
+      → IfSome item
+      (λ answer. IfOk answer
+      (λ info. IsNext accepts ids g a listed (rows_of before.source.rows) info after))
+  pub end : honest → (g : Commits ObjectId) → AreTold (rows_of before.source.rows) table g
+      → (a : Asked) (listed : List ObjectId) → IsSure may_fail a
+      → Stands accepts ids g a listed before
       → IfNone item (Answers g a listed)
-  pub refused : honest → (g : Commits ObjectId) → AreTold (rows_of before.source.rows) table g → (a : Asked) (listed : List ObjectId) → IsSure may_fail a → Stands accepts ids g a listed before
-      → IfSome item (λ answer. IfErr answer (SimpleFault (IsTurn g a listed) honest may_fail (rows_of before.source.rows) table a.hidden))
+  pub refused : honest → (g : Commits ObjectId) → AreTold (rows_of before.source.rows) table g
+      → (a : Asked) (listed : List ObjectId) → IsSure may_fail a
+      → Stands accepts ids g a listed before
+      → IfSome item
+      (λ answer. IfErr answer
+      (SimpleFault (IsTurn g a listed) honest may_fail
+      (rows_of before.source.rows) table a.hidden))
   pub failed : IfSome item (λ answer. OnErr answer (IsOver after))
   pub ended : IsOver before → IsNone item
-  pub content : IfSome item (λ answer. IfOk answer (λ info. IsContentOf honest (rows_of before.source.rows) table info.id after.source.buffer.items × (after.kind ≡ (id_of info.id).kind)))
-  pub counted : before.begun ≡ true → timing_of before.parents before.sorting ≡ None → after.source.lookups ≤ before.source.lookups + 1
-  pub counted_one : before.begun ≡ true → timing_of before.parents before.sorting ≡ None → IfSome item (λ answer. IfOk answer (λ info. CountsOne (rows_of before.source.rows) info.id before.source.lookups after.source.lookups))
-  pub counted_by_time : before.begun ≡ true → IfSome item (λ answer. IfOk answer (λ info. CountsUpTo (rows_of before.source.rows) info.id (length info.parent_ids.items) before.source.lookups after.source.lookups))
-  pub rowed : InRows before → IfSome item (λ answer. IfOk answer (λ _. InRows after × (after.source.lookups ≡ before.source.lookups)))
-  pub meets : before.begun ≡ true → IfSome item (λ answer. IfOk answer (λ info. Meets accepts goes (rows_of before.source.rows) before info after))
+  pub content : IfSome item
+      (λ answer. IfOk answer
+      (λ info. IsContentOf honest
+      (rows_of before.source.rows) table info.id after.source.buffer.items
+      × (after.kind ≡ (id_of info.id).kind)))
+  pub counted : before.begun ≡ true → timing_of before.parents before.sorting ≡ None
+      → after.source.lookups ≤ before.source.lookups + 1
+  pub counted_one : before.begun ≡ true → timing_of before.parents before.sorting ≡ None
+      → IfSome item
+      (λ answer. IfOk answer
+      (λ info. CountsOne
+      (rows_of before.source.rows) info.id before.source.lookups after.source.lookups))
+  pub counted_by_time : before.begun ≡ true
+      → IfSome item
+      (λ answer. IfOk answer
+      (λ info. CountsUpTo (rows_of before.source.rows) info.id
+      (length info.parent_ids.items) before.source.lookups after.source.lookups))
+  pub rowed : InRows before
+      → IfSome item
+      (λ answer. IfOk answer (λ _. InRows after × (after.source.lookups ≡ before.source.lookups)))
+  pub meets : before.begun ≡ true
+      → IfSome item
+      (λ answer. IfOk answer
+      (λ info. Meets accepts goes (rows_of before.source.rows) before info after))
   pub unasked : IfNone item (after.predicate ≡ before.predicate)
   pub over : IfNone item (IsOver after)
   pub content_end : IfNone item (after.source.buffer.items ≡ before.source.buffer.items)
   pub content_fault : IfSome item (λ answer. OnErr answer (after.source.buffer.items ≡ []))
   pub counted_end : before.begun ≡ true → IfNone item (after.source.lookups ≡ before.source.lookups)
-  pub counted_fault : before.begun ≡ true → IfSome item (λ answer. IfErr answer (CountsFault before.source.lookups after.source.lookups))
+  pub counted_fault : before.begun ≡ true
+      → IfSome item
+      (λ answer. IfErr answer (CountsFault before.source.lookups after.source.lookups))
   pub rowed_end : InRows before → IfNone item (after.source.lookups ≡ before.source.lookups)
-  pub first : (a : Asked) → IsMade accepts a before → IfSome item (λ answer. IfOk answer (λ info. CountsFirst accepts goes honest may_fail table ids a before info after))
-  pub first_end : (a : Asked) → IsMade accepts a before → IfNone item (CountsBeginning honest (rows_of before.source.rows) table a before.source.lookups after.source.lookups)
+  pub first : (a : Asked) → IsMade accepts a before
+      → IfSome item
+      (λ answer. IfOk answer
+      (λ info. CountsFirst accepts goes honest may_fail table ids a before info after))
+  pub first_end : (a : Asked) → IsMade accepts a before
+      → IfNone item
+      (CountsBeginning honest
+      (rows_of before.source.rows) table a before.source.lookups after.source.lookups)
   pub falls : IfSome item (λ answer. OnOk answer (left_of ids after < left_of ids before))

@@ -18,7 +18,8 @@ abbrev pub timing_of : Parents → Sorting → Option Timing
 timing_of First sorting = None
 timing_of All BreadthFirst = None
 timing_of All (ByCommitTime order) = Some (record { order = order; since = None })
-timing_of All (ByCommitTimeCutoff order seconds) = Some (record { order = order; since = Some seconds })
+timing_of All (ByCommitTimeCutoff order seconds) =
+    Some (record { order = order; since = Some seconds })
 
 -- an order by time
 abbrev pub IsByTime : Sorting → Type 0
@@ -39,7 +40,8 @@ abbrev pub ComesFirst : {I : Type 0} → CommitTimeOrder → (I → ℤ) → Lis
 ComesFirst by.NewestFirst time = NewestFirst time
 ComesFirst by.OldestFirst time = OldestFirst time
 
-abbrev pub InTimeOrder : {I : Type 0} → CommitTimeOrder → Commits I → WalkRequest I → List I → Type 0
+abbrev pub InTimeOrder : {I : Type 0} → CommitTimeOrder → Commits I → WalkRequest I → List I
+    → Type 0
 InTimeOrder by.NewestFirst g q out = ByNewest g q out
 InTimeOrder by.OldestFirst g q out = ByOldest g q out
 
@@ -50,5 +52,8 @@ InOrder (Some timing) g q out = InTimeOrder timing.order g q out
 
 -- the commit may come next
 abbrev pub IsNextIn : {I : Type 0} → Option Timing → Commits I → WalkRequest I → List I → I → Type 0
-IsNextIn None g q listed x = IsNextInBreadth (asked_parents q.parents g) q.tips (Listed g q) listed x
-IsNextIn (Some timing) g q listed x = IsNextByTime (asked_parents q.parents g) q.tips (Listed g q) (ComesFirst timing.order (λ y. (g y).time)) listed x
+IsNextIn None g q listed x =
+    IsNextInBreadth (asked_parents q.parents g) q.tips (Listed g q) listed x
+IsNextIn (Some timing) g q listed x =
+    IsNextByTime (asked_parents q.parents g) q.tips (Listed g q)
+    (ComesFirst timing.order (λ y. (g y).time)) listed x

@@ -17,8 +17,10 @@ Joins so old turn new = (t : Turn) → Contains new t ↔ (((so ≡ true) × (t 
 
 -- its turn came: no other that waits is newer, or older
 abbrev pub IsTaken : CommitTimeOrder → List Turn → Turn → List Turn → Type 0
-IsTaken NewestFirst old turn new = (old ≡ new ++ turn ∷ []) × ((t : Turn) → Contains new t → (t.time ≤ℤ turn.time) × (t ≢ turn))
-IsTaken OldestFirst old turn new = (old ≡ turn ∷ new) × ((t : Turn) → Contains new t → (turn.time ≤ℤ t.time) × (t ≢ turn))
+IsTaken NewestFirst old turn new =
+    (old ≡ new ++ turn ∷ []) × ((t : Turn) → Contains new t → (t.time ≤ℤ turn.time) × (t ≢ turn))
+IsTaken OldestFirst old turn new =
+    (old ≡ turn ∷ new) × ((t : Turn) → Contains new t → (turn.time ≤ℤ t.time) × (t ≢ turn))
 
 -- the turn of a commit
 abbrev pub turn_of : Commits ObjectId → ObjectId → Turn
@@ -37,11 +39,14 @@ abbrev pub AllRowed : List Row → List Turn → Type 0
 AllRowed rows turns = (t : Turn) → Contains turns t → Holds rows t.id
 
 -- accepted, not hidden, and no older than the cutoff
-abbrev pub keep_since : Option ℤ → Commits ObjectId → (ObjectId → Bool) → (Id → Bool) → ObjectId → Bool
-keep_since since g hides accepts x = not (hides x) && (accepts (id_of x) && in_time since (g x).time)
+abbrev pub keep_since : Option ℤ → Commits ObjectId → (ObjectId → Bool) → (Id → Bool) → ObjectId
+    → Bool
+keep_since since g hides accepts x =
+    not (hides x) && (accepts (id_of x) && in_time since (g x).time)
 
 -- these were named so far, and of them those that are kept are listed or wait; what is met and kept is listed or waits
-pub record IsMetSoFar (g : Commits ObjectId) (keep has : ObjectId → Bool) (named : ObjectId → Type 0) (listed : List ObjectId) (turns : List Turn) : Type 0 where
+pub record IsMetSoFar (g : Commits ObjectId) (keep has : ObjectId → Bool)
+    (named : ObjectId → Type 0) (listed : List ObjectId) (turns : List Turn) : Type 0 where
   pub timed : (t : Turn) → Contains turns t → t.time ≡ (g t.id).time
   pub some : (x : ObjectId) → Waits turns x → (keep x ≡ true) × (¬ Contains listed x) × named x
   pub every : (x : ObjectId) → named x → keep x ≡ true → Contains listed x ⊎ Waits turns x
@@ -49,8 +54,12 @@ pub record IsMetSoFar (g : Commits ObjectId) (keep has : ObjectId → Bool) (nam
   pub known : (x : ObjectId) → Contains listed x ⊎ Waits turns x → has x ≡ true
 
 -- the list so far: each commit is reached and was open at its place, and may come before the others that were
-pub record IsChosenSoFar (along : ObjectId → List ObjectId) (tips : List ObjectId) (keep : ObjectId → Bool) (Comes : List ObjectId → ObjectId → ObjectId → Type 0) (listed : List ObjectId) : Type 0 where
+pub record IsChosenSoFar (along : ObjectId → List ObjectId) (tips : List ObjectId)
+    (keep : ObjectId → Bool) (Comes : List ObjectId → ObjectId → ObjectId → Type 0)
+    (listed : List ObjectId) : Type 0 where
   pub reached : (x : ObjectId) → Contains listed x → Reached along (λ y. IsTrue (keep y)) tips x
   pub once : (j k : ℕ) (x : ObjectId) → At listed j x → At listed k x → j ≡ k
   pub fit : (k : ℕ) (x : ObjectId) → At listed k x → IsOpen along tips (take k listed) x
-  pub chosen : (k : ℕ) (x y : ObjectId) → At listed k x → keep y ≡ true → ¬ Contains (take k listed) y → IsOpen along tips (take k listed) y → Comes (take k listed) x y
+  pub chosen : (k : ℕ) (x y : ObjectId) → At listed k x → keep y ≡ true
+      → ¬ Contains (take k listed) y → IsOpen along tips (take k listed) y
+      → Comes (take k listed) x y

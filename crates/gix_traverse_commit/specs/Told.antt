@@ -34,7 +34,9 @@ beyond_told part = Some part
 
 -- here a commit ends, or a part stands that is neither tree nor parent
 abbrev pub IsPastParents : Place → Type 0
-IsPastParents here = (here.input ≡ []) ⊎ ((part : Part) × (after : Place) × IsNext here part after × (beyond_told part ≡ Some part))
+IsPastParents here =
+    (here.input ≡ [])
+    ⊎ ((part : Part) × (after : Place) × IsNext here part after × (beyond_told part ≡ Some part))
 
 -- the lines from here to there are of trees and parents, and the parents are these
 pub record TellsFront (here : Place) (ids : List Id) (there : Place) : Type 0 where
@@ -59,9 +61,12 @@ abbrev pub LacksSeconds : Place → Type 0
 LacksSeconds here = (seconds : ℤ) → ¬ TellsSeconds here seconds
 
 -- an object of this content tells the commit; without a committer its time is 0
-pub record TellsCommit (kind : hash.Kind) (content : List ℕ) (commit : Commit ObjectId) : Type 0 where
-  pub parents : (ids : List Id) → TellsParents (start kind content) ids → map id_of commit.parents ≡ ids
-  pub first : (id : Id) → TellsFirst parent_told (start kind content) id → map id_of (take 1 commit.parents) ≡ id ∷ []
+pub record TellsCommit (kind : hash.Kind) (content : List ℕ)
+    (commit : Commit ObjectId) : Type 0 where
+  pub parents : (ids : List Id) → TellsParents (start kind content) ids
+      → map id_of commit.parents ≡ ids
+  pub first : (id : Id) → TellsFirst parent_told (start kind content) id
+      → map id_of (take 1 commit.parents) ≡ id ∷ []
   pub seconds : (seconds : ℤ) → TellsSeconds (start kind content) seconds → commit.time ≡ seconds
   pub no_seconds : LacksSeconds (start kind content) → commit.time ≡ pos 0
 
@@ -72,13 +77,17 @@ IsNoCommit table id = (content : List ℕ) → ¬ Stands table id kinds.Commit c
 -- the commits are those that the rows tell, and else those that the objects tell
 pub record AreTold (rows : List Row) (table : Table) (commits : Commits ObjectId) : Type 0 where
   pub rowed : (row : Row) → Contains rows row → commits row.id ≡ commit_of (Some row)
-  pub stored : (id : ObjectId) (content : List ℕ) → ¬ Holds rows id → Stands table (id_of id) kinds.Commit content → TellsCommit (id_of id).kind content (commits id)
-  pub missing : (id : ObjectId) → ¬ Holds rows id → IsNoCommit table (id_of id) → (commits id).time ≡ pos 0
+  pub stored : (id : ObjectId) (content : List ℕ) → ¬ Holds rows id
+      → Stands table (id_of id) kinds.Commit content
+      → TellsCommit (id_of id).kind content (commits id)
+  pub missing : (id : ObjectId) → ¬ Holds rows id → IsNoCommit table (id_of id)
+      → (commits id).time ≡ pos 0
 
 -- ---- a commit that was found
 
 abbrev pub TakesTreeOf : Either → Result ObjectId decode.Error → Type 0
-TakesTreeOf (either.CommitRefIter reader) result = (after : Place) × TakesTree (place_of reader) result after
+TakesTreeOf (either.CommitRefIter reader) result =
+    (after : Place) × TakesTree (place_of reader) result after
 TakesTreeOf (either.CachedCommit row) result = result ≡ Ok row.now.tree
 
 abbrev pub TellsTime : Either → ℤ → Type 0
@@ -92,4 +101,7 @@ LacksTime (either.CachedCommit row) error = ⊥
 -- its row where it has one, else a reader at the start of its object
 abbrev pub IsFound : List Row → Table → ObjectId → Either → Type 0
 IsFound rows table id (either.CachedCommit row) = Contains rows row.now × (row.now.id ≡ id)
-IsFound rows table id (either.CommitRefIter reader) = (¬ Holds rows id) × ((content : List ℕ) × Stands table (id_of id) kinds.Commit content × (place_of reader ≡ start (id_of id).kind content))
+IsFound rows table id (either.CommitRefIter reader) =
+    (¬ Holds rows id)
+    × ((content : List ℕ) × Stands table (id_of id) kinds.Commit content
+    × (place_of reader ≡ start (id_of id).kind content))

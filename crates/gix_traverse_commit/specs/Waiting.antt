@@ -25,7 +25,8 @@ pending_cmp a b = ordering_then (int_cmp a.time b.time) (nat_cmp a.number.0 b.nu
 
 -- of those that were queued, in their order, those that wait
 abbrev pub still_among : List Pending → List Pending → List Pending
-still_among waiting order = filter (λ (p : Pending). list_any (eq_by_cmp pending_cmp p) waiting) order
+still_among waiting order =
+    filter (λ (p : Pending). list_any (eq_by_cmp pending_cmp p) waiting) order
 
 -- those that wait, in the order in which they were queued
 abbrev pub queued_by : Waiting → List Pending
@@ -33,5 +34,6 @@ queued_by w = still_among (pendings w) w.order.items
 
 -- it was the last in the order, or the first
 abbrev pub IsFirst : CommitTimeOrder → List Pending → Pending → List Pending → Type 0
-IsFirst NewestFirst old pending new = (old ≡ new ++ pending ∷ []) × All (λ p. IsLtBy pending_cmp p pending) new
+IsFirst NewestFirst old pending new =
+    (old ≡ new ++ pending ∷ []) × All (λ p. IsLtBy pending_cmp p pending) new
 IsFirst OldestFirst old pending new = (old ≡ pending ∷ new) × All (IsLtBy pending_cmp pending) new

@@ -17,7 +17,8 @@ abbrev pub FinishedByDate : {I : Type 0} → Commits I → WalkRequest I → Lis
 FinishedByDate g q out = IsByDate (asked_parents q.parents g) (λ x. (g x).time) (Listed g q) out
 
 abbrev pub FinishedTopologically : {I : Type 0} → Commits I → WalkRequest I → List I → Type 0
-FinishedTopologically g q out = IsTopological (asked_parents q.parents g) q.tips (λ x. (g x).time) (Listed g q) out
+FinishedTopologically g q out =
+    IsTopological (asked_parents q.parents g) q.tips (λ x. (g x).time) (Listed g q) out
 
 -- the same walk, whose predicate stops it nowhere
 abbrev pub unfiltered : {I : Type 0} → WalkRequest I → WalkRequest I
@@ -25,10 +26,14 @@ unfiltered q = record q { accepts = λ _. true }
 
 -- in the walks by date and in topological order the predicate only filters what is finished
 abbrev pub InDate : {I : Type 0} → Commits I → WalkRequest I → List I → Type 0
-InDate {I} g q out = (finished : List I) × FinishedByDate g (unfiltered q) finished × (out ≡ filter q.accepts finished)
+InDate {I} g q out =
+    (finished : List I) × FinishedByDate g (unfiltered q) finished
+    × (out ≡ filter q.accepts finished)
 
 abbrev pub InTopological : {I : Type 0} → Commits I → WalkRequest I → List I → Type 0
-InTopological {I} g q out = (finished : List I) × FinishedTopologically g (unfiltered q) finished × (out ≡ filter q.accepts finished)
+InTopological {I} g q out =
+    (finished : List I) × FinishedTopologically g (unfiltered q) finished
+    × (out ≡ filter q.accepts finished)
 
 -- the list answers the walk in one of the five orders
 pub data InSomeOrder {I : Type 0} (g : Commits I) (q : WalkRequest I) (out : List I) : Type 0 where

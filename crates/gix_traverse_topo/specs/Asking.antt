@@ -18,7 +18,21 @@ pub record Asked (F P : Type 0) : Type 0 where
 
 -- what the builder was told so far
 abbrev pub asked_of : {F P : Type 0} → Builder F P → Asked F P
-asked_of builder = record { objects = builder.find; predicate = builder.predicate; tips = builder.tips.items; ends = builder.ends.items; sorting = builder.sorting; parents = builder.parents; graph = builder.rows }
+asked_of builder =
+    record {
+      objects =
+          builder.find;
+      predicate =
+          builder.predicate;
+      tips =
+          builder.tips.items;
+      ends =
+          builder.ends.items;
+      sorting =
+          builder.sorting;
+      parents = builder.parents;
+      graph = builder.rows;
+    }
 
 -- ---- what a clause says of a walk
 

@@ -15,28 +15,40 @@ use Rattle.gix_traverse_topo.specs.declared.known.Known.{Known}
 use Rattle.gix_traverse_topo.specs.declared.known.Reading.{Reading}
 
 -- all that the ends reach is read, and nothing else is known
-pub record IsPainted (honest may_fail : Type 0) (rows : List Row) (table : Table) (ends : List ObjectId) (known : Known) : Type 0 where
+pub record IsPainted (honest may_fail : Type 0) (rows : List Row) (table : Table)
+    (ends : List ObjectId) (known : Known) : Type 0 where
   pub once : IsOnce known.ids.keys
   pub all_read : length known.nodes.items ≡ length known.ids.keys
   pub all_hidden : known.hidden ≡ length known.ids.keys
-  pub read : (n : ℕ) (x : ObjectId) (reading : Reading) → At known.ids.keys n x → At (readings known.nodes.items) n reading → IsReading honest may_fail rows table x reading
-  pub no_fault : (n : ℕ) (reading : Reading) → At (readings known.nodes.items) n reading → reading.fault ≡ None
-  pub hides : (h : Commits ObjectId) → ParentsFrom 0 h known.ids.keys (readings known.nodes.items) → (x : ObjectId) → Contains known.ids.keys x ↔ ReachedFrom h ends x
+  pub read : (n : ℕ) (x : ObjectId) (reading : Reading) → At known.ids.keys n x
+      → At (readings known.nodes.items) n reading → IsReading honest may_fail rows table x reading
+  pub no_fault : (n : ℕ) (reading : Reading) → At (readings known.nodes.items) n reading
+      → reading.fault ≡ None
+  pub hides : (h : Commits ObjectId) → ParentsFrom 0 h known.ids.keys (readings known.nodes.items)
+      → (x : ObjectId) → Contains known.ids.keys x ↔ ReachedFrom h ends x
 
 -- behind those that the ends reach stand those that the tips reach past them, in breadth order, and names are counted
-pub record Numbers (h : Commits ObjectId) (tips ends : List ObjectId) (parents : Parents) (known : Known) : Type 0 where
+pub record Numbers (h : Commits ObjectId) (tips ends : List ObjectId) (parents : Parents)
+    (known : Known) : Type 0 where
   pub hs : List ObjectId
   pub xs : List ObjectId
   pub keys_are : known.ids.keys ≡ hs ++ xs
   pub hidden_are : known.hidden ≡ length hs
   pub hides : (x : ObjectId) → Contains hs x ↔ ReachedFrom h ends x
-  pub breadth : IsBreadthFirst (asked_parents parents h) tips (Reached (asked_parents parents h) (NotIn hs) tips) xs
-  pub counted : EachCount known.hidden known.ids.keys (counts known.nodes.items) (λ y count. count ≡ names_of same_id (asked_parents parents h) y xs)
+  pub breadth : IsBreadthFirst (asked_parents parents h) tips
+      (Reached (asked_parents parents h) (NotIn hs) tips) xs
+  pub counted : EachCount known.hidden known.ids.keys (counts known.nodes.items)
+      (λ y count. count ≡ names_of same_id (asked_parents parents h) y xs)
 
 -- all that a walk comes to is read and numbered; those that the ends reach are read without a fault
-pub record IsExplored (honest may_fail : Type 0) (rows : List Row) (table : Table) (tips ends : List ObjectId) (parents : Parents) (known : Known) : Type 0 where
+pub record IsExplored (honest may_fail : Type 0) (rows : List Row) (table : Table)
+    (tips ends : List ObjectId) (parents : Parents) (known : Known) : Type 0 where
   pub once : IsOnce known.ids.keys
   pub all_read : length known.nodes.items ≡ length known.ids.keys
-  pub read : (n : ℕ) (x : ObjectId) (reading : Reading) → At known.ids.keys n x → At (readings known.nodes.items) n reading → IsReading honest may_fail rows table x reading
-  pub no_fault : (n : ℕ) (reading : Reading) → n < known.hidden → At (readings known.nodes.items) n reading → reading.fault ≡ None
-  pub numbers : (h : Commits ObjectId) → ParentsFrom 0 h known.ids.keys (readings known.nodes.items) → Numbers h tips ends parents known
+  pub read : (n : ℕ) (x : ObjectId) (reading : Reading) → At known.ids.keys n x
+      → At (readings known.nodes.items) n reading → IsReading honest may_fail rows table x reading
+  pub no_fault : (n : ℕ) (reading : Reading) → n < known.hidden
+      → At (readings known.nodes.items) n reading → reading.fault ≡ None
+  pub numbers : (h : Commits ObjectId)
+      → ParentsFrom 0 h known.ids.keys (readings known.nodes.items)
+      → Numbers h tips ends parents known

@@ -21,16 +21,20 @@ error_of fetch.Memory = fault.Memory
 abbrev pub IsFaultOf : Type 0 → Type 0 → List Row → Table → ObjectId → Error → Type 0
 IsFaultOf honest may_fail rows table id fault.MissingIndegreeUnexpected = ⊥
 IsFaultOf honest may_fail rows table id fault.MissingStateUnexpected = ⊥
-IsFaultOf honest may_fail rows table id (fault.ObjectDecode error) = FetchFault honest may_fail rows table id (fetch.ObjectDecode error)
-IsFaultOf honest may_fail rows table id (fault.Find error) = FetchFault honest may_fail rows table id (fetch.Find error)
+IsFaultOf honest may_fail rows table id (fault.ObjectDecode error) =
+    FetchFault honest may_fail rows table id (fetch.ObjectDecode error)
+IsFaultOf honest may_fail rows table id (fault.Find error) =
+    FetchFault honest may_fail rows table id (fetch.Find error)
 IsFaultOf honest may_fail rows table id fault.Memory = ⊥
 
 -- a commit that the ends reach isn't read, for this cause
-pub record StopsAtEnds (honest may_fail : Type 0) (rows : List Row) (table : Table) (ends : List ObjectId) (error : Error) : Type 0 where
+pub record StopsAtEnds (honest may_fail : Type 0) (rows : List Row) (table : Table)
+    (ends : List ObjectId) (error : Error) : Type 0 where
   pub id : ObjectId
   pub cause : IsFaultOf honest may_fail rows table id error
   pub reached : honest → (g : Commits ObjectId) → AreTold rows table g → ReachedFrom g ends id
 
 -- why a walk isn't built
 abbrev pub IsBuildFault : Type 0 → Type 0 → List Row → Table → List ObjectId → Error → Type 0
-IsBuildFault honest may_fail rows table ends error = (error ≡ fault.Memory) ⊎ StopsAtEnds honest may_fail rows table ends error
+IsBuildFault honest may_fail rows table ends error =
+    (error ≡ fault.Memory) ⊎ StopsAtEnds honest may_fail rows table ends error

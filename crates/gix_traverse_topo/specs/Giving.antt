@@ -22,12 +22,19 @@ abbrev pub accepted_by : {P : Type 0} → (P → Id → Bool) → Topo P → Obj
 accepted_by accepts walk = λ x. accepts walk.predicate (id_of x)
 
 -- it stands before its first commit, as it was asked for
-abbrev pub BeginsAs : {F P : Type 0} → (P → Id → Bool) → Type 0 → Type 0 → Table → Asked F P → Topo P → Type 0
-BeginsAs accepts honest may_fail table a walk = Begins honest may_fail a.sorting (rows_of a.graph) table a.tips a.ends a.parents (λ x. accepts a.predicate (id_of x)) walk.known walk.ready
+abbrev pub BeginsAs : {F P : Type 0} → (P → Id → Bool) → Type 0 → Type 0 → Table → Asked F P
+    → Topo P → Type 0
+BeginsAs accepts honest may_fail table a walk =
+    Begins honest may_fail a.sorting (rows_of a.graph) table a.tips a.ends a.parents
+    (λ x. accepts a.predicate (id_of x)) walk.known walk.ready
 
 -- it has given these, of what these tips reach and these ends don't
-abbrev pub HasGiven : {P : Type 0} → (P → Id → Bool) → Topo P → Sorting → List Row → (ObjectId → Option Error) → Commits ObjectId → List ObjectId → List ObjectId → List ObjectId → Type 0
-HasGiven accepts walk sorting rows faults g tips ends given = Stands sorting rows faults g tips ends walk.parents (accepted_by accepts walk) given walk.known walk.ready
+abbrev pub HasGiven : {P : Type 0} → (P → Id → Bool) → Topo P → Sorting → List Row
+    → (ObjectId → Option Error) → Commits ObjectId → List ObjectId → List ObjectId → List ObjectId
+    → Type 0
+HasGiven accepts walk sorting rows faults g tips ends given =
+    Stands sorting rows faults g tips ends walk.parents
+    (accepted_by accepts walk) given walk.known walk.ready
 
 -- what is left of a walk: the names that are still to be counted off, and the commits that wait
 abbrev pub left_of : {P : Type 0} → Topo P → ℕ
@@ -38,9 +45,11 @@ abbrev pub answers_left : {P : Type 0} → Topo P → ℕ
 answers_left walk = if is_empty (waiting walk.ready) then 0 else left_of walk + 1
 
 -- these commits were finished, in this order, and the predicate was asked of each of them once
-pub record AsksEach {P : Type 0} (goes : P → Id → P → Type 0) (before after : Topo P) (more : List ObjectId) : Type 0 where
+pub record AsksEach {P : Type 0} (goes : P → Id → P → Type 0) (before after : Topo P)
+    (more : List ObjectId) : Type 0 where
   pub asked : Asks goes more before.predicate after.predicate
-  pub finishes : (sorting : Sorting) (rows : List Row) (h : Commits ObjectId) (tips hs xs finished : List ObjectId)
+  pub finishes : (sorting : Sorting) (rows : List Row) (h : Commits ObjectId)
+      (tips hs xs finished : List ObjectId)
       → Standing sorting rows h tips before.parents hs xs finished before.known before.ready
       → Standing sorting rows h tips before.parents hs xs (finished ++ more) after.known after.ready
 
@@ -52,16 +61,35 @@ pub record AsksRest {P : Type 0} (goes : P → Id → P → Type 0) (before afte
   pub none_waits : waiting last.ready ≡ []
   pub same : after.predicate ≡ last.predicate
 
-pub record GivesNext {P : Type 0} (accepts : P → Id → Bool) (goes : P → Id → P → Type 0) (before : Topo P) (item : Option (Result Info Error)) (after : Topo P) : Type 0 where
+pub record GivesNext {P : Type 0} (accepts : P → Id → Bool) (goes : P → Id → P → Type 0)
+    (before : Topo P) (item : Option (Result Info Error)) (after : Topo P) : Type 0 where
   pub lookups : after.lookups ≡ before.lookups
-  pub more : (sorting : Sorting) (rows : List Row) (faults : ObjectId → Option Error) (g : Commits ObjectId) (tips ends given : List ObjectId) → HasGiven accepts before sorting rows faults g tips ends given
-      → IfSome item (λ answer. IfOk answer (λ info. HasGiven accepts after sorting rows faults g tips ends (given ++ info.id ∷ []) × IsInfo rows g info))
-  pub end : (sorting : Sorting) (rows : List Row) (faults : ObjectId → Option Error) (g : Commits ObjectId) (tips ends given : List ObjectId) → HasGiven accepts before sorting rows faults g tips ends given
+  pub more : (sorting : Sorting) (rows : List Row) (faults : ObjectId → Option Error)
+      (g : Commits ObjectId) (tips ends given : List ObjectId)
+      → HasGiven accepts before sorting rows faults g tips ends given
+      → IfSome item
+      (λ answer. IfOk answer
+      (λ info. HasGiven accepts after sorting rows faults g tips ends (given ++ info.id ∷ [])
+      × IsInfo rows g info))
+  pub end : (sorting : Sorting) (rows : List Row) (faults : ObjectId → Option Error)
+      (g : Commits ObjectId) (tips ends given : List ObjectId)
+      → HasGiven accepts before sorting rows faults g tips ends given
       → NoneReachesItself g (topo_request tips ends before.parents all_accepted)
-      → IfNone item (Answers sorting g (topo_request tips ends before.parents (accepted_by accepts before)) given)
-  pub refused : (sorting : Sorting) (rows : List Row) (faults : ObjectId → Option Error) (g : Commits ObjectId) (tips ends given : List ObjectId) → HasGiven accepts before sorting rows faults g tips ends given
-      → IfSome item (λ answer. IfErr answer (λ error. (error ≡ Memory) ⊎ ((x : ObjectId) × (faults x ≡ Some error) × IsTurn sorting faults g (topo_request tips ends before.parents (accepted_by accepts before)) given x)))
-  pub asked : IfSome item (λ answer. IfOk answer (λ info. (passed : List ObjectId) × AsksEach goes before after (passed ++ info.id ∷ [])))
+      → IfNone item
+      (Answers sorting g
+      (topo_request tips ends before.parents (accepted_by accepts before)) given)
+  pub refused : (sorting : Sorting) (rows : List Row) (faults : ObjectId → Option Error)
+      (g : Commits ObjectId) (tips ends given : List ObjectId)
+      → HasGiven accepts before sorting rows faults g tips ends given
+      → IfSome item
+      (λ answer. IfErr answer
+      (λ error. (error ≡ Memory)
+      ⊎ ((x : ObjectId) × (faults x ≡ Some error)
+      × IsTurn sorting faults g
+      (topo_request tips ends before.parents (accepted_by accepts before)) given x)))
+  pub asked : IfSome item
+      (λ answer. IfOk answer
+      (λ info. (passed : List ObjectId) × AsksEach goes before after (passed ++ info.id ∷ [])))
   pub asked_end : IfNone item (AsksRest goes before after)
   pub failed : IfSome item (λ answer. OnErr answer (waiting after.ready ≡ []))
   pub over : IfNone item (waiting after.ready ≡ [])

@@ -7,12 +7,14 @@ use Rattle.gix_traverse_commit.specs.Reading.{Read}
 use Rattle.gix_traverse_commit.specs.Standing.{NotIn}
 
 -- the names at place p: the tips, or the parents of the commit before
-abbrev pub IsRow : (ObjectId → List ObjectId) → List ObjectId → List ObjectId → ℕ → List ObjectId → Type 0
+abbrev pub IsRow : (ObjectId → List ObjectId) → List ObjectId → List ObjectId → ℕ → List ObjectId
+    → Type 0
 IsRow way tips xs zero names = tips ≡ names
 IsRow way tips xs (suc q) names = (child : ObjectId) × At xs q child × (way child ≡ names)
 
 -- behind these stand those that are named up to place p
-pub record Met (way : ObjectId → List ObjectId) (tips hs keys : List ObjectId) (p : ℕ) : Type 0 where
+pub record Met (way : ObjectId → List ObjectId) (tips hs keys : List ObjectId)
+    (p : ℕ) : Type 0 where
   pub xs : List ObjectId
   pub keys_are : keys ≡ hs ++ xs
   pub count : ℕ

@@ -22,15 +22,20 @@ abbrev pub counts : List Node → List ℕ
 counts nodes = map (λ (node : Node). node.names) nodes
 
 -- the reading tells the commit
-pub record Tells (rows : List Row) (g : Commits ObjectId) (id : ObjectId) (reading : Reading) : Type 0 where
+pub record Tells (rows : List Row) (g : Commits ObjectId) (id : ObjectId)
+    (reading : Reading) : Type 0 where
   pub parents : reading.parents.items ≡ (g id).parents
   pub time : reading.time ≡ (g id).time
   pub generation : HasRowsGeneration rows id reading.generation
 
 -- what was read of a commit: all that is told of it, or why nothing is, and then it counts as one without parents
-pub record IsReading (honest may_fail : Type 0) (rows : List Row) (table : Table) (id : ObjectId) (reading : Reading) : Type 0 where
-  pub told : honest → (g : Commits ObjectId) → AreTold rows table g → reading.fault ≡ None → Tells rows g id reading
-  pub blank : IsSome reading.fault → (reading.parents.items ≡ []) × (reading.time ≡ pos 0) × HasRowsGeneration rows id reading.generation
+pub record IsReading (honest may_fail : Type 0) (rows : List Row) (table : Table) (id : ObjectId)
+    (reading : Reading) : Type 0 where
+  pub told : honest → (g : Commits ObjectId) → AreTold rows table g → reading.fault ≡ None
+      → Tells rows g id reading
+  pub blank : IsSome reading.fault
+      → (reading.parents.items ≡ []) × (reading.time ≡ pos 0)
+      × HasRowsGeneration rows id reading.generation
   pub cause : IfSome reading.fault (IsFaultOf honest may_fail rows table id)
 
 -- it stands for a commit that isn't read, for this fault, which isn't want of memory
@@ -43,15 +48,20 @@ pub record IsBlank (fault : FetchError) (reading : Reading) : Type 0 where
 
 -- from this number on each commit's reading tells it
 abbrev pub TellFrom : ℕ → List Row → Commits ObjectId → List ObjectId → List Reading → Type 0
-TellFrom low rows g keys told = (n : ℕ) (x : ObjectId) (reading : Reading) → low ≤ n → At keys n x → At told n reading → Tells rows g x reading
+TellFrom low rows g keys told =
+    (n : ℕ) (x : ObjectId) (reading : Reading) → low ≤ n → At keys n x → At told n reading
+    → Tells rows g x reading
 
 -- from this number on each commit's parents are those that were read
 abbrev pub ParentsFrom : ℕ → Commits ObjectId → List ObjectId → List Reading → Type 0
-ParentsFrom low g keys told = (n : ℕ) (x : ObjectId) (reading : Reading) → low ≤ n → At keys n x → At told n reading → reading.parents.items ≡ (g x).parents
+ParentsFrom low g keys told =
+    (n : ℕ) (x : ObjectId) (reading : Reading) → low ≤ n → At keys n x → At told n reading
+    → reading.parents.items ≡ (g x).parents
 
 -- from this number on this holds of each commit and its count
 abbrev pub EachCount : ℕ → List ObjectId → List ℕ → (ObjectId → ℕ → Type 0) → Type 0
-EachCount low keys cs P = (n : ℕ) (x : ObjectId) (count : ℕ) → low ≤ n → At keys n x → At cs n count → P x count
+EachCount low keys cs P =
+    (n : ℕ) (x : ObjectId) (count : ℕ) → low ≤ n → At keys n x → At cs n count → P x count
 
 -- the list holds each once
 abbrev pub IsOnce : {I : Type 0} → List I → Type 0
@@ -60,5 +70,6 @@ IsOnce {I} xs = (j k : ℕ) (x : I) → At xs j x → At xs k x → j ≡ k
 -- one more name of a commit is counted, where its number is not below low
 abbrev pub NamesOne : ℕ → List ObjectId → List ℕ → ObjectId → List ℕ → Type 0
 NamesOne low keys cs id cs' =
-    ((n : ℕ) × (count : ℕ) × (low ≤ n) × At keys n id × At cs n count × (cs' ≡ slice_set cs n (count + 1)))
+    ((n : ℕ) × (count : ℕ) × (low ≤ n) × At keys n id × At cs n count
+    × (cs' ≡ slice_set cs n (count + 1)))
     ⊎ ((IsOnce keys → (n : ℕ) → At keys n id → n < low) × (cs' ≡ cs))

@@ -29,7 +29,9 @@ Sorted TopoOrder (ByDate heap) = ⊥
 
 -- these wait too, behind the others
 abbrev pub Joined : Ready → List Pending → Ready → Type 0
-Joined (ByDate old) more (ByDate new) = IsPermutation (heap_items old ++ more) (heap_items new) × (IsHeap pending_cmp (heap_items old) → IsHeap pending_cmp (heap_items new))
+Joined (ByDate old) more (ByDate new) =
+    IsPermutation (heap_items old ++ more) (heap_items new)
+    × (IsHeap pending_cmp (heap_items old) → IsHeap pending_cmp (heap_items new))
 Joined (Topological old) more (Topological new) = new.items ≡ old.items ++ more
 Joined (ByDate old) more (Topological new) = ⊥
 Joined (Topological old) more (ByDate new) = ⊥
@@ -37,13 +39,20 @@ Joined (Topological old) more (ByDate new) = ⊥
 -- its turn came: by date none that waits is newer, and else it was the last
 abbrev pub Popped : Ready → Pending → Ready → Type 0
 Popped (ByDate old) first (ByDate new) = IsPermutation (heap_items old) (first ∷ heap_items new)
-    × (IsHeap pending_cmp (heap_items old) → IsHeap pending_cmp (heap_items new) × ((other : Pending) → Contains (heap_items new) other → other.time ≤ℤ first.time))
+    × (IsHeap pending_cmp (heap_items old)
+    → IsHeap pending_cmp (heap_items new)
+    × ((other : Pending) → Contains (heap_items new) other → other.time ≤ℤ first.time))
 Popped (Topological old) first (Topological new) = old.items ≡ new.items ++ first ∷ []
 Popped (ByDate old) first (Topological new) = ⊥
 Popped (Topological old) first (ByDate new) = ⊥
 
 -- those from this number on that none names, in the order of their numbers
-pub record IsFree (low : ℕ) (told : List Reading) (cs : List ℕ) (first : List Pending) : Type 0 where
-  pub each : (pending : Pending) → Contains first pending → (low ≤ pending.number.0) × At cs pending.number.0 0 × ((reading : Reading) × At told pending.number.0 reading × (pending.time ≡ reading.time))
-  pub every : (n : ℕ) (reading : Reading) → low ≤ n → At cs n 0 → At told n reading → (pending : Pending) × Contains first pending × (pending.number.0 ≡ n)
-  pub ascending : (k l : ℕ) (p q : Pending) → k < l → At first k p → At first l q → p.number.0 < q.number.0
+pub record IsFree (low : ℕ) (told : List Reading) (cs : List ℕ)
+    (first : List Pending) : Type 0 where
+  pub each : (pending : Pending) → Contains first pending
+      → (low ≤ pending.number.0) × At cs pending.number.0 0
+      × ((reading : Reading) × At told pending.number.0 reading × (pending.time ≡ reading.time))
+  pub every : (n : ℕ) (reading : Reading) → low ≤ n → At cs n 0 → At told n reading
+      → (pending : Pending) × Contains first pending × (pending.number.0 ≡ n)
+  pub ascending : (k l : ℕ) (p q : Pending) → k < l → At first k p → At first l q
+      → p.number.0 < q.number.0

@@ -22,7 +22,8 @@ pub data Call : Type 0 where
 -- the calls, one after another, make this of the delegate
 abbrev pub Runs : {S : Type 0} → (S → Call → S → Type 0) → S → List Call → S → Type 0
 Runs goes before [] after = after ≡ before
-Runs {S} goes before (call ∷ calls) after = (next : S) × goes before call next × Runs goes next calls after
+Runs {S} goes before (call ∷ calls) after =
+    (next : S) × goes before call next × Runs goes next calls after
 
 -- the entry is shown as what it is
 abbrev pub visit_of : Item → Answer → Call

@@ -32,22 +32,30 @@ pub data InDepth (H M : Type 0) (table : Table) : List Id → Place → List Cal
   unfound : {above : List Id} {id : Id} {error : Error} → TreeFault H M table above id error
       → InDepth H M table above (before id) [] (failed error)
   none : {above : List Id} {id : Id} → InDepth H M table above (inside id []) [] whole
-  entry : {above : List Id} {id : Id} {content rest : List ℕ} {item : Item} (answer : Bool) {calls : List Call} {end : End}
+  entry : {above : List Id} {id : Id} {content rest : List ℕ} {item : Item}
+      (answer : Bool) {calls : List Call} {end : End}
       → SpellsEntry id.kind content item rest → descends item (Continue answer) ≡ false
       → InDepth H M table above (inside id rest) calls end
-      → InDepth H M table above (inside id content) (shown item (Continue answer) ++ (pop ∷ calls)) end
-  below : {above : List Id} {id : Id} {content rest : List ℕ} {item : Item} (answer : Bool) {calls more : List Call} {end : End}
+      → InDepth H M table above (inside id content)
+      (shown item (Continue answer) ++ (pop ∷ calls)) end
+  below : {above : List Id} {id : Id} {content rest : List ℕ} {item : Item}
+      (answer : Bool) {calls more : List Call} {end : End}
       → SpellsEntry id.kind content item rest → descends item (Continue answer) ≡ true
       → InDepth H M table (id ∷ above) (before item.id) calls whole
       → InDepth H M table above (inside id rest) more end
-      → InDepth H M table above (inside id content) (shown item (Continue answer) ++ (pop ∷ (entering item ++ (calls ++ (pop_back ∷ more))))) end
-  ended_below : {above : List Id} {id : Id} {content rest : List ℕ} {item : Item} (answer : Bool) {calls : List Call} {end : End}
+      → InDepth H M table above (inside id content)
+      (shown item (Continue answer)
+      ++ (pop ∷ (entering item ++ (calls ++ (pop_back ∷ more))))) end
+  ended_below : {above : List Id} {id : Id} {content rest : List ℕ} {item : Item}
+      (answer : Bool) {calls : List Call} {end : End}
       → SpellsEntry id.kind content item rest → descends item (Continue answer) ≡ true
       → InDepth H M table (id ∷ above) (before item.id) calls end → end ≢ whole
-      → InDepth H M table above (inside id content) (shown item (Continue answer) ++ (pop ∷ (entering item ++ calls))) end
+      → InDepth H M table above (inside id content)
+      (shown item (Continue answer) ++ (pop ∷ (entering item ++ calls))) end
   ended : {above : List Id} {id : Id} {content rest : List ℕ} {item : Item}
       → SpellsEntry id.kind content item rest
-      → InDepth H M table above (inside id content) (shown item (Break tt) ++ behind_last item) broken
+      → InDepth H M table above (inside id content)
+      (shown item (Break tt) ++ behind_last item) broken
   unread : {above : List Id} {id : Id} {content : List ℕ} {error : decode.Error}
       → content ≢ [] → SpellsNoEntry id.kind content → EntryFault id.kind content error
       → InDepth H M table above (inside id content) [] (failed (ObjectDecode error))

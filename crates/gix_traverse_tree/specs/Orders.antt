@@ -23,7 +23,8 @@ tracked None folder name = []
 
 -- an entry of the tree at this folder
 abbrev pub recorded_in : Option Location → Bytes → Item → Recorded
-recorded_in location folder item = record { mode = item.mode; path = tracked location folder item.name; id = item.id }
+recorded_in location folder item =
+    record { mode = item.mode; path = tracked location folder item.name; id = item.id }
 
 -- the folder of an entry's own entries
 abbrev pub folder_in : Bytes → Item → Bytes
@@ -31,15 +32,20 @@ folder_in folder item = joined folder item.name
 
 -- ---- each entry, then what lies in it, then the entry behind it
 
-pub data InOrder (H : Type 0) (table : Table) (location : Option Location) : Kind → Bytes → List ℕ → List Recorded → Type 0 where
+pub data InOrder (H : Type 0) (table : Table) (location : Option Location) : Kind → Bytes → List ℕ
+    → List Recorded → Type 0 where
   none : {ids : Kind} {folder : Bytes} → InOrder H table location ids folder [] []
   file : {ids : Kind} {folder : Bytes} {content rest : List ℕ} {item : Item} {more : List Recorded}
-      → SpellsEntry ids content item rest → is_tree item ≡ false → InOrder H table location ids folder rest more
+      → SpellsEntry ids content item rest → is_tree item ≡ false
+      → InOrder H table location ids folder rest more
       → InOrder H table location ids folder content (recorded_in location folder item ∷ more)
   tree : {ids : Kind} {folder : Bytes} {content rest below : List ℕ} {item : Item} {inside more : List Recorded}
-      → SpellsEntry ids content item rest → is_tree item ≡ true → (H → Stands table item.id kinds.Tree below)
-      → InOrder H table location item.id.kind (folder_in folder item) below inside → InOrder H table location ids folder rest more
-      → InOrder H table location ids folder content (recorded_in location folder item ∷ (inside ++ more))
+      → SpellsEntry ids content item rest → is_tree item ≡ true
+      → (H → Stands table item.id kinds.Tree below)
+      → InOrder H table location item.id.kind (folder_in folder item) below inside
+      → InOrder H table location ids folder rest more
+      → InOrder H table location ids folder content
+      (recorded_in location folder item ∷ (inside ++ more))
 
 -- ---- the entries of a tree, then those of the trees among them, and so on
 
@@ -51,18 +57,22 @@ abbrev pub folders_in : Bytes → Item → List Folder
 folders_in folder item = if is_tree item then (folder_in folder item, item.id) ∷ [] else []
 
 -- the entries of one tree, and the folders among them
-pub data Listed (location : Option Location) (ids : Kind) (folder : Bytes) : List ℕ → List Recorded → List Folder → Type 0 where
+pub data Listed (location : Option Location) (ids : Kind) (folder : Bytes) : List ℕ
+    → List Recorded → List Folder → Type 0 where
   none : Listed location ids folder [] [] []
   entry : {content rest : List ℕ} {item : Item} {more : List Recorded} {folders : List Folder}
       → SpellsEntry ids content item rest → Listed location ids folder rest more folders
-      → Listed location ids folder content (recorded_in location folder item ∷ more) (folders_in folder item ++ folders)
+      → Listed location ids folder content (recorded_in location folder item ∷ more)
+      (folders_in folder item ++ folders)
 
 -- the entries of these folders, each one's own folders behind all others
-pub data LevelByLevel (H : Type 0) (table : Table) (location : Option Location) : List Folder → List Recorded → Type 0 where
+pub data LevelByLevel (H : Type 0) (table : Table) (location : Option Location) : List Folder
+    → List Recorded → Type 0 where
   none : LevelByLevel H table location [] []
   folder : {folder : Bytes} {id : Id} {rest below : List Folder} {content : List ℕ} {here more : List Recorded}
       → (H → Stands table id kinds.Tree content) → Listed location id.kind folder content here below
-      → LevelByLevel H table location (rest ++ below) more → LevelByLevel H table location ((folder, id) ∷ rest) (here ++ more)
+      → LevelByLevel H table location (rest ++ below) more
+      → LevelByLevel H table location ((folder, id) ∷ rest) (here ++ more)
 
 -- ---- names
 
@@ -86,7 +96,8 @@ IsFresh recorder = ((recording_of recorder).queue ≡ []) × ((recording_of reco
 
 -- the entries of the tree under the id were added in order
 abbrev pub RecordsInDepth : Type 0 → Table → Id → Recorder → Recorder → Type 0
-RecordsInDepth H table id old new = (content : List ℕ) × (found : List Recorded) × (H → Stands table id kinds.Tree content)
+RecordsInDepth H table id old new =
+    (content : List ℕ) × (found : List Recorded) × (H → Stands table id kinds.Tree content)
     × InOrder H table (recording_of old).location id.kind [] content found
     × ((recording_of new).entries ≡ (recording_of old).entries ++ found)
 

@@ -21,7 +21,8 @@ pub record Recorded : Type 0 where
   pub id : Id
 
 abbrev pub recorded_of : Entry → Recorded
-recorded_of entry = record { mode = mode_of entry.mode; path = entry.filepath; id = id_of entry.oid }
+recorded_of entry =
+    record { mode = mode_of entry.mode; path = entry.filepath; id = id_of entry.oid }
 
 -- the path of a name in a folder; the root's is empty
 abbrev pub joined : Bytes → Bytes → Bytes
@@ -64,15 +65,28 @@ path_with (Some FileName) path name = name
 path_with None path name = path
 
 abbrev pub with_entry : Recording → Item → Recording
-with_entry old item = record old { entries = old.entries ++ record { mode = item.mode; path = old.path; id = item.id } ∷ [] }
+with_entry old item =
+    record old {
+      entries =
+          old.entries ++ record { mode = item.mode; path = old.path; id = item.id } ∷ [];
+    }
 
 abbrev pub with_queued : Recording → Bytes → Recording
 with_queued old path = record old { path = path; queue = old.queue ++ path ∷ [] }
 
 -- what a call makes of a recording
 abbrev pub after_call : Recording → Call → Recording
-after_call old pop_back = where_whole old (record old { path = slice_index_or old.queue (length old.queue - 1) []; queue = take (length old.queue - 1) old.queue })
-after_call old pop_front = where_whole old (record old { path = slice_index_or old.queue 0 []; queue = drop 1 old.queue })
+after_call old pop_back =
+    where_whole old
+    (record old {
+      path =
+          slice_index_or old.queue (length old.queue - 1) [];
+      queue =
+          take (length old.queue - 1) old.queue;
+    })
+after_call old pop_front =
+    where_whole old
+    (record old { path = slice_index_or old.queue 0 []; queue = drop 1 old.queue })
 after_call old (push_back name) = where_whole old (with_queued old (joined old.path name))
 after_call old (push name) = record old { path = path_with old.location old.path name }
 after_call old pop = where_whole old (record old { path = parent old.path })

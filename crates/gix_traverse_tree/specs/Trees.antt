@@ -21,11 +21,13 @@ is_among id ids = list_any (id_eq id) ids
 
 -- the tree doesn't lie under itself, and has this content
 abbrev pub IsRead : Type 0 → Table → List Id → Id → List ℕ → Type 0
-IsRead H table above id content = (is_among id above ≡ false) × (H → Stands table id kinds.Tree content)
+IsRead H table above id content =
+    (is_among id above ≡ false) × (H → Stands table id kinds.Tree content)
 
 -- why a tree isn't read: it lies under itself, or it isn't found
 abbrev pub TreeFault : Type 0 → Type 0 → Table → List Id → Id → Error → Type 0
-TreeFault H M table above id (errors.Find error) = (is_among id above ≡ false) × KindFault H M table id kinds.Tree error
+TreeFault H M table above id (errors.Find error) =
+    (is_among id above ≡ false) × KindFault H M table id kinds.Tree error
 TreeFault H M table above id errors.Cancelled = ⊥
 TreeFault H M table above id (errors.ObjectDecode _) = ⊥
 TreeFault H M table above id errors.Cycle = is_among id above ≡ true

@@ -75,8 +75,10 @@ fn queue<V: Visit>(
     nodes: &mut Vec<Node>,
     delegate: &mut V,
 ) -> Result<(), Error>
-    ensures queued { OnOk result (Queues above nodes.old.items nodes.new.items ((item_of entry.now).id ∷ [])) }
-    ensures told { OnOk result (Runs V.goes delegate.old (behind (item_of entry.now) true) delegate.new) }
+    ensures queued { OnOk result
+        (Queues above nodes.old.items nodes.new.items ((item_of entry.now).id ∷ [])) }
+    ensures told { OnOk result
+        (Runs V.goes delegate.old (behind (item_of entry.now) true) delegate.new) }
     ensures refused { IfErr result (MemoryOr (λ _. ⊥)) }
 {
     delegate.pop_path_component()?;
@@ -97,9 +99,15 @@ fn pass<V: Visit>(
     delegate: &mut V,
 ) -> Result<(), Error>
     ensures passed { OnOk result ((answer : _) × Runs V.goes delegate.old
-        (shown (item_of entry.now) (Continue answer) ++ behind (item_of entry.now) (descends (item_of entry.now) (Continue answer))) delegate.new
-        × Queues above nodes.old.items nodes.new.items (queued_id (item_of entry.now) (descends (item_of entry.now) (Continue answer)))) }
-    ensures ended { IfErr result (MemoryOr (λ error. (error ≡ Cancelled) × Runs V.goes delegate.old (shown (item_of entry.now) (Break tt)) delegate.new)) }
+        (shown (item_of entry.now) (Continue answer)
+        ++ behind (item_of entry.now)
+        (descends (item_of entry.now) (Continue answer))) delegate.new
+        × Queues above nodes.old.items nodes.new.items
+        (queued_id (item_of entry.now) (descends (item_of entry.now) (Continue answer)))) }
+    ensures ended { IfErr result
+        (MemoryOr
+        (λ error. (error ≡ Cancelled)
+        × Runs V.goes delegate.old (shown (item_of entry.now) (Break tt)) delegate.new)) }
 {
     match show(entry, delegate)? {
         ControlFlow::Break(()) => Err(Error::Cancelled),
@@ -121,8 +129,13 @@ fn list<V: Visit>(
     nodes: &mut Vec<Node>,
     delegate: &mut V,
 ) -> Result<(), Error>
-    ensures listed { OnOk result (ShowsListing V.goes (place_of entries.entry).kind (place_of entries.entry).input above delegate.old nodes.old.items delegate.new nodes.new.items) }
-    ensures stopped { IfErr result (MemoryOr (StopsListing V.goes (place_of entries.entry).kind (place_of entries.entry).input delegate.old delegate.new)) }
+    ensures listed { OnOk result
+        (ShowsListing V.goes (place_of entries.entry).kind
+        (place_of entries.entry).input above delegate.old nodes.old.items delegate.new nodes.new.items) }
+    ensures stopped { IfErr result
+        (MemoryOr
+        (StopsListing V.goes (place_of entries.entry).kind
+        (place_of entries.entry).input delegate.old delegate.new)) }
 {
     let mut rest = entries;
     'entries: while let Some(read) = rest.next() {
@@ -144,8 +157,16 @@ impl State {
         requires within { number < length self.old.nodes.items }
         ensures linked { OnOk result (IsLinked self.new.nodes.items) }
         ensures longer { OnOk result (length self.old.nodes.items ≤ length self.new.nodes.items) }
-        ensures read { (tree : Tree) → StandsAt self.old.nodes.items number tree → OnOk result (ShowsTree V.goes (F.is_honest objects.now) (F.table objects.now) (F.ids objects.now) number tree delegate.old self.old.nodes.items delegate.new self.new.nodes.items) }
-        ensures stopped { (tree : Tree) (trees : List Tree) → StandsAt self.old.nodes.items number tree → IfErr result (MemoryOr (StopsLevel V.goes (F.is_honest objects.now) (F.may_fail objects.now) (F.table objects.now) (tree ∷ trees) delegate.old delegate.new)) }
+        ensures read { (tree : Tree) → StandsAt self.old.nodes.items number tree
+            → OnOk result
+            (ShowsTree V.goes (F.is_honest objects.now) (F.table objects.now)
+            (F.ids objects.now) number tree delegate.old self.old.nodes.items delegate.new self.new.nodes.items) }
+        ensures stopped { (tree : Tree) (trees : List Tree)
+            → StandsAt self.old.nodes.items number tree
+            → IfErr result
+            (MemoryOr
+            (StopsLevel V.goes (F.is_honest objects.now) (F.may_fail objects.now)
+            (F.table objects.now) (tree ∷ trees) delegate.old delegate.new)) }
     {
         delegate.pop_front_tracked_path_and_set_current()?;
         let node = self.nodes[number];
@@ -168,8 +189,16 @@ impl State {
         requires linked { IsLinked self.old.nodes.items }
         requires all { end ≡ length self.old.nodes.items }
         ensures linked { OnOk result (IsLinked self.new.nodes.items) }
-        ensures read { (trees : List Tree) → AreAllFrom self.old.nodes.items start trees → OnOk result (ShowsLevel V.goes (F.is_honest objects.now) (F.may_fail objects.now) (F.table objects.now) (F.ids objects.now) trees delegate.old self.old.nodes.items delegate.new self.new.nodes.items) }
-        ensures stopped { (trees : List Tree) → AreAllFrom self.old.nodes.items start trees → IfErr result (MemoryOr (StopsLevel V.goes (F.is_honest objects.now) (F.may_fail objects.now) (F.table objects.now) trees delegate.old delegate.new)) }
+        ensures read { (trees : List Tree) → AreAllFrom self.old.nodes.items start trees
+            → OnOk result
+            (ShowsLevel V.goes (F.is_honest objects.now) (F.may_fail objects.now)
+            (F.table objects.now)
+            (F.ids objects.now) trees delegate.old self.old.nodes.items delegate.new self.new.nodes.items) }
+        ensures stopped { (trees : List Tree) → AreAllFrom self.old.nodes.items start trees
+            → IfErr result
+            (MemoryOr
+            (StopsLevel V.goes (F.is_honest objects.now) (F.may_fail objects.now)
+            (F.table objects.now) trees delegate.old delegate.new)) }
     {
         'trees: for number in start..end {
             self.read(number, objects, delegate)?;
@@ -184,8 +213,15 @@ impl State {
         objects: &F,
         delegate: &mut V,
     ) -> Result<(), Error>
-        ensures whole { OnOk result (Walks V.goes (F.is_honest objects.now) (F.may_fail objects.now) (F.table objects.now) (place_of root.entry).kind (place_of root.entry).input delegate.old delegate.new whole) }
-        ensures stopped { IfErr result (MemoryOr (λ error. Walks V.goes (F.is_honest objects.now) (F.may_fail objects.now) (F.table objects.now) (place_of root.entry).kind (place_of root.entry).input delegate.old delegate.new (failed error))) }
+        ensures whole { OnOk result
+            (Walks V.goes (F.is_honest objects.now) (F.may_fail objects.now) (F.table objects.now)
+            (place_of root.entry).kind
+            (place_of root.entry).input delegate.old delegate.new whole) }
+        ensures stopped { IfErr result
+            (MemoryOr
+            (λ error. Walks V.goes (F.is_honest objects.now) (F.may_fail objects.now)
+            (F.table objects.now) (place_of root.entry).kind
+            (place_of root.entry).input delegate.old delegate.new (failed error))) }
     {
         self.nodes.clear();
         list(root, None, &mut self.nodes, delegate)?;
@@ -212,8 +248,14 @@ pub fn breadthfirst<F: Find + Drop, V: Visit>(
     objects: F,
     delegate: &mut V,
 ) -> Result<(), Error>
-    ensures whole { OnOk result (Walks V.goes (F.is_honest objects) (F.may_fail objects) (F.table objects) (place_of root.entry).kind (place_of root.entry).input delegate.old delegate.new whole) }
-    ensures stopped { IfErr result (MemoryOr (λ error. Walks V.goes (F.is_honest objects) (F.may_fail objects) (F.table objects) (place_of root.entry).kind (place_of root.entry).input delegate.old delegate.new (failed error))) }
+    ensures whole { OnOk result
+        (Walks V.goes (F.is_honest objects) (F.may_fail objects) (F.table objects)
+        (place_of root.entry).kind (place_of root.entry).input delegate.old delegate.new whole) }
+    ensures stopped { IfErr result
+        (MemoryOr
+        (λ error. Walks V.goes (F.is_honest objects) (F.may_fail objects) (F.table objects)
+        (place_of root.entry).kind (place_of root.entry).input delegate.old delegate.new
+        (failed error))) }
 {
     state.walk(root, &objects, delegate)
 }

@@ -24,7 +24,8 @@ pub trait Visit {
 
     /// Puts a component behind the path, and queues the path at the back. An empty component leaves the path as it is.
     fn push_back_tracked_path_component(&mut self, component: BStr<'_>) -> Result<(), Error>
-        ensures { OnOk result (Self.goes self.old (push_back (bstr_bytes component.entry)) self.new) };
+        ensures { OnOk result
+            (Self.goes self.old (push_back (bstr_bytes component.entry)) self.new) };
 
     /// Puts a component behind the path.
     fn push_path_component(&mut self, component: BStr<'_>) -> Result<(), Error>
@@ -36,9 +37,11 @@ pub trait Visit {
 
     /// Is shown an entry that is a tree, and answers how the walk goes on.
     fn visit_tree(&mut self, entry: &EntryRef<'_>) -> Result<Action, Error>
-        ensures { IfOk result (λ action. Self.goes self.old (at_tree (item_of entry.now) action) self.new) };
+        ensures { IfOk result
+            (λ action. Self.goes self.old (at_tree (item_of entry.now) action) self.new) };
 
     /// Is shown an entry that is no tree, and answers how the walk goes on.
     fn visit_nontree(&mut self, entry: &EntryRef<'_>) -> Result<Action, Error>
-        ensures { IfOk result (λ action. Self.goes self.old (at_nontree (item_of entry.now) action) self.new) };
+        ensures { IfOk result
+            (λ action. Self.goes self.old (at_nontree (item_of entry.now) action) self.new) };
 }

@@ -88,7 +88,8 @@ impl State {
 
 // Shows an entry, and tells how the walk goes on.
 fn pass<V: Visit>(entry: &EntryRef<'_>, delegate: &mut V) -> Result<Step, visit::Error>
-    ensures { IfOk result (λ step. ShowsEntry V.goes delegate.old (item_of entry.now) delegate.new step) }
+    ensures { IfOk result
+        (λ step. ShowsEntry V.goes delegate.old (item_of entry.now) delegate.new step) }
 {
     match show(entry, delegate)? {
         ControlFlow::Break(()) => {
@@ -129,7 +130,8 @@ fn is_open(trees: &[Open], id: &ObjectId) -> bool
 // Shows the next entry of a tree.
 fn show_next<V: Visit>(tree: &mut Open, delegate: &mut V) -> Result<Step, Error>
     ensures kept { tree.new.id ≡ tree.old.id }
-    ensures shown { IfOk result (λ step. ShowsNext V.goes delegate.old tree.old delegate.new tree.new step) }
+    ensures shown { IfOk result
+        (λ step. ShowsNext V.goes delegate.old tree.old delegate.new tree.new step) }
     ensures refused { IfErr result (MemoryOr (HasNoNext delegate.old tree.old delegate.new)) }
 {
     let mut entries = TreeRefIter::from_bytes(tree.left(), tree.id.kind());
@@ -150,8 +152,15 @@ fn enter<F: Find, V: Visit>(
     objects: &F,
     delegate: &mut V,
 ) -> Result<(), Error>
-    ensures opened { OnOk result (Opens V.goes (F.is_honest objects.now) (F.table objects.now) (F.ids objects.now) (id_of id) delegate.old (reverse trees.old.items) delegate.new (reverse trees.new.items)) }
-    ensures refused { IfErr result (MemoryOr (λ error. TreeFault (F.is_honest objects.now) (F.may_fail objects.now) (F.table objects.now) (ids_of (reverse trees.old.items)) (id_of id) error × (delegate.new ≡ delegate.old))) }
+    ensures opened { OnOk result
+        (Opens V.goes (F.is_honest objects.now) (F.table objects.now) (F.ids objects.now)
+        (id_of id) delegate.old (reverse trees.old.items) delegate.new
+        (reverse trees.new.items)) }
+    ensures refused { IfErr result
+        (MemoryOr
+        (λ error. TreeFault (F.is_honest objects.now) (F.may_fail objects.now)
+        (F.table objects.now) (ids_of (reverse trees.old.items)) (id_of id) error
+        × (delegate.new ≡ delegate.old))) }
 {
     if is_open(trees.as_slice(), &id) {
         return Err(Error::Cycle);
@@ -184,9 +193,18 @@ fn go_on<F: Find, V: Visit>(
     objects: &F,
     delegate: &mut V,
 ) -> Result<bool, Error>
-    ensures more { IfOk result (λ more. WhereTrue more (GoesOn V.goes (F.is_honest objects.now) (F.may_fail objects.now) (F.table objects.now) (F.ids objects.now) delegate.old (reverse trees.old.items) delegate.new (reverse trees.new.items))
-        (IsAtEnd V.goes (F.is_honest objects.now) (F.may_fail objects.now) (F.table objects.now) delegate.old (reverse trees.old.items) delegate.new IsGood)) }
-    ensures stopped { IfErr result (MemoryOr (λ error. IsAtEnd V.goes (F.is_honest objects.now) (F.may_fail objects.now) (F.table objects.now) delegate.old (reverse trees.old.items) delegate.new (λ end. end ≡ failed error))) }
+    ensures more { IfOk result
+        (λ more. WhereTrue more
+        (GoesOn V.goes (F.is_honest objects.now) (F.may_fail objects.now) (F.table objects.now)
+        (F.ids objects.now) delegate.old (reverse trees.old.items) delegate.new
+        (reverse trees.new.items))
+        (IsAtEnd V.goes (F.is_honest objects.now) (F.may_fail objects.now)
+        (F.table objects.now) delegate.old (reverse trees.old.items) delegate.new IsGood)) }
+    ensures stopped { IfErr result
+        (MemoryOr
+        (λ error. IsAtEnd V.goes (F.is_honest objects.now) (F.may_fail objects.now)
+        (F.table objects.now) delegate.old (reverse trees.old.items) delegate.new
+        (λ end. end ≡ failed error))) }
 {
     let Some(mut tree) = trees.pop() else {
         return Ok(false);
@@ -217,8 +235,14 @@ fn walk<F: Find, V: Visit>(
     objects: &F,
     delegate: &mut V,
 ) -> Result<(), Error>
-    ensures whole { OnOk result (WalksIn V.goes (F.is_honest objects.now) (F.may_fail objects.now) (F.table objects.now) (id_of root) delegate.old delegate.new IsGood) }
-    ensures stopped { IfErr result (MemoryOr (λ error. WalksIn V.goes (F.is_honest objects.now) (F.may_fail objects.now) (F.table objects.now) (id_of root) delegate.old delegate.new (λ end. end ≡ failed error))) }
+    ensures whole { OnOk result
+        (WalksIn V.goes (F.is_honest objects.now) (F.may_fail objects.now) (F.table objects.now)
+        (id_of root) delegate.old delegate.new IsGood) }
+    ensures stopped { IfErr result
+        (MemoryOr
+        (λ error. WalksIn V.goes (F.is_honest objects.now) (F.may_fail objects.now)
+        (F.table objects.now) (id_of root) delegate.old delegate.new
+        (λ end. end ≡ failed error))) }
 {
     let mut trees = Vec::new(*state.buffers.allocator());
     enter(root, &mut trees, state, objects, delegate)?;
@@ -240,8 +264,13 @@ pub fn depthfirst<F: Find + Drop, V: Visit>(
     objects: F,
     delegate: &mut V,
 ) -> Result<(), Error>
-    ensures whole { OnOk result (WalksIn V.goes (F.is_honest objects) (F.may_fail objects) (F.table objects) (id_of root) delegate.old delegate.new IsGood) }
-    ensures stopped { IfErr result (MemoryOr (λ error. WalksIn V.goes (F.is_honest objects) (F.may_fail objects) (F.table objects) (id_of root) delegate.old delegate.new (λ end. end ≡ failed error))) }
+    ensures whole { OnOk result
+        (WalksIn V.goes (F.is_honest objects) (F.may_fail objects) (F.table objects)
+        (id_of root) delegate.old delegate.new IsGood) }
+    ensures stopped { IfErr result
+        (MemoryOr
+        (λ error. WalksIn V.goes (F.is_honest objects) (F.may_fail objects) (F.table objects)
+        (id_of root) delegate.old delegate.new (λ end. end ≡ failed error))) }
 {
     walk(root, state, &objects, delegate)
 }

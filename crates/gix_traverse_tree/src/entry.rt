@@ -10,7 +10,8 @@ use gix_object_entries::tree::EntryRef;
 
 /// Tells the delegate the entry's name, shows it the entry, and answers what it says.
 pub(crate) fn show<V: Visit>(entry: &EntryRef<'_>, delegate: &mut V) -> Result<Action, Error>
-    ensures { IfOk result (λ action. Runs V.goes delegate.old (shown (item_of entry.now) action) delegate.new) }
+    ensures { IfOk result
+        (λ action. Runs V.goes delegate.old (shown (item_of entry.now) action) delegate.new) }
 {
     delegate.push_path_component(entry.filename)?;
     if entry.mode.is_tree() {

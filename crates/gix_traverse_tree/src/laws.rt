@@ -16,7 +16,8 @@ use gix_object_find::Find;
 /// What a whole walk in depth order has a recorder record: each entry with its path, then what lies in it.
 pub fn records_in_depth<F: Find>(objects: &F)
     ensures { (id : Id) (calls : List Call) (old new : Recorder)
-        → InDepth (F.is_honest objects.now) (F.may_fail objects.now) (F.table objects.now) [] (before id) calls whole → HasNames calls → IsFresh old → Runs Records old calls new
+        → InDepth (F.is_honest objects.now) (F.may_fail objects.now) (F.table objects.now) []
+        (before id) calls whole → HasNames calls → IsFresh old → Runs Records old calls new
         → RecordsInDepth (F.is_honest objects.now) (F.table objects.now) id old new }
 {
     let _ = objects;
@@ -26,7 +27,9 @@ pub fn records_in_depth<F: Find>(objects: &F)
 /// among them, level by level.
 pub fn records_in_breadth<F: Find>(objects: &F)
     ensures { (ids : Kind) (content : List ℕ) (calls : List Call) (old new : Recorder)
-        → InBreadth (F.is_honest objects.now) (F.may_fail objects.now) (F.table objects.now) ids content calls whole → HasNames calls → IsFresh old → Runs Records old calls new
+        → InBreadth (F.is_honest objects.now) (F.may_fail objects.now)
+        (F.table objects.now) ids content calls whole → HasNames calls → IsFresh old
+        → Runs Records old calls new
         → RecordsInBreadth (F.is_honest objects.now) (F.table objects.now) ids content old new }
 {
     let _ = objects;

@@ -17,9 +17,13 @@ pub(crate) fn read_tree<F: Find>(
     id: &ObjectId,
     buffer: &mut Vec<u8>,
 ) -> Result<(), Error>
-    ensures found { OnOk result (F.is_honest objects.now → Stands (F.table objects.now) (id_of id.now) kinds.Tree buffer.new.items) }
+    ensures found { OnOk result
+        (F.is_honest objects.now
+        → Stands (F.table objects.now) (id_of id.now) kinds.Tree buffer.new.items) }
     ensures listed { OnOk result (Contains (F.ids objects.now) (id_of id.now)) }
-    ensures refused { IfErr result (λ error. KindFault (F.is_honest objects.now) (F.may_fail objects.now) (F.table objects.now) (id_of id.now) kinds.Tree error) }
+    ensures refused { IfErr result
+        (λ error. KindFault (F.is_honest objects.now) (F.may_fail objects.now)
+        (F.table objects.now) (id_of id.now) kinds.Tree error) }
 {
     match objects.find_into(id.as_oid(), buffer)? {
         Some(Kind::Tree) => Ok(()),

@@ -98,7 +98,8 @@ pub struct Recorder {
 impl Recorder {
     /// A recorder of whole paths, without entries. It takes no memory.
     pub fn new(alloc: Global) -> Recorder
-        ensures { recording_of result ≡ record { location = Some locations.Path; queue = []; path = []; entries = [] } }
+        ensures { recording_of result
+            ≡ record { location = Some locations.Path; queue = []; path = []; entries = [] } }
     {
         Recorder {
             path_deque: VecDeque::new(alloc),
@@ -148,7 +149,10 @@ impl Recorder {
 impl Recorder {
     // Puts a name behind the path.
     fn push_element(&mut self, name: &[u8]) -> Result<(), AllocError>
-        ensures { OnOk result (recording_of self.new ≡ record (recording_of self.old) { path = joined (recording_of self.old).path name.now }) }
+        ensures { OnOk result
+            (recording_of self.new
+            ≡ record
+            (recording_of self.old) { path = joined (recording_of self.old).path name.now }) }
     {
         if name.is_empty() {
             return Ok(());
@@ -162,7 +166,8 @@ impl Recorder {
 
     // Takes the last name off the path.
     fn pop_element(&mut self)
-        ensures { recording_of self.new ≡ record (recording_of self.old) { path = parent (recording_of self.old).path } }
+        ensures { recording_of self.new
+            ≡ record (recording_of self.old) { path = parent (recording_of self.old).path } }
     {
         let kept = parent_len(self.path.as_slice());
         self.path.truncate(kept);
@@ -170,7 +175,8 @@ impl Recorder {
 
     // Takes a path that was queued, or the root's where none was.
     fn set_path(&mut self, path: Option<ByteString>)
-        ensures { recording_of self.new ≡ record (recording_of self.old) { path = unwrap_or path [] } }
+        ensures { recording_of self.new
+            ≡ record (recording_of self.old) { path = unwrap_or path [] } }
     {
         match path {
             Some(path) => self.path = path.into_vec(),
@@ -180,7 +186,8 @@ impl Recorder {
 
     // Records an entry.
     fn record_entry(&mut self, entry: &EntryRef<'_>) -> Result<(), AllocError>
-        ensures { OnOk result (recording_of self.new ≡ with_entry (recording_of self.old) (item_of entry.now)) }
+        ensures { OnOk result
+            (recording_of self.new ≡ with_entry (recording_of self.old) (item_of entry.now)) }
     {
         let filepath = self.path_clone()?;
         self.records.push(Entry {

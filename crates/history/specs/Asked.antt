@@ -11,14 +11,16 @@ use Rattle.history.specs.Stands.{Serves}
 use Rattle.history.specs.declared.repository.Repository.{Repository}
 
 -- A repository is asked for what was read: this command, which is offered.
-pub record Asked {F : Type 0} (IsHonest : F → Type 0) (history : F → History) (repository : Repository F) (reading : Reading)
+pub record Asked {F : Type 0} (IsHonest : F → Type 0) (history : F → History)
+    (repository : Repository F) (reading : Reading)
     (r : plain.Repository) (order : orders.Command) : Type 0 where
   pub serves : Serves IsHonest history repository r
   pub reads : IsReading reading order
   pub offered : IsTrue (is_spoken order)
 
 -- A repository is asked for this commit.
-pub record AskedCommit {F : Type 0} (IsHonest : F → Type 0) (history : F → History) (repository : Repository F) (command : CommitCommand)
+pub record AskedCommit {F : Type 0} (IsHonest : F → Type 0) (history : F → History)
+    (repository : Repository F) (command : CommitCommand)
     (r : plain.Repository) (order : orders.CommitCommand) : Type 0 where
   pub serves : Serves IsHonest history repository r
   pub reads : IsCommit command order

@@ -34,7 +34,9 @@ expected_readings (At reading) = reading_of reading ∷ []
 
 -- why one of the words that read so stands for no commit
 abbrev pub words_cause : List model.WordReading → Option Cause
-words_cause readings = if list_any is_unknown readings then Some UnknownWord else if list_any is_unborn readings then Some UnbornHead else None
+words_cause readings =
+    if list_any is_unknown readings then Some UnknownWord else if list_any is_unborn readings
+    then Some UnbornHead else None
 
 -- whether a word that reads so reads as this id
 abbrev pub reads_as : Id → model.WordReading → Option Cause
@@ -51,7 +53,9 @@ held_cause (At reading) (Some id) = reads_as id (reading_of reading)
 
 -- why these can't be a commit's parents
 abbrev pub parents_cause : List Id → Option Cause
-parents_cause ids = if nat_lt max_parents (length ids) then Some TooManyParents else if has_twice id_eq ids then Some DuplicateParent else None
+parents_cause ids =
+    if nat_lt max_parents (length ids) then Some TooManyParents else if has_twice id_eq ids
+    then Some DuplicateParent else None
 
 -- the name that the commit moves, what it holds, and the commit's parents
 pub record IsBase (r : plain.Repository) (order : orders.CommitCommand) (base : Base) : Type 0 where

@@ -55,16 +55,21 @@ IsToldBy MayFail causes r order (Refused cause) = first_among causes r (Commit o
 IsToldBy MayFail causes r order (Fault fault) = IsReadingFault MayFail (Fault fault)
 
 -- None of these causes holds, and this is what is meant; or the first is told, or a fault was met.
-abbrev pub Tests : {T : Type 0} → Type 0 → List Cause → plain.Repository → CommitCommand → (T → Type 0) → Result T Stopped → Type 0
-Tests MayFail causes r order IsMeant (Ok value) = (first_among causes r (Commit order) ≡ None) × IsMeant value
+abbrev pub Tests : {T : Type 0} → Type 0 → List Cause → plain.Repository → CommitCommand
+    → (T → Type 0) → Result T Stopped → Type 0
+Tests MayFail causes r order IsMeant (Ok value) =
+    (first_among causes r (Commit order) ≡ None) × IsMeant value
 Tests MayFail causes r order IsMeant (Err stopped) = IsToldBy MayFail causes r order stopped
 
 -- why a repository can't hold a name
 abbrev pub form_cause : Bytes → Option Cause
-form_cause name = if not (is_name name) then Some BadName else if is_private name then Some PrivateName else None
+form_cause name =
+    if not (is_name name) then Some BadName else if is_private name then Some PrivateName
+    else None
 
 -- the name that the commit moves, which is one
-pub record IsNamed (r : plain.Repository) (order : CommitCommand) (name : Vec ℕ Global) : Type 0 where
+pub record IsNamed (r : plain.Repository) (order : CommitCommand)
+    (name : Vec ℕ Global) : Type 0 where
   pub named : name.items ≡ branch_or_name r order.name
   pub formed : IsTrue (is_name name.items)
 
@@ -96,4 +101,5 @@ pub record HasTimes (r : plain.Repository) (order : CommitCommand) (times : Time
 -- The times are read; else the first cause is told.
 abbrev pub AreTimes : plain.Repository → CommitCommand → Result Times Cause → Type 0
 AreTimes r order (Ok times) = HasTimes r order times
-AreTimes r order (Err cause) = first_among (form_causes ++ TooLarge ∷ []) r (Commit order) ≡ Some cause
+AreTimes r order (Err cause) =
+    first_among (form_causes ++ TooLarge ∷ []) r (Commit order) ≡ Some cause

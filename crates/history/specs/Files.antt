@@ -62,7 +62,8 @@ change_parts change = (change.path.items, change.change)
 abbrev pub IsTreeBefore : plain.Repository → List Id → Option ObjectId → Type 0
 IsTreeBefore r [] tree = tree ≡ None
 IsTreeBefore r (id ∷ ids) None = ⊥
-IsTreeBefore r (id ∷ ids) (Some tree) = get r.objects (id_of tree) ≡ Some (StoredFolder (files_at r id))
+IsTreeBefore r (id ∷ ids) (Some tree) =
+    get r.objects (id_of tree) ≡ Some (StoredFolder (files_at r id))
 
 -- what is answered where edits aren't made
 abbrev pub unmade : EditError → Result (Option EditedFiles) Stopped
@@ -75,8 +76,10 @@ unmade refused.Memory = Err (Fault fault.Memory)
 
 -- The trees of what the edits make of the first commit's files; or what is put or one of these would have the null id; or a folder
 -- is met where a file is to be removed; or a fault was met.
-abbrev pub EditsFiles : Type 0 → plain.Repository → List Id → List model.Edit → Result (Option EditedFiles) Stopped → Type 0
+abbrev pub EditsFiles : Type 0 → plain.Repository → List Id → List model.Edit
+    → Result (Option EditedFiles) Stopped → Type 0
 EditsFiles MayFail r ids made (Ok (Some edited)) = AreEdited r.kind (first_files r ids) made edited
 EditsFiles MayFail r ids made (Ok None) = HaveNull r.kind (first_files r ids) made
-EditsFiles MayFail r ids made (Err (Refused reason)) = (reason ≡ cause.IsFolder) × IsTrue (some_refused (first_files r ids) made)
+EditsFiles MayFail r ids made (Err (Refused reason)) =
+    (reason ≡ cause.IsFolder) × IsTrue (some_refused (first_files r ids) made)
 EditsFiles MayFail r ids made (Err (Fault reason)) = IsReadingFault MayFail (Fault reason)

@@ -32,30 +32,36 @@ abbrev pub names_tree : {F : Type 0} → (F → History) → Repository F → Tr
 names_tree history repository = (history (names_part repository)).tree
 
 -- The objects part is honest and holds these values, each under its own id.
-pub record ObjectsStand {F : Type 0} (IsHonest : F → Type 0) (history : F → History) (repository : Repository F) (values : Values) : Type 0 where
+pub record ObjectsStand {F : Type 0} (IsHonest : F → Type 0) (history : F → History)
+    (repository : Repository F) (values : Values) : Type 0 where
   pub honest : IsHonest (objects_part repository)
-  pub holds : HoldsValues (kind_of_objects repository.objects) (objects_tree history repository) values
+  pub holds : HoldsValues (kind_of_objects repository.objects)
+      (objects_tree history repository) values
   pub own_ids : HaveOwnIds (kind_of_objects repository.objects) values
 
 -- The ids that are known are those of these values.
 abbrev pub KnowsIds : {F : Type 0} → Repository F → Values → Type 0
-KnowsIds repository values = (id : Id) → contains_key (known_ids repository) id ≡ contains_key values id
+KnowsIds repository values =
+    (id : Id) → contains_key (known_ids repository) id ≡ contains_key values id
 
 -- The names part is honest and holds the names of this repository, and no packed ones.
-pub record NamesStand {F : Type 0} (IsHonest : F → Type 0) (history : F → History) (repository : Repository F) (r : plain.Repository) : Type 0 where
+pub record NamesStand {F : Type 0} (IsHonest : F → Type 0) (history : F → History)
+    (repository : Repository F) (r : plain.Repository) : Type 0 where
   pub honest : IsHonest (names_part repository)
   pub holds : HoldsNames (names_tree history repository) r
   pub named : (name : Bytes) → IsTrue (stands r name) → IsTrue (is_name name)
   pub unpacked : file_at (names_tree history repository) packed_place ≡ None
 
 -- No id is taken, and the tree holds these values beside those that stood; or one is taken, or a fault was met.
-abbrev pub StoresValues : Type 0 → Kind → Values → List Value → Tree → Result (Unit {0}) Stopped → Type 0
+abbrev pub StoresValues : Type 0 → Kind → Values → List Value → Tree → Result (Unit {0}) Stopped
+    → Type 0
 StoresValues CallFailed kind values more new (Ok done) =
     IsFalse (some_taken kind values more) × HoldsValues kind new (store_all kind values more)
 StoresValues CallFailed kind values more new (Err (Refused cause)) = ⊥
 StoresValues CallFailed kind values more new (Err (Fault Memory)) = ⊤
 StoresValues CallFailed kind values more new (Err (Fault File)) = CallFailed
-StoresValues CallFailed kind values more new (Err (Fault IdTaken)) = IsTrue (some_taken kind values more)
+StoresValues CallFailed kind values more new (Err (Fault IdTaken)) =
+    IsTrue (some_taken kind values more)
 
 -- A name may come to stand beside those of the repository: it is one, and none of these is a folder of it or lies below it.
 pub record FitsAmong (r : plain.Repository) (name : Bytes) : Type 0 where
@@ -64,7 +70,8 @@ pub record FitsAmong (r : plain.Repository) (name : Bytes) : Type 0 where
 
 -- The name moves as its entry tells, or a fault was met.
 abbrev pub MovesNames : Type 0 → Tree → Tree → Moves → Result (Unit {0}) Stopped → Type 0
-MovesNames CallFailed old new moves (Ok done) = MovesName moves.name.items (entry_of moves.entry) old new
+MovesNames CallFailed old new moves (Ok done) =
+    MovesName moves.name.items (entry_of moves.entry) old new
 MovesNames CallFailed old new moves (Err (Refused cause)) = ⊥
 MovesNames CallFailed old new moves (Err (Fault Memory)) = ⊤
 MovesNames CallFailed old new moves (Err (Fault File)) = CallFailed

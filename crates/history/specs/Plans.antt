@@ -34,10 +34,14 @@ use Rattle.history.specs.declared.stopped.Stopped.TheVariants.{Refused, Fault}
 -- the name moves to the commit's id
 pub record IsMove (r : plain.Repository) (order : CommitCommand) (moves : Moves) : Type 0 where
   pub name : moves.name.items ≡ branch_or_name r order.name
-  pub entry : entry_of moves.entry ≡ move_entry r (branch_or_name r order.name) (id_of r.kind (StoredCommit (new_commit r order))) (read_actor order.committer) (title order.message)
+  pub entry : entry_of moves.entry
+      ≡ move_entry r (branch_or_name r order.name)
+      (id_of r.kind (StoredCommit (new_commit r order))) (read_actor order.committer)
+      (title order.message)
 
 -- the object of this kind and content, with its id
-pub record IsMade (digests : Kind) (kind : ObjectKind) (content : Bytes) (object : NewObject) : Type 0 where
+pub record IsMade (digests : Kind) (kind : ObjectKind) (content : Bytes)
+    (object : NewObject) : Type 0 where
   pub id : object_id.id_of object.id ≡ digest digests (object_text kind content)
   pub kind_is : object.kind ≡ kind
   pub content_is : object.content.items ≡ content
@@ -53,9 +57,13 @@ abbrev pub is_long_tree : EditedTree → Bool
 is_long_tree tree = is_long tree.content.items
 
 -- The trees are added as objects, each within the limit; or one is over it, or no memory was left.
-abbrev pub AddsTrees : List NewObject → List EditedTree → List NewObject → Result (Unit {0}) Stopped → Type 0
-AddsTrees old trees new (Ok done) = IsFalse (list_any is_long_tree trees) × (map object_parts new ≡ map object_parts old ++ map tree_parts trees)
-AddsTrees old trees new (Err (Refused cause)) = (cause ≡ TooLarge) × IsTrue (list_any is_long_tree trees)
+abbrev pub AddsTrees : List NewObject → List EditedTree → List NewObject
+    → Result (Unit {0}) Stopped → Type 0
+AddsTrees old trees new (Ok done) =
+    IsFalse (list_any is_long_tree trees)
+    × (map object_parts new ≡ map object_parts old ++ map tree_parts trees)
+AddsTrees old trees new (Err (Refused cause)) =
+    (cause ≡ TooLarge) × IsTrue (list_any is_long_tree trees)
 AddsTrees old trees new (Err (Fault Memory)) = ⊤
 AddsTrees old trees new (Err (Fault File)) = ⊥
 AddsTrees old trees new (Err (Fault IdTaken)) = ⊥
@@ -65,7 +73,8 @@ AddsTrees old trees new (Err (Fault IdTaken)) = ⊥
 pub record IsPlan (r : plain.Repository) (order : CommitCommand) (plan : Plan) : Type 0 where
   pub values : List Value
   pub among : (value : Value) → Contains values value → Contains (stored_by r (Commit order)) value
-  pub all : (value : Value) → Contains (stored_by r (Commit order)) value → Contains values value ⊎ HasText r.kind r.objects value
+  pub all : (value : Value) → Contains (stored_by r (Commit order)) value
+      → Contains values value ⊎ HasText r.kind r.objects value
   pub whole : StoresWhole r values
   pub objects : AreObjectsOf r.kind values plan.objects.items
   pub moves : IsMove r order plan.moves
@@ -79,10 +88,13 @@ Plans MayFail r order (Err (Fault File)) = MayFail
 Plans MayFail r order (Err (Fault IdTaken)) = MayTake r (Commit order)
 
 -- The objects are those after the command, and the name is still to move; else the first cause is told, or a fault was met.
-abbrev pub StoresObjects : Type 0 → Tree → plain.Repository → CommitCommand → Result Moves Stopped → Type 0
-StoresObjects CallFailed new r order (Ok moves) = (first_cause r (Commit order) ≡ None) × IsFalse (takes_id r (Commit order))
+abbrev pub StoresObjects : Type 0 → Tree → plain.Repository → CommitCommand → Result Moves Stopped
+    → Type 0
+StoresObjects CallFailed new r order (Ok moves) =
+    (first_cause r (Commit order) ≡ None) × IsFalse (takes_id r (Commit order))
     × HoldsValues r.kind new (after r (Commit order)).objects × IsMove r order moves
-StoresObjects CallFailed new r order (Err (Refused cause)) = first_cause r (Commit order) ≡ Some cause
+StoresObjects CallFailed new r order (Err (Refused cause)) =
+    first_cause r (Commit order) ≡ Some cause
 StoresObjects CallFailed new r order (Err (Fault Memory)) = ⊤
 StoresObjects CallFailed new r order (Err (Fault File)) = CallFailed
 StoresObjects CallFailed new r order (Err (Fault IdTaken)) = MayTake r (Commit order)

@@ -59,17 +59,24 @@ module _ {S : Type 0} (left : S → Option (List ℕ)) (readings : S → ℕ) wh
 
 -- A run from old that acted on these commands with these replies, over what was read and written, ends so, by what it tells,
 -- and leaves new.
-abbrev pub EndsRun : Type 0 → Type 0 → Type 0 → plain.Repository → List Command → List Reply → Bytes → Bytes → Result End RunError → Bool → plain.Repository → Type 0
-EndsRun AtEnd LastReading CallFailed old commands replies read written (Ok end) failed new = Runs AtEnd CallFailed old commands replies read written end failed new
-EndsRun AtEnd LastReading CallFailed old commands replies read written (Err Read) failed new = EndsReading LastReading CallFailed old commands replies read written failed new
-EndsRun AtEnd LastReading CallFailed old commands replies read written (Err Write) failed new = EndsWriting AtEnd CallFailed old commands replies read written failed new
+abbrev pub EndsRun : Type 0 → Type 0 → Type 0 → plain.Repository → List Command → List Reply
+    → Bytes → Bytes → Result End RunError → Bool → plain.Repository → Type 0
+EndsRun AtEnd LastReading CallFailed old commands replies read written (Ok end) failed new =
+    Runs AtEnd CallFailed old commands replies read written end failed new
+EndsRun AtEnd LastReading CallFailed old commands replies read written (Err Read) failed new =
+    EndsReading LastReading CallFailed old commands replies read written failed new
+EndsRun AtEnd LastReading CallFailed old commands replies read written (Err Write) failed new =
+    EndsWriting AtEnd CallFailed old commands replies read written failed new
 
 -- ---- turns
 
 -- The last turn of a run from old: it acted on these commands with these replies, read and wrote these bytes, and ended so. What
 -- it leaves stands; or, after a fault in a changing command, what recovery makes of it.
-pub record EndsHere (Reads Writes : Bytes → Type 0) (StandsNow RecoversNow : plain.Repository → Type 0) (IsTraced : List Command → List Reply → plain.Repository → Type 0)
-    (AtEnd LastReading CallFailed : Type 0) (old : plain.Repository) (result : Result End RunError) (failed : Bool) : Type 0 where
+pub record EndsHere (Reads Writes : Bytes → Type 0)
+    (StandsNow RecoversNow : plain.Repository → Type 0)
+    (IsTraced : List Command → List Reply → plain.Repository → Type 0)
+    (AtEnd LastReading CallFailed : Type 0) (old : plain.Repository)
+    (result : Result End RunError) (failed : Bool) : Type 0 where
   pub commands : List Command
   pub replies : List Reply
   pub read : Bytes
@@ -83,7 +90,8 @@ pub record EndsHere (Reads Writes : Bytes → Type 0) (StandsNow RecoversNow : p
   pub recovers : failed ≡ true → RecoversNow new
 
 -- A turn after which the run goes on: the bytes of commands were taken, their replies written, and what they leave stands.
-pub record GoesOn (Takes Writes : Bytes → Type 0) (StandsNow : plain.Repository → Type 0) (IsTraced : List Command → List Reply → plain.Repository → Type 0) (CallFailed : Type 0)
+pub record GoesOn (Takes Writes : Bytes → Type 0) (StandsNow : plain.Repository → Type 0)
+    (IsTraced : List Command → List Reply → plain.Repository → Type 0) (CallFailed : Type 0)
     (old : plain.Repository) : Type 0 where
   pub commands : List Command
   pub replies : List Reply
@@ -97,10 +105,17 @@ pub record GoesOn (Takes Writes : Bytes → Type 0) (StandsNow : plain.Repositor
   pub stands : StandsNow new
 
 -- a turn goes on, or is the run's last
-abbrev pub Turns : (Bytes → Type 0) → (Bytes → Type 0) → (Bytes → Type 0) → (plain.Repository → Type 0) → (plain.Repository → Type 0) → (List Command → List Reply → plain.Repository → Type 0)
+abbrev pub Turns : (Bytes → Type 0) → (Bytes → Type 0) → (Bytes → Type 0)
+    → (plain.Repository → Type 0) → (plain.Repository → Type 0)
+    → (List Command → List Reply → plain.Repository → Type 0)
     → Type 0 → Type 0 → Type 0 → plain.Repository → Result (Option End) RunError → Bool → Type 0
-Turns Takes Comes Writes StandsNow RecoversNow IsTraced AtEnd LastReading CallFailed old (Ok None) failed = GoesOn Takes Writes StandsNow IsTraced CallFailed old
-Turns Takes Comes Writes StandsNow RecoversNow IsTraced AtEnd LastReading CallFailed old (Ok (Some end)) failed =
-    EndsHere Comes Writes StandsNow RecoversNow IsTraced AtEnd LastReading CallFailed old (Ok end) failed
-Turns Takes Comes Writes StandsNow RecoversNow IsTraced AtEnd LastReading CallFailed old (Err error) failed =
-    EndsHere Comes Writes StandsNow RecoversNow IsTraced AtEnd LastReading CallFailed old (Err error) failed
+Turns Takes Comes Writes StandsNow RecoversNow IsTraced AtEnd LastReading CallFailed old
+    (Ok None) failed = GoesOn Takes Writes StandsNow IsTraced CallFailed old
+Turns Takes Comes Writes StandsNow RecoversNow IsTraced AtEnd LastReading CallFailed old
+    (Ok (Some end)) failed =
+    EndsHere Comes Writes StandsNow RecoversNow IsTraced AtEnd LastReading CallFailed old
+    (Ok end) failed
+Turns Takes Comes Writes StandsNow RecoversNow IsTraced AtEnd LastReading CallFailed old
+    (Err error) failed =
+    EndsHere Comes Writes StandsNow RecoversNow IsTraced AtEnd LastReading CallFailed old
+    (Err error) failed

@@ -14,11 +14,17 @@ use Rattle.history_store.specs.Face.{kind_of_names, kind_of_objects}
 
 -- the two trees that stand
 abbrev pub pair_of : {F : Type 0} → (F → History) → Repository F → Pair
-pair_of history repository = record { objects = (history (objects_part repository)).tree; names = (history (names_part repository)).tree }
+pair_of history repository =
+    record {
+      objects =
+          (history (objects_part repository)).tree;
+      names = (history (names_part repository)).tree;
+    }
 
 -- Both parts are honest files, and the pair that stands is that of this plain repository, which is whole and in its written form;
 -- what is kept in memory is its own.
-pub record Stands {F : Type 0} (IsHonest : F → Type 0) (history : F → History) (repository : Repository F) (r : plain.Repository) : Type 0 where
+pub record Stands {F : Type 0} (IsHonest : F → Type 0) (history : F → History)
+    (repository : Repository F) (r : plain.Repository) : Type 0 where
   pub honest_objects : IsHonest (objects_part repository)
   pub honest_names : IsHonest (names_part repository)
   pub whole : StandsWhole r.kind (pair_of history repository) r
@@ -29,7 +35,8 @@ pub record Stands {F : Type 0} (IsHonest : F → Type 0) (history : F → Histor
   pub known : (id : Id) → contains_key (known_ids repository) id ≡ contains_key r.objects id
 
 -- It stands for this plain repository, which is one of this stage: what the calls below `run` take for granted.
-pub record Serves {F : Type 0} (IsHonest : F → Type 0) (history : F → History) (repository : Repository F) (r : plain.Repository) : Type 0 where
+pub record Serves {F : Type 0} (IsHonest : F → Type 0) (history : F → History)
+    (repository : Repository F) (r : plain.Repository) : Type 0 where
   pub stands : Stands IsHonest history repository r
   pub stage : IsOfStage r (pair_of history repository)
 

@@ -39,7 +39,8 @@ fn is_email(field: &Field) -> bool
 
 /// Whether the name and the email can stand in an actor's line. The email may be empty.
 pub(crate) fn has_good_names(line: &ActorLine) -> bool
-    ensures { (order : model.ActorLine) → IsActor line.now order → result ≡ not (is_bad_actor order) }
+    ensures { (order : model.ActorLine) → IsActor line.now order
+        → result ≡ not (is_bad_actor order) }
 {
     is_name(&line.name) && is_email(&line.email)
 }

@@ -92,7 +92,8 @@ impl Expected {
 fn test_words(expected: Expected, parents: &[WordReading]) -> Result<(), Cause>
     ensures { MatchResult result
         (λ _. words_cause (expected_readings expected ++ map reading_of parents.now) ≡ None)
-        (λ cause. words_cause (expected_readings expected ++ map reading_of parents.now) ≡ Some cause) }
+        (λ cause. words_cause (expected_readings expected ++ map reading_of parents.now)
+        ≡ Some cause) }
 {
     if expected.is_unknown() || have_unknown(parents) {
         return Err(Cause::UnknownWord);
@@ -121,7 +122,8 @@ fn parents_of(
     held: Option<ObjectId>,
     words: &[WordReading],
 ) -> Result<Vec<ObjectId>, AllocError>
-    ensures { IfOk result (λ parents. parents.items ≡ option_to_list held ++ filter_map commit_in words.now) }
+    ensures { IfOk result
+        (λ parents. parents.items ≡ option_to_list held ++ filter_map commit_in words.now) }
 {
     let mut parents = Vec::new(alloc);
     parents.extend(held)?;

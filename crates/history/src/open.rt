@@ -50,7 +50,9 @@ impl<F: Files> Repository<F> {
         ensures stage { F.is_honest objects → F.is_honest names
             → OnOk result (IsNew (F.history objects).tree (F.history names).tree) }
         ensures refused { F.is_honest objects → F.is_honest names
-            → IfErr result (λ refusal. IsNotNew F.reading_may_fail (F.history objects).tree (F.history names).tree refusal.error) }
+            → IfErr result
+            (λ refusal. IsNotNew F.reading_may_fail (F.history objects).tree
+            (F.history names).tree refusal.error) }
         ensures handed_back { IfErr result (λ refusal. (refusal.objects ≡ objects)
             × (refusal.names ≡ names)) }
     {

@@ -36,7 +36,8 @@ IsBase table kind (Some root) files = IsRootOf table kind files root
 
 -- the change at this path is this edit of a file map, and the id is that of the bytes that are put
 abbrev pub Names : Kind → Bytes → Change → model.Edit → Type 0
-Names kind path (Put file id) made = (bytes : Bytes) × (made ≡ model.Put file path bytes) × (id_of id ≡ blob_id kind bytes)
+Names kind path (Put file id) made =
+    (bytes : Bytes) × (made ≡ model.Put file path bytes) × (id_of id ≡ blob_id kind bytes)
 Names kind path Remove made = made ≡ model.Remove path
 Names kind path RemoveFile made = made ≡ model.RemoveFile path
 
@@ -44,12 +45,15 @@ abbrev pub NameEdits : Kind → List Edit → List model.Edit → Type 0
 NameEdits kind [] [] = ⊤
 NameEdits kind [] (made ∷ more) = ⊥
 NameEdits kind (edit ∷ edits) [] = ⊥
-NameEdits kind (edit ∷ edits) (made ∷ more) = Names kind edit.path.now edit.change made × NameEdits kind edits more
+NameEdits kind (edit ∷ edits) (made ∷ more) =
+    Names kind edit.path.now edit.change made × NameEdits kind edits more
 
 -- It holds of the files that are edited, and of the edits that these are, where the store answers by its table.
-abbrev pub OfEdits : Type 0 → Table → Kind → Option Id → List Edit → (FileMap → List model.Edit → Type 0) → Type 0
+abbrev pub OfEdits : Type 0 → Table → Kind → Option Id → List Edit
+    → (FileMap → List model.Edit → Type 0) → Type 0
 OfEdits honest table kind root edits P =
-    honest → (files : FileMap) (made : List model.Edit) → IsBase table kind root files → NameEdits kind edits made → P files made
+    honest → (files : FileMap) (made : List model.Edit) → IsBase table kind root files
+    → NameEdits kind edits made → P files made
 
 -- each path is one
 abbrev pub HavePaths : List model.Edit → Type 0
@@ -67,31 +71,39 @@ abbrev pub AreTreesOf : Kind → List FileMap → List EditedTree → Type 0
 AreTreesOf kind [] [] = ⊤
 AreTreesOf kind [] (tree ∷ trees) = ⊥
 AreTreesOf kind (files ∷ folders) [] = ⊥
-AreTreesOf kind (files ∷ folders) (tree ∷ trees) = IsTreeOf kind files tree × AreTreesOf kind folders trees
+AreTreesOf kind (files ∷ folders) (tree ∷ trees) =
+    IsTreeOf kind files tree × AreTreesOf kind folders trees
 
 -- one of these folders has the same tree
 abbrev pub HasTreeOf : Kind → List FileMap → FileMap → Type 0
-HasTreeOf kind folders files = (folder : FileMap) × Contains folders folder × (root kind folder ≡ root kind files)
+HasTreeOf kind folders files =
+    (folder : FileMap) × Contains folders folder × (root kind folder ≡ root kind files)
 
 -- each folder of the files is among those that are given, or one that stands has its tree
 abbrev pub IsClosed : Kind → List FileMap → List FileMap → FileMap → Type 0
-IsClosed kind stands given files = AllByRecursion (λ folder. Contains given folder ⊎ HasTreeOf kind stands folder) (folders_of files)
+IsClosed kind stands given files =
+    AllByRecursion (λ folder. Contains given folder ⊎ HasTreeOf kind stands folder)
+    (folders_of files)
 
 -- Trees of folders of these files, the files' own last, each behind those of its own folders that haven't the tree of one that
 -- stands.
-pub record AreGiven (kind : Kind) (stands : List FileMap) (files : FileMap) (trees : List EditedTree) : Type 0 where
+pub record AreGiven (kind : Kind) (stands : List FileMap) (files : FileMap)
+    (trees : List EditedTree) : Type 0 where
   pub below : List FileMap
   pub own : AllByRecursion (Contains (folders_of files)) below
   pub trees_are : AreTreesOf kind (below ++ files ∷ []) trees
-  pub in_order : (first rest : List FileMap) (folder : FileMap) → below ++ files ∷ [] ≡ first ++ folder ∷ rest
+  pub in_order : (first rest : List FileMap) (folder : FileMap)
+      → below ++ files ∷ [] ≡ first ++ folder ∷ rest
       → IsClosed kind stands (first ++ folder ∷ []) folder
 
 -- no `put` has the null id
 abbrev pub HaveIds : Kind → List model.Edit → Type 0
-HaveIds kind made = AllByRecursion (λ value. is_null (objects.id_of kind value) ≡ false) (flat_map put_bytes made)
+HaveIds kind made =
+    AllByRecursion (λ value. is_null (objects.id_of kind value) ≡ false) (flat_map put_bytes made)
 
 -- The edits are accepted, and these are the trees of what they make of the files.
-pub record AreEdited (kind : Kind) (files : FileMap) (made : List model.Edit) (edited : EditedFiles) : Type 0 where
+pub record AreEdited (kind : Kind) (files : FileMap) (made : List model.Edit)
+    (edited : EditedFiles) : Type 0 where
   pub paths : HavePaths made
   pub accepted : IsFalse (some_refused files made)
   pub ids : HaveIds kind made
@@ -102,7 +114,8 @@ pub record AreEdited (kind : Kind) (files : FileMap) (made : List model.Edit) (e
 
 -- the bytes of each `put`, and the folders of what the edits make of the files
 abbrev pub values_of : FileMap → List model.Edit → List Value
-values_of files made = flat_map put_bytes made ++ map StoredFolder (folders_of (edited_by files made))
+values_of files made =
+    flat_map put_bytes made ++ map StoredFolder (folders_of (edited_by files made))
 
 -- the edits are accepted, and one of the values would have the null id
 pub record HaveNull (kind : Kind) (files : FileMap) (made : List model.Edit) : Type 0 where
@@ -114,7 +127,8 @@ pub record HaveNull (kind : Kind) (files : FileMap) (made : List model.Edit) : T
 
 -- an edit is refused, where all have paths; a store that has the trees fails only where a lookup fails, or for want of memory
 abbrev pub EditsFault : Type 0 → Kind → FileMap → List model.Edit → EditError → Type 0
-EditsFault may_fail kind files made BadPath = IsFalse (list_all (λ edit. is_path (edit_path edit)) made)
+EditsFault may_fail kind files made BadPath =
+    IsFalse (list_all (λ edit. is_path (edit_path edit)) made)
 EditsFault may_fail kind files made IsFolder = HavePaths made × IsTrue (some_refused files made)
 EditsFault may_fail kind files made NullId = HaveNull kind files made
 EditsFault may_fail kind files made Failed = may_fail

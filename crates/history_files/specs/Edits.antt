@@ -43,8 +43,10 @@ AreEdits kind (edit ∷ edits) (made ∷ more) = IsEdit kind edit made × AreEdi
 
 -- An editor that has the files of a file map then has those that the edits make of it, over each table of trees that has the
 -- stored ones.
-abbrev pub EditsMake : Table → List Edit → (Trees → unfolded.FileMap) → (Trees → unfolded.FileMap) → Type 0
-EditsMake table edits old new = (trees : Trees) (kind : Kind) (files : FileMap) (made : List model.Edit)
+abbrev pub EditsMake : Table → List Edit → (Trees → unfolded.FileMap) → (Trees → unfolded.FileMap)
+    → Type 0
+EditsMake table edits old new =
+    (trees : Trees) (kind : Kind) (files : FileMap) (made : List model.Edit)
     → HasStored table trees → AreEdits kind edits made → IsUnfolded kind files (old trees)
     → IsUnfolded kind (edited_by files made) (new trees)
 

@@ -28,7 +28,9 @@ is_filename name = not (is_empty name) && not (has_byte 47 name) && not (has_byt
 
 abbrev pub is_file_mode : Mode → Bool
 is_file_mode mode = not mode.padded
-    && (mode.value == kind_value entries.Blob || mode.value == kind_value entries.BlobExecutable || mode.value == kind_value entries.Link)
+    &&
+    (mode.value == kind_value entries.Blob || mode.value == kind_value entries.BlobExecutable
+    || mode.value == kind_value entries.Link)
 
 abbrev pub is_folder_mode : Mode → Bool
 is_folder_mode mode = not mode.padded && mode.value == kind_value entries.Tree
@@ -36,7 +38,11 @@ is_folder_mode mode = not mode.padded && mode.value == kind_value entries.Tree
 -- the entry names a file, or one of these folders, or one that an edit makes
 abbrev pub names_only : Kind → List FileMap → Property
 names_only kind folders name leaf = is_filename name
-    && (is_file_mode leaf.mode || (is_folder_mode leaf.mode && (is_null leaf.id || list_any (λ folder. id_eq leaf.id (folder_id kind folder)) folders)))
+    &&
+    (is_file_mode leaf.mode
+    ||
+    (is_folder_mode leaf.mode
+    && (is_null leaf.id || list_any (λ folder. id_eq leaf.id (folder_id kind folder)) folders)))
 
 -- what the edits put may stand at the names of their paths
 abbrev pub MayPut : Property → Bytes → Change → Type 0

@@ -19,15 +19,20 @@ pub record IsTextOf (kind : Kind) (items : List Item) (tree : EditedTree) : Type
 
 -- the tree is kept behind the others, and its id is given
 abbrev pub KeepsTree : Kind → List EditedTree → Tree → List EditedTree → ObjectId → Type 0
-KeepsTree kind old tree new id = (kept : EditedTree) × (new ≡ old ++ kept ∷ []) × (kept.id ≡ id) × IsTextOf kind (map own_item tree.entries.items) kept
+KeepsTree kind old tree new id =
+    (kept : EditedTree) × (new ≡ old ++ kept ∷ []) × (kept.id ≡ id)
+    × IsTextOf kind (map own_item tree.entries.items) kept
 
 -- what was handed out is kept
 abbrev pub AreKept : Kind → List HandedOut → List EditedTree → Type 0
 AreKept kind [] [] = ⊤
 AreKept kind [] (kept ∷ more) = ⊥
 AreKept kind (tree ∷ trees) [] = ⊥
-AreKept kind (tree ∷ trees) (kept ∷ more) = (id_of kept.id ≡ tree.id) × IsTextOf kind tree.items kept × AreKept kind trees more
+AreKept kind (tree ∷ trees) (kept ∷ more) =
+    (id_of kept.id ≡ tree.id) × IsTextOf kind tree.items kept × AreKept kind trees more
 
 -- all that is written of the editor's root
 abbrev pub HasWritten : {S : Type 0} → Kind → Editor S → EditedFiles → Type 0
-HasWritten kind editor edited = (handed : List HandedOut) × IsWritten editor 0 [] handed (id_of edited.root) × AreKept kind handed edited.trees.items
+HasWritten kind editor edited =
+    (handed : List HandedOut) × IsWritten editor 0 [] handed (id_of edited.root)
+    × AreKept kind handed edited.trees.items

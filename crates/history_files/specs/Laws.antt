@@ -17,39 +17,56 @@ use Rattle.history_files.specs.Unfolding.{file_leaf, IsUnfolded, HasTrees}
 
 -- Over each table of trees that has the stored ones, the tree of a file map unfolds to its files.
 abbrev pub TreesUnfold : Type 0
-TreesUnfold = (table : Table) (trees : Trees) (kind : Kind) (files : FileMap) → HasStored table trees → IsFileMap files → HasTrees table kind files
+TreesUnfold =
+    (table : Table) (trees : Trees) (kind : Kind) (files : FileMap) → HasStored table trees
+    → IsFileMap files → HasTrees table kind files
     → IsUnfolded kind files (files_under trees (folder_id kind files))
 
 -- the objects of a repository under their ids
 abbrev pub table_of : Repository → Table
-table_of r id = option_map (λ value. record { kind = object_kind value; content = content_of r.kind value }) (get r.objects id)
+table_of r id =
+    option_map (λ value. record { kind = object_kind value; content = content_of r.kind value })
+    (get r.objects id)
 
 -- A whole store has the trees of each folder that is stored in it.
 abbrev pub WholeStoresHaveTrees : Type 0
-WholeStoresHaveTrees = (r : Repository) (id : Id) (files : FileMap) → IsWholeStore r → get r.objects id ≡ Some (StoredFolder files)
+WholeStoresHaveTrees =
+    (r : Repository) (id : Id) (files : FileMap) → IsWholeStore r
+    → get r.objects id ≡ Some (StoredFolder files)
     → HasTrees (table_of r) r.kind files
 
 -- A put in a file map is one at the path's components, unless the bytes have the null id.
 abbrev pub PutsAgree : Type 0
-PutsAgree = (kind : Kind) (files : FileMap) (there : unfolded.FileMap) (path : Bytes) (content : Content) (trees : Trees)
+PutsAgree =
+    (kind : Kind) (files : FileMap) (there : unfolded.FileMap) (path : Bytes) (content : Content)
+    (trees : Trees)
     → IsUnfolded kind files there → is_null (blob_id kind content.bytes) ≡ false
-    → IsUnfolded kind (put_at path content files) (unfolded.put trees (components path) (file_leaf kind content) there)
+    → IsUnfolded kind (put_at path content files)
+    (unfolded.put trees (components path) (file_leaf kind content) there)
 
 -- A removal in a file map is one at the path's components.
 abbrev pub RemovalsAgree : Type 0
-RemovalsAgree = (kind : Kind) (files : FileMap) (there : unfolded.FileMap) (path : Bytes) → IsUnfolded kind files there
+RemovalsAgree =
+    (kind : Kind) (files : FileMap) (there : unfolded.FileMap) (path : Bytes)
+    → IsUnfolded kind files there
     → IsUnfolded kind (removed path files) (unfolded.removed (components path) there)
 
 -- Nothing stands below a path exactly where nothing stands below its components.
 abbrev pub FoldersAgree : Type 0
-FoldersAgree = (kind : Kind) (files : FileMap) (there : unfolded.FileMap) (path : Bytes) → IsUnfolded kind files there
+FoldersAgree =
+    (kind : Kind) (files : FileMap) (there : unfolded.FileMap) (path : Bytes)
+    → IsUnfolded kind files there
     → IsFalse (has_below files path) ↔ HasNoneBelow (components path) there
 
 -- File maps that unfold to the same files have one root.
 abbrev pub UnfoldingsTellRoots : Type 0
-UnfoldingsTellRoots = (kind : Kind) (a b : FileMap) (there other : unfolded.FileMap) → IsUnfolded kind a there → IsUnfolded kind b other
+UnfoldingsTellRoots =
+    (kind : Kind) (a b : FileMap) (there other : unfolded.FileMap) → IsUnfolded kind a there
+    → IsUnfolded kind b other
     → SameFiles there other → root kind a ≡ root kind b
 
 -- What spells the root of a file map spells a well-formed tree: its entries stand in Git's order, each name once.
 abbrev pub RootsAreWellFormed : Type 0
-RootsAreWellFormed = (kind : Kind) (files : FileMap) (items : List Item) → IsFileMap files → SpellsTree kind (root kind files) items → IsWellFormed items
+RootsAreWellFormed =
+    (kind : Kind) (files : FileMap) (items : List Item) → IsFileMap files
+    → SpellsTree kind (root kind files) items → IsWellFormed items

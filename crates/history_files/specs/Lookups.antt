@@ -23,7 +23,8 @@ edit_way edit = way_of edit.path.now edit.change
 -- the trees into which names lead from a tree of these entries, one below the other
 abbrev pub items_into : Trees → List Item → Path → List Id
 items_into trees items [] = []
-items_into trees items (name ∷ rest) = ids_from (named name items) (λ item. trees_into trees rest (leaf_of item))
+items_into trees items (name ∷ rest) =
+    ids_from (named name items) (λ item. trees_into trees rest (leaf_of item))
 
 -- the same from a root, if there is one
 abbrev pub root_into : Trees → Option Id → Path → List Id

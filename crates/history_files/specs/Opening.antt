@@ -16,10 +16,12 @@ use Rattle.history_files.specs.declared.edits.EditError.{EditError}
 use Rattle.history_files.specs.declared.edits.EditError.TheVariants.{BadPath, IsFolder, NullId, Failed, Broken, Memory}
 
 -- The editor has the files. Each entry of its opened trees names a file or a folder of the base, whose trees stand in the table.
-pub record EditsFiles {S : Type 0} (table : Table) (kind : Kind) (base files : FileMap) (editor : Editor S) : Type 0 where
+pub record EditsFiles {S : Type 0} (table : Table) (kind : Kind) (base files : FileMap)
+    (editor : Editor S) : Type 0 where
   pub map : IsFileMap base
   pub trees : AllByRecursion (HasTrees table kind) (own_folders base)
-  pub unfolds : (trees : Trees) → HasStored table trees → IsUnfolded kind files (files_of trees editor)
+  pub unfolds : (trees : Trees) → HasStored table trees
+      → IsUnfolded kind files (files_of trees editor)
   pub each : EachEntryHas (names_only kind (own_folders base)) editor
 
 -- a tree that an error tells can't be read or isn't well-formed, where the store answers by its table

@@ -112,7 +112,8 @@ named_by item = named_as (kind_of item.mode.value) item.id
 -- from what was found to what stands under a name in it: nothing in a file, and in a folder what its tree's entry names
 abbrev pub StepsBelow : Table → Found → Bytes → Option Found → Type 0
 StepsBelow table (File kind id) name next = next ≡ None
-StepsBelow table (Folder id) name next = (items : List Item) → StandsAs table (id_of id) objects.Tree (Tree items)
+StepsBelow table (Folder id) name next =
+    (items : List Item) → StandsAs table (id_of id) objects.Tree (Tree items)
     → option_map entry_of next ≡ option_and_then named_by (named name items)
 
 -- ---- all files below a root
@@ -122,7 +123,8 @@ abbrev pub line_of : BelowFile → FileLine
 line_of file = record { kind = file.kind; id = id_of file.id; path = file.path.items }
 
 abbrev pub file_line : Kind → Bytes × Content → FileLine
-file_line kind file = record { kind = (file.1).kind; id = blob_id kind (file.1).bytes; path = file.0 }
+file_line kind file =
+    record { kind = (file.1).kind; id = blob_id kind (file.1).bytes; path = file.0 }
 
 -- what is told of the file that an entry names, and of no other entry
 abbrev pub line_named : EntryKind → Id → Bytes → Option FileLine
@@ -152,10 +154,12 @@ StopsBelow honest may_fail table root error = (error ≡ Memory)
 
 -- no tree stands under the id that can be read and is well-formed
 abbrev pub HasNoGoodTree : Table → Id → Type 0
-HasNoGoodTree table id = (items : List Item) → StandsAs table id objects.Tree (Tree items) → IsWellFormed items → ⊥
+HasNoGoodTree table id =
+    (items : List Item) → StandsAs table id objects.Tree (Tree items) → IsWellFormed items → ⊥
 
 -- why the tree under a root's id isn't opened for edits
 abbrev pub RootFault : Type 0 → Type 0 → Table → Id → ReadError → Type 0
 RootFault honest may_fail table id Failed = may_fail
-RootFault honest may_fail table id (Broken oid) = (id_of oid ≡ id) × (honest → HasNoGoodTree table id)
+RootFault honest may_fail table id (Broken oid) =
+    (id_of oid ≡ id) × (honest → HasNoGoodTree table id)
 RootFault honest may_fail table id Memory = ⊤

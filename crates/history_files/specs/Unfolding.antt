@@ -26,16 +26,23 @@ entry_kind Link = entries.Link
 
 -- what an entry names of a file: the mode of its kind and the id of its bytes
 abbrev pub file_leaf : Kind → Content → Leaf
-file_leaf kind content = record { mode = record { value = kind_value (entry_kind content.kind); padded = false }; id = blob_id kind content.bytes }
+file_leaf kind content =
+    record {
+      mode =
+          record { value = kind_value (entry_kind content.kind); padded = false };
+      id = blob_id kind content.bytes;
+    }
 
 -- At the components of each path stands what names the file there, and nothing stands elsewhere.
 pub record IsUnfolded (kind : Kind) (files : FileMap) (there : unfolded.FileMap) : Type 0 where
   pub at : (path : Bytes) → there (components path) ≡ option_map (file_leaf kind) (get files path)
-  pub only : (names : Path) (leaf : Leaf) → there names ≡ Some leaf → (path : Bytes) × (components path ≡ names)
+  pub only : (names : Path) (leaf : Leaf) → there names ≡ Some leaf
+      → (path : Bytes) × (components path ≡ names)
 
 -- a folder stands under its id, as a tree of its text
 abbrev pub FolderStands : Table → Kind → Value → Type 0
-FolderStands table kind (StoredFolder files) = Stands table (folder_id kind files) objects.Tree (root kind files)
+FolderStands table kind (StoredFolder files) =
+    Stands table (folder_id kind files) objects.Tree (root kind files)
 FolderStands table kind (StoredBytes bytes) = Unit {0}
 FolderStands table kind (StoredCommit commit) = Unit {0}
 FolderStands table kind (StoredTag tag) = Unit {0}

@@ -45,8 +45,11 @@ impl From<OpenRefusal<MemoryFiles>> for NewError {
 /// [`create`] or of [`Repository::open`].
 pub fn new_repository(alloc: Global, kind: Kind) -> Result<Repository<MemoryFiles>, NewError>
     ensures unfailed { IfOk result (λ made. has_failed made ≡ false) }
-    ensures stands { IfOk result (λ made. Stands ⟦<MemoryFiles as Files>⟧.is_honest ⟦<MemoryFiles as Files>⟧.history made (fresh kind)) }
-    ensures stage { IfOk result (λ made. IsOfStage (fresh kind) (pair_of ⟦<MemoryFiles as Files>⟧.history made)) }
+    ensures stands { IfOk result
+        (λ made. Stands ⟦<MemoryFiles as Files>⟧.is_honest ⟦<MemoryFiles as Files>⟧.history made
+        (fresh kind)) }
+    ensures stage { IfOk result
+        (λ made. IsOfStage (fresh kind) (pair_of ⟦<MemoryFiles as Files>⟧.history made)) }
 {
     let mut objects = MemoryFiles::new(alloc);
     let mut names = MemoryFiles::new(alloc);

@@ -26,7 +26,9 @@ files_of_name r name = first_files r (option_to_list (name_commit r name))
 -- commits on one name in a row, each accepted
 abbrev pub Commits : Bytes → Repository → List CommitCommand → Repository → Type 0
 Commits name r [] new = new ≡ r
-Commits name r (c ∷ cs) new = (mid : Repository) × (id : Id) × (branch_or_name r c.name ≡ name) × Step r (Commit c) (Committed id) mid × Commits name mid cs new
+Commits name r (c ∷ cs) new =
+    (mid : Repository) × (id : Id) × (branch_or_name r c.name ≡ name)
+    × Step r (Commit c) (Committed id) mid × Commits name mid cs new
 
 -- One list of edits, cut in two ways into accepted commits from equal files in repositories of one kind, gives equal files
 -- and one id of the root tree.
@@ -35,7 +37,9 @@ pub record EndsAlike (r s : Repository) (name other : Bytes) : Type 0 where
   pub tree : folder_id r.kind (files_of_name r name) ≡ folder_id s.kind (files_of_name s other)
 
 abbrev pub EditsCutAnyWay : Type 0
-EditsCutAnyWay = (name other : Bytes) (r s new end : Repository) (c d : CommitCommand) (cs ds : List CommitCommand)
+EditsCutAnyWay =
+    (name other : Bytes) (r s new end : Repository) (c d : CommitCommand)
+    (cs ds : List CommitCommand)
     → IsSound r → IsSound s → r.kind ≡ s.kind → base_files r c ≡ base_files s d
     → flat_map (λ c. c.edits) (c ∷ cs) ≡ flat_map (λ d. d.edits) (d ∷ ds)
     → Commits name r (c ∷ cs) new → Commits other s (d ∷ ds) end → EndsAlike new end name other
@@ -50,5 +54,8 @@ pub record IsPlainLog (c : LogCommand) : Type 0 where
 
 -- For one list of tips and hidden words all orders print one set.
 abbrev pub OrdersPrintOneSet : Type 0
-OrdersPrintOneSet = (r a b : Repository) (c d : LogCommand) (xs ys : List Id) → c.items ≡ d.items → IsPlainLog c → IsPlainLog d
-    → Step r (Log c) (LogIs xs) a → Step r (Log d) (LogIs ys) b → (id : Id) → Contains xs id ↔ Contains ys id
+OrdersPrintOneSet =
+    (r a b : Repository) (c d : LogCommand) (xs ys : List Id) → c.items ≡ d.items → IsPlainLog c
+    → IsPlainLog d
+    → Step r (Log c) (LogIs xs) a → Step r (Log d) (LogIs ys) b → (id : Id)
+    → Contains xs id ↔ Contains ys id

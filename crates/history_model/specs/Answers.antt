@@ -28,7 +28,8 @@ time_at r id = unwrap_or (option_map (λ commit. (commit.committer).seconds) (co
 -- 1 for a root, else one more than the parents' greatest; ways of at most so many commits are followed
 unfoldable pub generation_within : ℕ → Repository → Id → ℕ
 generation_within zero r id = 0
-generation_within (suc steps) r id = suc (fold max 0 (map (λ parent. generation_within steps r parent) (parents_at r id)))
+generation_within (suc steps) r id =
+    suc (fold max 0 (map (λ parent. generation_within steps r parent) (parents_at r id)))
 
 -- the number of commits on the longest way along parents
 abbrev pub generation : Repository → Id → ℕ
@@ -38,7 +39,8 @@ abbrev pub max_generation : ℕ
 max_generation = 1_073_741_823
 
 abbrev pub is_counted : Repository → Id → Bool
-is_counted r id = list_any (λ commit. nat_le (generation r id) max_generation) (option_to_list (commit_at r id))
+is_counted r id =
+    list_any (λ commit. nat_le (generation r id) max_generation) (option_to_list (commit_at r id))
 
 abbrev pub counted : Repository → List Id
 counted r = filter (is_counted r) (keys r.objects)
@@ -70,7 +72,8 @@ is_in_folder None name = true
 is_in_folder (Some folder) name = begins (folder ++ 47 ∷ []) name
 
 abbrev pub name_line : Repository → Bytes × Reference → NameLine
-name_line r e = record { id = (e.1).id; commit = unwrap_or (peeled r (e.1).id) (null_id r.kind); name = e.0 }
+name_line r e =
+    record { id = (e.1).id; commit = unwrap_or (peeled r (e.1).id) (null_id r.kind); name = e.0 }
 
 abbrev pub names_shown : Repository → Option Bytes → List NameLine
 names_shown r folder = map (name_line r) (filter (λ e. is_in_folder folder e.0) (entries r.names))
@@ -82,7 +85,8 @@ abbrev pub files_shown : Repository → FileMap → List FileLine
 files_shown r files = map (file_line r) (entries files)
 
 -- the word stands for this commit
-pub record StandsForCommit (r : Repository) (word : Bytes) (id : Id) (commit : CommitValue) : Type 0 where
+pub record StandsForCommit (r : Repository) (word : Bytes) (id : Id)
+    (commit : CommitValue) : Type 0 where
   pub read : commit_of r word ≡ Some id
   pub holds : commit_at r id ≡ Some commit
 
@@ -97,7 +101,8 @@ commit_shown r id commit = record {
 }
 
 abbrev pub content_shown : Repository → Content → ContentShown
-content_shown r content = record { kind = content.kind; id = blob_id r.kind content.bytes; bytes = content.bytes }
+content_shown r content =
+    record { kind = content.kind; id = blob_id r.kind content.bytes; bytes = content.bytes }
 
 -- ---- `log`
 
@@ -145,7 +150,9 @@ same_kind _ _ = false
 
 abbrev pub same_entries : List (Bytes × Content) → List (Bytes × Content) → Bool
 same_entries [] [] = true
-same_entries (a ∷ left) (b ∷ right) = bytes_eq a.0 b.0 && same_kind (a.1).kind (b.1).kind && bytes_eq (a.1).bytes (b.1).bytes && same_entries left right
+same_entries (a ∷ left) (b ∷ right) =
+    bytes_eq a.0 b.0 && same_kind (a.1).kind (b.1).kind && bytes_eq (a.1).bytes (b.1).bytes
+    && same_entries left right
 same_entries _ _ = false
 
 -- the files of a commit's first parent, none without one
@@ -154,7 +161,10 @@ files_before r id = first_files r (parents_at r id)
 
 -- the files at one of the paths or below it are not those of the first parent
 abbrev pub differs_at : Repository → List Bytes → Id → Bool
-differs_at r paths id = not (same_entries (entries (cut_to paths (files_at r id))) (entries (cut_to paths (files_before r id))))
+differs_at r paths id =
+    not
+    (same_entries (entries (cut_to paths (files_at r id)))
+    (entries (cut_to paths (files_before r id))))
 
 -- without a path all commits of the walk
 abbrev pub kept : Repository → List Bytes → List Id → List Id
@@ -162,7 +172,9 @@ kept r [] ids = ids
 kept r (path ∷ paths) ids = filter (differs_at r (path ∷ paths)) ids
 
 abbrev pub IsLog : Repository → LogCommand → List Id → Type 0
-IsLog r c ids = (walked : List Id) × IsWalk c.order (commits_of r) (walk_request r c) walked × (ids ≡ kept r c.paths walked)
+IsLog r c ids =
+    (walked : List Id) × IsWalk c.order (commits_of r) (walk_request r c) walked
+    × (ids ≡ kept r c.paths walked)
 
 -- ---- all commands
 
@@ -176,9 +188,14 @@ Answers r (Switch name) reply = reply ≡ Switched
 Answers r Pack reply = reply ≡ Packed
 Answers r Index reply = reply ≡ Indexed (length (counted r))
 Answers r (Names folder) reply = reply ≡ NamesAre r.branch (names_shown r folder)
-Answers r (Files word) reply = (id : Id) × (commit : CommitValue) × StandsForCommit r word id commit × (reply ≡ FilesAre (files_shown r commit.files))
+Answers r (Files word) reply =
+    (id : Id) × (commit : CommitValue) × StandsForCommit r word id commit
+    × (reply ≡ FilesAre (files_shown r commit.files))
 Answers r (Past word) reply = reply ≡ PastIs (moves_at r (past_name r word))
 Answers r (Log c) reply = (ids : List Id) × IsLog r c ids × (reply ≡ LogIs ids)
-Answers r (Show word None) reply = (id : Id) × (commit : CommitValue) × StandsForCommit r word id commit × (reply ≡ ShowsCommit (commit_shown r id commit))
+Answers r (Show word None) reply =
+    (id : Id) × (commit : CommitValue) × StandsForCommit r word id commit
+    × (reply ≡ ShowsCommit (commit_shown r id commit))
 Answers r (Show word (Some path)) reply = (id : Id) × (commit : CommitValue) × (content : Content)
-    × StandsForCommit r word id commit × (get commit.files path ≡ Some content) × (reply ≡ ShowsContent (content_shown r content))
+    × StandsForCommit r word id commit × (get commit.files path ≡ Some content)
+    × (reply ≡ ShowsContent (content_shown r content))

@@ -83,7 +83,8 @@ do_collide a b = is_below a b || is_below b a
 -- a name to be made, against the names that stand and the command's own
 abbrev pub some_collide : Repository → Command → Bool
 some_collide r command =
-    list_any (λ made. list_any (do_collide made) (keys r.names ++ targets r command)) (filter (λ name. not (stands r name)) (targets r command))
+    list_any (λ made. list_any (do_collide made) (keys r.names ++ targets r command))
+    (filter (λ name. not (stands r name)) (targets r command))
 
 abbrev pub holds_tag : Repository → Command → Bool
 holds_tag r (Commit c) = unwrap_or (option_map (is_tag r) (id_at r (branch_or_name r c.name))) false
@@ -106,18 +107,24 @@ meets_folder r (Show word path) = list_any (has_below (word_files r word)) (opti
 meets_folder r _ = false
 
 abbrev pub finds_no_path : Repository → Command → Bool
-finds_no_path r (Show word path) = list_any (λ p. is_none (get (word_files r word) p)) (option_to_list path)
+finds_no_path r (Show word path) =
+    list_any (λ p. is_none (get (word_files r word) p)) (option_to_list path)
 finds_no_path r _ = false
 
 abbrev pub is_bad_actor : ActorLine → Bool
-is_bad_actor actor = is_empty actor.name || not (is_actor_part actor.name) || not (is_actor_part actor.email)
+is_bad_actor actor =
+    is_empty actor.name || not (is_actor_part actor.name) || not (is_actor_part actor.email)
 
 abbrev pub is_bad_time : Command → Bool
 is_bad_time (Log c) = list_any (λ word. not (is_seconds word)) (since_words c.order)
-is_bad_time command = list_any (λ actor. not (is_seconds actor.seconds) || not (is_offset actor.offset)) (actors_in command)
+is_bad_time command =
+    list_any (λ actor. not (is_seconds actor.seconds) || not (is_offset actor.offset))
+    (actors_in command)
 
 abbrev pub is_bad_title : Bytes → Bool
-is_bad_title text = is_empty text || nat_lt max_title (length text) || has_byte 9 text || has_byte 13 text || has_byte 0 text
+is_bad_title text =
+    is_empty text || nat_lt max_title (length text) || has_byte 9 text || has_byte 13 text
+    || has_byte 0 text
 
 abbrev pub is_bad_message : Command → Bool
 is_bad_message (Commit c) = is_bad_title (title c.message)
@@ -180,8 +187,11 @@ holds Truncated r c = false
 holds LineTooLong r c = false
 
 abbrev pub in_order : List Cause
-in_order = BadName ∷ PrivateName ∷ NameTwice ∷ UnknownWord ∷ AmbiguousWord ∷ UnbornHead ∷ NotACommit ∷ NoSuchName ∷ Taken ∷ NotExpected ∷ Collides
-    ∷ HoldsTag ∷ TooManyParents ∷ DuplicateParent ∷ BadPath ∷ IsFolder ∷ NoSuchPath ∷ BadActor ∷ BadTime ∷ BadMessage ∷ TooLarge ∷ NothingMoves ∷ OrderWithParents ∷ []
+in_order =
+    BadName ∷ PrivateName ∷ NameTwice ∷ UnknownWord ∷ AmbiguousWord ∷ UnbornHead ∷ NotACommit
+    ∷ NoSuchName ∷ Taken ∷ NotExpected ∷ Collides
+    ∷ HoldsTag ∷ TooManyParents ∷ DuplicateParent ∷ BadPath ∷ IsFolder ∷ NoSuchPath ∷ BadActor
+    ∷ BadTime ∷ BadMessage ∷ TooLarge ∷ NothingMoves ∷ OrderWithParents ∷ []
 
 abbrev pub first_cause : Repository → Command → Option Cause
 first_cause r command = find (λ cause. holds cause r command) in_order

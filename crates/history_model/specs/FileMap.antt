@@ -33,7 +33,8 @@ FileMap = FinMap by_bytes Content
 -- Paths are paths, and none is a proper beginning of another.
 pub record IsFileMap (files : FileMap) : Type 0 where
   pub paths : (p : Bytes) → IsTrue (contains_key files p) → IsTrue (is_path p)
-  pub apart : (p q : Bytes) → IsTrue (contains_key files p) → IsTrue (contains_key files q) → IsFalse (is_below p q)
+  pub apart : (p q : Bytes) → IsTrue (contains_key files p) → IsTrue (contains_key files q)
+      → IsFalse (is_below p q)
 
 -- whether a file stands below the path
 abbrev pub has_below : FileMap → Bytes → Bool
@@ -45,12 +46,18 @@ cut_to paths files = retain_keys files (λ q. list_any (λ path. is_within path 
 
 -- the files below a folder, by the rest of their paths
 abbrev pub inside : Bytes → FileMap → FileMap
-inside folder files = from_entries (filter_map (λ e. if is_below folder e.0 then Some (drop (length folder + 1) e.0, e.1) else None) (entries files))
+inside folder files =
+    from_entries
+    (filter_map
+    (λ e. if is_below folder e.0 then Some (drop (length folder + 1) e.0, e.1) else None)
+    (entries files))
 
 -- the proper beginnings of a path: those of the rest, with the front put before them
 abbrev pub beginnings_from : Bytes → Bytes → List Bytes
 beginnings_from front [] = []
-beginnings_from front (b ∷ path) = if b == 47 then front ∷ beginnings_from (front ++ b ∷ []) path else beginnings_from (front ++ b ∷ []) path
+beginnings_from front (b ∷ path) =
+    if b == 47 then front ∷ beginnings_from (front ++ b ∷ []) path
+    else beginnings_from (front ++ b ∷ []) path
 
 abbrev pub beginnings : Bytes → List Bytes
 beginnings path = beginnings_from [] path
@@ -72,7 +79,8 @@ removed path files = retain_keys files (λ q. not (is_within path q))
 
 -- also without a file at a beginning of the path, and then with this content at it
 abbrev pub put_at : Bytes → Content → FileMap → FileMap
-put_at path content files = insert (retain_keys files (λ q. not (is_within path q || is_within q path))) path content
+put_at path content files =
+    insert (retain_keys files (λ q. not (is_within path q || is_within q path))) path content
 
 abbrev pub edited : FileMap → Edit → FileMap
 edited files (Put kind path bytes) = put_at path (record { kind = kind; bytes = bytes }) files

@@ -18,16 +18,26 @@ use Rattle.history_model.specs.Words.{candidates}
 abbrev pub LooseReadsAlike : Type 0
 LooseReadsAlike = (kind : Kind) (text : Bytes)
     → ((id : Id) → loose_reading kind text ≡ Holds id → loose_target kind text ≡ Some (ToObject id))
-    × ((name : Bytes) → loose_reading kind text ≡ Symbolic name → loose_target kind text ≡ Some (ToName name))
+    × ((name : Bytes) → loose_reading kind text ≡ Symbolic name
+    → loose_target kind text ≡ Some (ToName name))
 
 -- Of the names that a repository may hold the private ones alone have no record.
 abbrev pub RecordsAlike : Type 0
-RecordsAlike = (name : Bytes) → IsTrue (is_name name) → packed_key name ≡ (if is_private name then None else Some name)
+RecordsAlike =
+    (name : Bytes) → IsTrue (is_name name)
+    → packed_key name ≡ (if is_private name then None else Some name)
 
 -- The candidates of a word are itself and the names that complete it, of those below `refs/` the ones that aren't private.
 abbrev pub CandidatesAlike : Type 0
-CandidatesAlike = (word : Bytes) → candidates word ≡ filter (λ name. begins (codes "refs/") name && not (is_private name)) (word ∷ word_names word)
+CandidatesAlike =
+    (word : Bytes)
+    → candidates word
+    ≡ filter (λ name. begins (codes "refs/") name && not (is_private name))
+    (word ∷ word_names word)
 
 -- A log's line has the two ids, who moved the name, and the message.
 abbrev pub LinesAlike : Type 0
-LinesAlike = (entry : LogEntry) → log_line entry ≡ line (line_text (hex entry.before) (hex entry.after) (actor_text entry.actor) entry.message)
+LinesAlike =
+    (entry : LogEntry)
+    → log_line entry
+    ≡ line (line_text (hex entry.before) (hex entry.after) (actor_text entry.actor) entry.message)

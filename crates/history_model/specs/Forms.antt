@@ -41,37 +41,47 @@ max_parents = 64
 
 -- a name that a repository may hold, or a private one: by the rules of names, below `refs/`, in UTF-8, and within the limit
 abbrev pub is_name : Bytes → Bool
-is_name name = is_partial_name name && begins (codes "refs/") name && is_utf8 name && nat_le (length name) max_name
+is_name name =
+    is_partial_name name && begins (codes "refs/") name && is_utf8 name
+    && nat_le (length name) max_name
 
 -- a name of one worktree alone (git-worktree)
 abbrev pub is_private : Bytes → Bool
-is_private name = begins (codes "refs/bisect/") name || begins (codes "refs/worktree/") name || begins (codes "refs/rewritten/") name
+is_private name =
+    begins (codes "refs/bisect/") name || begins (codes "refs/worktree/") name
+    || begins (codes "refs/rewritten/") name
 
 abbrev pub is_branch : Bytes → Bool
 is_branch name = is_name name && begins (codes "refs/heads/") name
 
 -- A tag's name, behind `refs/tags/`, is not `@` and does not begin with `-`.
 abbrev pub is_tag_name : Bytes → Bool
-is_tag_name rest = is_name (codes "refs/tags/" ++ rest) && not (bytes_eq rest (codes "@")) && not (begins (codes "-") rest)
+is_tag_name rest =
+    is_name (codes "refs/tags/" ++ rest) && not (bytes_eq rest (codes "@"))
+    && not (begins (codes "-") rest)
 
 -- ---- actors
 
 -- an email, or a name that is not empty: no `<`, `>`, zero byte, tab, CR or LF, and no space at either end
 abbrev pub is_actor_part : Bytes → Bool
 is_actor_part part = not (list_any (λ b. has_byte b (60 ∷ 62 ∷ 0 ∷ 9 ∷ 13 ∷ 10 ∷ [])) part)
-    && not (begins (32 ∷ []) part) && not (ends (32 ∷ []) part) && nat_le (length part) max_actor_part
+    && not (begins (32 ∷ []) part) && not (ends (32 ∷ []) part)
+    && nat_le (length part) max_actor_part
 
 abbrev pub is_seconds : Bytes → Bool
 is_seconds word = is_decimal word && nat_le (digits_value word) max_seconds
 
 -- a sign and four digits, the last two below 60
 abbrev pub is_offset : Bytes → Bool
-is_offset (sign ∷ a ∷ b ∷ c ∷ d ∷ []) = (sign == 43 || sign == 45) && list_all is_ascii_digit (a ∷ b ∷ c ∷ d ∷ []) && nat_lt c 54
+is_offset (sign ∷ a ∷ b ∷ c ∷ d ∷ []) =
+    (sign == 43 || sign == 45) && list_all is_ascii_digit (a ∷ b ∷ c ∷ d ∷ []) && nat_lt c 54
     && not (bytes_eq (sign ∷ a ∷ b ∷ c ∷ d ∷ []) (codes "-0000"))
 is_offset _ = false
 
 abbrev pub is_actor : Actor → Bool
-is_actor actor = not (is_empty actor.name) && is_actor_part actor.name && is_actor_part actor.email && nat_le actor.seconds max_seconds && is_offset actor.offset
+is_actor actor =
+    not (is_empty actor.name) && is_actor_part actor.name && is_actor_part actor.email
+    && nat_le actor.seconds max_seconds && is_offset actor.offset
 
 -- the message up to its first line feed
 abbrev pub title : Bytes → Bytes
@@ -81,14 +91,21 @@ title message = before_first (λ b. b == 10) message
 
 -- as many digits as ids of the kind have, each 0 to 15
 abbrev pub is_id : Kind → Id → Bool
-is_id kind id = kind_number id.kind == kind_number kind && length id.digits == hex_len kind && list_all (λ d. nat_lt d 16) id.digits
+is_id kind id =
+    kind_number id.kind == kind_number kind && length id.digits == hex_len kind
+    && list_all (λ d. nat_lt d 16) id.digits
 
 abbrev pub is_commit_form : Kind → CommitValue → Bool
-is_commit_form kind commit = list_all (is_id kind) commit.parents && nat_le (length commit.parents) max_parents && not (has_twice id_eq commit.parents)
-    && is_actor commit.author && is_actor commit.committer && nat_le (length (title commit.message)) max_title
+is_commit_form kind commit =
+    list_all (is_id kind) commit.parents && nat_le (length commit.parents) max_parents
+    && not (has_twice id_eq commit.parents)
+    && is_actor commit.author && is_actor commit.committer
+    && nat_le (length (title commit.message)) max_title
 
 abbrev pub is_tag_form : Kind → TagValue → Bool
-is_tag_form kind tag = is_id kind tag.target && is_tag_name tag.name && is_actor tag.tagger && not (is_empty tag.message) && nat_le (length (title tag.message)) max_title
+is_tag_form kind tag =
+    is_id kind tag.target && is_tag_name tag.name && is_actor tag.tagger
+    && not (is_empty tag.message) && nat_le (length (title tag.message)) max_title
 
 -- a file map, its paths within the limit
 pub record IsWrittenFiles (files : FileMap) : Type 0 where
@@ -96,7 +113,8 @@ pub record IsWrittenFiles (files : FileMap) : Type 0 where
   pub limit : (path : Bytes) → IsTrue (contains_key files path) → length path ≤ max_path
 
 abbrev pub HasForm : Kind → Value → Type 0
-HasForm kind (StoredCommit commit) = IsTrue (is_commit_form kind commit) × IsWrittenFiles commit.files
+HasForm kind (StoredCommit commit) =
+    IsTrue (is_commit_form kind commit) × IsWrittenFiles commit.files
 HasForm kind (StoredTag tag) = IsTrue (is_tag_form kind tag)
 HasForm kind (StoredBytes bytes) = Unit {0}
 HasForm kind (StoredFolder files) = IsWrittenFiles files
@@ -117,5 +135,7 @@ is_reference kind ref = is_id kind ref.id && list_all (is_log_entry kind) ref.mo
 -- HEAD's branch, the names and the values have their written forms, within the limits.
 pub record IsWritten (r : Repository) : Type 0 where
   pub branch : IsTrue (is_branch r.branch)
-  pub names : (name : Bytes) (ref : Reference) → get r.names name ≡ Some ref → IsTrue (is_name name && not (is_private name) && is_reference r.kind ref)
-  pub values : (id : Id) (value : Value) → get r.objects id ≡ Some value → IsWrittenValue r.kind value
+  pub names : (name : Bytes) (ref : Reference) → get r.names name ≡ Some ref
+      → IsTrue (is_name name && not (is_private name) && is_reference r.kind ref)
+  pub values : (id : Id) (value : Value) → get r.objects id ≡ Some value
+      → IsWrittenValue r.kind value

@@ -30,11 +30,14 @@ module _ (is_known : Command → Bool) where
   LineStandsOf parts = (words : List Bytes) × GoesOnOf is_known parts (Line words)
 
   abbrev pub FieldStandsOf : List Part → ℕ → Type 0
-  FieldStandsOf parts n = (bytes : Bytes) × (length bytes ≡ n) × GoesOnOf is_known parts (Field bytes)
+  FieldStandsOf parts n =
+      (bytes : Bytes) × (length bytes ≡ n) × GoesOnOf is_known parts (Field bytes)
 
   -- the whole line, without its line feed, is one that may stand here
   abbrev pub LineFitsOf : List Part → Bytes → Type 0
-  LineFitsOf parts text = (words : List Bytes) × (line text ≡ part_text (Line words)) × GoesOnOf is_known parts (Line words)
+  LineFitsOf parts text =
+      (words : List Bytes) × (line text ≡ part_text (Line words))
+      × GoesOnOf is_known parts (Line words)
 
   -- What follows the parts that fit doesn't go on with a next one, for this cause.
   abbrev pub StopsByOf : List Part → Bytes → Cause → Type 0
@@ -43,12 +46,16 @@ module _ (is_known : Command → Bool) where
       (LineStandsOf parts × IsFalse (has_byte 10 rest) × (length rest ≤ max_line))
       ⊎ ((n : ℕ) × FieldStandsOf parts n × (length rest ≤ n))
   -- more bytes than a line has come without a line feed
-  StopsByOf parts rest LineTooLong = LineStandsOf parts × (max_line < length rest) × IsFalse (has_byte 10 (take (max_line + 1) rest))
+  StopsByOf parts rest LineTooLong =
+      LineStandsOf parts × (max_line < length rest)
+      × IsFalse (has_byte 10 (take (max_line + 1) rest))
   -- a whole line that may not stand here, or a field without its line feed
   StopsByOf parts rest Syntax =
-      ((text more : Bytes) × LineStandsOf parts × (rest ≡ line text ++ more) × IsFalse (has_byte 10 text) × (length text ≤ max_line)
+      ((text more : Bytes) × LineStandsOf parts × (rest ≡ line text ++ more)
+      × IsFalse (has_byte 10 text) × (length text ≤ max_line)
       × ¬ (LineFitsOf parts text))
-      ⊎ ((bytes more : Bytes) × (byte : ℕ) × FieldStandsOf parts (length bytes) × (rest ≡ bytes ++ byte ∷ more) × (byte ≢ 10))
+      ⊎ ((bytes more : Bytes) × (byte : ℕ) × FieldStandsOf parts (length bytes)
+      × (rest ≡ bytes ++ byte ∷ more) × (byte ≢ 10))
   StopsByOf parts rest _ = ⊥
 
 -- the cause of a rest that is not empty and begins with no known command
@@ -88,13 +95,17 @@ IsPrefixFree is_known = (a b : Command) (x y : Bytes) → IsTrue (is_known a) �
 
 -- a rest has at most one cause, and none where it begins with a command
 abbrev pub HasOneRestCause : (Command → Bool) → Type 0
-HasOneRestCause is_known = (rest : Bytes) (x y : Cause) → HasRestCauseOf is_known rest x → HasRestCauseOf is_known rest y → x ≡ y
+HasOneRestCause is_known =
+    (rest : Bytes) (x y : Cause) → HasRestCauseOf is_known rest x → HasRestCauseOf is_known rest y
+    → x ≡ y
 
 abbrev pub RestBeginsWithNone : (Command → Bool) → Type 0
 RestBeginsWithNone is_known = (rest more : Bytes) (cause : Cause) (command : Command)
-    → HasRestCauseOf is_known rest cause → IsTrue (is_known command) → rest ≡ spelling command ++ more → ⊥
+    → HasRestCauseOf is_known rest cause → IsTrue (is_known command)
+    → rest ≡ spelling command ++ more → ⊥
 
 -- a rest that isn't empty begins with a command or has a cause
 abbrev pub RestBeginsOrHasCause : (Command → Bool) → Type 0
 RestBeginsOrHasCause is_known = (rest : Bytes) → rest ≢ []
-    → ((command : Command) × (more : Bytes) × IsTrue (is_known command) × (rest ≡ spelling command ++ more)) ⊎ ((cause : Cause) × HasRestCauseOf is_known rest cause)
+    → ((command : Command) × (more : Bytes) × IsTrue (is_known command)
+    × (rest ≡ spelling command ++ more)) ⊎ ((cause : Cause) × HasRestCauseOf is_known rest cause)

@@ -39,7 +39,8 @@ EditsKeep = (files : FileMap) (edits : List Edit) → IsFileMap files
 -- In a whole repository two stored trees have one id exactly if the files below them are one map.
 abbrev pub TreesAreCanonical : Type 0
 TreesAreCanonical = (r : Repository) (a b : Id) (m n : FileMap) → IsWhole r
-    → get r.objects a ≡ Some (StoredFolder m) → get r.objects b ≡ Some (StoredFolder n) → (a ≡ b) ↔ (m ≡ n)
+    → get r.objects a ≡ Some (StoredFolder m) → get r.objects b ≡ Some (StoredFolder n)
+    → (a ≡ b) ↔ (m ≡ n)
 
 -- the files are those of a stored tree, or there are none: the empty tree needn't be stored
 abbrev pub IsTreeIn : Repository → FileMap → Type 0
@@ -47,8 +48,11 @@ IsTreeIn r files = (files ≡ empty) ⊎ ((id : Id) × (get r.objects id ≡ Som
 
 -- The entries at a path of two such trees, the mode and id of each, are equal exactly where the files at or below it are.
 abbrev pub EntriesTellFiles : Type 0
-EntriesTellFiles = (r : Repository) (m n : FileMap) (path : Bytes) → IsWhole r → IsFileMap m → IsFileMap n → IsTreeIn r m → IsTreeIn r n
-    → (entry_at r.kind m path ≡ entry_at r.kind n path) ↔ (cut_to (path ∷ []) m ≡ cut_to (path ∷ []) n)
+EntriesTellFiles =
+    (r : Repository) (m n : FileMap) (path : Bytes) → IsWhole r → IsFileMap m → IsFileMap n
+    → IsTreeIn r m → IsTreeIn r n
+    → (entry_at r.kind m path ≡ entry_at r.kind n path)
+    ↔ (cut_to (path ∷ []) m ≡ cut_to (path ∷ []) n)
 
 -- `files` prints paths strictly ascending by their bytes, so each once.
 abbrev pub FilesAscend : Type 0
@@ -79,7 +83,8 @@ pub record ListsAlike (r : Repository) (c : LogCommand) (x y : Reply) : Type 0 w
   pub x_is : x ≡ LogIs (kept r c.paths walk)
   pub y_is : y ≡ LogIs (kept r c.paths other)
   pub same : (id : Id) → Contains (kept r c.paths walk) id ↔ Contains (kept r c.paths other) id
-  pub choice : MatchBool (leaves_choice c.order) (DifferAtOneTime (time_at r) walk other) (walk ≡ other)
+  pub choice : MatchBool (leaves_choice c.order) (DifferAtOneTime (time_at r) walk other)
+      (walk ≡ other)
 
 -- one reply; a log may choose among equal times
 abbrev pub AreAlike : Repository → Command → Reply → Reply → Type 0
@@ -88,7 +93,9 @@ AreAlike r _ x y = x ≡ y
 
 -- The reply that is no fault, and the state after it, are a function of state and command, but for a log's choice among equal times.
 abbrev pub StepsAreDetermined : Type 0
-StepsAreDetermined = (old a b : Repository) (command : Command) (x y : Reply) → IsFalse (is_faulted x) → IsFalse (is_faulted y)
+StepsAreDetermined =
+    (old a b : Repository) (command : Command) (x y : Reply) → IsFalse (is_faulted x)
+    → IsFalse (is_faulted y)
     → Step old command x a → Step old command y b → AreAlike old command x y × (a ≡ b)
 
 -- ---- runs
@@ -105,11 +112,13 @@ is_sure _ = true
 -- the replies to commands in a row, from two runs
 abbrev pub AreAllAlike : Repository → List Command → List Reply → List Reply → Type 0
 AreAllAlike r [] [] [] = ⊤
-AreAllAlike r (command ∷ commands) (x ∷ xs) (y ∷ ys) = AreAlike r command x y × AreAllAlike (next r command x) commands xs ys
+AreAllAlike r (command ∷ commands) (x ∷ xs) (y ∷ ys) =
+    AreAlike r command x y × AreAllAlike (next r command x) commands xs ys
 AreAllAlike _ _ _ _ = ⊥
 
 -- what two runs over one input have in common
-pub record RunAlike (old : Repository) (commands others : List Command) (replies answers : List Reply) (output written : Bytes) (new end : Repository) : Type 0 where
+pub record RunAlike (old : Repository) (commands others : List Command)
+    (replies answers : List Reply) (output written : Bytes) (new end : Repository) : Type 0 where
   pub commands_are : others ≡ commands
   pub new_is : end ≡ new
   pub alike : AreAllAlike old commands replies answers
@@ -118,9 +127,13 @@ pub record RunAlike (old : Repository) (commands others : List Command) (replies
 
 -- Two runs over one input from one repository that both end with the input, and tell no fault.
 abbrev pub RunsAgree : Type 0
-RunsAgree = (old new end : Repository) (commands others : List Command) (replies answers : List Reply) (input output written : Bytes)
-    → Runs (Unit {0}) (Unit {0}) old commands replies input output Input false new → IsTrue (have_no_fault replies)
-    → Runs (Unit {0}) (Unit {0}) old others answers input written Input false end → IsTrue (have_no_fault answers)
+RunsAgree =
+    (old new end : Repository) (commands others : List Command) (replies answers : List Reply)
+    (input output written : Bytes)
+    → Runs (Unit {0}) (Unit {0}) old commands replies input output Input false new
+    → IsTrue (have_no_fault replies)
+    → Runs (Unit {0}) (Unit {0}) old others answers input written Input false end
+    → IsTrue (have_no_fault answers)
     → RunAlike old commands others replies answers output written new end
 
 -- The state after a step is told by the reply, where the run goes on.
@@ -135,9 +148,13 @@ TellsFault replies end = IsFalse (have_no_fault replies) ⊎ (end ≡ ByFault)
 -- Where a run over the whole input tells no fault and has no choice, each run that ends over it, or over a beginning of it and
 -- before the rest, writes the same, or tells a fault itself: among its own replies, or at its end.
 abbrev pub RunsGive : Type 0
-RunsGive = (old new end : Repository) (commands others : List Command) (replies answers : List Reply) (input output read rest written : Bytes) (ends : End) (failed : Bool)
-    → Runs (Unit {0}) (Unit {0}) old commands replies input output Input false new → IsTrue (have_no_fault replies) → IsTrue (list_all is_sure commands)
-    → input ≡ read ++ rest → Runs (rest ≡ []) (Unit {0}) old others answers read written ends failed end
+RunsGive =
+    (old new end : Repository) (commands others : List Command) (replies answers : List Reply)
+    (input output read rest written : Bytes) (ends : End) (failed : Bool)
+    → Runs (Unit {0}) (Unit {0}) old commands replies input output Input false new
+    → IsTrue (have_no_fault replies) → IsTrue (list_all is_sure commands)
+    → input ≡ read ++ rest
+    → Runs (rest ≡ []) (Unit {0}) old others answers read written ends failed end
     → (written ≡ output) ⊎ TellsFault answers ends
 
 -- ---- stops
@@ -155,7 +172,8 @@ pub record IsAtEither (old x : Repository) (from to : Bytes) : Type 0 where
 
 abbrev pub RenamesLoseNothing : Type 0
 RenamesLoseNothing = (old x : Repository) (from to : Bytes)
-    → first_cause old (Rename from to) ≡ None → LeftByStop old (Rename from to) x → IsAtEither old x from to
+    → first_cause old (Rename from to) ≡ None → LeftByStop old (Rename from to) x
+    → IsAtEither old x from to
 
 -- A `pack` stopped anywhere changes neither what a name holds nor its moves, nor HEAD's branch.
 pub record HoldsTheSame (old x : Repository) : Type 0 where
@@ -171,7 +189,9 @@ PacksChangeNothing = (old x : Repository) → LeftByStop old Pack x → HoldsThe
 -- Where each round's run and recovery do what they promise, the pair that the last one left stands for a whole repository,
 -- and steps and stops explain one after another what each round replied, wrote and left.
 abbrev pub RoundsJoin : Type 0
-RoundsJoin = (kind : Kind) (pair : Pair) (rounds : List Round) (old : Repository) → StandsWhole kind pair old → AreRounds kind pair rounds
+RoundsJoin =
+    (kind : Kind) (pair : Pair) (rounds : List Round) (old : Repository)
+    → StandsWhole kind pair old → AreRounds kind pair rounds
     → (new : Repository) × StandsWhole kind (last_left pair rounds) new × Outcomes old rounds new
 
 -- A stop of a run over the input at a pair, where these replies were made and written.
@@ -190,10 +210,14 @@ stopped_round kind objects names begin input replies pair = record {
 
 -- Each pair of a run's trace is one at which it may be stopped, where the first of its replies were made.
 abbrev pub TracesStop : Type 0
-TracesStop = (objects names : History) (old new : Repository) (begin finish : Moment) (commands : List Command) (replies : List Reply) (input rest : Bytes)
-    → BeginsWith input commands rest → (traces : Traces objects names (Unit {0}) old begin commands replies finish new)
+TracesStop =
+    (objects names : History) (old new : Repository) (begin finish : Moment)
+    (commands : List Command) (replies : List Reply) (input rest : Bytes)
+    → BeginsWith input commands rest
+    → (traces : Traces objects names (Unit {0}) old begin commands replies finish new)
     → (pair : Pair) → IsRunPair objects names begin traces.moments pair
-    → (made more : List Reply) × (replies ≡ made ++ more) × IsRunOf old (stopped_round old.kind objects names begin input made pair)
+    → (made more : List Reply) × (replies ≡ made ++ more)
+    × IsRunOf old (stopped_round old.kind objects names begin input made pair)
 
 -- A run over the input that ended at a pair, which stayed as it was.
 abbrev pub ended_round : History → History → Moment → Bytes → List Reply → Bytes → Pair → Round
@@ -211,55 +235,78 @@ ended_round objects names begin input replies written pair = record {
 
 -- A run that ends without a fault in a changing command, as one that ends with its input, is a round that needs no recovery.
 abbrev pub RunsEnd : Type 0
-RunsEnd = (objects names : History) (old new : Repository) (begin finish : Moment) (commands : List Command) (replies : List Reply) (input output : Bytes) (end : End)
-    → Runs (Unit {0}) (Unit {0}) old commands replies input output end false new → Traces objects names (Unit {0}) old begin commands replies finish new
-    → (pair : Pair) → IsPairAt objects names finish pair → IsRunOf old (ended_round objects names begin input replies output pair)
+RunsEnd =
+    (objects names : History) (old new : Repository) (begin finish : Moment)
+    (commands : List Command) (replies : List Reply) (input output : Bytes) (end : End)
+    → Runs (Unit {0}) (Unit {0}) old commands replies input output end false new
+    → Traces objects names (Unit {0}) old begin commands replies finish new
+    → (pair : Pair) → IsPairAt objects names finish pair
+    → IsRunOf old (ended_round objects names begin input replies output pair)
 
 -- What a run over the input writes is the replies to the commands that it acted on, at most the last of them in part.
 abbrev pub WritesReplies : Bytes → List Command → List Reply → Bytes → Type 0
-WritesReplies input commands replies output = (rest : Bytes) × BeginsWith input commands rest × HasWritten replies rest output
+WritesReplies input commands replies output =
+    (rest : Bytes) × BeginsWith input commands rest × HasWritten replies rest output
 
 -- So it is however a run ends.
 abbrev pub RunsHaveWritten : Type 0
 RunsHaveWritten =
-    ((old new : Repository) (commands : List Command) (replies : List Reply) (input output : Bytes) (end : End) (failed : Bool)
-    → Runs (Unit {0}) (Unit {0}) old commands replies input output end failed new → WritesReplies input commands replies output)
-    × ((old new : Repository) (commands : List Command) (replies : List Reply) (input output : Bytes) (failed : Bool)
-    → EndsReading (Unit {0}) (Unit {0}) old commands replies input output failed new → WritesReplies input commands replies output)
-    × ((old new : Repository) (commands : List Command) (replies : List Reply) (input output : Bytes) (failed : Bool)
-    → EndsWriting (Unit {0}) (Unit {0}) old commands replies input output failed new → WritesReplies input commands replies output)
+    ((old new : Repository) (commands : List Command) (replies : List Reply)
+    (input output : Bytes) (end : End) (failed : Bool)
+    → Runs (Unit {0}) (Unit {0}) old commands replies input output end failed new
+    → WritesReplies input commands replies output)
+    × ((old new : Repository) (commands : List Command) (replies : List Reply)
+    (input output : Bytes) (failed : Bool)
+    → EndsReading (Unit {0}) (Unit {0}) old commands replies input output failed new
+    → WritesReplies input commands replies output)
+    × ((old new : Repository) (commands : List Command) (replies : List Reply)
+    (input output : Bytes) (failed : Bool)
+    → EndsWriting (Unit {0}) (Unit {0}) old commands replies input output failed new
+    → WritesReplies input commands replies output)
 
 -- ---- recovery
 
 -- Recovery leaves at each path of the names part the file that stood there, without leftovers, and of a log its whole lines.
 abbrev pub RecoveryKeeps : Type 0
-RecoveryKeeps = (kind : Kind) (tree : Tree) (path : Bytes) → file_at (recovered_names kind tree) path
-    ≡ (if is_leftover kind tree path then None else option_map (λ text. if is_log_place path then whole_lines text else text) (file_at tree path))
+RecoveryKeeps =
+    (kind : Kind) (tree : Tree) (path : Bytes) → file_at (recovered_names kind tree) path
+    ≡ (if is_leftover kind tree path then None
+    else option_map (λ text. if is_log_place path then whole_lines text else text)
+    (file_at tree path))
 
 -- Recovery changes no name's reading.
 abbrev pub RecoveryReads : Type 0
-RecoveryReads = (kind : Kind) (tree : Tree) (name : Bytes) → reading kind (recovered_names kind tree) name ≡ reading kind tree name
+RecoveryReads =
+    (kind : Kind) (tree : Tree) (name : Bytes)
+    → reading kind (recovered_names kind tree) name ≡ reading kind tree name
 
 -- To recover twice is to recover once.
 abbrev pub RecoveryEnds : Type 0
-RecoveryEnds = (kind : Kind) (pair : Pair) → recovered kind (recovered kind pair) ≡ recovered kind pair
+RecoveryEnds =
+    (kind : Kind) (pair : Pair) → recovered kind (recovered kind pair) ≡ recovered kind pair
 
 -- What stands for a repository stands for it when it is recovered.
 abbrev pub RecoveredStands : Type 0
-RecoveredStands = (kind : Kind) (pair : Pair) (r : Repository) → StandsFor kind pair r → StandsFor kind (recovered kind pair) r
+RecoveredStands =
+    (kind : Kind) (pair : Pair) (r : Repository) → StandsFor kind pair r
+    → StandsFor kind (recovered kind pair) r
 
 -- ---- a new folder
 
 -- A new folder has the file HEAD alone, and no folder that a repository has not.
 pub record IsFresh (pair : Pair) : Type 0 where
   pub objects : (path : Bytes) → file_at pair.objects path ≡ None
-  pub object_folders : (path : Bytes) → get pair.objects path ≡ Some folder → IsTrue (is_object_folder path)
-  pub names : (path : Bytes) → file_at pair.names path ≡ (if bytes_eq path head_place then Some (head_text first_branch) else None)
+  pub object_folders : (path : Bytes) → get pair.objects path ≡ Some folder
+      → IsTrue (is_object_folder path)
+  pub names : (path : Bytes)
+      → file_at pair.names path
+      ≡ (if bytes_eq path head_place then Some (head_text first_branch) else None)
   pub folders : (path : Bytes) → get pair.names path ≡ Some folder → IsTrue (is_name_folder path)
 
 -- the smallest one
 abbrev pub fresh_pair : Pair
-fresh_pair = record { objects = empty; names = insert empty head_place (file (head_text first_branch)) }
+fresh_pair =
+    record { objects = empty; names = insert empty head_place (file (head_text first_branch)) }
 
 -- It stands for the repository without names and objects, and that is whole.
 abbrev pub FreshStands : Type 0

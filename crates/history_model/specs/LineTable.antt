@@ -62,7 +62,8 @@ next _ _ = None
 -- a length: a number below 2 ^ 64 in decimal, without a leading zero
 abbrev pub number_of : Bytes → Option ℕ
 number_of word =
-    if is_decimal word && nat_lt (digits_value word) (2 ^ 64) then Some (digits_value word) else None
+    if is_decimal word && nat_lt (digits_value word) (2 ^ 64) then Some (digits_value word)
+    else None
 
 abbrev pub kind_of : Bytes → Option FileKind
 kind_of word = if bytes_eq word (codes "file") then Some File
@@ -99,7 +100,8 @@ commit_of_words _ = None
 abbrev pub put_of_words : List Bytes → Option Heading
 put_of_words (kind ∷ path ∷ content ∷ []) =
     option_and_then (λ k.
-    option_and_then (λ m. option_map (PutHeading k m) (number_of content)) (number_of path)) (kind_of kind)
+    option_and_then (λ m. option_map (PutHeading k m) (number_of content)) (number_of path))
+    (kind_of kind)
 put_of_words _ = None
 
 abbrev pub actor_of_words : Role → List Bytes → Option Heading
@@ -111,7 +113,8 @@ actor_of_words role _ = None
 abbrev pub show_of_words : List Bytes → Option Heading
 show_of_words (word ∷ []) = Some (ShowHeading word None)
 show_of_words (word ∷ path ∷ size ∷ []) =
-    if bytes_eq path (codes "path") then option_map (λ n. ShowHeading word (Some n)) (number_of size)
+    if bytes_eq path (codes "path")
+    then option_map (λ n. ShowHeading word (Some n)) (number_of size)
     else None
 show_of_words _ = None
 
@@ -189,7 +192,8 @@ items_of (word ∷ words) = with_item (item_of word) (items_of words) (path_of (
 abbrev pub walk_of_words : Order → List Bytes → Option Heading
 walk_of_words order [] = None
 walk_of_words order (parents ∷ words) =
-    option_and_then (λ first. option_map (λ items. LogHeading order first items.0 items.1) (items_of words))
+    option_and_then
+    (λ first. option_map (λ items. LogHeading order first items.0 items.1) (items_of words))
     (first_parents_of parents)
 
 abbrev pub log_of_words : List Bytes → Option Heading
@@ -234,4 +238,5 @@ heading_of (first ∷ words) =
 -- Words say what a line says exactly where they are that line's, and its lengths below 2 ^ 64.
 abbrev pub WordsAreHeadings : Type 0
 WordsAreHeadings = (words : List Bytes) (heading : Heading)
-    → (heading_of words ≡ Some heading) ↔ ((words ≡ words_of heading) × IsTrue (are_sizes (sizes heading)))
+    → (heading_of words ≡ Some heading)
+    ↔ ((words ≡ words_of heading) × IsTrue (are_sizes (sizes heading)))

@@ -7,7 +7,9 @@ use Rattle.history_model.specs.Repository.{LogEntry}
 
 -- the id before, the id after, who moved the name, and behind a tab the message
 abbrev pub log_line : LogEntry → Bytes
-log_line entry = line (hex entry.before ++ 32 ∷ hex entry.after ++ 32 ∷ actor_text entry.actor ++ 9 ∷ entry.message)
+log_line entry =
+    line
+    (hex entry.before ++ 32 ∷ hex entry.after ++ 32 ∷ actor_text entry.actor ++ 9 ∷ entry.message)
 
 -- The moves of a name stand newest first, and in its log oldest first.
 abbrev pub log_text : List LogEntry → Bytes

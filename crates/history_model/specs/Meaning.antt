@@ -31,11 +31,19 @@ abbrev pub name_commit : Repository → Bytes → Option Id
 name_commit r name = option_and_then (peeled r) (id_at r name)
 
 abbrev pub read_actor : ActorLine → Actor
-read_actor actor = record { name = actor.name; email = actor.email; seconds = digits_value actor.seconds; offset = actor.offset }
+read_actor actor =
+    record {
+      name =
+          actor.name;
+      email = actor.email;
+      seconds = digits_value actor.seconds;
+      offset = actor.offset;
+    }
 
 -- the name's commit, where it stands, and then those of the words
 abbrev pub parents_of : Repository → CommitCommand → List Id
-parents_of r c = option_to_list (name_commit r (branch_or_name r c.name)) ++ filter_map (commit_of r) c.parents
+parents_of r c =
+    option_to_list (name_commit r (branch_or_name r c.name)) ++ filter_map (commit_of r) c.parents
 
 abbrev pub files_at : Repository → Id → FileMap
 files_at r id = unwrap_or (option_map (λ commit. commit.files) (commit_at r id)) empty
@@ -84,13 +92,17 @@ put_bytes (RemoveFile path) = []
 
 -- The bytes of each `put`, also those that a later edit takes out, the folders of the commit's files, and the commit; a tag.
 abbrev pub stored_by : Repository → Command → List Value
-stored_by r (Commit c) = flat_map put_bytes (edits_of r c) ++ map StoredFolder (folders_of (new_commit r c).files) ++ StoredCommit (new_commit r c) ∷ []
+stored_by r (Commit c) =
+    flat_map put_bytes (edits_of r c) ++ map StoredFolder (folders_of (new_commit r c).files)
+    ++ StoredCommit (new_commit r c) ∷ []
 stored_by r (Tag c) = StoredTag (new_tag r c) ∷ []
 stored_by r _ = []
 
 -- what is stored already stays
 abbrev pub store_one : Kind → FinMap by_id Value → Value → FinMap by_id Value
-store_one kind objects value = if contains_key objects (id_of kind value) then objects else insert objects (id_of kind value) value
+store_one kind objects value =
+    if contains_key objects (id_of kind value) then objects
+    else insert objects (id_of kind value) value
 
 abbrev pub store_all : Kind → FinMap by_id Value → List Value → FinMap by_id Value
 store_all kind objects [] = objects
@@ -111,7 +123,8 @@ is_taken kind objects value =
 -- The store as it is, or the same command's values before it.
 abbrev pub some_taken : Kind → FinMap by_id Value → List Value → Bool
 some_taken kind objects [] = false
-some_taken kind objects (value ∷ values) = is_taken kind objects value || some_taken kind (store_one kind objects value) values
+some_taken kind objects (value ∷ values) =
+    is_taken kind objects value || some_taken kind (store_one kind objects value) values
 
 abbrev pub takes_id : Repository → Command → Bool
 takes_id r command = some_taken r.kind r.objects (stored_by r command)
@@ -125,30 +138,39 @@ moved_reference r name id actor message =
     record {
       id = id;
       moves = if id_eq before id then moves_at r name
-          else record { before = before; after = id; actor = actor; message = message } ∷ moves_at r name;
+          else record { before = before; after = id; actor = actor; message = message }
+          ∷ moves_at r name;
     }
 
 abbrev pub References : Type 0
 References = FinMap by_bytes Reference
 
 abbrev pub with_name : Repository → Bytes → Id → Actor → Bytes → References → References
-with_name r name id actor message names = insert names name (moved_reference r name id actor message)
+with_name r name id actor message names =
+    insert names name (moved_reference r name id actor message)
 
 -- each line's name at its word's commit, as the words read before
 abbrev pub with_lines : Repository → Actor → Bytes → List To → References → References
 with_lines r actor message [] names = names
 with_lines r actor message (to ∷ lines) names =
-    with_lines r actor message lines (with_name r to.name (unwrap_or (commit_of r to.word) (null_id r.kind)) actor message names)
+    with_lines r actor message lines
+    (with_name r to.name (unwrap_or (commit_of r to.word) (null_id r.kind)) actor message names)
 
 -- the actor of a rename
 abbrev pub history_actor : Actor
 history_actor = record { name = codes "history"; email = []; seconds = 0; offset = codes "+0000" }
 
 abbrev pub names_after : Repository → Command → References
-names_after r (Commit c) = with_name r (branch_or_name r c.name) (id_of r.kind (StoredCommit (new_commit r c))) (read_actor c.committer) (title c.message) r.names
-names_after r (Tag c) = with_name r c.name (id_of r.kind (StoredTag (new_tag r c))) (read_actor c.tagger) (title c.message) r.names
+names_after r (Commit c) =
+    with_name r (branch_or_name r c.name) (id_of r.kind (StoredCommit (new_commit r c)))
+    (read_actor c.committer) (title c.message) r.names
+names_after r (Tag c) =
+    with_name r c.name (id_of r.kind (StoredTag (new_tag r c))) (read_actor c.tagger)
+    (title c.message) r.names
 names_after r (Move c) = with_lines r (read_actor c.actor) c.message c.to r.names
-names_after r (Rename from to) = with_name r to (unwrap_or (id_at r from) (null_id r.kind)) history_actor (codes "rename") (remove r.names from)
+names_after r (Rename from to) =
+    with_name r to (unwrap_or (id_at r from) (null_id r.kind)) history_actor (codes "rename")
+    (remove r.names from)
 names_after r (Delete name at) = remove r.names name
 names_after r _ = r.names
 

@@ -29,34 +29,44 @@ StoodBetween history from to tree = Contains (stood_between history from to) tre
 
 -- the pair that stood at a moment
 abbrev pub IsPairAt : History → History → Moment → Pair → Type 0
-IsPairAt objects names moment pair = StoodAt objects moment.objects pair.objects × StoodAt names moment.names pair.names
+IsPairAt objects names moment pair =
+    StoodAt objects moment.objects pair.objects × StoodAt names moment.names pair.names
 
 -- Between two moments all changes of the objects part come before the first of the names part.
 abbrev pub IsStepPair : History → History → Moment → Moment → Pair → Type 0
 IsStepPair objects names begin finish pair =
-    (StoodBetween objects begin.objects finish.objects pair.objects × StoodAt names begin.names pair.names)
-    ⊎ (StoodAt objects finish.objects pair.objects × StoodBetween names begin.names finish.names pair.names)
+    (StoodBetween objects begin.objects finish.objects pair.objects
+    × StoodAt names begin.names pair.names)
+    ⊎ (StoodAt objects finish.objects pair.objects
+    × StoodBetween names begin.names finish.names pair.names)
 
 -- a pair of one of the commands, of which each ends and the next begins at these moments
 abbrev pub IsCommandPair : History → History → Moment → List Moment → Pair → Type 0
 IsCommandPair objects names begin [] pair = ⊥
-IsCommandPair objects names begin (next ∷ moments) pair = IsStepPair objects names begin next pair ⊎ IsCommandPair objects names next moments pair
+IsCommandPair objects names begin (next ∷ moments) pair =
+    IsStepPair objects names begin next pair ⊎ IsCommandPair objects names next moments pair
 
 -- a pair of a run: the one that it begins at, or one of its commands
 abbrev pub IsRunPair : History → History → Moment → List Moment → Pair → Type 0
-IsRunPair objects names begin moments pair = IsPairAt objects names begin pair ⊎ IsCommandPair objects names begin moments pair
+IsRunPair objects names begin moments pair =
+    IsPairAt objects names begin pair ⊎ IsCommandPair objects names begin moments pair
 
 -- a failed call was counted between two moments
 abbrev pub HasCountedFailure : Moment → Moment → Type 0
-HasCountedFailure begin finish = HasRisen begin.object_failures finish.object_failures ⊎ HasRisen begin.name_failures finish.name_failures
+HasCountedFailure begin finish =
+    HasRisen begin.object_failures finish.object_failures
+    ⊎ HasRisen begin.name_failures finish.name_failures
 
 -- both parts count as many failed calls as before
 abbrev pub CountsStay : Moment → Moment → Type 0
-CountsStay begin finish = (finish.object_failures ≡ begin.object_failures) × (finish.name_failures ≡ begin.name_failures)
+CountsStay begin finish =
+    (finish.object_failures ≡ begin.object_failures)
+    × (finish.name_failures ≡ begin.name_failures)
 
 -- Why a command meets a failed call: it changes files and one was counted meanwhile; or, of any command, a reading may fail.
 abbrev pub HasFailedCall : Type 0 → Command → Moment → Moment → Type 0
-HasFailedCall ReadingMayFail command begin finish = (IsTrue (is_changing command) × HasCountedFailure begin finish) ⊎ ReadingMayFail
+HasFailedCall ReadingMayFail command begin finish =
+    (IsTrue (is_changing command) × HasCountedFailure begin finish) ⊎ ReadingMayFail
 
 -- What stood at a moment stands for a whole repository; where a changing command had failed, what recovery makes of it does.
 abbrev pub StandsAt : History → History → Moment → Bool → Repository → Type 0
@@ -65,7 +75,8 @@ StandsAt objects names moment failed r = (pair : Pair) × IsPairAt objects names
 
 -- the pair, once recovered, is what a stop in the command leaves
 abbrev pub LeavesStopped : Repository → Command → Pair → Type 0
-LeavesStopped old command pair = (x : Repository) × LeftByStop old command x × StandsWhole old.kind (recovered old.kind pair) x
+LeavesStopped old command pair =
+    (x : Repository) × LeftByStop old command x × StandsWhole old.kind (recovered old.kind pair) x
 
 -- no tree stood after the one moment and before the other
 abbrev pub IsUnchanged : Moment → Moment → Type 0
@@ -77,23 +88,29 @@ leaves_files command (RefusedFor cause) = true
 leaves_files command reply = not (is_changing command)
 
 -- One command is acted on between two moments.
-pub record ActedOn (objects names : History) (ReadingMayFail : Type 0) (old : Repository) (begin : Moment)
+pub record ActedOn (objects names : History) (ReadingMayFail : Type 0) (old : Repository)
+    (begin : Moment)
     (command : Command) (reply : Reply) (finish : Moment) (new : Repository) : Type 0 where
   pub step : Step old command reply new
   pub later : (begin.objects ≤ finish.objects) × (begin.names ≤ finish.names)
   -- no count falls, and one rises only in a command that changes files and has a fault: the run then acts on no more
-  pub counts : (begin.object_failures ≤ finish.object_failures) × (begin.name_failures ≤ finish.name_failures)
+  pub counts : (begin.object_failures ≤ finish.object_failures)
+      × (begin.name_failures ≤ finish.name_failures)
   pub uncounted : IsTrue (goes_on command reply) → CountsStay begin finish
   pub unchanged : IsTrue (leaves_files command reply) → IsUnchanged begin finish
   pub stands : StandsAt objects names finish (not (goes_on command reply)) new
-  pub stops : (pair : Pair) → IsStepPair objects names begin finish pair → LeavesStopped old command pair
+  pub stops : (pair : Pair) → IsStepPair objects names begin finish pair
+      → LeavesStopped old command pair
   pub failure : reply ≡ Faulted File → HasFailedCall ReadingMayFail command begin finish
 
 -- These commands are acted on in a row, each between two moments; after each but the last the run goes on.
-abbrev pub ActsOn : History → History → Type 0 → Repository → Moment → List Command → List Reply → List Moment → Repository → Type 0
+abbrev pub ActsOn : History → History → Type 0 → Repository → Moment → List Command → List Reply
+    → List Moment → Repository → Type 0
 ActsOn objects names ReadingMayFail old begin [] [] [] new = new ≡ old
-ActsOn objects names ReadingMayFail old begin (command ∷ commands) (reply ∷ replies) (next ∷ moments) new =
-    (mid : Repository) × ActedOn objects names ReadingMayFail old begin command reply next mid × (IsTrue (goes_on command reply) ⊎ (commands ≡ []))
+ActsOn objects names ReadingMayFail old begin (command ∷ commands) (reply ∷ replies)
+    (next ∷ moments) new =
+    (mid : Repository) × ActedOn objects names ReadingMayFail old begin command reply next mid
+    × (IsTrue (goes_on command reply) ⊎ (commands ≡ []))
     × ActsOn objects names ReadingMayFail mid next commands replies moments new
 ActsOn _ _ _ _ _ _ _ _ _ = ⊥
 
@@ -102,8 +119,10 @@ last_moment begin [] = begin
 last_moment begin (next ∷ moments) = last_moment next moments
 
 -- What a run does to the files beside what it writes: its first moment is its begin, the last its end.
-pub record Traces (objects names : History) (ReadingMayFail : Type 0) (old : Repository) (begin : Moment)
-    (commands : List Command) (replies : List Reply) (finish : Moment) (new : Repository) : Type 0 where
+pub record Traces (objects names : History) (ReadingMayFail : Type 0) (old : Repository)
+    (begin : Moment)
+    (commands : List Command) (replies : List Reply) (finish : Moment)
+    (new : Repository) : Type 0 where
   pub moments : List Moment
   pub acts : ActsOn objects names ReadingMayFail old begin commands replies moments new
   pub ends : last_moment begin moments ≡ finish

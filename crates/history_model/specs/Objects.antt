@@ -49,14 +49,17 @@ pub data TreeEntry : Type 0 where
 -- a file below a folder, put before the entries of the files that follow it
 abbrev pub into_folder : Bytes → Bytes × Content → List TreeEntry → List TreeEntry
 into_folder name file [] = FolderEntry name (file ∷ []) ∷ []
-into_folder name file (FileEntry other content ∷ others) = FolderEntry name (file ∷ []) ∷ FileEntry other content ∷ others
+into_folder name file (FileEntry other content ∷ others) =
+    FolderEntry name (file ∷ []) ∷ FileEntry other content ∷ others
 into_folder name file (FolderEntry other files ∷ others) =
     if bytes_eq name other then FolderEntry name (file ∷ files) ∷ others
     else FolderEntry name (file ∷ []) ∷ FolderEntry other files ∷ others
 
 abbrev pub with_file : Bytes × Content → List TreeEntry → List TreeEntry
 with_file file others =
-    if has_byte 47 file.0 then into_folder (before_first (λ b. b == 47) file.0) (after_first (λ b. b == 47) file.0, file.1) others
+    if has_byte 47 file.0
+    then into_folder (before_first (λ b. b == 47) file.0)
+    (after_first (λ b. b == 47) file.0, file.1) others
     else FileEntry file.0 file.1 ∷ others
 
 -- One entry for each first component. The files stand in the order of their paths' bytes, so those of one folder
@@ -76,13 +79,16 @@ entry_text mode name id = mode ++ 32 ∷ name ++ 0 ∷ raw_bytes id
 
 -- An entry's line in a tree. The content of a folder's tree comes from tree_of.
 abbrev pub tree_entry_text : Kind → (List (Bytes × Content) → Bytes) → TreeEntry → Bytes
-tree_entry_text kind tree_of (FileEntry name content) = entry_text (mode_of content.kind) name (digest kind (blob_text content.bytes))
-tree_entry_text kind tree_of (FolderEntry name files) = entry_text (codes "40000") name (digest kind (tree_text (tree_of files)))
+tree_entry_text kind tree_of (FileEntry name content) =
+    entry_text (mode_of content.kind) name (digest kind (blob_text content.bytes))
+tree_entry_text kind tree_of (FolderEntry name files) =
+    entry_text (codes "40000") name (digest kind (tree_text (tree_of files)))
 
 -- the content of the tree of these files, whose folders are nested at most so deep
 unfoldable pub root_within : ℕ → Kind → List (Bytes × Content) → Bytes
 root_within zero kind files = []
-root_within (suc depth) kind files = flat_map (tree_entry_text kind (λ below. root_within depth kind below)) (tree_entries files)
+root_within (suc depth) kind files =
+    flat_map (tree_entry_text kind (λ below. root_within depth kind below)) (tree_entries files)
 
 abbrev pub longest : List Bytes → ℕ
 longest paths = fold (λ n path. max n (length path)) 0 paths
@@ -116,7 +122,9 @@ pub record Actor : Type 0 where
   pub offset : Bytes
 
 abbrev pub actor_text : Actor → Bytes
-actor_text actor = actor.name ++ codes " <" ++ actor.email ++ codes "> " ++ decimal actor.seconds ++ 32 ∷ actor.offset
+actor_text actor =
+    actor.name ++ codes " <" ++ actor.email ++ codes "> " ++ decimal actor.seconds
+    ++ 32 ∷ actor.offset
 
 pub record CommitValue : Type 0 where
   pub parents : List Id

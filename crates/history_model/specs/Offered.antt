@@ -17,7 +17,8 @@ use Rattle.history_model.specs.declared.Cause.TheVariants.{BadName, PrivateName,
 
 -- No tag is stored, and HEAD is on the first branch.
 pub record IsOffered (r : Repository) : Type 0 where
-  pub untagged : (id : Id) (value : Value) → get r.objects id ≡ Some value → IsFalse (is_tag_value value)
+  pub untagged : (id : Id) (value : Value) → get r.objects id ≡ Some value
+      → IsFalse (is_tag_value value)
   pub branch : r.branch ≡ first_branch
 
 -- What is true at this stage, beside that the pair stands for the repository: its commands have left it, and pack no names.
@@ -29,7 +30,9 @@ pub record IsOfStage (r : Repository) (pair : Pair) : Type 0 where
 
 -- The bytes of each file of a stored folder are stored.
 abbrev pub FilesAreStored : Type 0
-FilesAreStored = (r : Repository) (id : Id) (files : FileMap) (path : Bytes) (content : Content) → IsWholeStore r → get r.objects id ≡ Some (StoredFolder files)
+FilesAreStored =
+    (r : Repository) (id : Id) (files : FileMap) (path : Bytes) (content : Content)
+    → IsWholeStore r → get r.objects id ≡ Some (StoredFolder files)
     → get files path ≡ Some content → IsStored r (StoredBytes content.bytes)
 
 -- ---- steps
@@ -38,15 +41,21 @@ abbrev pub FreshIsOffered : Type 0
 FreshIsOffered = (kind : Kind) → IsOffered (fresh kind)
 
 abbrev pub OfferedStays : Type 0
-OfferedStays = (r : Repository) (command : Command) → IsOffered r → IsTrue (is_spoken command) → first_cause r command ≡ None → IsOffered (after r command)
+OfferedStays =
+    (r : Repository) (command : Command) → IsOffered r → IsTrue (is_spoken command)
+    → first_cause r command ≡ None → IsOffered (after r command)
 
 -- ---- causes
 
 -- the causes that may be the first
 abbrev pub offered_causes : List Cause
-offered_causes = BadName ∷ PrivateName ∷ UnknownWord ∷ UnbornHead ∷ NoSuchName ∷ Taken ∷ NotExpected ∷ Collides ∷ TooManyParents ∷ DuplicateParent
+offered_causes =
+    BadName ∷ PrivateName ∷ UnknownWord ∷ UnbornHead ∷ NoSuchName ∷ Taken ∷ NotExpected ∷ Collides
+    ∷ TooManyParents ∷ DuplicateParent
     ∷ BadPath ∷ IsFolder ∷ NoSuchPath ∷ BadActor ∷ BadTime ∷ BadMessage ∷ TooLarge ∷ []
 
 abbrev pub FirstOfferedCause : Type 0
-FirstOfferedCause = (r : Repository) (command : Command) → IsOffered r → HasWholeNames r → IsTrue (is_spoken command)
+FirstOfferedCause =
+    (r : Repository) (command : Command) → IsOffered r → HasWholeNames r
+    → IsTrue (is_spoken command)
     → first_cause r command ≡ find (λ cause. holds cause r command) offered_causes

@@ -20,7 +20,9 @@ read_id Ambiguous = None
 
 -- A word that reads as an id reads as one that a name holds: short ids aren't read.
 abbrev pub WordsReadNames : Type 0
-WordsReadNames = (r : Repository) (word : Bytes) (id : Id) → word_reading r word ≡ ReadsAs id → (name : Bytes) × (id_at r name ≡ Some id)
+WordsReadNames =
+    (r : Repository) (word : Bytes) (id : Id) → word_reading r word ≡ ReadsAs id
+    → (name : Bytes) × (id_at r name ≡ Some id)
 
 -- So none is ambiguous.
 abbrev pub NoneIsAmbiguous : Type 0
@@ -28,16 +30,25 @@ NoneIsAmbiguous = (r : Repository) (word : Bytes) → word_reading r word ≢ Am
 
 -- Each name holds a stored commit, since no tag is stored.
 abbrev pub NamesHoldCommits : Type 0
-NamesHoldCommits = (r : Repository) (name : Bytes) (id : Id) → IsOffered r → HasWholeNames r → id_at r name ≡ Some id → (commit : CommitValue) × (get r.objects id ≡ Some (StoredCommit commit))
+NamesHoldCommits =
+    (r : Repository) (name : Bytes) (id : Id) → IsOffered r → HasWholeNames r
+    → id_at r name ≡ Some id
+    → (commit : CommitValue) × (get r.objects id ≡ Some (StoredCommit commit))
 
 -- A name stands for the commit that it holds.
 abbrev pub NamesStandForTheirs : Type 0
-NamesStandForTheirs = (r : Repository) (name : Bytes) → IsOffered r → HasWholeNames r → name_commit r name ≡ id_at r name
+NamesStandForTheirs =
+    (r : Repository) (name : Bytes) → IsOffered r → HasWholeNames r
+    → name_commit r name ≡ id_at r name
 
 -- A word stands for the commit that it reads as.
 abbrev pub WordsStandForTheirs : Type 0
-WordsStandForTheirs = (r : Repository) (word : Bytes) → IsOffered r → HasWholeNames r → commit_of r word ≡ read_id (word_reading r word)
+WordsStandForTheirs =
+    (r : Repository) (word : Bytes) → IsOffered r → HasWholeNames r
+    → commit_of r word ≡ read_id (word_reading r word)
 
 -- Each parent of a commit is a stored commit.
 abbrev pub ParentsAreCommits : Type 0
-ParentsAreCommits = (r : Repository) (c : CommitCommand) → IsWholeStore r → AllByRecursion (HoldsCommit r) (parents_of r c)
+ParentsAreCommits =
+    (r : Repository) (c : CommitCommand) → IsWholeStore r
+    → AllByRecursion (HoldsCommit r) (parents_of r c)

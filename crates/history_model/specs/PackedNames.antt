@@ -26,22 +26,29 @@ first_header [] = None
 first_header (first ∷ rest) = header_line first
 
 abbrev pub says_sorted : Bytes → Bool
-says_sorted text = unwrap_or (option_map (λ header. header.sorted) (first_header (lines text))) false
+says_sorted text =
+    unwrap_or (option_map (λ header. header.sorted) (first_header (lines text))) false
 
 abbrev pub packed_file : Kind → Bytes → Option PackedFile
-packed_file kind text = option_map (λ records. record { sorted = says_sorted text; records = records }) (packed_records kind text)
+packed_file kind text =
+    option_map (λ records. record { sorted = says_sorted text; records = records })
+    (packed_records kind text)
 
 -- ---- which files agree with a repository
 
 -- a peeled id is the commit of the tag that the record holds
 abbrev pub PeelAgrees : Repository → Record → Type 0
-PeelAgrees r entry = IfSome entry.peeled (λ commit. IsTrue (is_tag r entry.target) × (peeled r entry.target ≡ Some commit))
+PeelAgrees r entry =
+    IfSome entry.peeled
+    (λ commit. IsTrue (is_tag r entry.target) × (peeled r entry.target ≡ Some commit))
 
 -- each name is one that a repository may hold, none stands twice, and they ascend where the header says so
 abbrev pub is_packed_form : PackedFile → Bool
 is_packed_form packed =
     let names = map (λ entry. entry.name) packed.records in
-    list_all is_name names && not (has_twice bytes_eq names) && not (list_any is_private names) && (not packed.sorted || is_sorted by_bytes (map (λ name. (name, name)) names))
+    list_all is_name names && not (has_twice bytes_eq names) && not (list_any is_private names)
+    && (not packed.sorted || is_sorted by_bytes (map (λ name. (name, name)) names))
 
 abbrev pub PackedAgrees : Repository → PackedFile → Type 0
-PackedAgrees r packed = IsTrue (is_packed_form packed) × AllByRecursion (PeelAgrees r) packed.records
+PackedAgrees r packed =
+    IsTrue (is_packed_form packed) × AllByRecursion (PeelAgrees r) packed.records

@@ -32,7 +32,8 @@ use Rattle.history_model.specs.declared.Fault.TheVariants.{File}
 -- ---- values
 
 -- The tree, once recovered, holds the values that stood and the first of those to be stored, none of which has a taken id.
-pub record HoldsFirst (kind : Kind) (values : Values) (more : List Value) (tree : Tree) : Type 0 where
+pub record HoldsFirst (kind : Kind) (values : Values) (more : List Value)
+    (tree : Tree) : Type 0 where
   pub first : List Value
   pub rest : List Value
   pub split : more ≡ first ++ rest
@@ -41,45 +42,62 @@ pub record HoldsFirst (kind : Kind) (values : Values) (more : List Value) (tree 
 
 -- What stands while a value is put: its text is still to come or stands at its place, and each file but these two is as before.
 pub record MayPut (kind : Kind) (value : Value) (old tree : Tree) : Type 0 where
-  pub here : (file_at tree (object_place (id_of kind value)) ≡ file_at old (object_place (id_of kind value)))
+  pub here :
+      (file_at tree (object_place (id_of kind value))
+      ≡ file_at old (object_place (id_of kind value)))
       ⊎ (file_at tree (object_place (id_of kind value)) ≡ Some (value_text kind value))
-  pub others : (path : Bytes) → path ≢ unfinished_place → path ≢ object_place (id_of kind value) → file_at tree path ≡ file_at old path
+  pub others : (path : Bytes) → path ≢ unfinished_place → path ≢ object_place (id_of kind value)
+      → file_at tree path ≡ file_at old path
   pub folders : (path : Bytes) → get tree path ≡ Some folder → IsTrue (is_object_folder path)
 
 -- So a value whose id isn't taken is stored, or not yet.
 abbrev pub PutsPass : Type 0
-PutsPass = (kind : Kind) (old tree : Tree) (values : Values) (value : Value) → HaveOwnIds kind values → HoldsValues kind old values
-    → IsFalse (is_taken kind values value) → MayPut kind value old tree → HoldsFirst kind values (value ∷ []) tree
+PutsPass =
+    (kind : Kind) (old tree : Tree) (values : Values) (value : Value) → HaveOwnIds kind values
+    → HoldsValues kind old values
+    → IsFalse (is_taken kind values value) → MayPut kind value old tree
+    → HoldsFirst kind values (value ∷ []) tree
 
 -- Each beginning of the values that takes no id leaves a whole store: what a value names stands before it.
 abbrev pub StoresWhole : Repository → List Value → Type 0
-StoresWhole r more = (first rest : List Value) → more ≡ first ++ rest → IsFalse (some_taken r.kind r.objects first)
+StoresWhole r more =
+    (first rest : List Value) → more ≡ first ++ rest → IsFalse (some_taken r.kind r.objects first)
     → IsWholeStore (record r { objects = store_all r.kind r.objects first })
 
 -- Each folder in a folder of these stands before it, or its text is stored: the folders come children first.
 abbrev pub AreChildrenFirst : Repository → List FileMap → Type 0
-AreChildrenFirst r folders = (before after : List FileMap) (folder inner : FileMap) → folders ≡ before ++ folder ∷ after
-    → Contains (folders_of folder) inner → Contains (before ++ folder ∷ []) inner ⊎ HasText r.kind r.objects (StoredFolder inner)
+AreChildrenFirst r folders =
+    (before after : List FileMap) (folder inner : FileMap) → folders ≡ before ++ folder ∷ after
+    → Contains (folders_of folder) inner
+    → Contains (before ++ folder ∷ []) inner ⊎ HasText r.kind r.objects (StoredFolder inner)
 
 -- These are folders of the files, children first, and the text of each other one is stored.
 pub record AreNewFolders (r : Repository) (files : FileMap) (folders : List FileMap) : Type 0 where
   pub among : (folder : FileMap) → Contains folders folder → Contains (folders_of files) folder
-  pub all : (folder : FileMap) → Contains (folders_of files) folder → Contains folders folder ⊎ HasText r.kind r.objects (StoredFolder folder)
+  pub all : (folder : FileMap) → Contains (folders_of files) folder
+      → Contains folders folder ⊎ HasText r.kind r.objects (StoredFolder folder)
   pub in_order : AreChildrenFirst r folders
 
 -- the bytes of each `put`, these folders, and the commit
 abbrev pub commit_puts : Repository → CommitCommand → List FileMap → List Value
-commit_puts r c folders = flat_map put_bytes (edits_of r c) ++ map StoredFolder folders ++ StoredCommit (new_commit r c) ∷ []
+commit_puts r c folders =
+    flat_map put_bytes (edits_of r c) ++ map StoredFolder folders
+    ++ StoredCommit (new_commit r c) ∷ []
 
 -- So a commit stores its values in such an order.
 abbrev pub CommitsStoreWhole : Type 0
-CommitsStoreWhole = (r : Repository) (c : CommitCommand) (folders : List FileMap) → IsSound r → first_cause r (Commit c) ≡ None
+CommitsStoreWhole =
+    (r : Repository) (c : CommitCommand) (folders : List FileMap) → IsSound r
+    → first_cause r (Commit c) ≡ None
     → AreNewFolders r (new_commit r c).files folders → StoresWhole r (commit_puts r c folders)
 
 -- A stop while a command's values are stored, before its first name moves.
 abbrev pub StoringStops : Type 0
-StoringStops = (old : Repository) (command : Command) (pair : Pair) → IsSound old → IsTrue (is_changing command) → first_cause old command ≡ None
-    → StoresWhole old (stored_by old command) → HoldsFirst old.kind old.objects (stored_by old command) pair.objects
+StoringStops =
+    (old : Repository) (command : Command) (pair : Pair) → IsSound old
+    → IsTrue (is_changing command) → first_cause old command ≡ None
+    → StoresWhole old (stored_by old command)
+    → HoldsFirst old.kind old.objects (stored_by old command) pair.objects
     → HoldsNames (recovered_names old.kind pair.names) old → LeavesStopped old command pair
 
 -- ---- names
@@ -93,8 +111,11 @@ pub record HoldsBetween (old : Repository) (command : Command) (tree : Tree) : T
   pub names : References
   pub branch : Bytes
   pub holds : HoldsNames (recovered_names old.kind tree) (passing old command names branch)
-  pub each : (name : Bytes) → NameBetween old (after old command) (passing old command names branch) (deletes command name) name
-  pub apart : (a b : Bytes) → IsTrue (stands (passing old command names branch) a) → IsTrue (stands (passing old command names branch) b) → IsFalse (is_below a b)
+  pub each : (name : Bytes)
+      → NameBetween old (after old command) (passing old command names branch)
+      (deletes command name) name
+  pub apart : (a b : Bytes) → IsTrue (stands (passing old command names branch) a)
+      → IsTrue (stands (passing old command names branch) b) → IsFalse (is_below a b)
   pub branch_is : (branch ≡ old.branch) ⊎ (branch ≡ (after old command).branch)
   pub not_lost : IsNotLost old command (passing old command names branch)
 
@@ -103,23 +124,37 @@ pub record HoldsBetween (old : Repository) (command : Command) (tree : Tree) : T
 -- lock files differ, and no folders stand but those of names and logs.
 pub record MayMove (name : Bytes) (entry : LogEntry) (old tree : Tree) : Type 0 where
   pub here : (file_at tree name ≡ file_at old name)
-      ⊎ ((file_at tree name ≡ Some (line (hex entry.after))) × (entry.before ≢ entry.after → file_at tree (log_place name) ≡ Some (bytes_at old (log_place name) ++ log_line entry)))
+      ⊎ ((file_at tree name ≡ Some (line (hex entry.after)))
+      × (entry.before ≢ entry.after
+      → file_at tree (log_place name) ≡ Some (bytes_at old (log_place name) ++ log_line entry)))
   pub log : (file_at tree (log_place name) ≡ file_at old (log_place name))
-      ⊎ ((entry.before ≢ entry.after) × ((n : ℕ) × (file_at tree (log_place name) ≡ Some (bytes_at old (log_place name) ++ take n (log_line entry)))))
-  pub others : (path : Bytes) → path ≢ name → path ≢ log_place name → IsFalse (is_lock_file path) → file_at tree path ≡ file_at old path
+      ⊎ ((entry.before ≢ entry.after)
+      × ((n : ℕ)
+      × (file_at tree (log_place name)
+      ≡ Some (bytes_at old (log_place name) ++ take n (log_line entry)))))
+  pub others : (path : Bytes) → path ≢ name → path ≢ log_place name → IsFalse (is_lock_file path)
+      → file_at tree path ≡ file_at old path
   pub folders : (path : Bytes) → get tree path ≡ Some folder → IsTrue (is_name_folder path)
 
 -- So a commit's name is as before or moved, and its log tells of each move that was made.
 abbrev pub MovesPass : Type 0
-MovesPass = (pair : Pair) (tree : Tree) (r : Repository) (c : CommitCommand) → IsSound r → StandsFor r.kind pair r → IsTrue (is_name (branch_or_name r c.name))
-    → first_cause r (Commit c) ≡ None → IsFalse (takes_id r (Commit c)) → file_at pair.names packed_place ≡ None
-    → MayMove (branch_or_name r c.name) (move_entry r (branch_or_name r c.name) (id_of r.kind (StoredCommit (new_commit r c))) (read_actor c.committer) (title c.message)) pair.names tree
+MovesPass =
+    (pair : Pair) (tree : Tree) (r : Repository) (c : CommitCommand) → IsSound r
+    → StandsFor r.kind pair r → IsTrue (is_name (branch_or_name r c.name))
+    → first_cause r (Commit c) ≡ None → IsFalse (takes_id r (Commit c))
+    → file_at pair.names packed_place ≡ None
+    → MayMove (branch_or_name r c.name)
+    (move_entry r (branch_or_name r c.name) (id_of r.kind (StoredCommit (new_commit r c)))
+    (read_actor c.committer) (title c.message)) pair.names tree
     → HoldsBetween r (Commit c) tree
 
 -- A stop while names move, once all values are stored.
 abbrev pub MovingStops : Type 0
-MovingStops = (old : Repository) (command : Command) (pair : Pair) → IsSound old → IsTrue (is_changing command) → first_cause old command ≡ None
-    → IsFalse (takes_id old command) → HoldsValues old.kind (recovered_objects pair.objects) (after old command).objects
+MovingStops =
+    (old : Repository) (command : Command) (pair : Pair) → IsSound old
+    → IsTrue (is_changing command) → first_cause old command ≡ None
+    → IsFalse (takes_id old command)
+    → HoldsValues old.kind (recovered_objects pair.objects) (after old command).objects
     → HoldsBetween old command pair.names → LeavesStopped old command pair
 
 -- ---- moments
@@ -134,22 +169,34 @@ IsWithin objects names at = (at.objects ≤ moment objects) × (at.names ≤ mom
 
 -- What commands did to the files they did also where the files went on since.
 abbrev pub ActsLater : Type 0 → Type 0
-ActsLater MayFail = (objects names later_objects later_names : History) (old : Repository) (begin : Moment) (commands : List Command) (replies : List Reply) (moments : List Moment) (new : Repository)
-    → GoesOnFrom objects later_objects → GoesOnFrom names later_names → IsWithin objects names (last_moment begin moments)
-    → ActsOn objects names MayFail old begin commands replies moments new → ActsOn later_objects later_names MayFail old begin commands replies moments new
+ActsLater MayFail =
+    (objects names later_objects later_names : History) (old : Repository) (begin : Moment)
+    (commands : List Command) (replies : List Reply) (moments : List Moment) (new : Repository)
+    → GoesOnFrom objects later_objects → GoesOnFrom names later_names
+    → IsWithin objects names (last_moment begin moments)
+    → ActsOn objects names MayFail old begin commands replies moments new
+    → ActsOn later_objects later_names MayFail old begin commands replies moments new
 
 -- Commands after others, of which none failed, are commands in a row.
 abbrev pub ActsThen : Type 0 → Type 0
-ActsThen MayFail = (objects names : History) (old : Repository) (begin : Moment) (commands : List Command) (replies : List Reply) (moments : List Moment) (mid : Repository)
-    (more : List Command) (others : List Reply) (behind : List Moment) (new : Repository) → IsFalse (some_failed commands replies)
-    → ActsOn objects names MayFail old begin commands replies moments mid → ActsOn objects names MayFail mid (last_moment begin moments) more others behind new
-    → ActsOn objects names MayFail old begin (commands ++ more) (replies ++ others) (moments ++ behind) new
+ActsThen MayFail =
+    (objects names : History) (old : Repository) (begin : Moment) (commands : List Command)
+    (replies : List Reply) (moments : List Moment) (mid : Repository)
+    (more : List Command) (others : List Reply) (behind : List Moment) (new : Repository)
+    → IsFalse (some_failed commands replies)
+    → ActsOn objects names MayFail old begin commands replies moments mid
+    → ActsOn objects names MayFail mid (last_moment begin moments) more others behind new
+    → ActsOn objects names MayFail old begin (commands ++ more) (replies ++ others)
+    (moments ++ behind) new
 
 -- What commands did they did also where it isn't told whether a reading may fail: a run's trace is then that of a round.
 abbrev pub TracesWeaken : Type 0 → Type 0
-TracesWeaken MayFail = (objects names : History) (old : Repository) (begin : Moment) (commands : List Command) (replies : List Reply) (finish : Moment) (new : Repository)
+TracesWeaken MayFail =
+    (objects names : History) (old : Repository) (begin : Moment) (commands : List Command)
+    (replies : List Reply) (finish : Moment) (new : Repository)
     → (traces : Traces objects names MayFail old begin commands replies finish new)
-    → (weaker : Traces objects names (Unit {0}) old begin commands replies finish new) × (weaker.moments ≡ traces.moments)
+    → (weaker : Traces objects names (Unit {0}) old begin commands replies finish new)
+    × (weaker.moments ≡ traces.moments)
 
 -- Both parts count as many failed calls as before, less than a count's last value.
 pub record IsUncounted (begin finish : Moment) : Type 0 where
@@ -160,11 +207,15 @@ pub record IsUncounted (begin finish : Moment) : Type 0 where
 
 -- Over files of which no reading may fail and no call failed meanwhile, no command is answered by `fault File`.
 abbrev pub FaultsAreCounted : Type 0
-FaultsAreCounted = (objects names : History) (old : Repository) (begin : Moment) (commands : List Command) (replies : List Reply) (finish : Moment) (new : Repository)
-    → Traces objects names ⊥ old begin commands replies finish new → IsUncounted begin finish → AllByRecursion (λ reply. reply ≢ Faulted File) replies
+FaultsAreCounted =
+    (objects names : History) (old : Repository) (begin : Moment) (commands : List Command)
+    (replies : List Reply) (finish : Moment) (new : Repository)
+    → Traces objects names ⊥ old begin commands replies finish new → IsUncounted begin finish
+    → AllByRecursion (λ reply. reply ≢ Faulted File) replies
 
 -- A run met a failed call in its last command, which changes files: until then the counts stayed as they began, and then one rose.
-pub record EndsByFailedCall (begin : Moment) (commands : List Command) (replies : List Reply) (moments : List Moment) (finish : Moment) : Type 0 where
+pub record EndsByFailedCall (begin : Moment) (commands : List Command) (replies : List Reply)
+    (moments : List Moment) (finish : Moment) : Type 0 where
   pub done : List Command
   pub answered : List Reply
   pub between : List Moment
@@ -179,14 +230,20 @@ pub record EndsByFailedCall (begin : Moment) (commands : List Command) (replies 
 
 -- So a reply `fault File` is told, over files of which no reading may fail.
 abbrev pub FaultsComeLast : Type 0
-FaultsComeLast = (objects names : History) (old : Repository) (begin : Moment) (commands : List Command) (replies : List Reply) (finish : Moment) (new : Repository)
-    → (traces : Traces objects names ⊥ old begin commands replies finish new) → Contains replies (Faulted File)
+FaultsComeLast =
+    (objects names : History) (old : Repository) (begin : Moment) (commands : List Command)
+    (replies : List Reply) (finish : Moment) (new : Repository)
+    → (traces : Traces objects names ⊥ old begin commands replies finish new)
+    → Contains replies (Faulted File)
     → EndsByFailedCall begin commands replies traces.moments finish
 
 -- Without a fault in a command that changes files a run counts no failed call.
 abbrev pub UnfailedCountNone : Type 0
-UnfailedCountNone = (objects names : History) (old : Repository) (begin : Moment) (commands : List Command) (replies : List Reply) (finish : Moment) (new : Repository)
-    → Traces objects names (Unit {0}) old begin commands replies finish new → IsFalse (some_failed commands replies) → CountsStay begin finish
+UnfailedCountNone =
+    (objects names : History) (old : Repository) (begin : Moment) (commands : List Command)
+    (replies : List Reply) (finish : Moment) (new : Repository)
+    → Traces objects names (Unit {0}) old begin commands replies finish new
+    → IsFalse (some_failed commands replies) → CountsStay begin finish
 
 -- ---- in any order
 
@@ -199,12 +256,17 @@ pub record HoldsSome (r : Repository) (more : List Value) (tree : Tree) : Type 0
 
 -- A stop then.
 abbrev pub SomeStops : Type 0
-SomeStops = (old : Repository) (command : Command) (pair : Pair) → IsSound old → IsTrue (is_changing command) → first_cause old command ≡ None
-    → HoldsSome old (stored_by old command) pair.objects → HoldsNames (recovered_names old.kind pair.names) old → LeavesStopped old command pair
+SomeStops =
+    (old : Repository) (command : Command) (pair : Pair) → IsSound old
+    → IsTrue (is_changing command) → first_cause old command ≡ None
+    → HoldsSome old (stored_by old command) pair.objects
+    → HoldsNames (recovered_names old.kind pair.names) old → LeavesStopped old command pair
 
 -- The first of values that leave whole stores are some of them.
 abbrev pub FirstAreSome : Type 0
-FirstAreSome = (r : Repository) (more : List Value) (tree : Tree) → StoresWhole r more → HoldsFirst r.kind r.objects more tree → HoldsSome r more tree
+FirstAreSome =
+    (r : Repository) (more : List Value) (tree : Tree) → StoresWhole r more
+    → HoldsFirst r.kind r.objects more tree → HoldsSome r more tree
 
 -- ---- several names
 
@@ -219,32 +281,48 @@ log_in tree name = whole_lines (unwrap_or (file_at tree (log_place name)) [])
 
 -- the old name of a rename or the new one reads as the id
 abbrev pub ReadsKept : Repository → Command → Tree → Type 0
-ReadsKept old (Rename from to) tree = (reading old.kind tree from ≡ reads_as (id_at old from)) ⊎ (reading old.kind tree to ≡ reads_as (id_at old from))
+ReadsKept old (Rename from to) tree =
+    (reading old.kind tree from ≡ reads_as (id_at old from))
+    ⊎ (reading old.kind tree to ≡ reads_as (id_at old from))
 ReadsKept old _ tree = Unit {0}
 
 -- What the files of the names say on the way of a command, by readings: each name is as before or as after, and of one that
 -- stands the log too; besides stand logs and lock files alone. Of a name that reads as absent the log may be anything.
 pub record NamesOnTheWay (old : Repository) (command : Command) (tree : Tree) : Type 0 where
-  pub head : (file_at tree head_place ≡ Some (head_text old.branch)) ⊎ (file_at tree head_place ≡ Some (head_text (after old command).branch))
-  pub reads : (name : Bytes) → (reading old.kind tree name ≡ reads_as (id_at old name)) ⊎ (reading old.kind tree name ≡ reads_as (id_at (after old command) name))
+  pub head : (file_at tree head_place ≡ Some (head_text old.branch))
+      ⊎ (file_at tree head_place ≡ Some (head_text (after old command).branch))
+  pub reads : (name : Bytes)
+      → (reading old.kind tree name ≡ reads_as (id_at old name))
+      ⊎ (reading old.kind tree name ≡ reads_as (id_at (after old command) name))
   pub logs : (name : Bytes) → IsFalse (is_absent (reading old.kind tree name))
-      → (log_in tree name ≡ log_text (moves_at old name)) ⊎ (log_in tree name ≡ log_text (moves_at (after old command) name)) ⊎ (IsTrue (deletes command name) × (log_in tree name ≡ []))
+      → (log_in tree name ≡ log_text (moves_at old name))
+      ⊎ (log_in tree name ≡ log_text (moves_at (after old command) name))
+      ⊎ (IsTrue (deletes command name) × (log_in tree name ≡ []))
   -- where a name that stands has moved, its log says so
   pub log_first : (name : Bytes) → IsFalse (is_absent (reading old.kind tree name))
-      → (reading old.kind tree name ≡ reads_as (id_at old name)) ⊎ (log_in tree name ≡ log_text (moves_at (after old command) name))
-  pub packed : (text : Bytes) → file_at tree packed_place ≡ Some text → MatchOption (packed_file old.kind text) ⊥ (PackedAgrees (after old command))
+      → (reading old.kind tree name ≡ reads_as (id_at old name))
+      ⊎ (log_in tree name ≡ log_text (moves_at (after old command) name))
+  pub packed : (text : Bytes) → file_at tree packed_place ≡ Some text
+      → MatchOption (packed_file old.kind text) ⊥ (PackedAgrees (after old command))
   pub places : (path text : Bytes) → file_at tree path ≡ Some text
-      → IsTrue (bytes_eq path head_place || bytes_eq path packed_place || is_lock_file path || is_log_place path || not (is_absent (reading old.kind tree path)))
+      → IsTrue
+      (bytes_eq path head_place || bytes_eq path packed_place || is_lock_file path
+      || is_log_place path || not (is_absent (reading old.kind tree path)))
   pub folders : (path : Bytes) → get tree path ≡ Some folder → IsTrue (is_name_folder path)
   pub not_lost : ReadsKept old command tree
 
 -- Such files, once recovered, hold names and a branch that are each as before the command or as after it.
 abbrev pub NamesPass : Type 0
-NamesPass = (old : Repository) (command : Command) (tree : Tree) → IsSound old → first_cause old command ≡ None → NamesOnTheWay old command tree → HoldsBetween old command tree
+NamesPass =
+    (old : Repository) (command : Command) (tree : Tree) → IsSound old
+    → first_cause old command ≡ None → NamesOnTheWay old command tree
+    → HoldsBetween old command tree
 
 -- What stands for the repository is at the beginning of that way.
 abbrev pub NamesBegin : Type 0
-NamesBegin = (old : Repository) (command : Command) (pair : Pair) → StandsFor old.kind pair old → NamesOnTheWay old command pair.names
+NamesBegin =
+    (old : Repository) (command : Command) (pair : Pair) → StandsFor old.kind pair old
+    → NamesOnTheWay old command pair.names
 
 -- ---- closed
 
@@ -253,15 +331,20 @@ NamesBegin = (old : Repository) (command : Command) (pair : Pair) → StandsFor 
 pub record IsClosed (kind : Kind) (pair : Pair) : Type 0 where
   pub repository : Repository
   pub whole : IsWhole repository
-  pub objects : (path : Bytes) → path ≢ unfinished_place → file_at pair.objects path ≡ get (object_files repository) path
-  pub names : (name : Bytes) (id : Id) → reading kind pair.names name ≡ Holds id → IsSome (peeled repository id)
+  pub objects : (path : Bytes) → path ≢ unfinished_place
+      → file_at pair.objects path ≡ get (object_files repository) path
+  pub names : (name : Bytes) (id : Id) → reading kind pair.names name ≡ Holds id
+      → IsSome (peeled repository id)
 
 -- What a stop in a command leaves is so, before any recovery.
 abbrev pub StopsAreClosed : Type 0
-StopsAreClosed = (old : Repository) (command : Command) (pair : Pair) → LeavesStopped old command pair → IsClosed old.kind pair
+StopsAreClosed =
+    (old : Repository) (command : Command) (pair : Pair) → LeavesStopped old command pair
+    → IsClosed old.kind pair
 
 -- ---- recovery
 
 -- each tree on the way of a recovery recovers to what the first does
 abbrev pub RecoversOn : Kind → History → History → Type 0
-RecoversOn kind old new = Adds (λ tree. recovered_names kind tree ≡ recovered_names kind old.tree) old new
+RecoversOn kind old new =
+    Adds (λ tree. recovered_names kind tree ≡ recovered_names kind old.tree) old new

@@ -31,22 +31,34 @@ step_moves old command new name =
     let before = unwrap_or (id_at old name) (null_id old.kind) in
     let after = unwrap_or (id_at new name) (null_id old.kind) in
     if id_eq before after then []
-    else record { before = before; after = after; actor = mover command; message = move_message command } ∷ []
+    else record {
+      before =
+          before;
+      after = after;
+      actor = mover command;
+      message = move_message command;
+    } ∷ []
 
 -- the name stands before these commands and after each of them
 abbrev pub stands_through : Repository → List Command → List Reply → Bytes → Bool
-stands_through r (command ∷ commands) (reply ∷ replies) name = stands r name && stands_through (next r command reply) commands replies name
+stands_through r (command ∷ commands) (reply ∷ replies) name =
+    stands r name && stands_through (next r command reply) commands replies name
 stands_through r _ _ name = stands r name
 
 -- the moves that these commands made since the name was last made, newest first
 abbrev pub moves_made : Repository → List Command → List Reply → Bytes → List LogEntry
 moves_made r (command ∷ commands) (reply ∷ replies) name =
     let mid = next r command reply in
-    moves_made mid commands replies name ++ (if stands_through mid commands replies name then step_moves r command mid name else [])
+    moves_made mid commands replies name
+    ++ (if stands_through mid commands replies name then step_moves r command mid name else [])
 moves_made r _ _ name = []
 
 -- Over steps of which no changing command had a fault the past of a name begins with exactly the moves that they made since
 -- the name was last made, newest first; behind them stand the moves before these steps, where the name stood all the while.
 abbrev pub PastsTellMoves : Type 0
-PastsTellMoves = (old new : Repository) (commands : List Command) (replies : List Reply) (name : Bytes) → Steps old commands replies new → IsFalse (some_failed commands replies)
-    → moves_at new name ≡ moves_made old commands replies name ++ (if stands_through old commands replies name then moves_at old name else [])
+PastsTellMoves =
+    (old new : Repository) (commands : List Command) (replies : List Reply) (name : Bytes)
+    → Steps old commands replies new → IsFalse (some_failed commands replies)
+    → moves_at new name
+    ≡ moves_made old commands replies name
+    ++ (if stands_through old commands replies name then moves_at old name else [])

@@ -55,7 +55,9 @@ log_name path = drop 5 path
 
 -- `HEAD`, `packed-refs`, a name that stands, and a log of one
 abbrev pub is_name_place : Repository → Bytes → Bool
-is_name_place r path = bytes_eq path head_place || bytes_eq path packed_place || stands r path || (is_log_place path && stands r (log_name path))
+is_name_place r path =
+    bytes_eq path head_place || bytes_eq path packed_place || stands r path
+    || (is_log_place path && stands r (log_name path))
 
 -- a file that is written before it is renamed to its place
 abbrev pub is_lock_file : Bytes → Bool
@@ -63,4 +65,5 @@ is_lock_file path = ends (codes ".lock") path
 
 -- `refs`, `logs` and what lies below them, but for the paths of lock files
 abbrev pub is_name_folder : Bytes → Bool
-is_name_folder path = (is_within (codes "refs") path || is_within (codes "logs") path) && not (is_lock_file path)
+is_name_folder path =
+    (is_within (codes "refs") path || is_within (codes "logs") path) && not (is_lock_file path)

@@ -28,16 +28,21 @@ loose_reading kind text = unwrap_or (option_map (loose_line kind) (line_text tex
 abbrev pub packed_reading : Bytes → PackedFile → Reading
 packed_reading name packed =
     if is_private name then Absent
-    else unwrap_or (option_map (λ found. Holds found.target) (find (λ found. bytes_eq found.name name) packed.records)) Absent
+    else unwrap_or
+    (option_map (λ found. Holds found.target)
+    (find (λ found. bytes_eq found.name name) packed.records)) Absent
 
 abbrev pub packed_text_reading : Kind → Bytes → Bytes → Reading
-packed_text_reading kind name text = unwrap_or (option_map (packed_reading name) (packed_file kind text)) Faulty
+packed_text_reading kind name text =
+    unwrap_or (option_map (packed_reading name) (packed_file kind text)) Faulty
 
 -- A loose file wins over a record. What is no name reads as absent.
 abbrev pub reading : Kind → Tree → Bytes → Reading
 reading kind tree name =
-    let packed = unwrap_or (option_map (packed_text_reading kind name) (file_at tree packed_place)) Absent in
-    if is_name name then unwrap_or (option_map (loose_reading kind) (file_at tree name)) packed else Absent
+    let packed =
+    unwrap_or (option_map (packed_text_reading kind name) (file_at tree packed_place)) Absent in
+    if is_name name then unwrap_or (option_map (loose_reading kind) (file_at tree name)) packed
+    else Absent
 
 abbrev pub is_absent : Reading → Bool
 is_absent Absent = true

@@ -12,11 +12,14 @@ use Rattle.gix_hash_id.specs.declared.kind.Kind.{Kind}
 
 -- without an object's file that was not renamed to its place
 abbrev pub recovered_objects : Tree → Tree
-recovered_objects tree = retain_keys tree (λ path. not (bytes_eq path unfinished_place && is_some (file_at tree path)))
+recovered_objects tree =
+    retain_keys tree (λ path. not (bytes_eq path unfinished_place && is_some (file_at tree path)))
 
 -- a lock file, or a log whose name reads as absent
 abbrev pub is_leftover : Kind → Tree → Bytes → Bool
-is_leftover kind tree path = is_some (file_at tree path) && (is_lock_file path || (is_log_place path && is_absent (reading kind tree (log_name path))))
+is_leftover kind tree path =
+    is_some (file_at tree path)
+    && (is_lock_file path || (is_log_place path && is_absent (reading kind tree (log_name path))))
 
 -- of a log its whole lines
 abbrev pub recovered_node : Bytes → Node → Node
@@ -25,16 +28,22 @@ recovered_node path (file bytes) = file (if is_log_place path then whole_lines b
 
 -- the files that stay, and all folders
 abbrev pub recovered_files : Kind → Tree → Tree
-recovered_files kind tree = from_entries (map (λ e. (e.0, recovered_node e.0 e.1)) (entries (retain_keys tree (λ path. not (is_leftover kind tree path)))))
+recovered_files kind tree =
+    from_entries
+    (map (λ e. (e.0, recovered_node e.0 e.1))
+    (entries (retain_keys tree (λ path. not (is_leftover kind tree path)))))
 
 -- a folder below `refs` or `logs` under which no file is left
 abbrev pub is_deserted : Tree → Bytes → Bool
-is_deserted tree path = is_folder (get tree path) && (is_below (codes "refs") path || is_below (codes "logs") path)
+is_deserted tree path =
+    is_folder (get tree path) && (is_below (codes "refs") path || is_below (codes "logs") path)
     && not (list_any (λ below. is_below path below && is_some (file_at tree below)) (keys tree))
 
 -- without leftovers, and without the folders that are deserted then
 abbrev pub recovered_names : Kind → Tree → Tree
-recovered_names kind tree = let left = recovered_files kind tree in retain_keys left (λ path. not (is_deserted left path))
+recovered_names kind tree =
+    let left = recovered_files kind tree in retain_keys left (λ path. not (is_deserted left path))
 
 abbrev pub recovered : Kind → Pair → Pair
-recovered kind pair = record { objects = recovered_objects pair.objects; names = recovered_names kind pair.names }
+recovered kind pair =
+    record { objects = recovered_objects pair.objects; names = recovered_names kind pair.names }

@@ -97,17 +97,26 @@ ok words = Line (codes "ok" ∷ words)
 
 -- an actor as a command spells it
 abbrev pub spelled_actor : Actor → ActorLine
-spelled_actor actor = record { name = actor.name; email = actor.email; seconds = decimal actor.seconds; offset = actor.offset }
+spelled_actor actor =
+    record {
+      name =
+          actor.name;
+      email = actor.email;
+      seconds = decimal actor.seconds;
+      offset = actor.offset;
+    }
 
 abbrev pub file_parts : FileLine → List Part
-file_parts file = Line (kind_word file.kind ∷ hex file.id ∷ len_word file.path ∷ []) ∷ Field file.path ∷ []
+file_parts file =
+    Line (kind_word file.kind ∷ hex file.id ∷ len_word file.path ∷ []) ∷ Field file.path ∷ []
 
 abbrev pub commit_parts : CommitShown → List Part
 commit_parts shown = ok (codes "show" ∷ codes "commit" ∷ hex shown.id ∷ [])
     ∷ Line (codes "tree" ∷ hex shown.tree ∷ [])
     ∷ Line (codes "parents" ∷ count_word shown.parents ∷ [])
     ∷ map (λ parent. Line (codes "parent" ∷ hex parent ∷ [])) shown.parents
-    ++ actor_parts (codes "author") (spelled_actor shown.author) ++ actor_parts (codes "committer") (spelled_actor shown.committer)
+    ++ actor_parts (codes "author") (spelled_actor shown.author)
+    ++ actor_parts (codes "committer") (spelled_actor shown.committer)
     ++ message_parts shown.message
 
 abbrev pub reply_text : Reply → Bytes
@@ -123,9 +132,15 @@ reply_text Packed = parts_text (ok (codes "pack" ∷ []) ∷ [])
 reply_text (Indexed rows) = parts_text (ok (codes "index" ∷ decimal rows ∷ []) ∷ [])
 reply_text (NamesAre branch names) = parts_text (ok (codes "names" ∷ count_word names ∷ branch ∷ [])
     ∷ map (λ entry. Line (hex entry.id ∷ hex entry.commit ∷ entry.name ∷ [])) names)
-reply_text (LogIs ids) = parts_text (ok (codes "log" ∷ count_word ids ∷ []) ∷ map (λ id. Line (hex id ∷ [])) ids)
-reply_text (FilesAre files) = parts_text (ok (codes "files" ∷ count_word files ∷ []) ∷ flat_map file_parts files)
+reply_text (LogIs ids) =
+    parts_text (ok (codes "log" ∷ count_word ids ∷ []) ∷ map (λ id. Line (hex id ∷ [])) ids)
+reply_text (FilesAre files) =
+    parts_text (ok (codes "files" ∷ count_word files ∷ []) ∷ flat_map file_parts files)
 reply_text (ShowsCommit shown) = parts_text (commit_parts shown)
 reply_text (ShowsContent shown) =
-    parts_text (ok (codes "show" ∷ codes "content" ∷ kind_word shown.kind ∷ hex shown.id ∷ len_word shown.bytes ∷ []) ∷ Field shown.bytes ∷ [])
-reply_text (PastIs moves) = parts_text (ok (codes "past" ∷ count_word moves ∷ []) ∷ []) ++ flat_map log_line moves
+    parts_text
+    (ok
+    (codes "show" ∷ codes "content" ∷ kind_word shown.kind ∷ hex shown.id ∷ len_word shown.bytes
+    ∷ []) ∷ Field shown.bytes ∷ [])
+reply_text (PastIs moves) =
+    parts_text (ok (codes "past" ∷ count_word moves ∷ []) ∷ []) ++ flat_map log_line moves

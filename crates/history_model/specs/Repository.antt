@@ -80,11 +80,14 @@ HoldsCommit r id = IsSome (commit_at r id)
 
 -- each folder of a file map, the map itself too, and the bytes of each file
 abbrev pub file_values : FileMap → List Value
-file_values files = map StoredFolder (folders_of files) ++ map (λ content. StoredBytes content.bytes) (values files)
+file_values files =
+    map StoredFolder (folders_of files)
+    ++ map (λ content. StoredBytes content.bytes) (values files)
 
 -- what a value names is stored
 abbrev pub NamesAreStored : Repository → Value → Type 0
-NamesAreStored r (StoredCommit commit) = AllByRecursion (HoldsCommit r) commit.parents × IsStored r (StoredFolder commit.files)
+NamesAreStored r (StoredCommit commit) =
+    AllByRecursion (HoldsCommit r) commit.parents × IsStored r (StoredFolder commit.files)
 NamesAreStored r (StoredTag tag) = HoldsCommit r tag.target
 NamesAreStored r (StoredBytes bytes) = Unit {0}
 NamesAreStored r (StoredFolder files) = AllByRecursion (IsStored r) (file_values files)
@@ -98,7 +101,8 @@ named_ids kind (StoredFolder files) = map (id_of kind) (drop 1 (file_values file
 
 -- one object reaches another by the ids that values name
 pub data Reaches (r : Repository) : Id → Id → Type 0 where
-  named : {from to : Id} (value : Value) → get r.objects from ≡ Some value → IsTrue (list_any (id_eq to) (named_ids r.kind value)) → Reaches r from to
+  named : {from to : Id} (value : Value) → get r.objects from ≡ Some value
+      → IsTrue (list_any (id_eq to) (named_ids r.kind value)) → Reaches r from to
   by_way_of : {from to : Id} (mid : Id) → Reaches r from mid → Reaches r mid to → Reaches r from to
 
 -- Each id is its value's, what a value names is stored, and no object reaches itself. Nothing is stored under the null id,
@@ -108,7 +112,8 @@ pub record IsWholeStore (r : Repository) : Type 0 where
   pub closed : (id : Id) (value : Value) → get r.objects id ≡ Some value → NamesAreStored r value
   pub acyclic : (id : Id) → Reaches r id id → ⊥
   pub null : get r.objects (null_id r.kind) ≡ None
-  pub empty_tree : (value : Value) → get r.objects (empty_tree_id r.kind) ≡ Some value → value ≡ StoredFolder empty
+  pub empty_tree : (value : Value) → get r.objects (empty_tree_id r.kind) ≡ Some value
+      → value ≡ StoredFolder empty
 
 -- Each name holds a stored commit or tag, and no name is a folder of another.
 pub record HasWholeNames (r : Repository) : Type 0 where

@@ -24,7 +24,9 @@ use Rattle.history_model.specs.declared.Fault.TheVariants.{Memory}
 -- A beginning is written of one reply more; or, where all are whole, of the answer to a rest that is no command.
 abbrev pub IsCutOff : List Reply → Bytes → Bytes → Type 0
 IsCutOff [] rest part = (part ≡ [])
-    ⊎ ((cause : Cause) × HasRestCause rest cause × IsTrue (begins part (reply_text (RefusedFor cause)) || begins part (reply_text (Faulted Memory))))
+    ⊎ ((cause : Cause) × HasRestCause rest cause
+    × IsTrue
+    (begins part (reply_text (RefusedFor cause)) || begins part (reply_text (Faulted Memory))))
 IsCutOff (reply ∷ []) rest part = IsTrue (begins part (reply_text reply))
 IsCutOff _ rest part = ⊥
 
@@ -54,7 +56,8 @@ pub record Round : Type 0 where
   pub left : Pair
 
 -- While one command more is acted on, which the rest of the input begins with, the run is stopped at a pair.
-pub record IsStoppedIn (objects names : History) (mid : Repository) (at : Moment) (rest : Bytes) (pair : Pair) : Type 0 where
+pub record IsStoppedIn (objects names : History) (mid : Repository) (at : Moment) (rest : Bytes)
+    (pair : Pair) : Type 0 where
   pub command : Command
   pub more : Bytes
   pub known : IsTrue (is_command command)
@@ -67,8 +70,10 @@ pub record IsStoppedIn (objects names : History) (mid : Repository) (at : Moment
 
 -- A run that isn't recovered has ended, without a fault in a changing command. Any other was stopped, after the commands that
 -- it acted on or while it acts on one more.
-abbrev pub IsLast : Option (List Pair) → Bool → History → History → Repository → Moment → Bytes → Pair → Type 0
-IsLast None failed objects names mid at rest pair = (failed ≡ false) × IsPairAt objects names at pair
+abbrev pub IsLast : Option (List Pair) → Bool → History → History → Repository → Moment → Bytes
+    → Pair → Type 0
+IsLast None failed objects names mid at rest pair =
+    (failed ≡ false) × IsPairAt objects names at pair
 IsLast (Some recoveries) failed objects names mid at rest pair =
     IsPairAt objects names at pair ⊎ ((failed ≡ false) × IsStoppedIn objects names mid at rest pair)
 
@@ -80,14 +85,17 @@ pub record IsRunOf (old : Repository) (round : Round) : Type 0 where
   pub at : Moment
   pub mid : Repository
   pub splits : BeginsWith round.input commands rest
-  pub traces : Traces round.objects round.names (Unit {0}) old round.begin commands round.replies at mid
+  pub traces : Traces round.objects round.names
+      (Unit {0}) old round.begin commands round.replies at mid
   pub written : HasWritten round.replies rest round.written
-  pub last : IsLast round.recoveries (some_failed commands round.replies) round.objects round.names mid at rest round.last
+  pub last : IsLast round.recoveries
+      (some_failed commands round.replies) round.objects round.names mid at rest round.last
 
 -- Each recovery begins where the one before it was stopped, and each pair on its way recovers to the same one.
 abbrev pub Recovers : Kind → Pair → List Pair → Pair → Type 0
 Recovers kind stopped [] left = left ≡ recovered kind stopped
-Recovers kind stopped (pair ∷ recoveries) left = (recovered kind pair ≡ recovered kind stopped) × Recovers kind pair recoveries left
+Recovers kind stopped (pair ∷ recoveries) left =
+    (recovered kind pair ≡ recovered kind stopped) × Recovers kind pair recoveries left
 
 -- the pair that is left, by recovery or as it was
 abbrev pub IsLeft : Kind → Pair → Option (List Pair) → Pair → Type 0
@@ -137,4 +145,5 @@ pub record IsOutcome (old : Repository) (round : Round) (x : Repository) : Type 
 -- The rounds show and leave one after another what steps and stops of the plain repository do.
 abbrev pub Outcomes : Repository → List Round → Repository → Type 0
 Outcomes old [] new = new ≡ old
-Outcomes old (round ∷ rounds) new = (mid : Repository) × IsOutcome old round mid × Outcomes mid rounds new
+Outcomes old (round ∷ rounds) new =
+    (mid : Repository) × IsOutcome old round mid × Outcomes mid rounds new

@@ -25,7 +25,8 @@ Gives stream output = (commands : List Command) × (replies : List Reply) × (ne
 
 -- It is refused before any command, and the repository is as it was.
 abbrev pub Refuses : Bytes → Bytes → Type 0
-Refuses stream output = Runs (Unit {0}) ⊥ (fresh Sha1) [] [] stream output ByRefusal false (fresh Sha1)
+Refuses stream output =
+    Runs (Unit {0}) ⊥ (fresh Sha1) [] [] stream output ByRefusal false (fresh Sha1)
 
 abbrev pub lines : List Bytes → Bytes
 lines texts = flat_map line texts
@@ -33,7 +34,8 @@ lines texts = flat_map line texts
 -- ---- the first commit
 
 abbrev pub sample_line : ActorLine
-sample_line = record { name = codes "A"; email = codes "a@b"; seconds = codes "1"; offset = codes "+0000" }
+sample_line =
+    record { name = codes "A"; email = codes "a@b"; seconds = codes "1"; offset = codes "+0000" }
 
 abbrev pub sample_actor : Actor
 sample_actor = record { name = codes "A"; email = codes "a@b"; seconds = 1; offset = codes "+0000" }
@@ -51,35 +53,58 @@ first_command = record {
 }
 
 abbrev pub first_commit : CommitValue
-first_commit = record { parents = []; author = sample_actor; committer = sample_actor; message = codes "one"; files = empty }
+first_commit =
+    record {
+      parents =
+          [];
+      author = sample_actor;
+      committer = sample_actor;
+      message = codes "one";
+      files = empty;
+    }
 
 -- who wrote it, and the message
 abbrev pub signed_lines : List Bytes
-signed_lines = codes "author 1 3 1 +0000" ∷ codes "A" ∷ codes "a@b" ∷ codes "committer 1 3 1 +0000" ∷ codes "A" ∷ codes "a@b" ∷ codes "message 3" ∷ codes "one" ∷ []
+signed_lines =
+    codes "author 1 3 1 +0000" ∷ codes "A" ∷ codes "a@b" ∷ codes "committer 1 3 1 +0000"
+    ∷ codes "A" ∷ codes "a@b" ∷ codes "message 3" ∷ codes "one" ∷ []
 
 abbrev pub first_stream : Bytes
-first_stream = lines (codes "commit refs/heads/main new" ∷ signed_lines ++ codes "end" ∷ codes "files main" ∷ codes "show main" ∷ [])
+first_stream =
+    lines
+    (codes "commit refs/heads/main new" ∷ signed_lines
+    ++ codes "end" ∷ codes "files main" ∷ codes "show main" ∷ [])
 
 abbrev pub first_output : Bytes
-first_output = lines (codes "ok commit d39b036c797dcd9c0210b66a094ee846a3bc4fd9" ∷ codes "ok files 0"
-    ∷ codes "ok show commit d39b036c797dcd9c0210b66a094ee846a3bc4fd9" ∷ codes "tree 4b825dc642cb6eb9a060e54bf8d69288fbee4904" ∷ codes "parents 0" ∷ signed_lines)
+first_output =
+    lines (codes "ok commit d39b036c797dcd9c0210b66a094ee846a3bc4fd9" ∷ codes "ok files 0"
+    ∷ codes "ok show commit d39b036c797dcd9c0210b66a094ee846a3bc4fd9"
+    ∷ codes "tree 4b825dc642cb6eb9a060e54bf8d69288fbee4904" ∷ codes "parents 0" ∷ signed_lines)
 
 -- ---- a commit of one file
 
 abbrev pub empty_file_stream : Bytes
-empty_file_stream = lines (codes "commit refs/heads/main new" ∷ codes "put file 1 0" ∷ codes "a" ∷ [] ∷ signed_lines ++ codes "end" ∷ codes "files main" ∷ [])
+empty_file_stream =
+    lines
+    (codes "commit refs/heads/main new" ∷ codes "put file 1 0" ∷ codes "a" ∷ [] ∷ signed_lines
+    ++ codes "end" ∷ codes "files main" ∷ [])
 
 abbrev pub empty_file_output : Bytes
-empty_file_output = lines (codes "ok commit fb528dad2ef010714e9765003d2252f671eb3c3c" ∷ codes "ok files 1"
+empty_file_output =
+    lines (codes "ok commit fb528dad2ef010714e9765003d2252f671eb3c3c" ∷ codes "ok files 1"
     ∷ codes "file e69de29bb2d1d6434b8b29ae775ad8c2e48c5391 1" ∷ codes "a" ∷ [])
 
 abbrev pub hello_stream : Bytes
-hello_stream = lines (codes "commit refs/heads/main new" ∷ codes "put file 1 5" ∷ codes "a" ∷ codes "hello"
+hello_stream =
+    lines (codes "commit refs/heads/main new" ∷ codes "put file 1 5" ∷ codes "a" ∷ codes "hello"
     ∷ signed_lines ++ codes "end" ∷ codes "files main" ∷ codes "show main path 1" ∷ codes "a" ∷ [])
 
 abbrev pub hello_output : Bytes
-hello_output = lines (codes "ok commit 66685e2ab14c48f6b22dfeca748179d40cfc74f0" ∷ codes "ok files 1"
-    ∷ codes "file b6fc4c620b67d95f953a5c1c1230aaab5db5a1b0 1" ∷ codes "a" ∷ codes "ok show content file b6fc4c620b67d95f953a5c1c1230aaab5db5a1b0 5" ∷ codes "hello" ∷ [])
+hello_output =
+    lines (codes "ok commit 66685e2ab14c48f6b22dfeca748179d40cfc74f0" ∷ codes "ok files 1"
+    ∷ codes "file b6fc4c620b67d95f953a5c1c1230aaab5db5a1b0 1" ∷ codes "a"
+    ∷ codes "ok show content file b6fc4c620b67d95f953a5c1c1230aaab5db5a1b0 5" ∷ codes "hello"
+    ∷ [])
 
 -- ---- trees and lines
 
@@ -88,7 +113,9 @@ content bytes = record { kind = File; bytes = bytes }
 
 -- in the order of their paths' bytes
 abbrev pub three_files : List (Bytes × Content)
-three_files = (codes "a.b", content (codes "1")) ∷ (codes "a/c", content (codes "2")) ∷ (codes "a0", record { kind = Exec; bytes = codes "3" }) ∷ []
+three_files =
+    (codes "a.b", content (codes "1")) ∷ (codes "a/c", content (codes "2"))
+    ∷ (codes "a0", record { kind = Exec; bytes = codes "3" }) ∷ []
 
 -- a byte `x` so many times
 abbrev pub xs : ℕ → Bytes

@@ -27,7 +27,8 @@ pub record IsNoCommand (AtEnd : Type 0) (rest : Bytes) (cause : Cause) : Type 0 
 
 -- These commands were acted on in a row, and these replies to them are written; this rest of the input follows them, and this is
 -- written last. It has failed where a changing command had a fault.
-pub record Ran (CallFailed : Type 0) (old : Repository) (commands : List Command) (replies : List Reply) (input output rest last : Bytes) (failed : Bool)
+pub record Ran (CallFailed : Type 0) (old : Repository) (commands : List Command)
+    (replies : List Reply) (input output rest last : Bytes) (failed : Bool)
     (new : Repository) : Type 0 where
   pub splits : BeginsWith input commands rest
   pub steps : Steps old commands replies new
@@ -39,14 +40,18 @@ pub record Ran (CallFailed : Type 0) (old : Repository) (commands : List Command
 -- How a run ends over the rest of the input, what is written last, and whether the repository has failed.
 abbrev pub Ends : Type 0 → Bytes → Bytes → End → Bool → Type 0
 Ends AtEnd rest last Input failed = (rest ≡ []) × AtEnd × (last ≡ []) × (failed ≡ false)
-Ends AtEnd rest last ByRefusal failed = (cause : Cause) × IsNoCommand AtEnd rest cause × (last ≡ reply_text (RefusedFor cause)) × (failed ≡ false)
+Ends AtEnd rest last ByRefusal failed =
+    (cause : Cause) × IsNoCommand AtEnd rest cause × (last ≡ reply_text (RefusedFor cause))
+    × (failed ≡ false)
 -- a changing command had a fault: what follows it is not acted on
 Ends AtEnd rest last ByFault true = last ≡ []
 -- memory ran out while a rest that is no command was read: nothing changes
-Ends AtEnd rest last ByFault false = (cause : Cause) × IsNoCommand AtEnd rest cause × (last ≡ reply_text (Faulted Memory))
+Ends AtEnd rest last ByFault false =
+    (cause : Cause) × IsNoCommand AtEnd rest cause × (last ≡ reply_text (Faulted Memory))
 
 -- A run over the input acts on these commands with these replies, writes the output, ends so, and leaves new.
-pub record Runs (AtEnd CallFailed : Type 0) (old : Repository) (commands : List Command) (replies : List Reply) (input output : Bytes) (end : End) (failed : Bool)
+pub record Runs (AtEnd CallFailed : Type 0) (old : Repository) (commands : List Command)
+    (replies : List Reply) (input output : Bytes) (end : End) (failed : Bool)
     (new : Repository) : Type 0 where
   pub rest : Bytes
   pub last : Bytes
@@ -56,7 +61,8 @@ pub record Runs (AtEnd CallFailed : Type 0) (old : Repository) (commands : List 
 -- ---- runs that a reader or a writer cuts off
 
 -- The reader failed where nothing or the beginning of a command follows the last one; or the last reading was made.
-pub record EndsReading (LastReading CallFailed : Type 0) (old : Repository) (commands : List Command) (replies : List Reply) (input output : Bytes) (failed : Bool)
+pub record EndsReading (LastReading CallFailed : Type 0) (old : Repository)
+    (commands : List Command) (replies : List Reply) (input output : Bytes) (failed : Bool)
     (new : Repository) : Type 0 where
   pub rest : Bytes
   pub ran : Ran CallFailed old commands replies input output rest [] failed new
@@ -68,18 +74,22 @@ abbrev pub IsCutFrom : Bytes → Bytes → Type 0
 IsCutFrom part text = IsTrue (begins part text) × (length part < length text)
 
 -- The writer failed within the reply to one more command, which was acted on, or within the answer to a rest that is none.
-abbrev pub CutsShort : Type 0 → Type 0 → Repository → List Command → List Reply → Bytes → Bytes → Bool → Repository → Type 0
+abbrev pub CutsShort : Type 0 → Type 0 → Repository → List Command → List Reply → Bytes → Bytes
+    → Bool → Repository → Type 0
 CutsShort AtEnd CallFailed old (command ∷ []) (reply ∷ []) rest part failed new =
     (more : Bytes) × IsTrue (is_command command) × (rest ≡ spelling command ++ more)
-    × Step old command reply new × (failed ≡ some_failed (command ∷ []) (reply ∷ [])) × (reply ≡ Faulted File → CallFailed)
+    × Step old command reply new × (failed ≡ some_failed (command ∷ []) (reply ∷ []))
+    × (reply ≡ Faulted File → CallFailed)
     × IsCutFrom part (reply_text reply)
 CutsShort AtEnd CallFailed old [] [] rest part failed new =
     (cause : Cause) × IsNoCommand AtEnd rest cause × (new ≡ old) × (failed ≡ false)
-    × (IsCutFrom part (reply_text (RefusedFor cause)) ⊎ IsCutFrom part (reply_text (Faulted Memory)))
+    × (IsCutFrom part (reply_text (RefusedFor cause))
+    ⊎ IsCutFrom part (reply_text (Faulted Memory)))
 CutsShort _ _ _ _ _ _ _ _ _ = ⊥
 
 -- The writer failed: the replies to these commands are written whole, and the rest of what was acted on is at most one more.
-pub record EndsWriting (AtEnd CallFailed : Type 0) (old : Repository) (commands : List Command) (replies : List Reply) (input output : Bytes) (failed : Bool)
+pub record EndsWriting (AtEnd CallFailed : Type 0) (old : Repository) (commands : List Command)
+    (replies : List Reply) (input output : Bytes) (failed : Bool)
     (new : Repository) : Type 0 where
   pub answered : List Command
   pub written : List Reply

@@ -31,7 +31,8 @@ expect_words (At word) = codes "at" ∷ word ∷ []
 
 abbrev pub actor_parts : Bytes → ActorLine → List Part
 actor_parts role actor =
-    Line (role ∷ len_word actor.name ∷ len_word actor.email ∷ actor.seconds ∷ actor.offset ∷ []) ∷ Field actor.name ∷ Field actor.email ∷ []
+    Line (role ∷ len_word actor.name ∷ len_word actor.email ∷ actor.seconds ∷ actor.offset ∷ [])
+    ∷ Field actor.name ∷ Field actor.email ∷ []
 
 abbrev pub message_parts : Bytes → List Part
 message_parts message = Line (codes "message" ∷ len_word message ∷ []) ∷ Field message ∷ []
@@ -58,13 +59,16 @@ kind_word Link = codes "link"
 
 abbrev pub edit_parts : EditLine → List Part
 edit_parts (PutLine kind path content) =
-    Line (codes "put" ∷ kind_word kind ∷ len_word path ∷ len_word content ∷ []) ∷ Field path ∷ Field content ∷ []
+    Line (codes "put" ∷ kind_word kind ∷ len_word path ∷ len_word content ∷ []) ∷ Field path
+    ∷ Field content ∷ []
 edit_parts (RemoveLine path) = Line (codes "remove" ∷ len_word path ∷ []) ∷ Field path ∷ []
 edit_parts (RemoveFileLine path) = Line (codes "remove-file" ∷ len_word path ∷ []) ∷ Field path ∷ []
 
 -- what stands behind the edits of a commit
 abbrev pub signed_parts : CommitCommand → List Part
-signed_parts c = actor_parts (codes "author") c.author ++ (actor_parts (codes "committer") c.committer ++ (message_parts c.message ++ end_part))
+signed_parts c =
+    actor_parts (codes "author") c.author
+    ++ (actor_parts (codes "committer") c.committer ++ (message_parts c.message ++ end_part))
 
 -- ---- the lines of a move, a deletion and a log
 
@@ -100,7 +104,8 @@ parts_of (Commit c) = Line (codes "commit" ∷ c.name ∷ expect_words c.expect)
 parts_of (Tag c) = Line (codes "tag" ∷ c.name ∷ (expect_words c.expect ++ c.word ∷ []))
     ∷ (actor_parts (codes "tagger") c.tagger ++ (message_parts c.message ++ end_part))
 parts_of (Move c) = Line (codes "move" ∷ [])
-    ∷ (map to_part c.to ++ (actor_parts (codes "actor") c.actor ++ (message_parts c.message ++ end_part)))
+    ∷ (map to_part c.to
+    ++ (actor_parts (codes "actor") c.actor ++ (message_parts c.message ++ end_part)))
 parts_of (Rename from to) = Line (codes "rename" ∷ from ∷ to ∷ []) ∷ []
 parts_of (Delete name at) = Line (codes "delete" ∷ name ∷ at_words at) ∷ []
 parts_of (Switch name) = Line (codes "switch" ∷ name ∷ []) ∷ []
@@ -109,9 +114,15 @@ parts_of Index = Line (codes "index" ∷ []) ∷ []
 parts_of (Names folder) = Line (codes "names" ∷ option_list folder) ∷ []
 parts_of (Files word) = Line (codes "files" ∷ word ∷ []) ∷ []
 parts_of (Past name) = Line (codes "past" ∷ name ∷ []) ∷ []
-parts_of (Log c) = Line (codes "log" ∷ (order_words c.order ++ (parents_word c.first_parents ∷ (map item_word c.items ++ flat_map path_words c.paths))))
+parts_of (Log c) =
+    Line
+    (codes "log"
+    ∷ (order_words c.order
+    ++ (parents_word c.first_parents ∷ (map item_word c.items ++ flat_map path_words c.paths))))
     ∷ map Field c.paths
-parts_of (Show word path) = Line (codes "show" ∷ word ∷ flat_map path_words (option_list path)) ∷ map Field (option_list path)
+parts_of (Show word path) =
+    Line (codes "show" ∷ word ∷ flat_map path_words (option_list path))
+    ∷ map Field (option_list path)
 
 abbrev pub spelling : Command → Bytes
 spelling command = parts_text (parts_of command)
@@ -141,7 +152,8 @@ item_target (Hidden word) = word
 
 -- some item is a tip, and none is a sign alone
 abbrev pub are_items : List LogItem → Bool
-are_items items = list_any is_tip items && list_all (λ item. not (is_empty (item_target item))) items
+are_items items =
+    list_any is_tip items && list_all (λ item. not (is_empty (item_target item))) items
 
 -- a move has a line; a log has a tip, and at most one path
 abbrev pub has_enough : Command → Bool

@@ -15,7 +15,8 @@ use Rattle.gix_hash_id.specs.declared.kind.Kind.{Kind}
 
 -- each object's text at its place
 abbrev pub object_files : Repository → FinMap by_bytes Bytes
-object_files r = from_entries (map (λ e. (object_place e.0, value_text r.kind e.1)) (entries r.objects))
+object_files r =
+    from_entries (map (λ e. (object_place e.0, value_text r.kind e.1)) (entries r.objects))
 
 -- what HEAD holds, a symbolic reference to its branch
 abbrev pub head_text : Bytes → Bytes
@@ -25,15 +26,20 @@ pub record StandsFor (kind : Kind) (pair : Pair) (r : Repository) : Type 0 where
   pub of_kind : r.kind ≡ kind
   -- each object's text at its place, and no other file
   pub objects : (path : Bytes) → file_at pair.objects path ≡ get (object_files r) path
-  pub object_folders : (path : Bytes) → get pair.objects path ≡ Some folder → IsTrue (is_object_folder path)
+  pub object_folders : (path : Bytes) → get pair.objects path ≡ Some folder
+      → IsTrue (is_object_folder path)
   pub head : file_at pair.names head_place ≡ Some (head_text r.branch)
   -- the names that read as an id, and their ids
-  pub names : (name : Bytes) (id : Id) → (reading r.kind pair.names name ≡ Holds id) ↔ (id_at r name ≡ Some id)
+  pub names : (name : Bytes) (id : Id)
+      → (reading r.kind pair.names name ≡ Holds id) ↔ (id_at r name ≡ Some id)
   -- a name without a log has no moves
-  pub logs : (name : Bytes) → unwrap_or (file_at pair.names (log_place name)) [] ≡ log_text (moves_at r name)
-  pub packed : (text : Bytes) → file_at pair.names packed_place ≡ Some text → MatchOption (packed_file r.kind text) ⊥ (PackedAgrees r)
+  pub logs : (name : Bytes)
+      → unwrap_or (file_at pair.names (log_place name)) [] ≡ log_text (moves_at r name)
+  pub packed : (text : Bytes) → file_at pair.names packed_place ≡ Some text
+      → MatchOption (packed_file r.kind text) ⊥ (PackedAgrees r)
   -- no file besides, and no folder but these
-  pub places : (path text : Bytes) → file_at pair.names path ≡ Some text → IsTrue (is_name_place r path)
+  pub places : (path text : Bytes) → file_at pair.names path ≡ Some text
+      → IsTrue (is_name_place r path)
   pub folders : (path : Bytes) → get pair.names path ≡ Some folder → IsTrue (is_name_folder path)
 
 -- what an opened folder is: it stands for a whole repository in written form

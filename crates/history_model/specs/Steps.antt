@@ -14,7 +14,9 @@ use Rattle.history_model.specs.declared.Fault.TheVariants.{IdTaken}
 -- The command stores under a taken id, and no cause holds but that something may be too large: how long a tree is isn't known where
 -- it would name what has the null id.
 abbrev pub MayTake : Repository → Command → Type 0
-MayTake old command = ((first_cause old command ≡ None) ⊎ (first_cause old command ≡ Some TooLarge)) × IsTrue (takes_id old command)
+MayTake old command =
+    ((first_cause old command ≡ None) ⊎ (first_cause old command ≡ Some TooLarge))
+    × IsTrue (takes_id old command)
 
 -- an id is taken only where it may be so told
 abbrev pub FaultFits : Repository → Command → Fault → Type 0
@@ -22,7 +24,8 @@ FaultFits old command IdTaken = MayTake old command
 FaultFits old command _ = Unit {0}
 
 -- No cause holds, and the reply and the repository after it are what the command means.
-pub record Accepts (old : Repository) (command : Command) (reply : Reply) (new : Repository) : Type 0 where
+pub record Accepts (old : Repository) (command : Command) (reply : Reply)
+    (new : Repository) : Type 0 where
   pub no_cause : first_cause old command ≡ None
   pub not_taken : IsFalse (takes_id old command)
   pub answer : Answers old command reply
@@ -31,7 +34,9 @@ pub record Accepts (old : Repository) (command : Command) (reply : Reply) (new :
 -- A refusal is for the first cause that holds. A fault in a changing command leaves what a stop in it may leave.
 abbrev pub Step : Repository → Command → Reply → Repository → Type 0
 Step old command (RefusedFor cause) new = (first_cause old command ≡ Some cause) × (new ≡ old)
-Step old command (Faulted fault) new = FaultFits old command fault × MatchBool (is_changing command) (LeftByStop old command new) (new ≡ old)
+Step old command (Faulted fault) new =
+    FaultFits old command fault
+    × MatchBool (is_changing command) (LeftByStop old command new) (new ≡ old)
 Step old command reply new = Accepts old command reply new
 
 -- ---- several steps
@@ -47,14 +52,16 @@ goes_on command reply = not (is_changing command && is_faulted reply)
 -- steps in a row, after each of which but the last the run goes on
 abbrev pub Steps : Repository → List Command → List Reply → Repository → Type 0
 Steps old [] [] new = new ≡ old
-Steps old (command ∷ commands) (reply ∷ replies) new = (mid : Repository) × Step old command reply mid
+Steps old (command ∷ commands) (reply ∷ replies) new =
+    (mid : Repository) × Step old command reply mid
     × (IsTrue (goes_on command reply) ⊎ (commands ≡ [])) × Steps mid commands replies new
 Steps old [] (reply ∷ replies) new = ⊥
 Steps old (command ∷ commands) [] new = ⊥
 
 -- whether a changing command had a fault
 abbrev pub some_failed : List Command → List Reply → Bool
-some_failed (command ∷ commands) (reply ∷ replies) = not (goes_on command reply) || some_failed commands replies
+some_failed (command ∷ commands) (reply ∷ replies) =
+    not (goes_on command reply) || some_failed commands replies
 some_failed _ _ = false
 
 -- ---- what the replies tell
@@ -66,7 +73,10 @@ next old command (Faulted fault) = old
 next old command reply = after old command
 
 -- the rows of the last `ok index`, in the state where it stood
-abbrev pub rows_after : Repository → Option (List Row) → List Command → List Reply → Option (List Row)
-rows_after r rows (command ∷ commands) (Indexed n ∷ replies) = rows_after r (Some (rows_of r)) commands replies
-rows_after r rows (command ∷ commands) (reply ∷ replies) = rows_after (next r command reply) rows commands replies
+abbrev pub rows_after : Repository → Option (List Row) → List Command → List Reply
+    → Option (List Row)
+rows_after r rows (command ∷ commands) (Indexed n ∷ replies) =
+    rows_after r (Some (rows_of r)) commands replies
+rows_after r rows (command ∷ commands) (reply ∷ replies) =
+    rows_after (next r command reply) rows commands replies
 rows_after r rows _ _ = rows

@@ -31,7 +31,8 @@ made old command = if takes_id old command then old else after old command
 
 -- old stays, and nothing comes but what the command stores
 pub record StoresBetween (old : Repository) (command : Command) (x : Repository) : Type 0 where
-  pub keeps : (id : Id) (value : Value) → get old.objects id ≡ Some value → get x.objects id ≡ Some value
+  pub keeps : (id : Id) (value : Value) → get old.objects id ≡ Some value
+      → get x.objects id ≡ Some value
   pub no_more : (id : Id) (value : Value) → get x.objects id ≡ Some value →
       (get old.objects id ≡ Some value) ⊎ Contains (stored_by old command) value
 
@@ -44,7 +45,8 @@ deletes _ name = false
 -- The name is as before the command or as after it. Its moves may stand before it does, or be gone before it is.
 pub record NameBetween (old new x : Repository) (deleted : Bool) (name : Bytes) : Type 0 where
   pub id : (id_at x name ≡ id_at old name) ⊎ (id_at x name ≡ id_at new name)
-  pub moves : (moves_at x name ≡ moves_at old name) ⊎ (moves_at x name ≡ moves_at new name) ⊎ (IsTrue deleted × (moves_at x name ≡ []))
+  pub moves : (moves_at x name ≡ moves_at old name) ⊎ (moves_at x name ≡ moves_at new name)
+      ⊎ (IsTrue deleted × (moves_at x name ≡ []))
   -- where the name has moved, its log says so
   pub log_follows_name : (id_at x name ≡ id_at old name) ⊎ (moves_at x name ≡ moves_at new name)
 
@@ -63,4 +65,7 @@ pub record Between (old : Repository) (command : Command) (x : Repository) : Typ
 -- A whole repository: between the one before the command and the one after it, or the one before it where a cause holds or
 -- the command changes no files.
 abbrev pub LeftByStop : Repository → Command → Repository → Type 0
-LeftByStop old command x = IsWhole x × MatchBool (is_changing command && not (is_some (first_cause old command))) (Between old command x) (x ≡ old)
+LeftByStop old command x =
+    IsWhole x
+    × MatchBool (is_changing command && not (is_some (first_cause old command)))
+    (Between old command x) (x ≡ old)

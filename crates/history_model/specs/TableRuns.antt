@@ -35,12 +35,14 @@ module _ (is_known : Heading → Bool) where
   next_of place heading = next place heading
 
   abbrev pub after_line_of : Place → Heading → Option Progress
-  after_line_of place heading = option_map (λ following. at (sizes heading) following) (next_of place heading)
+  after_line_of place heading =
+      option_map (λ following. at (sizes heading) following) (next_of place heading)
 
   -- one part more: a line that the table has here, or a field of the length that was told
   abbrev pub part_step_of : List ℕ → Place → Part → Option Progress
   part_step_of [] place (Line words) =
-      if is_part (Line words) then option_and_then (after_line_of place) (heading_of words) else None
+      if is_part (Line words) then option_and_then (after_line_of place) (heading_of words)
+      else None
   part_step_of [] place (Field bytes) = None
   part_step_of (size ∷ fields) place (Line words) = None
   part_step_of (size ∷ fields) place (Field bytes) =
@@ -49,7 +51,8 @@ module _ (is_known : Heading → Bool) where
   abbrev pub run_from_of : Progress → List Part → Option Progress
   run_from_of progress [] = Some progress
   run_from_of progress (part ∷ parts) =
-      option_and_then (λ after. run_from_of after parts) (part_step_of progress.fields progress.place part)
+      option_and_then (λ after. run_from_of after parts)
+      (part_step_of progress.fields progress.place part)
 
   -- how far these parts of a command lead, if they may begin one
   abbrev pub reached_of : List Part → Option Progress

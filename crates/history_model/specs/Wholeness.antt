@@ -20,25 +20,35 @@ pub record IsSound (r : Repository) : Type 0 where
 
 -- A step leaves a sound repository sound, whatever the reply is, faults included.
 abbrev pub StepsKeepSound : Type 0
-StepsKeepSound = (old new : Repository) (command : Command) (reply : Reply) → Step old command reply new → IsSound old → IsSound new
+StepsKeepSound =
+    (old new : Repository) (command : Command) (reply : Reply) → Step old command reply new
+    → IsSound old → IsSound new
 
 -- So do steps in a row.
 abbrev pub SequencesKeepSound : Type 0
-SequencesKeepSound = (old new : Repository) (commands : List Command) (replies : List Reply) → Steps old commands replies new → IsSound old → IsSound new
+SequencesKeepSound =
+    (old new : Repository) (commands : List Command) (replies : List Reply)
+    → Steps old commands replies new → IsSound old → IsSound new
 
 -- So does a stop during a command, once recovered.
 abbrev pub StopsKeepSound : Type 0
-StopsKeepSound = (old x : Repository) (command : Command) → LeftByStop old command x → IsSound old → IsSound x
+StopsKeepSound =
+    (old x : Repository) (command : Command) → LeftByStop old command x → IsSound old → IsSound x
 
 -- Where no cause holds and no id is taken, what a command stores stands afterwards, each value under its own id; what stood
 -- stays, and nothing else comes.
 pub record StoresExactly (old : Repository) (command : Command) : Type 0 where
   pub between : StoresBetween old command (after old command)
-  pub stored : (value : Value) → Contains (stored_by old command) value → IsStored (after old command) value
+  pub stored : (value : Value) → Contains (stored_by old command) value
+      → IsStored (after old command) value
 
 abbrev pub AcceptedStoreExactly : Type 0
-AcceptedStoreExactly = (old : Repository) (command : Command) → IsSound old → first_cause old command ≡ None → IsFalse (takes_id old command) → StoresExactly old command
+AcceptedStoreExactly =
+    (old : Repository) (command : Command) → IsSound old → first_cause old command ≡ None
+    → IsFalse (takes_id old command) → StoresExactly old command
 
 -- One pair of file trees stands for one whole repository of a kind: two that it stands for are one.
 abbrev pub PairsAreOfOne : Type 0
-PairsAreOfOne = (kind : Kind) (pair : Pair) (r s : Repository) → StandsWhole kind pair r → StandsWhole kind pair s → r ≡ s
+PairsAreOfOne =
+    (kind : Kind) (pair : Pair) (r s : Repository) → StandsWhole kind pair r
+    → StandsWhole kind pair s → r ≡ s

@@ -29,7 +29,8 @@ pub data WordReading : Type 0 where
 
 -- 4 digits to the kind's length
 abbrev pub is_short_id : Repository → Bytes → Bool
-is_short_id r word = nat_le 4 (length word) && nat_le (length word) (hex_len r.kind) && list_all is_hex_digit word
+is_short_id r word =
+    nat_le 4 (length word) && nat_le (length word) (hex_len r.kind) && list_all is_hex_digit word
 
 -- the stored ids that begin with the word, whatever the case of its letters
 abbrev pub matches : Repository → Bytes → List Id
@@ -41,7 +42,8 @@ only_one (id ∷ []) = ReadsAs id
 only_one (id ∷ other ∷ ids) = Ambiguous
 
 abbrev pub id_reading : Repository → Bytes → WordReading
-id_reading r word = if offers_short_ids && is_short_id r word then only_one (matches r word) else Unknown
+id_reading r word =
+    if offers_short_ids && is_short_id r word then only_one (matches r word) else Unknown
 
 abbrev pub name_reading : Option Id → WordReading
 name_reading None = Unborn
@@ -51,7 +53,9 @@ name_reading (Some id) = ReadsAs id
 abbrev pub word_reading : Repository → Bytes → WordReading
 word_reading r word =
     if bytes_eq word head_word then name_reading (id_at r r.branch)
-    else unwrap_or (option_map (λ name. name_reading (id_at r name)) (find (stands r) (candidates word))) (id_reading r word)
+    else unwrap_or
+    (option_map (λ name. name_reading (id_at r name)) (find (stands r) (candidates word)))
+    (id_reading r word)
 
 abbrev pub commit_read : Repository → WordReading → Option Id
 commit_read r (ReadsAs id) = peeled r id

@@ -11,14 +11,21 @@ ghost use Rattle.gix_hash_id.specs.declared.kind.Kind.TheVariants.{Sha1, Sha256}
 pub fn ids()
     ensures hello { blob_text (codes "hello") ≡ codes "blob 5" ++ 0 ∷ codes "hello" }
     ensures blob { hex (blob_id Sha1 []) ≡ codes "e69de29bb2d1d6434b8b29ae775ad8c2e48c5391" }
-    ensures hello_blob { hex (blob_id Sha1 (codes "hello")) ≡ codes "b6fc4c620b67d95f953a5c1c1230aaab5db5a1b0" }
-    ensures empty_tree { hex (empty_tree_id Sha1) ≡ codes "4b825dc642cb6eb9a060e54bf8d69288fbee4904" }
-    ensures blob_sha256 { hex (blob_id Sha256 []) ≡ codes "473a0f4c3be8a93681a267e3b1e9a7dcda1185436fe141f7749120a303721813" }
-    ensures hello_blob_sha256 { hex (blob_id Sha256 (codes "hello")) ≡ codes "8aec4e4876f854f688d0ebfc8f37598f38e5fd6903cccc850ca36591175aeb60" }
-    ensures empty_tree_sha256 { hex (empty_tree_id Sha256) ≡ codes "6ef19b41225c5369f1c104d45d8d85efa9b057b53b14b4b9b939dd74decc5321" }
+    ensures hello_blob { hex (blob_id Sha1 (codes "hello"))
+        ≡ codes "b6fc4c620b67d95f953a5c1c1230aaab5db5a1b0" }
+    ensures empty_tree { hex (empty_tree_id Sha1)
+        ≡ codes "4b825dc642cb6eb9a060e54bf8d69288fbee4904" }
+    ensures blob_sha256 { hex (blob_id Sha256 [])
+        ≡ codes "473a0f4c3be8a93681a267e3b1e9a7dcda1185436fe141f7749120a303721813" }
+    ensures hello_blob_sha256 { hex (blob_id Sha256 (codes "hello"))
+        ≡ codes "8aec4e4876f854f688d0ebfc8f37598f38e5fd6903cccc850ca36591175aeb60" }
+    ensures empty_tree_sha256 { hex (empty_tree_id Sha256)
+        ≡ codes "6ef19b41225c5369f1c104d45d8d85efa9b057b53b14b4b9b939dd74decc5321" }
     ensures commit_len { length (commit_content Sha1 first_commit) ≡ 99 }
-    ensures commit_id { hex (id_of Sha1 (StoredCommit first_commit)) ≡ codes "d39b036c797dcd9c0210b66a094ee846a3bc4fd9" }
-    ensures tree { hex (digest Sha1 (tree_text (root_within 4 Sha1 three_files))) ≡ codes "b8b673d28f410aa8dd3222ef9fffe69e44e01d26" }
+    ensures commit_id { hex (id_of Sha1 (StoredCommit first_commit))
+        ≡ codes "d39b036c797dcd9c0210b66a094ee846a3bc4fd9" }
+    ensures tree { hex (digest Sha1 (tree_text (root_within 4 Sha1 three_files)))
+        ≡ codes "b8b673d28f410aa8dd3222ef9fffe69e44e01d26" }
 {}
 
 /// A commit without files, its files and itself shown.
@@ -41,7 +48,8 @@ pub fn refusals()
     ensures hello { Refuses (line (codes "hello")) (line (codes "refused Syntax")) }
     ensures longest { Refuses (line (xs 4096)) (line (codes "refused Syntax")) }
     ensures too_long { Refuses (xs 4097) (line (codes "refused LineTooLong")) }
-    ensures cut_short { Refuses (line (codes "commit refs/heads/main new")) (line (codes "refused Truncated")) }
+    ensures cut_short { Refuses (line (codes "commit refs/heads/main new"))
+        (line (codes "refused Truncated")) }
 {}
 
 /// A stream without bytes gives none.

@@ -8,7 +8,14 @@ use Rattle.history_model.specs.Forms.{is_actor, is_offset, max_seconds}
 use Rattle.history_model.specs.Objects.{Actor}
 
 abbrev pub plain_actor : Bytes → Bytes → Time → Actor
-plain_actor name email time = record { name = name; email = email; seconds = unsigned_abs time.seconds; offset = offset_text time.offset }
+plain_actor name email time =
+    record {
+      name =
+          name;
+      email = email;
+      seconds = unsigned_abs time.seconds;
+      offset = offset_text time.offset;
+    }
 
 -- since 1970, and whole minutes below 100 hours ahead or behind
 pub record IsPlainTime (time : Time) : Type 0 where
@@ -44,4 +51,5 @@ pub record IsTimeOf (seconds offset : Bytes) (time : Time) : Type 0 where
 
 -- one of the two words spells nothing
 abbrev pub IsNoTime : Bytes → Bytes → Type 0
-IsNoTime seconds offset = ((n : ℕ) → n ≤ max_seconds → seconds ≢ decimal n) ⊎ IsFalse (is_offset offset)
+IsNoTime seconds offset =
+    ((n : ℕ) → n ≤ max_seconds → seconds ≢ decimal n) ⊎ IsFalse (is_offset offset)

@@ -12,7 +12,8 @@ use Rattle.gix_hash_id.specs.Id.{Id, id_of}
 
 -- the ids that the commit names are of this kind
 abbrev pub has_ids_of : Kind → Commit → Bool
-has_ids_of kind commit = is_id kind (id_of commit.tree) && list_all (is_id kind) (map id_of commit.parents.items)
+has_ids_of kind commit =
+    is_id kind (id_of commit.tree) && list_all (is_id kind) (map id_of commit.parents.items)
 
 -- a commit as the store holds it: of this kind, its actors in their written form, with no encoding and no further headers
 pub record IsPlainCommit (kind : Kind) (commit : Commit) : Type 0 where

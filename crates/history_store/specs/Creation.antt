@@ -23,7 +23,8 @@ pub record IsCleared (old new : Tree) : Type 0 where
 pub record HasHead (old new : Tree) : Type 0 where
   pub head : file_at new head_place ≡ Some (line (codes "ref: refs/heads/main"))
   pub lock : file_at new head_lock ≡ None
-  pub others : (path : Bytes) → path ≢ head_place → path ≢ head_lock → file_at new path ≡ file_at old path
+  pub others : (path : Bytes) → path ≢ head_place → path ≢ head_lock
+      → file_at new path ≡ file_at old path
 
 -- HEAD is as before
 abbrev pub SameHead : Tree → Tree → Type 0
@@ -40,16 +41,19 @@ LeftoverMayGo old tree = KeepsFiles old tree × SameFolders old tree
 -- What stands while HEAD is made: HEAD as before, or made; each other file but `HEAD.lock`, and each folder, as before.
 pub record HeadMayStand (old tree : Tree) : Type 0 where
   pub head : SameHead old tree ⊎ HasHead old tree
-  pub others : (path : Bytes) → path ≢ head_place → path ≢ head_lock → file_at tree path ≡ file_at old path
+  pub others : (path : Bytes) → path ≢ head_place → path ≢ head_lock
+      → file_at tree path ≡ file_at old path
   pub folders : SameFolders old tree
 
 -- The two parts of a new repository: HEAD, which names the branch main, is the one file, and each folder is one of a repository.
 pub record IsNew (objects names : Tree) : Type 0 where
   pub no_object : (path : Bytes) → file_at objects path ≡ None
-  pub object_folders : (path : Bytes) → IsTrue (is_folder (get objects path)) → IsTrue (is_object_folder path)
+  pub object_folders : (path : Bytes) → IsTrue (is_folder (get objects path))
+      → IsTrue (is_object_folder path)
   pub head : file_at names head_place ≡ Some (line (codes "ref: refs/heads/main"))
   pub no_other : (path : Bytes) → path ≢ head_place → file_at names path ≡ None
-  pub name_folders : (path : Bytes) → IsTrue (is_folder (get names path)) → IsTrue (is_name_folder path)
+  pub name_folders : (path : Bytes) → IsTrue (is_folder (get names path))
+      → IsTrue (is_name_folder path)
 
 abbrev pub create_fault : FileError → CreateError
 create_fault files.Failed = errors.File

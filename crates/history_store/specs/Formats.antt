@@ -21,7 +21,13 @@ own_actor actor = plain_actor actor.name actor.email actor.time
 
 -- the actor as a line of an object has it
 abbrev pub person_of : model.Actor → Person
-person_of actor = record { name = actor.name; email = actor.email; time = decimal actor.seconds ++ 32 ∷ actor.offset }
+person_of actor =
+    record {
+      name =
+          actor.name;
+      email = actor.email;
+      time = decimal actor.seconds ++ 32 ∷ actor.offset;
+    }
 
 -- the parts of a commit that tells no encoding and has no further headers, its ids in lower-case hexadecimal
 abbrev pub plain_parts : Id → List Id → model.Actor → model.Actor → Bytes → Parts
@@ -37,8 +43,18 @@ plain_parts tree parents author committer message = record {
 
 -- the parts of a commit, which git-commit-tree writes
 abbrev pub parts_of : Commit → Parts
-parts_of commit = plain_parts (id_of commit.tree) (map id_of commit.parents.items) (own_actor commit.author) (own_actor commit.committer) commit.message
+parts_of commit =
+    plain_parts (id_of commit.tree) (map id_of commit.parents.items) (own_actor commit.author)
+    (own_actor commit.committer) commit.message
 
 -- the move that an entry tells
 abbrev pub entry_of : entries.LogEntry → repository.LogEntry
-entry_of entry = record { before = id_of entry.before; after = id_of entry.after; actor = actor_of entry.actor; message = entry.message.items }
+entry_of entry =
+    record {
+      before =
+          id_of entry.before;
+      after =
+          id_of entry.after;
+      actor = actor_of entry.actor;
+      message = entry.message.items;
+    }

@@ -55,7 +55,9 @@ joined lists = flat_map (λ list. list.items) lists
 
 -- the id comes before the other, where both are of one kind
 abbrev pub ComesBefore : ObjectId → ObjectId → Type 0
-ComesBefore id other = (id_of id).kind ≡ (id_of other).kind → digits_cmp (id_of id).digits (id_of other).digits ≡ Less
+ComesBefore id other =
+    (id_of id).kind ≡ (id_of other).kind
+    → digits_cmp (id_of id).digits (id_of other).digits ≡ Less
 
 -- the ids of one kind ascend
 abbrev pub IsAscending : List ObjectId → Type 0

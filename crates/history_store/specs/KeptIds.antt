@@ -15,11 +15,13 @@ kept ids = set_of (joined ids.lists.items)
 -- the list of this byte stands, and has room for one id more
 pub record HasRoomAt (byte : ℕ) (lists : List (Vec ObjectId Global)) : Type 0 where
   pub stands : byte < length lists
-  pub free : (list : Vec ObjectId Global) → vec_len (slice_index_or lists byte list) < vec_capacity (slice_index_or lists byte list)
+  pub free : (list : Vec ObjectId Global)
+      → vec_len (slice_index_or lists byte list) < vec_capacity (slice_index_or lists byte list)
 
 -- there is room for the id: to keep it takes no memory
 abbrev pub HasRoom : Ids → Id → Type 0
-HasRoom ids id = (byte : ℕ) → take 2 id.digits ≡ digits_of (byte ∷ []) → HasRoomAt byte ids.lists.items
+HasRoom ids id =
+    (byte : ℕ) → take 2 id.digits ≡ digits_of (byte ∷ []) → HasRoomAt byte ids.lists.items
 
 -- the ids that are still to come
 abbrev pub left : IdIter → List ObjectId

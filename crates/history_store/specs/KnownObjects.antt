@@ -17,9 +17,12 @@ object_at tree id = option_and_then object_in (file_at tree (object_place id))
 -- the object under each id that is known
 abbrev pub table_of : {F : Type 0} → (F → History) → Objects F → Table
 table_of history objects id =
-    if contains_key (ids_of_objects objects) id then object_at (history (files_of_objects objects)).tree id else None
+    if contains_key (ids_of_objects objects) id
+    then object_at (history (files_of_objects objects)).tree id else None
 
 -- The files are honest, and an object stands under each id that is known.
-pub record HoldsKnown {F : Type 0} (IsHonest : F → Type 0) (history : F → History) (objects : Objects F) : Type 0 where
+pub record HoldsKnown {F : Type 0} (IsHonest : F → Type 0) (history : F → History)
+    (objects : Objects F) : Type 0 where
   pub honest : IsHonest (files_of_objects objects)
-  pub known : (id : Id) → IsTrue (contains_key (ids_of_objects objects) id) → IsSome (object_at (history (files_of_objects objects)).tree id)
+  pub known : (id : Id) → IsTrue (contains_key (ids_of_objects objects) id)
+      → IsSome (object_at (history (files_of_objects objects)).tree id)

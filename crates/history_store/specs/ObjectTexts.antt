@@ -32,7 +32,8 @@ is_empty_tree kinds.Tag content = false
 -- The null id is no object's, and the empty tree's id is its own alone.
 abbrev pub is_reserved : Id → ObjectKind → Bytes → Bool
 is_reserved id kind content =
-    id_eq id (null_id id.kind) || (id_eq id (empty_tree_id id.kind) && not (is_empty_tree kind content))
+    id_eq id (null_id id.kind)
+    || (id_eq id (empty_tree_id id.kind) && not (is_empty_tree kind content))
 
 -- ---- the object that a text is
 
@@ -44,7 +45,8 @@ behind_zero (b ∷ text) = if b == 0 then text else behind_zero text
 -- the object of this kind that the text is, if it is one
 abbrev pub as_object : ObjectKind → Bytes → Option Object
 as_object kind text =
-    if bytes_eq text (object_text kind (behind_zero text)) then Some (record { kind = kind; content = behind_zero text }) else None
+    if bytes_eq text (object_text kind (behind_zero text))
+    then Some (record { kind = kind; content = behind_zero text }) else None
 
 abbrev pub or_else : Option Object → Option Object → Option Object
 or_else (Some object) other = Some object
@@ -53,4 +55,6 @@ or_else None other = other
 -- the object that the text is, of whichever kind
 abbrev pub object_in : Bytes → Option Object
 object_in text =
-    or_else (as_object kinds.Blob text) (or_else (as_object kinds.Tree text) (or_else (as_object kinds.Commit text) (as_object kinds.Tag text)))
+    or_else (as_object kinds.Blob text)
+    (or_else (as_object kinds.Tree text)
+    (or_else (as_object kinds.Commit text) (as_object kinds.Tag text)))

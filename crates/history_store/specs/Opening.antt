@@ -24,8 +24,10 @@ stray_error (strays.File path) = NotYet path
 
 -- what is wrong with a part that may hold this file and no other
 abbrev pub IsWrongPart : Type 0 → Part → Bytes → Tree → OpenError → Type 0
-IsWrongPart MayFail part permitted tree (Stray path) = IsStray part permitted tree (strays.Folder path)
-IsWrongPart MayFail part permitted tree (NotYet path) = IsStray part permitted tree (strays.File path)
+IsWrongPart MayFail part permitted tree (Stray path) =
+    IsStray part permitted tree (strays.Folder path)
+IsWrongPart MayFail part permitted tree (NotYet path) =
+    IsStray part permitted tree (strays.File path)
 IsWrongPart MayFail part permitted tree File = MayFail
 IsWrongPart MayFail part permitted tree Memory = ⊤
 IsWrongPart MayFail part permitted tree NoHead = ⊥
@@ -38,12 +40,19 @@ HeadIs names branch = file_at names head_place ≡ Some (head_text branch)
 -- what is wrong with HEAD: it doesn't stand, it names no branch, or one that isn't a new repository's
 abbrev pub IsWrongHead : Type 0 → Tree → OpenError → Type 0
 IsWrongHead MayFail names NoHead = file_at names head_place ≡ None
-IsWrongHead MayFail names BadHead = (text : Bytes) × (file_at names head_place ≡ Some text) × ((rest : Bytes) → rest ≢ [] → text ≢ head_text (codes "refs/heads/" ++ rest))
-IsWrongHead MayFail names (NotYet path) = (path.items ≡ head_place) × ((rest : Bytes) × (rest ≢ []) × (rest ≢ codes "main") × HeadIs names (codes "refs/heads/" ++ rest))
+IsWrongHead MayFail names BadHead =
+    (text : Bytes) × (file_at names head_place ≡ Some text)
+    × ((rest : Bytes) → rest ≢ [] → text ≢ head_text (codes "refs/heads/" ++ rest))
+IsWrongHead MayFail names (NotYet path) =
+    (path.items ≡ head_place)
+    × ((rest : Bytes) × (rest ≢ []) × (rest ≢ codes "main")
+    × HeadIs names (codes "refs/heads/" ++ rest))
 IsWrongHead MayFail names File = MayFail
 IsWrongHead MayFail names Memory = ⊤
 IsWrongHead MayFail names (Stray path) = ⊥
 
 -- the two parts aren't those of a new repository, for this cause
 abbrev pub IsNotNew : Type 0 → Tree → Tree → OpenError → Type 0
-IsNotNew MayFail objects names error = IsWrongPart MayFail Objects [] objects error ⊎ IsWrongPart MayFail Names head_place names error ⊎ IsWrongHead MayFail names error
+IsNotNew MayFail objects names error =
+    IsWrongPart MayFail Objects [] objects error
+    ⊎ IsWrongPart MayFail Names head_place names error ⊎ IsWrongHead MayFail names error

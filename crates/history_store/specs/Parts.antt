@@ -27,8 +27,10 @@ IsClear part permitted tree = (path : Bytes) → IsClearAt part permitted path (
 
 -- a file that isn't the permitted one stands, or a folder that the part may not hold
 abbrev pub IsStray : Part → Bytes → Tree → Stray → Type 0
-IsStray part permitted tree (strays.File path) = IsTrue (is_file_at tree path.items) × (path.items ≢ permitted)
-IsStray part permitted tree (strays.Folder path) = IsTrue (is_folder (get tree path.items)) × IsFalse (may_hold_folder part path.items)
+IsStray part permitted tree (strays.File path) =
+    IsTrue (is_file_at tree path.items) × (path.items ≢ permitted)
+IsStray part permitted tree (strays.Folder path) =
+    IsTrue (is_folder (get tree path.items)) × IsFalse (may_hold_folder part path.items)
 
 -- what stands at a path is neither
 abbrev pub IsStrayAt : Part → Bytes → Bytes → Tree → Type 0
@@ -48,4 +50,6 @@ above (suc n) path = parent (above n path)
 
 -- `IsClear` for all that stands below a folder
 abbrev pub IsClearBelow : Part → Bytes → Bytes → Tree → Type 0
-IsClearBelow part permitted place tree = (n : ℕ) (path : Bytes) → above (suc n) path ≡ place → IsClearAt part permitted path (get tree path)
+IsClearBelow part permitted place tree =
+    (n : ℕ) (path : Bytes) → above (suc n) path ≡ place
+    → IsClearAt part permitted path (get tree path)

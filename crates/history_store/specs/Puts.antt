@@ -23,7 +23,8 @@ abbrev pub IsStoredAs : Table → Naming → Type 0
 IsStoredAs table naming = kind_at table naming.0 ≡ Some naming.1
 
 -- the content is within the limit and in written form, and each object that it names is stored in the right kind
-pub record Fits (digests : Kind) (table : Table) (kind : ObjectKind) (content : Bytes) : Type 0 where
+pub record Fits (digests : Kind) (table : Table) (kind : ObjectKind)
+    (content : Bytes) : Type 0 where
   pub within : length content ≤ max_content
   pub named : List Naming
   pub names : NamesObjects digests kind content named
@@ -48,7 +49,8 @@ IsGap table named File = ⊤
 IsGap table named Memory = ⊤
 
 -- the content is within the limit and in written form, and this is the first object that it names and that is missing
-pub record NamesMissing (digests : Kind) (table : Table) (kind : ObjectKind) (content : Bytes) (id : Id) : Type 0 where
+pub record NamesMissing (digests : Kind) (table : Table) (kind : ObjectKind) (content : Bytes)
+    (id : Id) : Type 0 where
   pub within : length content ≤ max_content
   pub named : List Naming
   pub names : NamesObjects digests kind content named
@@ -57,10 +59,13 @@ pub record NamesMissing (digests : Kind) (table : Table) (kind : ObjectKind) (co
 -- Why the content isn't put: the first cause that holds, in this order, or a fault.
 abbrev pub IsRefusal : Kind → Table → Tree → ObjectKind → Bytes → PutError → Type 0
 IsRefusal digests table tree kind content TooLarge = max_content < length content
-IsRefusal digests table tree kind content Malformed = (length content ≤ max_content) × IsMalformed digests kind content
-IsRefusal digests table tree kind content (Missing id) = NamesMissing digests table kind content (id_of id)
+IsRefusal digests table tree kind content Malformed =
+    (length content ≤ max_content) × IsMalformed digests kind content
+IsRefusal digests table tree kind content (Missing id) =
+    NamesMissing digests table kind content (id_of id)
 IsRefusal digests table tree kind content (IdTaken id) =
-    Fits digests table kind content × (id_of id ≡ object_id digests kind content) × IsIdTaken (id_of id) kind content tree
+    Fits digests table kind content × (id_of id ≡ object_id digests kind content)
+    × IsIdTaken (id_of id) kind content tree
 IsRefusal digests table tree kind content File = ⊤
 IsRefusal digests table tree kind content Memory = ⊤
 

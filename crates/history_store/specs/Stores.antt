@@ -36,19 +36,25 @@ NoFileAbove path tree = (place : Bytes) → IsAbove place path → file_at tree 
 
 -- each place that the path stands below is a folder
 abbrev pub HasFoldersAbove : Bytes → Tree → Type 0
-HasFoldersAbove path tree = (place : Bytes) → IsAbove place path → IsTrue (is_folder (node_at tree place))
+HasFoldersAbove path tree =
+    (place : Bytes) → IsAbove place path → IsTrue (is_folder (node_at tree place))
 
 -- each folder that stood stands
 abbrev pub KeepsFolders : Tree → Tree → Type 0
-KeepsFolders old new = (place : Bytes) → IsTrue (is_folder (node_at old place)) → IsTrue (is_folder (node_at new place))
+KeepsFolders old new =
+    (place : Bytes) → IsTrue (is_folder (node_at old place))
+    → IsTrue (is_folder (node_at new place))
 
 -- each folder that stands stood before, or is this one
 abbrev pub OneFolderMore : Bytes → Tree → Tree → Type 0
-OneFolderMore made old new = (place : Bytes) → get new place ≡ Some folder → (get old place ≡ Some folder) ⊎ (place ≡ made)
+OneFolderMore made old new =
+    (place : Bytes) → get new place ≡ Some folder → (get old place ≡ Some folder) ⊎ (place ≡ made)
 
 -- each folder that stands stood before, or is one that the path stands in
 abbrev pub FoldersAbove : Bytes → Tree → Tree → Type 0
-FoldersAbove path old new = (place : Bytes) → get new place ≡ Some folder → (get old place ≡ Some folder) ⊎ IsAbove place path
+FoldersAbove path old new =
+    (place : Bytes) → get new place ≡ Some folder
+    → (get old place ≡ Some folder) ⊎ IsAbove place path
 
 -- These bytes stand at the path, and each other file as before.
 pub record PutsFile (path bytes : Bytes) (old new : Tree) : Type 0 where
@@ -58,7 +64,8 @@ pub record PutsFile (path bytes : Bytes) (old new : Tree) : Type 0 where
 -- The text stands at the place, and each other file as before, but for `objects/unfinished`.
 pub record HoldsFile (place text : Bytes) (old new : Tree) : Type 0 where
   pub here : file_at new place ≡ Some text
-  pub others : (path : Bytes) → path ≢ unfinished_place → path ≢ place → file_at new path ≡ file_at old path
+  pub others : (path : Bytes) → path ≢ unfinished_place → path ≢ place
+      → file_at new path ≡ file_at old path
 
 -- what stands while a text is put in its place: all as before, or the text whole
 abbrev pub MayStand : Bytes → Bytes → Tree → Tree → Type 0
@@ -79,7 +86,8 @@ IsObjectPlace path = (kind : Kind) × (id : Id) × IsTrue (is_id kind id) × (pa
 
 -- Each file stands at an object's place or is the unfinished one, and each folder is one of objects.
 pub record IsObjectPart (tree : Tree) : Type 0 where
-  pub files : (path text : Bytes) → file_at tree path ≡ Some text → IsObjectPlace path ⊎ (path ≡ unfinished_place)
+  pub files : (path text : Bytes) → file_at tree path ≡ Some text
+      → IsObjectPlace path ⊎ (path ≡ unfinished_place)
   pub folders : (path : Bytes) → get tree path ≡ Some folder → IsTrue (is_object_folder path)
 
 -- no text of an object stands at the place
@@ -122,7 +130,8 @@ AreObjectsOf digests values objects = AllZip (IsObjectOf digests) values objects
 abbrev pub IsIdTaken : Id → ObjectKind → Bytes → Tree → Type 0
 IsIdTaken id kind content tree =
     (is_reserved id kind content ≡ true)
-    ⊎ ((other : Bytes) × (file_at tree (object_place id) ≡ Some other) × (other ≢ object_text kind content))
+    ⊎ ((other : Bytes) × (file_at tree (object_place id) ≡ Some other)
+    × (other ≢ object_text kind content))
 
 abbrev pub IsTaken : NewObject → Tree → Type 0
 IsTaken object tree = IsIdTaken (id_of object.id) object.kind object.content.items tree

@@ -48,7 +48,8 @@ pub record AreWritten (digests : Kind) (content : Bytes) (items : List Item) : T
   pub entries : All (IsWrittenEntry digests) items
 
 abbrev pub IsWrittenTree : Kind → Bytes → List Item → Type 0
-IsWrittenTree digests content items = SpellsTree digests content items × AreWritten digests content items
+IsWrittenTree digests content items =
+    SpellsTree digests content items × AreWritten digests content items
 
 -- the kind of the object that an entry names
 abbrev pub entry_kind : Item → ObjectKind
@@ -64,13 +65,15 @@ abbrev pub commit_parts : Id → CommitValue → Parts
 commit_parts tree value = plain_parts tree value.parents value.author value.committer value.message
 
 -- The parts are those of a commit in written form. (Which files the value has, the tree's id tells.)
-pub record AreCommitParts (digests : Kind) (parts : Parts) (tree : Id) (value : CommitValue) : Type 0 where
+pub record AreCommitParts (digests : Kind) (parts : Parts) (tree : Id)
+    (value : CommitValue) : Type 0 where
   pub tree_is : IsTrue (is_id digests tree)
   pub form : IsTrue (is_commit_form digests value)
   pub told : parts ≡ commit_parts tree value
 
 abbrev pub named_by_commit : Id → CommitValue → List Naming
-named_by_commit tree value = (tree, kinds.Tree) ∷ map (λ parent. (parent, kinds.Commit)) value.parents
+named_by_commit tree value =
+    (tree, kinds.Tree) ∷ map (λ parent. (parent, kinds.Commit)) value.parents
 
 -- the parts are those of such a commit, and name these objects
 pub record NamesByParts (digests : Kind) (parts : Parts) (named : List Naming) : Type 0 where
@@ -108,7 +111,8 @@ NamesObjects digests kinds.Tag content named = NamesByTag digests content named
 
 -- the content is none of this kind in written form
 abbrev pub IsMalformed : Kind → ObjectKind → Bytes → Type 0
-IsMalformed digests kind content = (named : List Naming) → NamesObjects digests kind content named → ⊥
+IsMalformed digests kind content =
+    (named : List Naming) → NamesObjects digests kind content named → ⊥
 
 -- ---- readings of a tag
 
@@ -121,7 +125,8 @@ pub record TagParts : Type 0 where
 
 abbrev pub tag_lines : TagParts → Bytes
 tag_lines parts =
-    codes "object " ++ (parts.target ++ 10 ∷ (codes "type commit\n" ++ (codes "tag " ++ (parts.name ++ 10 ∷
+    codes "object "
+    ++ (parts.target ++ 10 ∷ (codes "type commit\n" ++ (codes "tag " ++ (parts.name ++ 10 ∷
     (codes "tagger " ++ (parts.tagger ++ 10 ∷ (10 ∷ parts.message)))))))
 
 -- no line feed stands in a line
@@ -131,7 +136,15 @@ pub record AreLines (parts : TagParts) : Type 0 where
   pub tagger : Lacks 10 parts.tagger
 
 abbrev pub parts_of_tag : TagTexts → TagParts
-parts_of_tag texts = record { target = texts.target.now; name = texts.name.now; tagger = texts.tagger.now; message = texts.message.now }
+parts_of_tag texts =
+    record {
+      target =
+          texts.target.now;
+      name =
+          texts.name.now;
+      tagger = texts.tagger.now;
+      message = texts.message.now;
+    }
 
 -- name, tagger and message are a tag's in written form
 pub record AreTagParts (parts : TagParts) : Type 0 where

@@ -65,7 +65,8 @@ fn survey_folder<F: Files>(
     folder: &[u8],
 ) -> Result<Option<Stray>, FileError>
     ensures found { Finds F.is_honest F.history files.now (λ tree. IfOk result (λ found.
-        MatchOption found (IsClearBelow part permitted.now folder.now tree) (IsStray part permitted.now tree))) }
+        MatchOption found (IsClearBelow part permitted.now folder.now tree)
+        (IsStray part permitted.now tree))) }
     ensures failed { IsErrOf result Failed → F.reading_may_fail }
 {
     for name in &files.list(alloc, folder)? {

@@ -25,7 +25,8 @@ IsExpect (At word) (model.At bytes) = word.items ≡ bytes
 IsExpect _ _ = ⊥
 
 abbrev pub IsEdit : Edit → model.EditLine → Type 0
-IsEdit (Put put) (model.PutLine kind path content) = (put.kind ≡ kind) × Keeps max_path put.path path × Keeps max_content put.content content
+IsEdit (Put put) (model.PutLine kind path content) =
+    (put.kind ≡ kind) × Keeps max_path put.path path × Keeps max_content put.content content
 IsEdit (Remove path) (model.RemoveLine bytes) = Keeps max_path path bytes
 IsEdit (RemoveFile path) (model.RemoveFileLine bytes) = Keeps max_path path bytes
 IsEdit _ _ = ⊥
@@ -57,7 +58,8 @@ IsPath _ _ = ⊥
 abbrev pub StandsFor : Command → model.Command → Type 0
 StandsFor (command.Commit commit) (model.Commit order) = IsCommit commit order
 StandsFor (command.Files word) (model.Files bytes) = word.items ≡ bytes
-StandsFor (command.Show show) (model.Show word path) = (show.word.items ≡ word) × IsPath show.path path
+StandsFor (command.Show show) (model.Show word path) =
+    (show.word.items ≡ word) × IsPath show.path path
 StandsFor _ _ = ⊥
 
 -- a command was read, or read past for want of memory

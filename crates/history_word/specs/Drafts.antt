@@ -39,22 +39,27 @@ place_of place.Done = table.Done
 
 -- the line of an edit is this one
 abbrev pub IsEditHeading : EditHeading → lines.Heading → Type 0
-IsEditHeading (edit.Put kind path content) (lines.PutHeading k m n) = (kind ≡ k) × (path ≡ m) × (content ≡ n)
+IsEditHeading (edit.Put kind path content) (lines.PutHeading k m n) =
+    (kind ≡ k) × (path ≡ m) × (content ≡ n)
 IsEditHeading (edit.Remove path) (lines.RemoveHeading n) = path ≡ n
 IsEditHeading (edit.RemoveFile path) (lines.RemoveFileHeading n) = path ≡ n
 IsEditHeading _ _ = ⊥
 
 -- The line is this one. A word that found no memory may be any.
 abbrev pub IsHeading : Heading → lines.Heading → Type 0
-IsHeading (heading.Commit name expect) (lines.CommitHeading n e) = IfSome name (λ word. word.items ≡ n) × IfSome expect (λ x. IsExpect x e)
+IsHeading (heading.Commit name expect) (lines.CommitHeading n e) =
+    IfSome name (λ word. word.items ≡ n) × IfSome expect (λ x. IsExpect x e)
 IsHeading (heading.Parent word) (lines.ParentHeading w) = IfSome word (λ x. x.items ≡ w)
 IsHeading (heading.Edit line) h = IsEditHeading line h
-IsHeading (heading.Actor role name email seconds offset) (lines.ActorHeading r m n s o) = (role_of role ≡ r) × (name ≡ m) × (email ≡ n) × IfSome seconds (λ word. word.items ≡ s) × IfSome offset (λ word. word.items ≡ o)
+IsHeading (heading.Actor role name email seconds offset) (lines.ActorHeading r m n s o) =
+    (role_of role ≡ r) × (name ≡ m) × (email ≡ n) × IfSome seconds (λ word. word.items ≡ s)
+    × IfSome offset (λ word. word.items ≡ o)
 IsHeading (heading.Message size) (lines.MessageHeading n) = size ≡ n
 IsHeading heading.End lines.EndHeading = ⊤
 IsHeading (heading.Files word) (lines.FilesHeading w) = IfSome word (λ x. x.items ≡ w)
 IsHeading (heading.Show word) (lines.ShowHeading w None) = IfSome word (λ x. x.items ≡ w)
-IsHeading (heading.ShowPath word path) (lines.ShowHeading w (Some n)) = IfSome word (λ x. x.items ≡ w) × (path ≡ n)
+IsHeading (heading.ShowPath word path) (lines.ShowHeading w (Some n)) =
+    IfSome word (λ x. x.items ≡ w) × (path ≡ n)
 IsHeading _ _ = ⊥
 
 -- What is read is what the words say; none is read where they say no line that may stand at a place of an offered command.
@@ -82,7 +87,8 @@ pub record IsCommitDraft (draft : CommitDraft) (order : model.CommitCommand) : T
 abbrev pub IsDraft : Draft → model.Command → Type 0
 IsDraft (draft.Commit commit) (model.Commit order) = IsCommitDraft commit order
 IsDraft (draft.Files word) (model.Files bytes) = IfSome word (λ x. x.items ≡ bytes)
-IsDraft (draft.Show show) (model.Show word path) = IfSome show (λ x. (x.word.items ≡ word) × IsPath x.path path)
+IsDraft (draft.Show show) (model.Show word path) =
+    IfSome show (λ x. (x.word.items ≡ word) × IsPath x.path path)
 IsDraft _ _ = ⊥
 
 abbrev pub with_actor : Role → model.CommitCommand → model.ActorLine → model.CommitCommand
@@ -101,7 +107,9 @@ with_message order message = record order { message = message }
 -- ---- as far as a commit has come
 
 abbrev pub to_parents : model.CommitCommand → List spelling.Part
-to_parents c = spelling.Line (codes "commit" ∷ c.name ∷ spelling.expect_words c.expect) ∷ map spelling.parent_part c.parents
+to_parents c =
+    spelling.Line (codes "commit" ∷ c.name ∷ spelling.expect_words c.expect)
+    ∷ map spelling.parent_part c.parents
 
 abbrev pub to_edits : model.CommitCommand → List spelling.Part
 to_edits c = to_parents c ++ flat_map spelling.edit_parts c.edits
@@ -128,9 +136,14 @@ parts_before place.Done c = spelling.parts_of (model.Commit c)
 -- at this place these parts have come, and the draft has them
 abbrev pub HasCome : Place → Draft → List spelling.Part → Type 0
 HasCome place.Start d parts = parts ≡ []
-HasCome place.Done d parts = (order : model.Command) × (parts ≡ spelling.parts_of order) × IsDraft d order
-HasCome place.Parents d parts = (order : model.CommitCommand) × (parts ≡ to_parents order) × IsDraft d (model.Commit order) × (order.edits ≡ [])
-HasCome p d parts = (order : model.CommitCommand) × (parts ≡ parts_before p order) × IsDraft d (model.Commit order)
+HasCome place.Done d parts =
+    (order : model.Command) × (parts ≡ spelling.parts_of order) × IsDraft d order
+HasCome place.Parents d parts =
+    (order : model.CommitCommand) × (parts ≡ to_parents order) × IsDraft d (model.Commit order)
+    × (order.edits ≡ [])
+HasCome p d parts =
+    (order : model.CommitCommand) × (parts ≡ parts_before p order)
+    × IsDraft d (model.Commit order)
 
 -- ---- what the readers of a line and of a line with its fields give
 
@@ -158,7 +171,8 @@ edit_sizes (edit.RemoveFile path) = path ∷ []
 
 -- the line of an edit, and the fields that follow it
 abbrev pub edit_heading : model.EditLine → lines.Heading
-edit_heading (model.PutLine kind path content) = lines.PutHeading kind (length path) (length content)
+edit_heading (model.PutLine kind path content) =
+    lines.PutHeading kind (length path) (length content)
 edit_heading (model.RemoveLine path) = lines.RemoveHeading (length path)
 edit_heading (model.RemoveFileLine path) = lines.RemoveFileHeading (length path)
 
@@ -175,9 +189,12 @@ pub record TakesEdit (heading : EditHeading) (edit : Option Edit) (taken : Bytes
   pub is : IfSome edit (λ x. IsEdit x line_is)
 
 -- parts were taken into the draft, and lead from the one place to the other
-pub record TakesParts (place : Place) (old : Draft) (next : Place) (new : Draft) (taken : Bytes) : Type 0 where
+pub record TakesParts (place : Place) (old : Draft) (next : Place) (new : Draft)
+    (taken : Bytes) : Type 0 where
   pub parts : List spelling.Part
   pub spelled : taken ≡ spelling.parts_text parts
   pub some : 0 < length taken
-  pub leads : runs.run_from (record { fields = []; place = place_of place }) parts ≡ Some (record { fields = []; place = place_of next })
-  pub come : (before : List spelling.Part) → HasCome place old before → HasCome next new (before ++ parts)
+  pub leads : runs.run_from (record { fields = []; place = place_of place }) parts
+      ≡ Some (record { fields = []; place = place_of next })
+  pub come : (before : List spelling.Part) → HasCome place old before
+      → HasCome next new (before ++ parts)

@@ -22,7 +22,8 @@ IsNoField size bytes Syntax = (size < length bytes) × (slice_index bytes size �
 IsNoField size bytes _ = ⊥
 
 -- some parts go on from here, and then none does
-pub record StopsFrom (fields : List ℕ) (place : Place) (bytes : Bytes) (cause : Cause) : Type 0 where
+pub record StopsFrom (fields : List ℕ) (place : Place) (bytes : Bytes)
+    (cause : Cause) : Type 0 where
   pub parts : List Part
   pub tail : Bytes
   pub then : Progress

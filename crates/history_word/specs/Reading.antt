@@ -10,11 +10,19 @@ use Rattle.history_word.specs.Taking.{Took, Came, IsLast}
 
 -- All that has come is bad for this cause, and is all there is where it is cut short. Or the source has failed, and what
 -- has come is cut short; or the last reading was made.
-abbrev pub Stops : {S : Type 0} → (S → Option (List ℕ)) → (S → Bool) → (S → ℕ) → S → Buffer → S → Buffer → (List ℕ → Cause → Type 0) → Stop → Type 0
-Stops left has_failed readings s b t c Bad (stop.Refused cause) = (bytes : List ℕ) × Came left readings s b t c bytes × Bad bytes cause × (cause ≡ Truncated → IsAtEnd (left t))
-Stops left has_failed readings s b t c Bad stop.Broken = (bytes : List ℕ) × Came left readings s b t c bytes × (((has_failed t ≡ true) × Bad bytes Truncated) ⊎ IsLast c)
+abbrev pub Stops : {S : Type 0} → (S → Option (List ℕ)) → (S → Bool) → (S → ℕ) → S → Buffer → S
+    → Buffer → (List ℕ → Cause → Type 0) → Stop → Type 0
+Stops left has_failed readings s b t c Bad (stop.Refused cause) =
+    (bytes : List ℕ) × Came left readings s b t c bytes × Bad bytes cause
+    × (cause ≡ Truncated → IsAtEnd (left t))
+Stops left has_failed readings s b t c Bad stop.Broken =
+    (bytes : List ℕ) × Came left readings s b t c bytes
+    × (((has_failed t ≡ true) × Bad bytes Truncated) ⊎ IsLast c)
 
 -- A reader took just the bytes of its value, or says why not.
-abbrev pub Reads : {S V : Type 0} → (S → Option (List ℕ)) → (S → Bool) → (S → ℕ) → S → Buffer → S → Buffer → (V → List ℕ → Type 0) → (List ℕ → Cause → Type 0) → Result V Stop → Type 0
-Reads left has_failed readings s b t c Spells Bad (Ok value) = (taken : List ℕ) × Took left readings s b t c taken × Spells value taken
-Reads left has_failed readings s b t c Spells Bad (Err stop) = Stops left has_failed readings s b t c Bad stop
+abbrev pub Reads : {S V : Type 0} → (S → Option (List ℕ)) → (S → Bool) → (S → ℕ) → S → Buffer → S
+    → Buffer → (V → List ℕ → Type 0) → (List ℕ → Cause → Type 0) → Result V Stop → Type 0
+Reads left has_failed readings s b t c Spells Bad (Ok value) =
+    (taken : List ℕ) × Took left readings s b t c taken × Spells value taken
+Reads left has_failed readings s b t c Spells Bad (Err stop) =
+    Stops left has_failed readings s b t c Bad stop

@@ -6,10 +6,13 @@ use Rattle.history_word.specs.Buffer.{unread, readings_made, work}
 
 -- each of the readings that were made between two buffers gave a byte of these, but for the last that a `u64` counts
 abbrev pub Gave : Buffer → Buffer → ℕ → List ℕ → Type 0
-Gave b c made more = (made ≤ length more) ⊎ ((readings_made b < 2 ^ 64 - 1) × (2 ^ 64 - 1 ≤ readings_made c) × (made ≤ length more + 1))
+Gave b c made more =
+    (made ≤ length more)
+    ⊎ ((readings_made b < 2 ^ 64 - 1) × (2 ^ 64 - 1 ≤ readings_made c) × (made ≤ length more + 1))
 
 -- From source s and buffer b to source t and buffer c, exactly these bytes were taken.
-pub record Took {S : Type 0} (left : S → Option (List ℕ)) (readings : S → ℕ) (s : S) (b : Buffer) (t : S) (c : Buffer) (taken : List ℕ) : Type 0 where
+pub record Took {S : Type 0} (left : S → Option (List ℕ)) (readings : S → ℕ) (s : S) (b : Buffer)
+    (t : S) (c : Buffer) (taken : List ℕ) : Type 0 where
   -- what the source gave meanwhile
   pub more : List ℕ
   pub came : Consumes (left s) (left t) more
@@ -22,7 +25,8 @@ pub record Took {S : Type 0} (left : S → Option (List ℕ)) (readings : S → 
   pub gave : Gave b c made more
 
 -- From source s and buffer b to source t and buffer c, these bytes came, and no more.
-pub record Came {S : Type 0} (left : S → Option (List ℕ)) (readings : S → ℕ) (s : S) (b : Buffer) (t : S) (c : Buffer) (bytes : List ℕ) : Type 0 where
+pub record Came {S : Type 0} (left : S → Option (List ℕ)) (readings : S → ℕ) (s : S) (b : Buffer)
+    (t : S) (c : Buffer) (bytes : List ℕ) : Type 0 where
   pub more : List ℕ
   pub came : Consumes (left s) (left t) more
   pub same : unread b ++ more ≡ bytes

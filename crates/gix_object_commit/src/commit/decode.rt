@@ -38,7 +38,8 @@ impl<'a> CommitRef<'a> {
         input: &'a [u8],
         hash_kind: Kind,
     ) -> Result<CommitRef<'a>, Error>
-        ensures read { IfOk result (λ commit. SpellsCommit (hex_len hash_kind) input.now (parts_of commit)) }
+        ensures read { IfOk result
+            (λ commit. SpellsCommit (hex_len hash_kind) input.now (parts_of commit)) }
         ensures every { (parts : Parts) → SpellsCommit (hex_len hash_kind) input.now parts
             → MatchResult result (λ commit. parts_of commit ≡ parts) (λ fault. fault ≡ Memory) }
         ensures refused { IfErr result (λ error. CommitFault (hex_len hash_kind) input.now error) }
@@ -68,12 +69,21 @@ fn read_parents<'a>(
     input: &'a [u8],
     digits: usize,
 ) -> Result<(SmallVec<BStr<'a>, 1>, &'a [u8]), Error>
-    ensures read { IfOk result (λ parents. (input.now ≡ flat_map (hex_line (codes "parent")) (map bstr_bytes parents.0.items) ++ parents.1.now)
-        × All (IsHex digits) (map bstr_bytes parents.0.items) × ¬ BeginsWith (codes "parent ") parents.1.now) }
-    ensures every { (parents : List (List ℕ)) (rest : List ℕ) → All (IsHex digits) parents → ¬ BeginsWith (codes "parent ") rest
+    ensures read { IfOk result
+        (λ parents.
+        (input.now
+        ≡ flat_map (hex_line (codes "parent")) (map bstr_bytes parents.0.items) ++ parents.1.now)
+        × All (IsHex digits) (map bstr_bytes parents.0.items)
+        × ¬ BeginsWith (codes "parent ") parents.1.now) }
+    ensures every { (parents : List (List ℕ)) (rest : List ℕ) → All (IsHex digits) parents
+        → ¬ BeginsWith (codes "parent ") rest
         → input.now ≡ flat_map (hex_line (codes "parent")) parents ++ rest
-        → MatchResult result (λ read. (map bstr_bytes read.0.items ≡ parents) × (read.1.now ≡ rest)) (λ fault. fault ≡ Memory) }
-    ensures refused { IfErr result (λ error. ParentFault digits input.now error ⊎ ((error ≡ Memory) × HasTwoParents digits input.now)) }
+        → MatchResult result
+        (λ read. (map bstr_bytes read.0.items ≡ parents) × (read.1.now ≡ rest))
+        (λ fault. fault ≡ Memory) }
+    ensures refused { IfErr result
+        (λ error. ParentFault digits input.now error
+        ⊎ ((error ≡ Memory) × HasTwoParents digits input.now)) }
 {
     let mut parents = SmallVec::new(alloc);
     let mut rest = input;
@@ -89,11 +99,16 @@ fn read_parents<'a>(
 
 // All headers up to the empty line, and what follows that: the message.
 fn read_headers<'a>(alloc: Global, input: &'a [u8]) -> Result<(Vec<HeaderRef<'a>>, &'a [u8]), Error>
-    ensures read { IfOk result (λ read. (input.now ≡ flat_map field_text (map field_of read.0.items) ++ 10 ∷ read.1.now)
+    ensures read { IfOk result
+        (λ read. (input.now ≡ flat_map field_text (map field_of read.0.items) ++ 10 ∷ read.1.now)
         × All IsField (map field_of read.0.items)) }
-    ensures every { (fields : List Field) (message : List ℕ) → All IsField fields → input.now ≡ flat_map field_text fields ++ 10 ∷ message
-        → MatchResult result (λ read. (map field_of read.0.items ≡ fields) × (read.1.now ≡ message)) (λ fault. fault ≡ Memory) }
-    ensures refused { IfErr result (λ error. HeadersFault input.now error ⊎ ((error ≡ Memory) × HasHeader input.now)) }
+    ensures every { (fields : List Field) (message : List ℕ) → All IsField fields
+        → input.now ≡ flat_map field_text fields ++ 10 ∷ message
+        → MatchResult result
+        (λ read. (map field_of read.0.items ≡ fields) × (read.1.now ≡ message))
+        (λ fault. fault ≡ Memory) }
+    ensures refused { IfErr result
+        (λ error. HeadersFault input.now error ⊎ ((error ≡ Memory) × HasHeader input.now)) }
 {
     let mut headers = Vec::new(alloc);
     let mut rest = input;

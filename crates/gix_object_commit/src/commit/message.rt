@@ -31,8 +31,11 @@ impl<'a> CommitRef<'a> {
     /// The message's title in one line, as `MessageRef::summary` gives it: a title of one line is borrowed, and else the
     /// bytes take memory, and it is an error where none is left.
     pub fn message_summary(&self) -> Result<CowSlice<'a, u8>, AllocError>
-        ensures line { IfOk result (λ summary. cow_slice_items summary ≡ summary_of (title_of (bstr_bytes self.now.message))) }
-        ensures borrowed { Lacks 10 (trim (title_of (bstr_bytes self.now.message))) → IsOkAnd result IsBorrowed }
+        ensures line { IfOk result
+            (λ summary. cow_slice_items summary
+            ≡ summary_of (title_of (bstr_bytes self.now.message))) }
+        ensures borrowed { Lacks 10 (trim (title_of (bstr_bytes self.now.message)))
+            → IsOkAnd result IsBorrowed }
     {
         let alloc = *self.extra_headers.allocator();
         self.message().summary(alloc)
@@ -48,35 +51,45 @@ impl<'a> CommitRef<'a> {
 
     /// The trailers whose token is `Signed-off-by`, letter case aside.
     pub fn signed_off_by_trailers(&self) -> SelectedTrailers<'a>
-        ensures { selected_left result ≡ filter (λ trailer. is_signed_off_by trailer.token) (trailers_of (bstr_bytes self.now.message)) }
+        ensures { selected_left result
+            ≡ filter (λ trailer. is_signed_off_by trailer.token)
+            (trailers_of (bstr_bytes self.now.message)) }
     {
         self.message_trailers().signed_off_by()
     }
 
     /// The trailers whose token is `Co-authored-by`, letter case aside.
     pub fn co_authored_by_trailers(&self) -> SelectedTrailers<'a>
-        ensures { selected_left result ≡ filter (λ trailer. is_co_authored_by trailer.token) (trailers_of (bstr_bytes self.now.message)) }
+        ensures { selected_left result
+            ≡ filter (λ trailer. is_co_authored_by trailer.token)
+            (trailers_of (bstr_bytes self.now.message)) }
     {
         self.message_trailers().co_authored_by()
     }
 
     /// The trailers whose token is `Assisted-by`, letter case aside.
     pub fn assisted_by_trailers(&self) -> SelectedTrailers<'a>
-        ensures { selected_left result ≡ filter (λ trailer. is_assisted_by trailer.token) (trailers_of (bstr_bytes self.now.message)) }
+        ensures { selected_left result
+            ≡ filter (λ trailer. is_assisted_by trailer.token)
+            (trailers_of (bstr_bytes self.now.message)) }
     {
         self.message_trailers().assisted_by()
     }
 
     /// The trailers that name an author: whose token is `Signed-off-by` or `Co-authored-by`, letter case aside.
     pub fn author_trailers(&self) -> SelectedTrailers<'a>
-        ensures { selected_left result ≡ filter (λ trailer. is_author trailer.token) (trailers_of (bstr_bytes self.now.message)) }
+        ensures { selected_left result
+            ≡ filter (λ trailer. is_author trailer.token)
+            (trailers_of (bstr_bytes self.now.message)) }
     {
         self.message_trailers().authors()
     }
 
     /// The trailers that `TrailerRef::is_attribution` tells.
     pub fn attribution_trailers(&self) -> SelectedTrailers<'a>
-        ensures { selected_left result ≡ filter (λ trailer. is_attribution trailer.token) (trailers_of (bstr_bytes self.now.message)) }
+        ensures { selected_left result
+            ≡ filter (λ trailer. is_attribution trailer.token)
+            (trailers_of (bstr_bytes self.now.message)) }
     {
         self.message_trailers().attributions()
     }

@@ -88,7 +88,8 @@ fn own_texts(
 ) -> Result<(Option<ByteString>, ByteString, Vec<ExtraHeader>), Error>
     ensures encoding { IfOk result (λ texts. texts.0 ≡ (parts_of commit.now).encoding) }
     ensures message { IfOk result (λ texts. texts.1 ≡ (parts_of commit.now).message) }
-    ensures headers { IfOk result (λ texts. AllZip IsHeaderOf (parts_of commit.now).headers texts.2.items) }
+    ensures headers { IfOk result
+        (λ texts. AllZip IsHeaderOf (parts_of commit.now).headers texts.2.items) }
     ensures refused { IfErr result (λ error. error ≡ Memory) }
 {
     let encoding = own_text_if_any(alloc, commit.encoding)?;
@@ -104,7 +105,11 @@ fn own_actors(
 ) -> Result<(Actor, Actor), Error>
     ensures author { IfOk result (λ actors. IsActorOf (person_of author.entry) actors.0) }
     ensures committer { IfOk result (λ actors. IsActorOf (person_of committer.entry) actors.1) }
-    ensures refused { IfErr result (λ error. (error ≡ Memory) ⊎ ((error ≡ InvalidTime) × ((¬ TellsTime (bstr_bytes author.entry.time)) ⊎ (¬ TellsTime (bstr_bytes committer.entry.time))))) }
+    ensures refused { IfErr result
+        (λ error. (error ≡ Memory)
+        ⊎ ((error ≡ InvalidTime)
+        × ((¬ TellsTime (bstr_bytes author.entry.time))
+        ⊎ (¬ TellsTime (bstr_bytes committer.entry.time))))) }
 {
     let author = own_actor(alloc, author)?;
     let committer = own_actor(alloc, committer)?;
@@ -113,7 +118,8 @@ fn own_actors(
 
 fn own_id(digits: BStr<'_>) -> Result<ObjectId, Error>
     ensures own { IfOk result (IsOwnId (bstr_bytes digits.entry)) }
-    ensures refused { IfErr result (λ error. (error ≡ HexDigits) × SpellsNoId (bstr_bytes digits.entry)) }
+    ensures refused { IfErr result
+        (λ error. (error ≡ HexDigits) × SpellsNoId (bstr_bytes digits.entry)) }
 {
     match ObjectId::from_hex(digits.as_bytes()) {
         Ok(id) => Ok(id),
@@ -123,7 +129,9 @@ fn own_id(digits: BStr<'_>) -> Result<ObjectId, Error>
 
 fn own_ids(alloc: Global, texts: &[BStr<'_>]) -> Result<SmallVec<ObjectId, 1>, Error>
     ensures own { IfOk result (λ ids. AllZip IsOwnId (map bstr_bytes texts.now) ids.items) }
-    ensures refused { IfErr result (λ error. (error ≡ Memory) ⊎ ((error ≡ HexDigits) × Any SpellsNoId (map bstr_bytes texts.now))) }
+    ensures refused { IfErr result
+        (λ error. (error ≡ Memory)
+        ⊎ ((error ≡ HexDigits) × Any SpellsNoId (map bstr_bytes texts.now))) }
 {
     let mut ids = SmallVec::new(alloc);
     for text in texts {
@@ -137,13 +145,16 @@ fn own_ids(alloc: Global, texts: &[BStr<'_>]) -> Result<SmallVec<ObjectId, 1>, E
 
 fn own_actor(alloc: Global, actor: ActorRef<'_>) -> Result<Actor, Error>
     ensures own { IfOk result (IsActorOf (person_of actor.entry)) }
-    ensures refused { IfErr result (λ error. (error ≡ Memory) ⊎ ((error ≡ InvalidTime) × (¬ TellsTime (bstr_bytes actor.entry.time)))) }
+    ensures refused { IfErr result
+        (λ error. (error ≡ Memory)
+        ⊎ ((error ≡ InvalidTime) × (¬ TellsTime (bstr_bytes actor.entry.time)))) }
 {
     actor.to_owned(alloc)
 }
 
 fn own_headers(alloc: Global, headers: &[HeaderRef<'_>]) -> Result<Vec<ExtraHeader>, Error>
-    ensures own { IfOk result (λ copies. AllZip IsHeaderOf (map field_of headers.now) copies.items) }
+    ensures own { IfOk result
+        (λ copies. AllZip IsHeaderOf (map field_of headers.now) copies.items) }
     ensures refused { IfErr result (λ error. error ≡ Memory) }
 {
     let mut copies = Vec::new(alloc);

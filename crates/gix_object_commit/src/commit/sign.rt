@@ -38,7 +38,8 @@ impl Commit {
         runner: &mut F,
     ) -> Result<(), Error>
         requires { F.IsAlwaysCallable runner.old }
-        ensures signed { SignsCommit (Answers F.FnMut) runner.old self.old options.now result runner.new self.new }
+        ensures signed { SignsCommit
+            (Answers F.FnMut) runner.old self.old options.now result runner.new self.new }
         ensures callable { F.IsAlwaysCallable runner.new }
     {
         let alloc = *self.extra_headers.allocator();
@@ -60,7 +61,8 @@ impl<'a> CommitRef<'a> {
         runner: &mut F,
     ) -> Result<Commit, Error>
         requires { F.IsAlwaysCallable runner.old }
-        ensures signed { SignsParts (Answers F.FnMut) runner.old (parts_of self.entry) options.now result runner.new }
+        ensures signed { SignsParts (Answers F.FnMut) runner.old
+            (parts_of self.entry) options.now result runner.new }
         ensures callable { F.IsAlwaysCallable runner.new }
     {
         let mut commit = self.into_owned()?;
@@ -78,8 +80,11 @@ fn signature_over<F: FnMut(&[Word<'_>], &[u8]) -> Result<Answer, RunError>>(
 ) -> Result<ByteString, Error>
     requires { F.IsAlwaysCallable runner.old }
     ensures made { IfOk result (λ signature. (unsigned_fault commit.now ≡ None)
-        × Signs (Answers F.FnMut) runner.old (spec.unsigned_text commit.now) options.now (Ok signature) runner.new) }
-    ensures refused { IfErr result (λ error. SignsCommit (Answers F.FnMut) runner.old commit.now options.now (Err error) runner.new commit.now) }
+        × Signs (Answers F.FnMut) runner.old (spec.unsigned_text commit.now) options.now
+        (Ok signature) runner.new) }
+    ensures refused { IfErr result
+        (λ error. SignsCommit (Answers F.FnMut) runner.old commit.now options.now
+        (Err error) runner.new commit.now) }
     ensures callable { F.IsAlwaysCallable runner.new }
 {
     let text = unsigned_text(alloc, commit)?;
@@ -88,8 +93,13 @@ fn signature_over<F: FnMut(&[Word<'_>], &[u8]) -> Result<Answer, RunError>>(
 
 // What is written of the commit without its signatures.
 fn unsigned_text(alloc: Global, commit: &Commit) -> Result<Vec<u8>, Error>
-    ensures text { IfOk result (λ text. (unsigned_fault commit.now ≡ None) × (text.items ≡ spec.unsigned_text commit.now)) }
-    ensures refused { IfErr result (λ error. (error ≡ Memory) ⊎ ((fault : write.Error) × (unsigned_fault commit.now ≡ Some fault) × (error ≡ Encode fault))) }
+    ensures text { IfOk result
+        (λ text. (unsigned_fault commit.now ≡ None)
+        × (text.items ≡ spec.unsigned_text commit.now)) }
+    ensures refused { IfErr result
+        (λ error. (error ≡ Memory)
+        ⊎ ((fault : write.Error) × (unsigned_fault commit.now ≡ Some fault)
+        × (error ≡ Encode fault))) }
 {
     let mut text = Vec::new(alloc);
     match write_unsigned(commit, &mut text) {
@@ -116,7 +126,9 @@ fn signature_header(
 // Puts the header behind the others but signatures, which go. The room for it is made first, so that nothing is lost for want
 // of memory.
 fn put_signature(commit: &mut Commit, header: ExtraHeader) -> Result<(), AllocError>
-    ensures put { OnOk result (IsWithHeaders commit.old (unsigned commit.old.extra_headers.items ++ header ∷ []) commit.new) }
+    ensures put { OnOk result
+        (IsWithHeaders commit.old
+        (unsigned commit.old.extra_headers.items ++ header ∷ []) commit.new) }
     ensures kept { OnErr result (IsAsBefore commit.old commit.new) }
 {
     commit.extra_headers.reserve(1)?;

@@ -97,7 +97,8 @@ fn is_folded(text: &[u8]) -> bool
 
 /// Why an encoding isn't written: it is empty or holds a line feed, or none is told and the first header has its name.
 pub(crate) fn encoding_cause(encoding: Option<BStr<'_>>, is_first_header: bool) -> Option<Error>
-    ensures { (headers : List Field) → is_first_header ≡ is_named_first headers → result ≡ cause_of_encoding (option_map bstr_bytes encoding.entry) headers }
+    ensures { (headers : List Field) → is_first_header ≡ is_named_first headers
+        → result ≡ cause_of_encoding (option_map bstr_bytes encoding.entry) headers }
 {
     let Some(name) = encoding else {
         return unless(!is_first_header);

@@ -24,7 +24,8 @@ pub(crate) fn is_signature(header: &ExtraHeader) -> bool
 
 /// Writes the commit as `write_to` does, without the headers that hold signatures.
 pub(crate) fn write_unsigned<W: io::Write>(commit: &Commit, out: &mut W) -> Result<(), Error>
-    ensures { Writes (W.contents out.old) (W.contents out.new) (unsigned_text commit.now) (own_refusal_with (unsigned commit.now.extra_headers.items) commit.now) result }
+    ensures { Writes (W.contents out.old) (W.contents out.new) (unsigned_text commit.now)
+        (own_refusal_with (unsigned commit.now.extra_headers.items) commit.now) result }
 {
     let headers = commit.extra_headers.as_slice();
     write_own_front(commit, is_encoding_first_unsigned(headers), out)?;
@@ -45,7 +46,8 @@ fn is_encoding_first_unsigned(headers: &[ExtraHeader]) -> bool
 }
 
 fn write_unsigned_headers<W: io::Write>(headers: &[ExtraHeader], out: &mut W) -> Result<(), Error>
-    ensures { WritesPieces (W.contents out.old) (W.contents out.new) (map field_piece (map own_field (unsigned headers.now))) result }
+    ensures { WritesPieces (W.contents out.old) (W.contents out.new)
+        (map field_piece (map own_field (unsigned headers.now))) result }
 {
     for header in headers {
         write_unless_signature(header, out)?;
@@ -54,7 +56,8 @@ fn write_unsigned_headers<W: io::Write>(headers: &[ExtraHeader], out: &mut W) ->
 }
 
 fn write_unless_signature<W: io::Write>(header: &ExtraHeader, out: &mut W) -> Result<(), Error>
-    ensures { WritesPieces (W.contents out.old) (W.contents out.new) (map field_piece (map own_field (unsigned (header.now ∷ [])))) result }
+    ensures { WritesPieces (W.contents out.old) (W.contents out.new)
+        (map field_piece (map own_field (unsigned (header.now ∷ [])))) result }
 {
     if is_signature(header) {
         return Ok(());

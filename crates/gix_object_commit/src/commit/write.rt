@@ -54,14 +54,16 @@ impl<'a> WriteTo for CommitRef<'a> {
 
 // The ids of the tree and the parents.
 fn write_ids<W: io::Write>(commit: &CommitRef<'_>, out: &mut W) -> Result<(), Error>
-    ensures { WritesPieces (W.contents out.old) (W.contents out.new) (id_pieces (parts_of commit.now)) result }
+    ensures { WritesPieces (W.contents out.old) (W.contents out.new)
+        (id_pieces (parts_of commit.now)) result }
 {
     write_id_lines(commit.tree.as_bytes(), commit.parents.as_slice(), out)
 }
 
 // The lines for the tree and the parents.
 fn write_id_lines<W: io::Write>(tree: &[u8], parents: &[BStr<'_>], out: &mut W) -> Result<(), Error>
-    ensures { WritesPieces (W.contents out.old) (W.contents out.new) (tree_piece tree.now ∷ map (parent_piece tree.now) (map bstr_bytes parents.now)) result }
+    ensures { WritesPieces (W.contents out.old) (W.contents out.new)
+        (tree_piece tree.now ∷ map (parent_piece tree.now) (map bstr_bytes parents.now)) result }
 {
     write_tree(tree, out)?;
     for parent in parents {
@@ -72,7 +74,8 @@ fn write_id_lines<W: io::Write>(tree: &[u8], parents: &[BStr<'_>], out: &mut W) 
 
 // The tree's line.
 pub(crate) fn write_tree<W: io::Write>(tree: &[u8], out: &mut W) -> Result<(), Error>
-    ensures { WritesPieces (W.contents out.old) (W.contents out.new) (tree_piece tree.now ∷ []) result }
+    ensures { WritesPieces (W.contents out.old) (W.contents out.new)
+        (tree_piece tree.now ∷ []) result }
 {
     write_piece(unless(is_id(tree)), &[b"tree ", tree, b"\n"], out)
 }
@@ -83,7 +86,8 @@ pub(crate) fn write_parent<W: io::Write>(
     parent: &BStr<'_>,
     out: &mut W,
 ) -> Result<(), Error>
-    ensures { WritesPieces (W.contents out.old) (W.contents out.new) (parent_piece tree.now (bstr_bytes parent.now) ∷ []) result }
+    ensures { WritesPieces (W.contents out.old) (W.contents out.new)
+        (parent_piece tree.now (bstr_bytes parent.now) ∷ []) result }
 {
     let digits = parent.as_bytes();
     write_piece(
@@ -95,7 +99,8 @@ pub(crate) fn write_parent<W: io::Write>(
 
 // An actor's line.
 fn write_person<W: io::Write>(word: &[u8], actor: &ActorRef<'_>, out: &mut W) -> Result<(), Error>
-    ensures { WritesPieces (W.contents out.old) (W.contents out.new) (person_piece word.now (person_of actor.now) ∷ []) result }
+    ensures { WritesPieces (W.contents out.old) (W.contents out.new)
+        (person_piece word.now (person_of actor.now) ∷ []) result }
 {
     let parts = [
         word,
@@ -112,7 +117,8 @@ fn write_person<W: io::Write>(word: &[u8], actor: &ActorRef<'_>, out: &mut W) ->
 
 // The line for the encoding, if there is one.
 fn write_encoding<W: io::Write>(commit: &CommitRef<'_>, out: &mut W) -> Result<(), Error>
-    ensures { WritesPieces (W.contents out.old) (W.contents out.new) (encoding_pieces (parts_of commit.now)) result }
+    ensures { WritesPieces (W.contents out.old) (W.contents out.new)
+        (encoding_pieces (parts_of commit.now)) result }
 {
     let is_named_first = is_encoding_first(commit.extra_headers.as_slice());
     write_encoding_line(commit.encoding, is_named_first, out)
@@ -124,7 +130,8 @@ pub(crate) fn write_encoding_line<W: io::Write>(
     out: &mut W,
 ) -> Result<(), Error>
     ensures { (headers : List Field) → is_first_header ≡ is_named_first headers
-        → WritesPieces (W.contents out.old) (W.contents out.new) (encoding_piece (option_map bstr_bytes encoding.entry) headers ∷ []) result }
+        → WritesPieces (W.contents out.old) (W.contents out.new)
+        (encoding_piece (option_map bstr_bytes encoding.entry) headers ∷ []) result }
 {
     let cause = encoding_cause(encoding, is_first_header);
     match encoding {
@@ -135,20 +142,23 @@ pub(crate) fn write_encoding_line<W: io::Write>(
 
 // The further headers.
 fn write_headers<W: io::Write>(commit: &CommitRef<'_>, out: &mut W) -> Result<(), Error>
-    ensures { WritesPieces (W.contents out.old) (W.contents out.new) (header_pieces (parts_of commit.now)) result }
+    ensures { WritesPieces (W.contents out.old) (W.contents out.new)
+        (header_pieces (parts_of commit.now)) result }
 {
     write_header_lines(commit.extra_headers.as_slice(), out)
 }
 
 // The empty line and the message.
 pub(crate) fn write_message<W: io::Write>(message: BStr<'_>, out: &mut W) -> Result<(), Error>
-    ensures { WritesPieces (W.contents out.old) (W.contents out.new) (message_piece (bstr_bytes message.entry) ∷ []) result }
+    ensures { WritesPieces (W.contents out.old) (W.contents out.new)
+        (message_piece (bstr_bytes message.entry) ∷ []) result }
 {
     write_piece(None, &[b"\n", message.as_bytes()], out)
 }
 
 fn write_header_lines<W: io::Write>(headers: &[HeaderRef<'_>], out: &mut W) -> Result<(), Error>
-    ensures { WritesPieces (W.contents out.old) (W.contents out.new) (map field_piece (map field_of headers.now)) result }
+    ensures { WritesPieces (W.contents out.old) (W.contents out.new)
+        (map field_piece (map field_of headers.now)) result }
 {
     for header in headers {
         write_header(header, out)?;
@@ -158,7 +168,8 @@ fn write_header_lines<W: io::Write>(headers: &[HeaderRef<'_>], out: &mut W) -> R
 
 // A header.
 fn write_header<W: io::Write>(header: &HeaderRef<'_>, out: &mut W) -> Result<(), Error>
-    ensures { WritesPieces (W.contents out.old) (W.contents out.new) (field_piece (field_of header.now) ∷ []) result }
+    ensures { WritesPieces (W.contents out.old) (W.contents out.new)
+        (field_piece (field_of header.now) ∷ []) result }
 {
     let parts = [header.name.as_bytes(), b" ", header.value.as_bytes(), b"\n"];
     write_piece(unless(is_field(header)), &parts, out)
@@ -172,7 +183,9 @@ fn add_ids(before: u64, commit: &CommitRef<'_>) -> Option<u64>
 }
 
 fn add_id_lines(before: u64, tree: &[u8], parents: &[BStr<'_>]) -> Option<u64>
-    ensures { let text = pieces_text (tree_piece tree.now ∷ map (parent_piece tree.now) (map bstr_bytes parents.now)) in
+    ensures { let text =
+        pieces_text
+        (tree_piece tree.now ∷ map (parent_piece tree.now) (map bstr_bytes parents.now)) in
         MatchOption result (2 ^ 64 ≤ before + length text) (λ total. total ≡ before + length text) }
 {
     let mut total = add_lengths(before, &[b"tree ", tree, b"\n"])?;
@@ -207,7 +220,8 @@ fn add_person(before: u64, word: &[u8], actor: &ActorRef<'_>) -> Option<u64>
 }
 
 pub(crate) fn add_encoding(before: u64, encoding: Option<BStr<'_>>) -> Option<u64>
-    ensures { let text = pieces_text (encoding_piece (option_map bstr_bytes encoding.entry) [] ∷ []) in
+    ensures { let text =
+        pieces_text (encoding_piece (option_map bstr_bytes encoding.entry) [] ∷ []) in
         MatchOption result (2 ^ 64 ≤ before + length text) (λ total. total ≡ before + length text) }
 {
     match encoding {

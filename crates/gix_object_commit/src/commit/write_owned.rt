@@ -59,7 +59,8 @@ pub(crate) fn write_own_front<W: io::Write>(
     out: &mut W,
 ) -> Result<(), Error>
     ensures { (headers : List Field) → is_encoding_first ≡ is_named_first headers
-        → WritesPieces (W.contents out.old) (W.contents out.new) (own_front_pieces headers commit.now) result }
+        → WritesPieces (W.contents out.old) (W.contents out.new)
+        (own_front_pieces headers commit.now) result }
 {
     write_own_ids(commit, out)?;
     write_own_person(b"author", &commit.author, out)?;
@@ -69,7 +70,8 @@ pub(crate) fn write_own_front<W: io::Write>(
 
 // The ids of the tree and the parents.
 fn write_own_ids<W: io::Write>(commit: &Commit, out: &mut W) -> Result<(), Error>
-    ensures { WritesPieces (W.contents out.old) (W.contents out.new) (id_pieces (own_parts commit.now)) result }
+    ensures { WritesPieces (W.contents out.old) (W.contents out.new)
+        (id_pieces (own_parts commit.now)) result }
 {
     let mut digits = gix_hash::Kind::hex_buf();
     let tree = commit.tree.hex_to_buf(&mut digits).as_bytes();
@@ -81,7 +83,8 @@ fn write_own_id_lines<W: io::Write>(
     parents: &[ObjectId],
     out: &mut W,
 ) -> Result<(), Error>
-    ensures { WritesPieces (W.contents out.old) (W.contents out.new) (tree_piece tree.now ∷ map (parent_piece tree.now) (map own_digits parents.now)) result }
+    ensures { WritesPieces (W.contents out.old) (W.contents out.new)
+        (tree_piece tree.now ∷ map (parent_piece tree.now) (map own_digits parents.now)) result }
 {
     write_tree(tree, out)?;
     for parent in parents {
@@ -91,7 +94,8 @@ fn write_own_id_lines<W: io::Write>(
 }
 
 fn write_own_parent<W: io::Write>(tree: &[u8], parent: &ObjectId, out: &mut W) -> Result<(), Error>
-    ensures { WritesPieces (W.contents out.old) (W.contents out.new) (parent_piece tree.now (own_digits parent.now) ∷ []) result }
+    ensures { WritesPieces (W.contents out.old) (W.contents out.new)
+        (parent_piece tree.now (own_digits parent.now) ∷ []) result }
 {
     let mut digits = gix_hash::Kind::hex_buf();
     let parent = BStr::new(parent.hex_to_buf(&mut digits).as_bytes());
@@ -100,7 +104,8 @@ fn write_own_parent<W: io::Write>(tree: &[u8], parent: &ObjectId, out: &mut W) -
 
 // An actor's line.
 fn write_own_person<W: io::Write>(word: &[u8], actor: &Actor, out: &mut W) -> Result<(), Error>
-    ensures { WritesPieces (W.contents out.old) (W.contents out.new) (own_person_piece word.now actor.now ∷ []) result }
+    ensures { WritesPieces (W.contents out.old) (W.contents out.new)
+        (own_person_piece word.now actor.now ∷ []) result }
 {
     write_piece(unless(is_own_person(actor)), &[word, b" "], out)?;
     write_actor(actor, out)?;
@@ -125,7 +130,8 @@ pub(crate) fn is_named_encoding(header: &ExtraHeader) -> bool
 
 // The further headers.
 fn write_own_header_lines<W: io::Write>(headers: &[ExtraHeader], out: &mut W) -> Result<(), Error>
-    ensures { WritesPieces (W.contents out.old) (W.contents out.new) (map field_piece (map own_field headers.now)) result }
+    ensures { WritesPieces (W.contents out.old) (W.contents out.new)
+        (map field_piece (map own_field headers.now)) result }
 {
     for header in headers {
         write_own_header(header, out)?;
@@ -135,7 +141,8 @@ fn write_own_header_lines<W: io::Write>(headers: &[ExtraHeader], out: &mut W) ->
 
 /// Writes a further header.
 pub(crate) fn write_own_header<W: io::Write>(header: &ExtraHeader, out: &mut W) -> Result<(), Error>
-    ensures { WritesPieces (W.contents out.old) (W.contents out.new) (field_piece (own_field header.now) ∷ []) result }
+    ensures { WritesPieces (W.contents out.old) (W.contents out.new)
+        (field_piece (own_field header.now) ∷ []) result }
 {
     let name = header.name.as_bytes();
     write_piece(unless(is_name(name)), &[name, b" "], out)?;
@@ -145,7 +152,8 @@ pub(crate) fn write_own_header<W: io::Write>(header: &ExtraHeader, out: &mut W) 
 
 // A header's value as it stands in a commit: a space behind each of its line feeds.
 fn write_folded<W: io::Write>(value: &[u8], out: &mut W) -> Result<(), Error>
-    ensures { WritesPieces (W.contents out.old) (W.contents out.new) (text_piece (folded value.now) ∷ []) result }
+    ensures { WritesPieces (W.contents out.old) (W.contents out.new)
+        (text_piece (folded value.now) ∷ []) result }
 {
     let mut rest = value;
     'lines: while let Some((line, after)) = split_once(rest, b'\n') {
@@ -165,7 +173,9 @@ fn add_own_ids(before: u64, commit: &Commit) -> Option<u64>
 }
 
 fn add_own_id_lines(before: u64, tree: &[u8], parents: &[ObjectId]) -> Option<u64>
-    ensures { let text = pieces_text (tree_piece tree.now ∷ map (parent_piece tree.now) (map own_digits parents.now)) in
+    ensures { let text =
+        pieces_text
+        (tree_piece tree.now ∷ map (parent_piece tree.now) (map own_digits parents.now)) in
         MatchOption result (2 ^ 64 ≤ before + length text) (λ total. total ≡ before + length text) }
 {
     let mut total = add_lengths(before, &[b"tree ", tree, b"\n"])?;

@@ -13,9 +13,14 @@ use gix_hash::Kind;
 /// `CommitRefIter::signature` and the headers of `CommitRef` tell the same signature. Nothing is done: the contract is the
 /// law.
 pub fn signature_is_the_first_header(_input: &[u8], _hash_kind: Kind)
-    ensures signed { (parts : Parts) (first more : List Field) (header : Field) → SpellsCommit (hex_len _hash_kind) _input.now parts
-        → parts.headers ≡ first ++ header ∷ more → All (λ field. field.name ≢ signature_name _hash_kind) first → header.name ≡ signature_name _hash_kind
-        → (cut : Cut) × FindsSignature _hash_kind _input.now (Some cut) × (cut.header ≡ header) × (cut.before ++ cut.behind ≡ commit_text (with_headers parts (first ++ more))) }
+    ensures signed { (parts : Parts) (first more : List Field) (header : Field)
+        → SpellsCommit (hex_len _hash_kind) _input.now parts
+        → parts.headers ≡ first ++ header ∷ more
+        → All (λ field. field.name ≢ signature_name _hash_kind) first
+        → header.name ≡ signature_name _hash_kind
+        → (cut : Cut) × FindsSignature _hash_kind _input.now (Some cut) × (cut.header ≡ header)
+        × (cut.before ++ cut.behind ≡ commit_text (with_headers parts (first ++ more))) }
     ensures unsigned { (parts : Parts) → SpellsCommit (hex_len _hash_kind) _input.now parts
-        → All (λ field. field.name ≢ signature_name _hash_kind) parts.headers → FindsSignature _hash_kind _input.now None }
+        → All (λ field. field.name ≢ signature_name _hash_kind) parts.headers
+        → FindsSignature _hash_kind _input.now None }
 {}

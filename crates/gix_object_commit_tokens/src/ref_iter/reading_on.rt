@@ -31,9 +31,12 @@ impl<'a> CommitRefIter<'a> {
     /// Who made the change, and when, from the tokens to come. It is `FieldName` where the input ends before, and else the
     /// error of the first token that has one.
     pub fn author(self) -> Result<ActorRef<'a>, Error>
-        ensures read { IfOk result (λ author. TellsFirst author_told (place_of self.entry) (person_of author)) }
-        ensures every { (told : Person) → TellsFirst author_told (place_of self.entry) told → IsOkAnd result (λ author. person_of author ≡ told) }
-        ensures refused { IfErr result (λ error. TellsNone author_told (place_of self.entry) error) }
+        ensures read { IfOk result
+            (λ author. TellsFirst author_told (place_of self.entry) (person_of author)) }
+        ensures every { (told : Person) → TellsFirst author_told (place_of self.entry) told
+            → IsOkAnd result (λ author. person_of author ≡ told) }
+        ensures refused { IfErr result
+            (λ error. TellsNone author_told (place_of self.entry) error) }
     {
         'tokens: for token in self {
             if let Token::Author(author) = token? {
@@ -46,9 +49,12 @@ impl<'a> CommitRefIter<'a> {
     /// Who committed it, and when, from the tokens to come. It is `FieldName` where the input ends before, and else the
     /// error of the first token that has one.
     pub fn committer(self) -> Result<ActorRef<'a>, Error>
-        ensures read { IfOk result (λ committer. TellsFirst committer_told (place_of self.entry) (person_of committer)) }
-        ensures every { (told : Person) → TellsFirst committer_told (place_of self.entry) told → IsOkAnd result (λ committer. person_of committer ≡ told) }
-        ensures refused { IfErr result (λ error. TellsNone committer_told (place_of self.entry) error) }
+        ensures read { IfOk result
+            (λ committer. TellsFirst committer_told (place_of self.entry) (person_of committer)) }
+        ensures every { (told : Person) → TellsFirst committer_told (place_of self.entry) told
+            → IsOkAnd result (λ committer. person_of committer ≡ told) }
+        ensures refused { IfErr result
+            (λ error. TellsNone committer_told (place_of self.entry) error) }
     {
         'tokens: for token in self {
             if let Token::Committer(committer) = token? {
@@ -61,9 +67,12 @@ impl<'a> CommitRefIter<'a> {
     /// The message, from the tokens to come. It is `FieldName` where the input ends before, and else the error of the
     /// first token that has one.
     pub fn message(self) -> Result<BStr<'a>, Error>
-        ensures read { IfOk result (λ message. TellsFirst message_told (place_of self.entry) (bstr_bytes message)) }
-        ensures every { (told : List ℕ) → TellsFirst message_told (place_of self.entry) told → IsOkAnd result (λ message. bstr_bytes message ≡ told) }
-        ensures refused { IfErr result (λ error. TellsNone message_told (place_of self.entry) error) }
+        ensures read { IfOk result
+            (λ message. TellsFirst message_told (place_of self.entry) (bstr_bytes message)) }
+        ensures every { (told : List ℕ) → TellsFirst message_told (place_of self.entry) told
+            → IsOkAnd result (λ message. bstr_bytes message ≡ told) }
+        ensures refused { IfErr result
+            (λ error. TellsNone message_told (place_of self.entry) error) }
     {
         'tokens: for token in self {
             if let Token::Message(message) = token? {

@@ -32,9 +32,12 @@ impl<'a> CommitRefIter<'a> {
     /// It is `None` where the message comes and no such header before it; `FieldName` where the input ends before either, and
     /// else the error of the first token that has one. No memory is taken.
     pub fn signature(input: &'a [u8], hash_kind: Kind) -> Result<Option<CommitSignature<'a>>, Error>
-        ensures read { IfOk result (λ found. FindsSignature hash_kind input.now (option_map cut_of found)) }
-        ensures every { (found : Option Cut) → FindsSignature hash_kind input.now found → IsOkAnd result (λ given. option_map cut_of given ≡ found) }
-        ensures refused { IfErr result (λ error. TellsNone (signature_told hash_kind) (start hash_kind input.now) error) }
+        ensures read { IfOk result
+            (λ found. FindsSignature hash_kind input.now (option_map cut_of found)) }
+        ensures every { (found : Option Cut) → FindsSignature hash_kind input.now found
+            → IsOkAnd result (λ given. option_map cut_of given ≡ found) }
+        ensures refused { IfErr result
+            (λ error. TellsNone (signature_told hash_kind) (start hash_kind input.now) error) }
     {
         let name = signature_field_name(hash_kind).as_bytes();
         let mut tokens = CommitRefIter::from_bytes(input, hash_kind);

@@ -13,9 +13,11 @@ use gix_object_lines::decode::Error;
 /// The entry that begins the input, and what follows it. It is `FieldName` where no mode and space begin it, `LineEnd` where no
 /// zero byte ends the name, and `HexDigits` where fewer bytes follow than an id has.
 pub(crate) fn read_entry(input: &[u8], hash_kind: Kind) -> Result<(EntryRef<'_>, &[u8]), Error>
-    ensures read { IfOk result (λ read. SpellsEntry hash_kind input.now (item_of read.0) read.1.now) }
+    ensures read { IfOk result
+        (λ read. SpellsEntry hash_kind input.now (item_of read.0) read.1.now) }
     ensures shorter { IfOk result (λ read. length read.1.now < length input.now) }
-    ensures every { (item : Item) (rest : List ℕ) → SpellsEntry hash_kind input.now item rest → IsOk result }
+    ensures every { (item : Item) (rest : List ℕ) → SpellsEntry hash_kind input.now item rest
+        → IsOk result }
     ensures refused { IfErr result (λ error. EntryFault hash_kind input.now error) }
 {
     let (text, rest) = split_once(input, b' ').ok_or(Error::FieldName)?;

@@ -129,7 +129,8 @@ impl EntryMode {
 
     /// Whether it is a file's or a symbolic link's.
     pub const fn is_blob_or_symlink(&self) -> bool
-        ensures { IsTrue result ↔ ((self.now.value / 4096 ≡ 8) ⊎ (kind_of self.now.value ≡ kinds.Link)) }
+        ensures { IsTrue result
+            ↔ ((self.now.value / 4096 ≡ 8) ⊎ (kind_of self.now.value ≡ kinds.Link)) }
     {
         self.is_blob() || self.is_link()
     }

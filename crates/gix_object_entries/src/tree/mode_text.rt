@@ -17,7 +17,8 @@ impl EntryMode {
     /// The mode that the bytes before the first space spell, or all bytes where no space stands: at most seven octal digits of a
     /// number of 16 bits. `None` where they spell none.
     pub fn from_bytes(bytes: &[u8]) -> Option<EntryMode>
-        ensures { MatchOption result (SpellsNoMode (text_before 32 bytes.now)) (λ mode. SpellsMode (text_before 32 bytes.now) (mode_of mode)) }
+        ensures { MatchOption result (SpellsNoMode (text_before 32 bytes.now))
+            (λ mode. SpellsMode (text_before 32 bytes.now) (mode_of mode)) }
     {
         match split_once(bytes, b' ') {
             Some((text, _)) => read_mode(text),
@@ -62,7 +63,8 @@ impl fmt::Octal for EntryMode {
 
 /// The mode that the text spells.
 pub(crate) fn read_mode(text: &[u8]) -> Option<EntryMode>
-    ensures { MatchOption result (SpellsNoMode text.now) (λ mode. SpellsMode text.now (mode_of mode)) }
+    ensures { MatchOption result (SpellsNoMode text.now)
+        (λ mode. SpellsMode text.now (mode_of mode)) }
 {
     if text.len() > 7 {
         return None;
@@ -93,7 +95,8 @@ fn read_octal(text: &[u8]) -> Option<u16>
 }
 
 fn octal_digit(byte: u8) -> Option<u32>
-    ensures { MatchOption result (8 ≤ digit_value byte) (λ digit. (digit ≡ digit_value byte) × (digit < 8)) }
+    ensures { MatchOption result (8 ≤ digit_value byte)
+        (λ digit. (digit ≡ digit_value byte) × (digit < 8)) }
 {
     match byte {
         b'0'..=b'7' => Some((byte - b'0') as u32),

@@ -35,10 +35,15 @@ impl<'a> TreeRefIter<'a> {
 
     /// All entries to come. An error is the one of the first that can't be read; or it is `Memory`.
     pub fn entries(self, alloc: Global) -> Result<Vec<EntryRef<'a>>, Error>
-        ensures read { IfOk result (λ entries. SpellsTree (place_of self.entry).kind (place_of self.entry).input (map item_of entries.items)) }
-        ensures every { (items : List Item) → SpellsTree (place_of self.entry).kind (place_of self.entry).input items
-            → MatchResult result (λ entries. map item_of entries.items ≡ items) (λ fault. fault ≡ Memory) }
-        ensures refused { IfErr result (λ fault. TreeFault (place_of self.entry).kind (place_of self.entry).input fault) }
+        ensures read { IfOk result
+            (λ entries. SpellsTree (place_of self.entry).kind (place_of self.entry).input
+            (map item_of entries.items)) }
+        ensures every { (items : List Item)
+            → SpellsTree (place_of self.entry).kind (place_of self.entry).input items
+            → MatchResult result (λ entries. map item_of entries.items ≡ items)
+            (λ fault. fault ≡ Memory) }
+        ensures refused { IfErr result
+            (λ fault. TreeFault (place_of self.entry).kind (place_of self.entry).input fault) }
     {
         Ok(TreeRef::from_bytes(alloc, self.rest, self.hash_kind)?.entries)
     }

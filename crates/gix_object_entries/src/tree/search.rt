@@ -17,9 +17,13 @@ impl<'a> TreeRef<'a> {
     /// The entry of this name, a tree's where `is_dir` is set and else another one: found by binary search, so that an entry of
     /// a tree that is not in Git's order may be missed.
     pub fn bisect_entry(&self, name: BStr<'_>, is_dir: bool) -> Option<EntryRef<'a>>
-        ensures found { IfSome result (λ entry. Contains (map item_of self.now.entries.items) (item_of entry) × IsNamed (bstr_bytes name.entry) is_dir (item_of entry)) }
+        ensures found { IfSome result
+            (λ entry. Contains (map item_of self.now.entries.items) (item_of entry)
+            × IsNamed (bstr_bytes name.entry) is_dir (item_of entry)) }
         ensures missing { IsInOrder (map item_of self.now.entries.items)
-            → IfNone result (All (λ item. ¬ IsNamed (bstr_bytes name.entry) is_dir item) (map item_of self.now.entries.items)) }
+            → IfNone result
+            (All (λ item. ¬ IsNamed (bstr_bytes name.entry) is_dir item)
+            (map item_of self.now.entries.items)) }
     {
         let at = bisect(self.entries.as_slice(), name.as_bytes(), is_dir)?;
         Some(self.entries[at])
@@ -29,7 +33,8 @@ impl<'a> TreeRef<'a> {
 // Where the entry of this name stands, a tree's or another one.
 pub(crate) fn bisect<T: AsEntry>(entries: &[T], name: &[u8], is_tree: bool) -> Option<usize>
     ensures within { IfSome result (λ at. at < length entries.now) }
-    ensures found { IfSome result (λ at. HoldsAt (λ entry. IsNamed name.now is_tree (T.item entry)) entries.now at) }
+    ensures found { IfSome result
+        (λ at. HoldsAt (λ entry. IsNamed name.now is_tree (T.item entry)) entries.now at) }
     ensures missing { IsInOrder (map T.item entries.now)
         → IfNone result (All (λ item. ¬ IsNamed name.now is_tree item) (map T.item entries.now)) }
 {
@@ -43,9 +48,12 @@ pub(crate) fn bisect<T: AsEntry>(entries: &[T], name: &[u8], is_tree: bool) -> O
 // Where an entry of the key stands that a name has.
 fn search<T: AsEntry>(entries: &[T], name: &[u8], is_tree: bool) -> Option<usize>
     ensures within { IfSome result (λ at. at < length entries.now) }
-    ensures found { IfSome result (λ at. HoldsAt (λ entry. item_key (T.item entry) ≡ git_key name.now is_tree) entries.now at) }
+    ensures found { IfSome result
+        (λ at. HoldsAt
+        (λ entry. item_key (T.item entry) ≡ git_key name.now is_tree) entries.now at) }
     ensures missing { IsInOrder (map T.item entries.now)
-        → IfNone result (All (λ item. ¬ (item_key item ≡ git_key name.now is_tree)) (map T.item entries.now)) }
+        → IfNone result
+        (All (λ item. ¬ (item_key item ≡ git_key name.now is_tree)) (map T.item entries.now)) }
 {
     entries
         .binary_search_by(|entry| order_to(entry, name, is_tree))

@@ -75,7 +75,8 @@ fn comes_before(entry: EntryRef<'_>, other: EntryRef<'_>) -> bool
 
 // Of entries in order: two of one name are a tree and no tree, for else their keys would be one.
 fn has_names_once<T: AsEntry>(entries: &[T]) -> bool
-    ensures { IsInOrder (map T.item entries.now) → IsTrue result ↔ HasNamesOnce (map T.item entries.now) }
+    ensures { IsInOrder (map T.item entries.now)
+        → IsTrue result ↔ HasNamesOnce (map T.item entries.now) }
 {
     for entry in entries {
         let entry = entry.as_entry();

@@ -27,9 +27,11 @@ impl<'a> TreeRef<'a> {
         content: &'a [u8],
         hash_kind: Kind,
     ) -> Result<TreeRef<'a>, Error>
-        ensures read { IfOk result (λ tree. SpellsTree hash_kind content.now (map item_of tree.entries.items)) }
+        ensures read { IfOk result
+            (λ tree. SpellsTree hash_kind content.now (map item_of tree.entries.items)) }
         ensures every { (items : List Item) → SpellsTree hash_kind content.now items
-            → MatchResult result (λ tree. map item_of tree.entries.items ≡ items) (λ fault. fault ≡ Memory) }
+            → MatchResult result (λ tree. map item_of tree.entries.items ≡ items)
+            (λ fault. fault ≡ Memory) }
         ensures refused { IfErr result (λ fault. TreeFault hash_kind content.now fault) }
     {
         let mut entries = Vec::new(alloc);
@@ -55,7 +57,8 @@ impl<'a> TreeRef<'a> {
 
     /// The tree with copies of its names.
     pub fn to_owned(&self) -> Result<Tree, AllocError>
-        ensures { IfOk result (λ tree. map own_item tree.entries.items ≡ map item_of self.now.entries.items) }
+        ensures { IfOk result
+            (λ tree. map own_item tree.entries.items ≡ map item_of self.now.entries.items) }
     {
         let alloc = *self.entries.allocator();
         let mut entries = Vec::with_capacity(alloc, self.entries.len())?;
@@ -67,7 +70,8 @@ impl<'a> TreeRef<'a> {
 
     /// The tree with copies of its names: see `to_owned`.
     pub fn into_owned(self) -> Result<Tree, AllocError>
-        ensures { IfOk result (λ tree. map own_item tree.entries.items ≡ map item_of self.entry.entries.items) }
+        ensures { IfOk result
+            (λ tree. map own_item tree.entries.items ≡ map item_of self.entry.entries.items) }
     {
         self.to_owned()
     }

@@ -58,7 +58,8 @@ impl WriteTo for Tree {
 
 // Writes the entries in order, up to the first whose name holds a zero byte.
 fn write_entries<T: AsEntry, W: io::Write>(entries: &[T], out: &mut W) -> Result<(), Error>
-    ensures { Writes (W.contents out.old) (W.contents out.new) (tree_text (map T.item entries.now)) (tree_refusal (map T.item entries.now)) result }
+    ensures { Writes (W.contents out.old) (W.contents out.new)
+        (tree_text (map T.item entries.now)) (tree_refusal (map T.item entries.now)) result }
 {
     for entry in entries {
         write_entry(entry.as_entry(), out)?;
@@ -68,7 +69,8 @@ fn write_entries<T: AsEntry, W: io::Write>(entries: &[T], out: &mut W) -> Result
 
 // Writes the entry; nothing of it where its name holds a zero byte.
 fn write_entry<W: io::Write>(entry: EntryRef<'_>, out: &mut W) -> Result<(), Error>
-    ensures { Writes (W.contents out.old) (W.contents out.new) (tree_text (item_of entry.entry ∷ [])) (tree_refusal (item_of entry.entry ∷ [])) result }
+    ensures { Writes (W.contents out.old) (W.contents out.new)
+        (tree_text (item_of entry.entry ∷ [])) (tree_refusal (item_of entry.entry ∷ [])) result }
 {
     let name = entry.filename.as_bytes();
     if name.contains(&0) {
@@ -85,8 +87,12 @@ fn write_entry<W: io::Write>(entry: EntryRef<'_>, out: &mut W) -> Result<(), Err
 
 // Writes the parts in order. Where the writer fails it has taken a beginning of them.
 fn write_parts<W: io::Write>(parts: &[&[u8]], out: &mut W) -> io::Result<()>
-    ensures ok { OnOk result (Appends (W.contents out.old) (W.contents out.new) (flat_map (λ part. part.now) parts.now)) }
-    ensures err { OnErr result (AppendsFront (W.contents out.old) (W.contents out.new) (flat_map (λ part. part.now) parts.now)) }
+    ensures ok { OnOk result
+        (Appends (W.contents out.old) (W.contents out.new)
+        (flat_map (λ part. part.now) parts.now)) }
+    ensures err { OnErr result
+        (AppendsFront (W.contents out.old) (W.contents out.new)
+        (flat_map (λ part. part.now) parts.now)) }
 {
     for part in parts {
         write_bytes(out, part)?;
@@ -96,7 +102,8 @@ fn write_parts<W: io::Write>(parts: &[&[u8]], out: &mut W) -> io::Result<()>
 
 // How many bytes the entries take; `None` where that is more than 64 bits hold.
 fn length_of<T: AsEntry>(entries: &[T]) -> Option<u64>
-    ensures { MatchOption result (2 ^ 64 ≤ length (tree_text (map T.item entries.now))) (λ total. total ≡ length (tree_text (map T.item entries.now))) }
+    ensures { MatchOption result (2 ^ 64 ≤ length (tree_text (map T.item entries.now)))
+        (λ total. total ≡ length (tree_text (map T.item entries.now))) }
 {
     let mut total: u64 = 0;
     for entry in entries {

@@ -49,7 +49,9 @@ impl<'a> ActorRef<'a> {
         ensures email { IfOk result (λ actor. actor.email ≡ bstr_bytes self.entry.email) }
         ensures time { IfOk result (λ actor. SpellsTime (bstr_bytes self.entry.time) actor.time) }
         ensures refused { IsErrOf result InvalidTime ↔ ¬ TellsTime (bstr_bytes self.entry.time) }
-        ensures faults { IfErr result (λ fault. ((fault ≡ InvalidTime) × ¬ TellsTime (bstr_bytes self.entry.time)) ⊎ ((fault ≡ Memory) × TellsTime (bstr_bytes self.entry.time))) }
+        ensures faults { IfErr result
+            (λ fault. ((fault ≡ InvalidTime) × ¬ TellsTime (bstr_bytes self.entry.time))
+            ⊎ ((fault ≡ Memory) × TellsTime (bstr_bytes self.entry.time))) }
     {
         let Ok(time) = read_time(self.time.as_bytes()) else {
             return Err(decode::Error::InvalidTime);
@@ -83,10 +85,16 @@ impl Actor {
 ///
 /// It is `InvalidActor` where the line isn't cut so, and `InvalidTime` where what follows tells no time.
 pub fn read_actor(line: &[u8]) -> Result<ActorRef<'_>, decode::Error>
-    ensures read { IfOk result (λ actor. SpellsActor line.now (bstr_bytes actor.name) (bstr_bytes actor.email) (bstr_bytes actor.time)) }
+    ensures read { IfOk result
+        (λ actor. SpellsActor line.now (bstr_bytes actor.name) (bstr_bytes actor.email)
+        (bstr_bytes actor.time)) }
     ensures every { (name email time : List ℕ) → SpellsActor line.now name email time
-        → IsOkAnd result (λ actor. (bstr_bytes actor.name ≡ name) × (bstr_bytes actor.email ≡ email) × (bstr_bytes actor.time ≡ time)) }
-    ensures refused { IfErr result (λ fault. ((fault ≡ InvalidActor) × IsUncut line.now) ⊎ ((fault ≡ InvalidTime) × IsUntimed line.now)) }
+        → IsOkAnd result
+        (λ actor. (bstr_bytes actor.name ≡ name) × (bstr_bytes actor.email ≡ email)
+        × (bstr_bytes actor.time ≡ time)) }
+    ensures refused { IfErr result
+        (λ fault. ((fault ≡ InvalidActor) × IsUncut line.now)
+        ⊎ ((fault ≡ InvalidTime) × IsUntimed line.now)) }
 {
     let Some(actor) = cut(line) else {
         return Err(decode::Error::InvalidActor);
@@ -99,7 +107,9 @@ pub fn read_actor(line: &[u8]) -> Result<ActorRef<'_>, decode::Error>
 
 // Cuts a line at its marks; `None` where they aren't all there, or a line feed stands before the last.
 fn cut(line: &[u8]) -> Option<ActorRef<'_>>
-    ensures { MatchOption result (IsUncut line.now) (λ actor. IsCut line.now (bstr_bytes actor.name) (bstr_bytes actor.email) (bstr_bytes actor.time)) }
+    ensures { MatchOption result (IsUncut line.now)
+        (λ actor. IsCut line.now (bstr_bytes actor.name) (bstr_bytes actor.email)
+        (bstr_bytes actor.time)) }
 {
     let (front, rest) = split_once(line, b'<')?;
     let (email, back) = rsplit_once(rest, b'>')?;
@@ -120,7 +130,8 @@ fn cut(line: &[u8]) -> Option<ActorRef<'_>>
 
 /// Appends the actor's line, without a line feed: see `write_actor_parts`.
 pub fn write_actor<W: io::Write>(actor: &Actor, out: &mut W) -> Result<(), Error>
-    ensures written { WritesLine (IsSpellable actor.now.name actor.now.email actor.now.time) (W.contents out.old) (W.contents out.new)
+    ensures written { WritesLine (IsSpellable actor.now.name actor.now.email actor.now.time)
+        (W.contents out.old) (W.contents out.new)
         (actor_text actor.now.name actor.now.email actor.now.time) result }
     ensures spelled { OnOk result (IsReadBack actor.now.name actor.now.email actor.now.time) }
     ensures unchanged { IsErrOf result (Header Unspellable) → out.new ≡ out.old }
@@ -143,7 +154,8 @@ pub fn write_actor_parts<W: io::Write>(
     time: Time,
     out: &mut W,
 ) -> Result<(), Error>
-    ensures written { WritesLine (IsSpellable name.now email.now time) (W.contents out.old) (W.contents out.new) (actor_text name.now email.now time) result }
+    ensures written { WritesLine (IsSpellable name.now email.now time) (W.contents out.old)
+        (W.contents out.new) (actor_text name.now email.now time) result }
     ensures spelled { OnOk result (IsReadBack name.now email.now time) }
     ensures unchanged { IsErrOf result (Header Unspellable) → out.new ≡ out.old }
 {

@@ -13,7 +13,8 @@ const SECONDS_PER_HOUR: u32 = 3_600;
 
 /// Digits, perhaps behind a `-`, as a number of 64 bits.
 pub(crate) fn read_seconds(text: &[u8]) -> Option<i64>
-    ensures { MatchOption result ((seconds : ℤ) → FitsSigned w64 seconds → ¬ SpellsSeconds text.now seconds)
+    ensures { MatchOption result
+        ((seconds : ℤ) → FitsSigned w64 seconds → ¬ SpellsSeconds text.now seconds)
         (λ seconds. SpellsSeconds text.now seconds) }
 {
     // `parse` reads a `+` too.
@@ -25,7 +26,8 @@ pub(crate) fn read_seconds(text: &[u8]) -> Option<i64>
 
 /// A sign, two digits of hours and two of minutes, in seconds.
 pub(crate) fn read_offset(text: &[u8]) -> Option<i32>
-    ensures { MatchOption result ((offset : ℤ) → ¬ SpellsOffset text.now offset) (λ offset. SpellsOffset text.now offset) }
+    ensures { MatchOption result ((offset : ℤ) → ¬ SpellsOffset text.now offset)
+        (λ offset. SpellsOffset text.now offset) }
 {
     let &[sign, a, b, c, d] = text else {
         return None;
@@ -41,7 +43,8 @@ pub(crate) fn read_offset(text: &[u8]) -> Option<i32>
 // Two digits of hours and two of minutes, in seconds.
 fn read_clock(a: u8, b: u8, c: u8, d: u8) -> Option<i32>
     ensures { MatchOption result
-        ((hours minutes : ℕ) → hours < 100 → minutes < 100 → a ∷ b ∷ c ∷ d ∷ [] ≢ two_digits hours ++ two_digits minutes)
+        ((hours minutes : ℕ) → hours < 100 → minutes < 100
+        → a ∷ b ∷ c ∷ d ∷ [] ≢ two_digits hours ++ two_digits minutes)
         (λ amount. SpellsClock (a ∷ b ∷ c ∷ d ∷ []) amount) }
 {
     let hours = read_two_digits(a, b)?;
@@ -50,7 +53,8 @@ fn read_clock(a: u8, b: u8, c: u8, d: u8) -> Option<i32>
 }
 
 fn read_two_digits(tens: u8, ones: u8) -> Option<u8>
-    ensures { MatchOption result ((n : ℕ) → n < 100 → tens ∷ ones ∷ [] ≢ two_digits n) (λ n. (n < 100) × (tens ∷ ones ∷ [] ≡ two_digits n)) }
+    ensures { MatchOption result ((n : ℕ) → n < 100 → tens ∷ ones ∷ [] ≢ two_digits n)
+        (λ n. (n < 100) × (tens ∷ ones ∷ [] ≡ two_digits n)) }
 {
     if tens.is_ascii_digit() && ones.is_ascii_digit() {
         Some(10 * (tens - b'0') + (ones - b'0'))
@@ -61,7 +65,8 @@ fn read_two_digits(tens: u8, ones: u8) -> Option<u8>
 
 /// The sign, hours and minutes of an offset in seconds; `None` where it isn't whole minutes below 100 hours.
 pub(crate) fn spell_offset(offset: i32) -> Option<[u8; 5]>
-    ensures { MatchOption result (¬ IsSpellableOffset offset) (λ text. (text ≡ offset_text offset) × IsSpellableOffset offset) }
+    ensures { MatchOption result (¬ IsSpellableOffset offset)
+        (λ text. (text ≡ offset_text offset) × IsSpellableOffset offset) }
 {
     let amount = offset.unsigned_abs();
     if amount % SECONDS_PER_MINUTE != 0 || amount >= 100 * SECONDS_PER_HOUR {

@@ -52,7 +52,9 @@ fn has_barred_start(name: &[u8]) -> bool
 }
 
 fn has_barred_end(name: &[u8]) -> bool
-    ensures { IsTrue result ↔ (EndsWith (codes ".lock") name.now ⊎ (EndsWith (codes ".") name.now ⊎ EndsWith (codes "/") name.now)) }
+    ensures { IsTrue result
+        ↔ (EndsWith (codes ".lock") name.now
+        ⊎ (EndsWith (codes ".") name.now ⊎ EndsWith (codes "/") name.now)) }
 {
     if ends_with(name, b".lock") {
         return true;

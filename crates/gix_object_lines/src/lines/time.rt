@@ -47,7 +47,8 @@ pub fn tells_time(text: &[u8]) -> bool
 }
 
 fn parse(text: &[u8]) -> Option<Time>
-    ensures { MatchOption result ((time : Time) → ¬ SpellsTime text.now time) (SpellsTime text.now) }
+    ensures { MatchOption result ((time : Time) → ¬ SpellsTime text.now time)
+        (SpellsTime text.now) }
 {
     let (front, back) = split_once(text, b' ')?;
     let seconds = read_seconds(front)?;
@@ -60,7 +61,8 @@ fn parse(text: &[u8]) -> Option<Time>
 /// An offset that isn't whole minutes below 100 hours is `Header(Unspellable)`, and nothing is written. A writer that fails
 /// has taken a beginning of the text.
 pub fn write_time<W: io::Write>(time: Time, out: &mut W) -> Result<(), Error>
-    ensures written { WritesLine (IsSpellableOffset time.offset) (W.contents out.old) (W.contents out.new) (time_text time) result }
+    ensures written { WritesLine (IsSpellableOffset time.offset) (W.contents out.old)
+        (W.contents out.new) (time_text time) result }
     ensures spelled { OnOk result (SpellsTime (time_text time) time) }
     ensures unchanged { IsErrOf result (Header Unspellable) → out.new ≡ out.old }
 {

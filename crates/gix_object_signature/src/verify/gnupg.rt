@@ -18,7 +18,9 @@ pub(crate) fn ask_gpg<'a, F: FnMut(&[Word<'_>], &[u8]) -> Result<Answer, RunErro
     runner: &mut F,
 ) -> Result<Outcome, Error>
     requires { F.IsAlwaysCallable runner.old }
-    ensures told { AsksOnce (Answers F.FnMut) runner.old (gpg_request (bstr_bytes program.entry) signature.now content.now) minimum_trust result runner.new }
+    ensures told { AsksOnce (Answers F.FnMut) runner.old
+        (gpg_request
+        (bstr_bytes program.entry) signature.now content.now) minimum_trust result runner.new }
     ensures callable { F.IsAlwaysCallable runner.new }
 {
     let words = [
@@ -41,7 +43,9 @@ pub(crate) fn ask_gpgsm<'a, F: FnMut(&[Word<'_>], &[u8]) -> Result<Answer, RunEr
     runner: &mut F,
 ) -> Result<Outcome, Error>
     requires { F.IsAlwaysCallable runner.old }
-    ensures told { AsksOnce (Answers F.FnMut) runner.old (gpgsm_request (bstr_bytes program.entry) signature.now content.now) minimum_trust result runner.new }
+    ensures told { AsksOnce (Answers F.FnMut) runner.old
+        (gpgsm_request
+        (bstr_bytes program.entry) signature.now content.now) minimum_trust result runner.new }
     ensures callable { F.IsAlwaysCallable runner.new }
 {
     let words = [

@@ -36,7 +36,9 @@ fn tells_strange_trust(text: &[u8]) -> bool
 
 // The verdict of the lines; `Error` where they have several.
 fn only_verdict(text: &[u8]) -> Option<Status>
-    ensures { result ≡ fold (λ seen verdict. Some (or_error seen verdict)) None (filter_map spec.verdict_of (lines_of text.now)) }
+    ensures { result
+        ≡ fold (λ seen verdict. Some (or_error seen verdict)) None
+        (filter_map spec.verdict_of (lines_of text.now)) }
 {
     text.split(|byte| *byte == b'\n')
         .filter_map(|line| verdict_of(line))

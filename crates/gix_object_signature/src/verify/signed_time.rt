@@ -60,7 +60,8 @@ fn signer_of(line: &[u8]) -> Option<&[u8]>
 
 fn seconds_of(line: &[u8]) -> Option<i64>
     ensures { MatchOption result ((seconds : ℤ) → ¬ TellsSeconds line.now seconds)
-        (λ seconds. TellsSeconds line.now seconds × ((other : ℤ) → TellsSeconds line.now other → other ≡ seconds)) }
+        (λ seconds. TellsSeconds line.now seconds
+        × ((other : ℤ) → TellsSeconds line.now other → other ≡ seconds)) }
 {
     let signer = signer_of(line)?;
     let actor = read_actor(signer).ok()?;

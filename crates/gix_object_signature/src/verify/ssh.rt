@@ -47,7 +47,8 @@ pub(crate) fn verify<'a, F: FnMut(&[Word<'_>], &[u8]) -> Result<Answer, RunError
     runner: &mut F,
 ) -> Result<Outcome, Error>
     requires { F.IsAlwaysCallable runner.old }
-    ensures told { VerifiesSsh (Answers F.FnMut) runner.old signers.entry.program signers.entry.allowed signers.entry.revoked minimum_trust signature.now content.now result runner.new }
+    ensures told { VerifiesSsh
+        (Answers F.FnMut) runner.old signers.entry.program signers.entry.allowed signers.entry.revoked minimum_trust signature.now content.now result runner.new }
     ensures callable { F.IsAlwaysCallable runner.new }
 {
     let word = time_word(content)?;
@@ -74,7 +75,8 @@ impl<'a> Keygen<'a> {
         runner: &mut F,
     ) -> Result<Outcome, Error>
         requires { F.IsAlwaysCallable runner.old }
-        ensures told { Asked (Answers F.FnMut) runner.old (question_of self.now) content.now minimum_trust result runner.new }
+        ensures told { Asked (Answers F.FnMut) runner.old
+            (question_of self.now) content.now minimum_trust result runner.new }
         ensures callable { F.IsAlwaysCallable runner.new }
     {
         let found = self.find_principals(alloc, runner)?;
@@ -95,7 +97,8 @@ impl<'a> Keygen<'a> {
         runner: &mut F,
     ) -> Result<Answer, Error>
         requires { F.IsAlwaysCallable runner.old }
-        ensures told { TriesFound (Answers F.FnMut) (question_of self.now) content.now runner.old found result runner.new }
+        ensures told { TriesFound (Answers F.FnMut)
+            (question_of self.now) content.now runner.old found result runner.new }
         ensures callable { F.IsAlwaysCallable runner.new }
     {
         let text = drop_returns(alloc, found.output.as_bytes())?;
@@ -113,7 +116,9 @@ impl<'a> Keygen<'a> {
         runner: &mut F,
     ) -> Result<Answer, Error>
         requires { F.IsAlwaysCallable runner.old }
-        ensures told { Tries (Answers F.FnMut) (verify_request (question_of self.now) content.now) runner.old (map (λ name. name.now) names.now) found result runner.new }
+        ensures told { Tries (Answers F.FnMut)
+            (verify_request (question_of self.now) content.now) runner.old
+            (map (λ name. name.now) names.now) found result runner.new }
         ensures callable { F.IsAlwaysCallable runner.new }
     {
         let mut last = found;
@@ -133,7 +138,8 @@ impl<'a> Keygen<'a> {
         runner: &mut F,
     ) -> Result<Answer, Error>
         requires { F.IsAlwaysCallable runner.old }
-        ensures told { Asks (Answers F.FnMut) runner.old (find_request (question_of self.now)) result runner.new }
+        ensures told { Asks (Answers F.FnMut) runner.old
+            (find_request (question_of self.now)) result runner.new }
         ensures callable { F.IsAlwaysCallable runner.new }
     {
         let front = [
@@ -154,7 +160,8 @@ impl<'a> Keygen<'a> {
         runner: &mut F,
     ) -> Result<Answer, Error>
         requires { F.IsAlwaysCallable runner.old }
-        ensures told { Asks (Answers F.FnMut) runner.old (check_request (question_of self.now) content.now) result runner.new }
+        ensures told { Asks (Answers F.FnMut) runner.old
+            (check_request (question_of self.now) content.now) result runner.new }
         ensures callable { F.IsAlwaysCallable runner.new }
     {
         let front = [
@@ -176,7 +183,8 @@ impl<'a> Keygen<'a> {
         runner: &mut F,
     ) -> Result<Answer, Error>
         requires { F.IsAlwaysCallable runner.old }
-        ensures told { Asks (Answers F.FnMut) runner.old (verify_request (question_of self.now) content.now principal.now) result runner.new }
+        ensures told { Asks (Answers F.FnMut) runner.old
+            (verify_request (question_of self.now) content.now principal.now) result runner.new }
         ensures callable { F.IsAlwaysCallable runner.new }
     {
         let front = [
@@ -202,7 +210,11 @@ impl<'a> Keygen<'a> {
         revoked_keys: Option<BStr<'b>>,
     ) -> Result<Vec<Word<'b>>, AllocError>
         ensures { IfOk result (λ words. map argument_of words.items
-            ≡ map argument_of front.now ++ (Plain (codes "-s") ∷ File (bstr_bytes self.now.signature) ∷ (time_words (path_of self.now.time) ++ revoked_words (path_of revoked_keys.entry)))) }
+            ≡ map argument_of front.now
+            ++
+            (Plain (codes "-s") ∷ File (bstr_bytes self.now.signature)
+            ∷ (time_words (path_of self.now.time)
+            ++ revoked_words (path_of revoked_keys.entry)))) }
     {
         let mut words = Vec::from_slice(alloc, front)?;
         words.extend_from_slice(&[text(b"-s"), Word::FileWith(self.signature)])?;
@@ -230,7 +242,9 @@ fn text(bytes: &[u8]) -> Word<'_>
 
 // The lines that aren't empty.
 fn names(alloc: Global, text: &[u8]) -> Result<Vec<&[u8]>, AllocError>
-    ensures { IfOk result (λ names. map (λ name. name.now) names.items ≡ filter (λ line. not (length line == 0)) (slice_split (λ byte. byte == 10) text.now)) }
+    ensures { IfOk result
+        (λ names. map (λ name. name.now) names.items
+        ≡ filter (λ line. not (length line == 0)) (slice_split (λ byte. byte == 10) text.now)) }
 {
     text.split(|byte| *byte == b'\n')
         .filter(|line| !line.is_empty())

@@ -37,7 +37,8 @@ pub struct Tag {
 impl Tag {
     /// The tag's signature with the format of its armor; `None` where no armor begins it.
     pub fn signature(&self) -> Option<SignatureRef<'_>>
-        ensures { MatchOption result (IsBare self.now.pgp_signature) (IsSignatureOf self.now.pgp_signature) }
+        ensures { MatchOption result (IsBare self.now.pgp_signature)
+            (IsSignatureOf self.now.pgp_signature) }
     {
         let signature = self.pgp_signature.as_ref()?.as_bstr();
         let format = Format::from_signature(signature.as_bytes())?;
@@ -50,7 +51,9 @@ impl<'a> TagRef<'a> {
     /// tagger tells no time, neither of which a tag that was read is; and else `Memory` where no memory is left.
     pub fn into_owned(self, alloc: Global) -> Result<Tag, Error>
         ensures own { IfOk result (IsTagOf (parts_of self.entry)) }
-        ensures refused { IfErr result (λ error. OwningFault (bstr_bytes self.entry.target) (tagger_of self.entry.tagger) error) }
+        ensures refused { IfErr result
+            (λ error. OwningFault (bstr_bytes self.entry.target)
+            (tagger_of self.entry.tagger) error) }
     {
         let Ok(target) = ObjectId::from_hex(self.target.as_bytes()) else {
             return Err(Error::HexDigits);
@@ -73,7 +76,9 @@ impl<'a> TagRef<'a> {
 fn own_tagger(alloc: Global, tagger: Option<ActorRef<'_>>) -> Result<Option<Actor>, Error>
     ensures own { IfOk result (λ actor. IsOwnTagger (tagger_of tagger.entry) actor) }
     ensures told { OnOk result (TellsWhen (tagger_of tagger.entry)) }
-    ensures refused { IfErr result (λ error. ((error ≡ Memory) × TellsWhen (tagger_of tagger.entry)) ⊎ ((error ≡ InvalidTime) × ¬ TellsWhen (tagger_of tagger.entry))) }
+    ensures refused { IfErr result
+        (λ error. ((error ≡ Memory) × TellsWhen (tagger_of tagger.entry))
+        ⊎ ((error ≡ InvalidTime) × ¬ TellsWhen (tagger_of tagger.entry))) }
 {
     match tagger {
         Some(actor) => Ok(Some(actor.to_owned(alloc)?)),

@@ -141,7 +141,8 @@ fn read_token<'a>(
     input: &'a [u8],
     hash_kind: gix_hash::Kind,
 ) -> Result<(Token<'a>, &'a [u8]), Error>
-    ensures read { IfOk result (λ read. IsPartAt hash_kind stage input.now (part_of read.0) read.1.now) }
+    ensures read { IfOk result
+        (λ read. IsPartAt hash_kind stage input.now (part_of read.0) read.1.now) }
     ensures every { (part : Part) (rest : List ℕ) → IsPartAt hash_kind stage input.now part rest
         → IsOkAnd result (λ read. (part_of read.0 ≡ part) × (read.1.now ≡ rest)) }
     ensures refused { IfErr result (λ error. IsFaultAt hash_kind stage input.now error) }
@@ -156,8 +157,10 @@ fn read_token<'a>(
 }
 
 fn read_target(input: &[u8], hash_kind: gix_hash::Kind) -> Result<(Token<'_>, &[u8]), Error>
-    ensures read { IfOk result (λ read. IsPartAt hash_kind stages.Target input.now (part_of read.0) read.1.now) }
-    ensures every { (part : Part) (rest : List ℕ) → IsPartAt hash_kind stages.Target input.now part rest
+    ensures read { IfOk result
+        (λ read. IsPartAt hash_kind stages.Target input.now (part_of read.0) read.1.now) }
+    ensures every { (part : Part) (rest : List ℕ)
+        → IsPartAt hash_kind stages.Target input.now part rest
         → IsOkAnd result (λ read. (part_of read.0 ≡ part) × (read.1.now ≡ rest)) }
     ensures refused { IfErr result (λ error. IsFaultAt hash_kind stages.Target input.now error) }
 {
@@ -167,18 +170,23 @@ fn read_target(input: &[u8], hash_kind: gix_hash::Kind) -> Result<(Token<'_>, &[
 }
 
 fn read_target_kind(input: &[u8], _hash_kind: gix_hash::Kind) -> Result<(Token<'_>, &[u8]), Error>
-    ensures read { IfOk result (λ read. IsPartAt _hash_kind stages.TargetKind input.now (part_of read.0) read.1.now) }
-    ensures every { (part : Part) (rest : List ℕ) → IsPartAt _hash_kind stages.TargetKind input.now part rest
+    ensures read { IfOk result
+        (λ read. IsPartAt _hash_kind stages.TargetKind input.now (part_of read.0) read.1.now) }
+    ensures every { (part : Part) (rest : List ℕ)
+        → IsPartAt _hash_kind stages.TargetKind input.now part rest
         → IsOkAnd result (λ read. (part_of read.0 ≡ part) × (read.1.now ≡ rest)) }
-    ensures refused { IfErr result (λ error. IsFaultAt _hash_kind stages.TargetKind input.now error) }
+    ensures refused { IfErr result
+        (λ error. IsFaultAt _hash_kind stages.TargetKind input.now error) }
 {
     let (kind, rest) = decode::target_kind(input)?;
     Ok((Token::TargetKind(kind), rest))
 }
 
 fn read_name(input: &[u8], _hash_kind: gix_hash::Kind) -> Result<(Token<'_>, &[u8]), Error>
-    ensures read { IfOk result (λ read. IsPartAt _hash_kind stages.Name input.now (part_of read.0) read.1.now) }
-    ensures every { (part : Part) (rest : List ℕ) → IsPartAt _hash_kind stages.Name input.now part rest
+    ensures read { IfOk result
+        (λ read. IsPartAt _hash_kind stages.Name input.now (part_of read.0) read.1.now) }
+    ensures every { (part : Part) (rest : List ℕ)
+        → IsPartAt _hash_kind stages.Name input.now part rest
         → IsOkAnd result (λ read. (part_of read.0 ≡ part) × (read.1.now ≡ rest)) }
     ensures refused { IfErr result (λ error. IsFaultAt _hash_kind stages.Name input.now error) }
 {
@@ -187,8 +195,10 @@ fn read_name(input: &[u8], _hash_kind: gix_hash::Kind) -> Result<(Token<'_>, &[u
 }
 
 fn read_tagger(input: &[u8], _hash_kind: gix_hash::Kind) -> Result<(Token<'_>, &[u8]), Error>
-    ensures read { IfOk result (λ read. IsPartAt _hash_kind stages.Tagger input.now (part_of read.0) read.1.now) }
-    ensures every { (part : Part) (rest : List ℕ) → IsPartAt _hash_kind stages.Tagger input.now part rest
+    ensures read { IfOk result
+        (λ read. IsPartAt _hash_kind stages.Tagger input.now (part_of read.0) read.1.now) }
+    ensures every { (part : Part) (rest : List ℕ)
+        → IsPartAt _hash_kind stages.Tagger input.now part rest
         → IsOkAnd result (λ read. (part_of read.0 ≡ part) × (read.1.now ≡ rest)) }
     ensures refused { IfErr result (λ error. IsFaultAt _hash_kind stages.Tagger input.now error) }
 {
@@ -197,8 +207,10 @@ fn read_tagger(input: &[u8], _hash_kind: gix_hash::Kind) -> Result<(Token<'_>, &
 }
 
 fn read_body(input: &[u8], _hash_kind: gix_hash::Kind) -> Result<(Token<'_>, &[u8]), Error>
-    ensures read { IfOk result (λ read. IsPartAt _hash_kind stages.Body input.now (part_of read.0) read.1.now) }
-    ensures every { (part : Part) (rest : List ℕ) → IsPartAt _hash_kind stages.Body input.now part rest
+    ensures read { IfOk result
+        (λ read. IsPartAt _hash_kind stages.Body input.now (part_of read.0) read.1.now) }
+    ensures every { (part : Part) (rest : List ℕ)
+        → IsPartAt _hash_kind stages.Body input.now part rest
         → IsOkAnd result (λ read. (part_of read.0 ≡ part) × (read.1.now ≡ rest)) }
     ensures refused { IfErr result (λ error. IsFaultAt _hash_kind stages.Body input.now error) }
 {

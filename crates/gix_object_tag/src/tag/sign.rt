@@ -32,7 +32,8 @@ impl Tag {
         runner: &mut F,
     ) -> Result<(), Error>
         requires { F.IsAlwaysCallable runner.old }
-        ensures signed { SignsTag (Answers F.FnMut) runner.old self.old options.now (left_of result self.new) runner.new }
+        ensures signed { SignsTag (Answers F.FnMut) runner.old self.old options.now
+            (left_of result self.new) runner.new }
         ensures callable { F.IsAlwaysCallable runner.new }
         ensures kept { OnErr result (self.new ≡ self.old) }
     {
@@ -55,7 +56,8 @@ impl<'a> TagRef<'a> {
         runner: &mut F,
     ) -> Result<Tag, Error>
         requires { F.IsAlwaysCallable runner.old }
-        ensures signed { SignsParts (Answers F.FnMut) runner.old (parts_of self.entry) options.now result runner.new }
+        ensures signed { SignsParts (Answers F.FnMut) runner.old
+            (parts_of self.entry) options.now result runner.new }
         ensures callable { F.IsAlwaysCallable runner.new }
     {
         let mut tag = self.into_owned(alloc)?;
@@ -84,7 +86,8 @@ fn signature_over<F: FnMut(&[Word<'_>], &[u8]) -> Result<Answer, RunError>>(
 ) -> Result<ByteString, Error>
     requires { F.IsAlwaysCallable runner.old }
     ensures signed { bstr_bytes message.entry ≡ parted tag.now.pgp_signature tag.now.message
-        → SignsTag (Answers F.FnMut) runner.old tag.now options.now (signed_with tag.now result) runner.new }
+        → SignsTag (Answers F.FnMut) runner.old tag.now options.now
+        (signed_with tag.now result) runner.new }
     ensures callable { F.IsAlwaysCallable runner.new }
 {
     let text = text_to_sign(tag, message)?;
@@ -102,7 +105,9 @@ fn put_signature(tag: &mut Tag, message: ByteString, signature: ByteString)
 fn text_to_sign(tag: &Tag, message: BStr<'_>) -> Result<Vec<u8>, Error>
     ensures text { bstr_bytes message.entry ≡ parted tag.now.pgp_signature tag.now.message
         → IfOk result (λ text. (write_fault tag.now ≡ None) × IsTextToSign tag.now text.items) }
-    ensures refused { IfErr result (λ error. (error ≡ Memory) ⊎ ((fault : write.Error) × (write_fault tag.now ≡ Some fault) × (error ≡ Encode fault))) }
+    ensures refused { IfErr result
+        (λ error. (error ≡ Memory)
+        ⊎ ((fault : write.Error) × (write_fault tag.now ≡ Some fault) × (error ≡ Encode fault))) }
 {
     let mut text = Vec::new(tag.message.allocator());
     match tag.write_with(message, Some(BStr::new(b"")), true, &mut text) {

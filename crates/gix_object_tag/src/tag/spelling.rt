@@ -46,7 +46,9 @@ pub(crate) fn is_marked(part: &[u8]) -> bool
 /// Whether an actor has a line: no `<`, `>` or line feed in its name and email, and whole minutes below 100 hours.
 pub(crate) fn is_spellable(actor: &Actor) -> bool
     ensures no { IsFalse result → is_bad_actor (Some actor.now) ≡ true }
-    ensures yes { IsTrue result → (is_bad_actor (Some actor.now) ≡ false) × IsSpellable actor.now.name actor.now.email actor.now.time }
+    ensures yes { IsTrue result
+        → (is_bad_actor (Some actor.now) ≡ false)
+        × IsSpellable actor.now.name actor.now.email actor.now.time }
 {
     if is_marked(actor.name.as_bytes()) {
         return false;

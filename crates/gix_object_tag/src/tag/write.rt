@@ -63,13 +63,15 @@ pub(crate) fn name_parts<'a>(name: &'a [u8]) -> [&'a [u8]; 3]
 }
 
 pub(crate) fn tagger_parts<'a>(name: &'a [u8], email: &'a [u8], time: &'a [u8]) -> [&'a [u8]; 7]
-    ensures { flat_map (λ part. part.now) result ≡ tagger_line (Some (record { name = name.now; email = email.now; time = time.now })) }
+    ensures { flat_map (λ part. part.now) result
+        ≡ tagger_line (Some (record { name = name.now; email = email.now; time = time.now })) }
 {
     [b"tagger ", name, b" <", email, b"> ", time, b"\n"]
 }
 
 pub(crate) fn body_parts<'a>(message: BStr<'a>, signature: Option<BStr<'a>>) -> [&'a [u8]; 4]
-    ensures { flat_map (λ part. part.now) result ≡ body_text (bstr_bytes message.entry) (text_of signature.entry) }
+    ensures { flat_map (λ part. part.now) result
+        ≡ body_text (bstr_bytes message.entry) (text_of signature.entry) }
 {
     let message = message.as_bytes();
     match signature {
@@ -86,14 +88,17 @@ pub(crate) fn write_head<W: io::Write>(
     kind: Kind,
     out: &mut W,
 ) -> Result<(), Error>
-    ensures { Writes (W.contents out.old) (W.contents out.new) (head_text (bstr_bytes target.entry) (kind_word kind)) (unspellable_unless (hex.is_id (bstr_bytes target.entry))) result }
+    ensures { Writes (W.contents out.old) (W.contents out.new)
+        (head_text (bstr_bytes target.entry) (kind_word kind))
+        (unspellable_unless (hex.is_id (bstr_bytes target.entry))) result }
 {
     let target = target.as_bytes();
     write_spellable(is_id(target), &head_parts(target, kind.as_bytes()), out)
 }
 
 pub(crate) fn write_name<W: io::Write>(name: BStr<'_>, out: &mut W) -> Result<(), Error>
-    ensures { Writes (W.contents out.old) (W.contents out.new) (name_line (bstr_bytes name.entry)) (name_refusal (name_test.name_fault (bstr_bytes name.entry))) result }
+    ensures { Writes (W.contents out.old) (W.contents out.new) (name_line (bstr_bytes name.entry))
+        (name_refusal (name_test.name_fault (bstr_bytes name.entry))) result }
 {
     let name = name.as_bytes();
     if let Some(fault) = name_fault(name) {
@@ -103,7 +108,9 @@ pub(crate) fn write_name<W: io::Write>(name: BStr<'_>, out: &mut W) -> Result<()
 }
 
 fn write_tagger<W: io::Write>(tagger: Option<ActorRef<'_>>, out: &mut W) -> Result<(), Error>
-    ensures { Writes (W.contents out.old) (W.contents out.new) (tagger_line (tagger_of tagger.entry)) (tagger_refusal (is_bad_tagger (tagger_of tagger.entry))) result }
+    ensures { Writes (W.contents out.old) (W.contents out.new)
+        (tagger_line (tagger_of tagger.entry))
+        (tagger_refusal (is_bad_tagger (tagger_of tagger.entry))) result }
 {
     let Some(actor) = tagger else {
         return Ok(());
@@ -123,7 +130,9 @@ pub(crate) fn write_body<W: io::Write>(
     is_whole: bool,
     out: &mut W,
 ) -> Result<(), Error>
-    ensures { Writes (W.contents out.old) (W.contents out.new) (body_text (bstr_bytes message.entry) (text_of signature.entry)) (unspellable_unless is_whole) result }
+    ensures { Writes (W.contents out.old) (W.contents out.new)
+        (body_text (bstr_bytes message.entry) (text_of signature.entry))
+        (unspellable_unless is_whole) result }
 {
     write_spellable(is_whole, &body_parts(message, signature), out)
 }

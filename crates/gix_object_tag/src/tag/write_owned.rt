@@ -37,8 +37,23 @@ impl Tag {
         is_whole: bool,
         out: &mut W,
     ) -> Result<(), Error>
-        ensures { Writes (W.contents out.old) (W.contents out.new) (tag_text (own_parts (record self.now { message = bstr_bytes message.entry; pgp_signature = text_of signature.entry })))
-            (first_refusal (pieces_of (own_parts (record self.now { message = bstr_bytes message.entry; pgp_signature = text_of signature.entry })) (is_bad_actor self.now.tagger) is_whole)) result }
+        ensures { Writes (W.contents out.old) (W.contents out.new)
+            (tag_text
+            (own_parts
+            (record self.now {
+              message =
+                  bstr_bytes message.entry;
+              pgp_signature = text_of signature.entry;
+            })))
+            (first_refusal
+            (pieces_of
+            (own_parts
+            (record self.now {
+              message =
+                  bstr_bytes message.entry;
+              pgp_signature = text_of signature.entry;
+            }))
+            (is_bad_actor self.now.tagger) is_whole)) result }
     {
         write_own_head(self.target, self.target_kind, out)?;
         write_own_name(&self.name, out)?;
@@ -76,7 +91,9 @@ impl WriteTo for Tag {
 }
 
 fn write_own_head<W: io::Write>(target: ObjectId, kind: Kind, out: &mut W) -> Result<(), Error>
-    ensures { Writes (W.contents out.old) (W.contents out.new) (head_text (hex_text (id_of target).digits) (kind_word kind)) (unspellable_unless (is_id (hex_text (id_of target).digits))) result }
+    ensures { Writes (W.contents out.old) (W.contents out.new)
+        (head_text (hex_text (id_of target).digits) (kind_word kind))
+        (unspellable_unless (is_id (hex_text (id_of target).digits))) result }
 {
     let mut digits = gix_hash::Kind::hex_buf();
     let target = target.hex_to_buf(&mut digits).as_bytes();
@@ -84,13 +101,15 @@ fn write_own_head<W: io::Write>(target: ObjectId, kind: Kind, out: &mut W) -> Re
 }
 
 fn write_own_name<W: io::Write>(name: &ByteString, out: &mut W) -> Result<(), Error>
-    ensures { Writes (W.contents out.old) (W.contents out.new) (name_line name.now) (name_refusal (name_fault name.now)) result }
+    ensures { Writes (W.contents out.old) (W.contents out.new) (name_line name.now)
+        (name_refusal (name_fault name.now)) result }
 {
     write_name(name.as_bstr(), out)
 }
 
 fn write_own_tagger<W: io::Write>(tagger: &Option<Actor>, out: &mut W) -> Result<(), Error>
-    ensures { Writes (W.contents out.old) (W.contents out.new) (tagger_line (own_person tagger.now)) (tagger_refusal (is_bad_actor tagger.now)) result }
+    ensures { Writes (W.contents out.old) (W.contents out.new)
+        (tagger_line (own_person tagger.now)) (tagger_refusal (is_bad_actor tagger.now)) result }
 {
     let Some(actor) = tagger else {
         return Ok(());

@@ -17,7 +17,9 @@ use gix_object_tag::laws::owned as tags;
 /// What is written of an object that owns its parts and isn't refused, behind its header, is a loose object that tells its
 /// value, where its ids are of this hash function.
 pub fn owned_written_object_is_read_back(object: &Object, _hash_kind: gix_hash::Kind)
-    ensures { let value = own_value object.now in own_value_refusal object.now ≡ None → HasOwnIds _hash_kind object.now
+    ensures { let value =
+        own_value object.now
+        in own_value_refusal object.now ≡ None → HasOwnIds _hash_kind object.now
         → IsLoose _hash_kind (loose_text (kind_of value) (value_text value)) value }
 {
     match object {
@@ -31,7 +33,8 @@ pub fn owned_written_object_is_read_back(object: &Object, _hash_kind: gix_hash::
 /// An object that was read, and then owned, keeps its value where its ids stand in lower case, and its times as they are
 /// written.
 pub fn owned_object_keeps_its_value(_bytes: &[u8], _hash_kind: gix_hash::Kind)
-    ensures { (value : Value) (object : owned.Object) → IsLoose _hash_kind _bytes.now value → IsOwned value object → IsKeptWhole value
+    ensures { (value : Value) (object : owned.Object) → IsLoose _hash_kind _bytes.now value
+        → IsOwned value object → IsKeptWhole value
         → own_value object ≡ value }
 {
     lower_case_is_written();
@@ -40,8 +43,10 @@ pub fn owned_object_keeps_its_value(_bytes: &[u8], _hash_kind: gix_hash::Kind)
 /// So it is written to the bytes that it was read from, unless it is a tree with further zeros before a mode, or a tag with an
 /// empty message.
 pub fn owned_object_is_written_back(bytes: &[u8], hash_kind: gix_hash::Kind)
-    ensures { (value : Value) (object : owned.Object) → (is : IsLoose hash_kind bytes.now value) → IsOwned value object → IsKeptWhole value
-        → IsSpelledAsWritten hash_kind is.content value → loose_text (kind_of (own_value object)) (value_text (own_value object)) ≡ bytes.now }
+    ensures { (value : Value) (object : owned.Object) → (is : IsLoose hash_kind bytes.now value)
+        → IsOwned value object → IsKeptWhole value
+        → IsSpelledAsWritten hash_kind is.content value
+        → loose_text (kind_of (own_value object)) (value_text (own_value object)) ≡ bytes.now }
 {
     owned_object_keeps_its_value(bytes, hash_kind);
     read_object_is_written_back(bytes, hash_kind);

@@ -32,7 +32,8 @@ impl<'a> ObjectRef<'a> {
     ) -> Result<ObjectRef<'a>, LooseDecodeError>
         ensures read { IfOk result (λ object. IsLoose hash_kind bytes.now (value_of object)) }
         ensures every { (value : Value) → IsLoose hash_kind bytes.now value
-            → MatchResult result (λ object. value_of object ≡ value) (λ fault. fault ≡ OutOfMemory) }
+            → MatchResult result (λ object. value_of object ≡ value)
+            (λ fault. fault ≡ OutOfMemory) }
         ensures refused { IfErr result (λ fault. LooseFault hash_kind bytes.now fault) }
     {
         let (kind, content) = split_loose(bytes)?;
@@ -55,7 +56,8 @@ impl<'a> ObjectRef<'a> {
     ) -> Result<ObjectRef<'a>, Error>
         ensures read { IfOk result (λ object. Tells hash_kind kind content.now (value_of object)) }
         ensures every { (value : Value) → Tells hash_kind kind content.now value
-            → MatchResult result (λ object. value_of object ≡ value) (λ fault. ((kind ≡ kinds.Tree) ⊎ (kind ≡ kinds.Commit)) × (fault ≡ Memory)) }
+            → MatchResult result (λ object. value_of object ≡ value)
+            (λ fault. ((kind ≡ kinds.Tree) ⊎ (kind ≡ kinds.Commit)) × (fault ≡ Memory)) }
         ensures refused { IfErr result (λ fault. ContentFault hash_kind kind content.now fault) }
     {
         match kind {

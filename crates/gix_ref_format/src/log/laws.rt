@@ -13,7 +13,8 @@ use gix_object_lines::lines::Time;
 /// What is written of a line spells it, where neither the name nor the email holds a tab; so `LineRef::from_bytes` reads
 /// the same parts from it, with or without its line feed.
 pub fn written_line_is_read_back(line: &Line)
-    ensures { IsWritable line.now → Lacks 9 line.now.signature.name → Lacks 9 line.now.signature.email
+    ensures { IsWritable line.now → Lacks 9 line.now.signature.name
+        → Lacks 9 line.now.signature.email
         → SpellsLine (written_text line.now) (written_parts line.now) }
 {
     let _previous = line.previous_oid.as_slice();
@@ -25,7 +26,8 @@ pub fn written_line_is_read_back(line: &Line)
 
 /// A text is a line of one list of parts at most.
 pub fn lines_have_one_reading()
-    ensures { (text : List ℕ) (one other : LineParts) → SpellsLine text one → SpellsLine text other → one ≡ other }
+    ensures { (text : List ℕ) (one other : LineParts) → SpellsLine text one
+        → SpellsLine text other → one ≡ other }
 {}
 
 // The seconds of a time are a number of 64 bits.

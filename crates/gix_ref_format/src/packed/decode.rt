@@ -60,13 +60,15 @@ fn has_word(words: &[u8], word: &[u8]) -> bool
 
 /// The name and the id that a line tells, its line feed included; `None` where it is no record.
 pub(crate) fn record_in_line(line: &[u8], kind: Kind) -> Option<(FullNameRef<'_>, ObjectId)>
-    ensures { option_map (λ r. without_peel (name_of r.0) (id_of r.1)) result ≡ record_line kind line.now }
+    ensures { option_map (λ r. without_peel (name_of r.0) (id_of r.1)) result
+        ≡ record_line kind line.now }
 {
     record_in(text_of_line(line)?, kind)
 }
 
 fn record_in(text: &[u8], kind: Kind) -> Option<(FullNameRef<'_>, ObjectId)>
-    ensures { option_map (λ r. without_peel (name_of r.0) (id_of r.1)) result ≡ record_text kind text.now }
+    ensures { option_map (λ r. without_peel (name_of r.0) (id_of r.1)) result
+        ≡ record_text kind text.now }
 {
     let (digits, name) = split_at_space(text, kind.len_in_hex())?;
     let id = parse_hex(kind, digits)?;
@@ -79,7 +81,8 @@ fn record_in(text: &[u8], kind: Kind) -> Option<(FullNameRef<'_>, ObjectId)>
 // The first bytes, and what follows the space behind them; `None` where no space stands there.
 fn split_at_space(text: &[u8], at: usize) -> Option<(&[u8], &[u8])>
     ensures { MatchOption result (IsFalse (begins (32 ∷ []) (drop at text.now)))
-        (λ cut. IsTrue (begins (32 ∷ []) (drop at text.now)) × (cut.0.now ≡ take at text.now) × (cut.1.now ≡ drop (at + 1) text.now)) }
+        (λ cut. IsTrue (begins (32 ∷ []) (drop at text.now)) × (cut.0.now ≡ take at text.now)
+        × (cut.1.now ≡ drop (at + 1) text.now)) }
 {
     let (front, rest) = text.split_at_checked(at)?;
     if rest.starts_with(b" ") {

@@ -30,8 +30,11 @@ pub enum FindError {
 impl Buffer {
     /// The record that this name stands for, as `try_find` has it; `NotFound` where there is none.
     pub fn find(&self, alloc: Global, name: PartialNameRef<'_>) -> Result<Reference<'_>, FindError>
-        ensures found { IfOk result (λ r. first_hit (kept self.now) (lookup_names (part_of name.entry)) ≡ Some (record_of r)) }
-        ensures absent { IsErrOf result NotFound → first_hit (kept self.now) (lookup_names (part_of name.entry)) ≡ None }
+        ensures found { IfOk result
+            (λ r. first_hit (kept self.now) (lookup_names (part_of name.entry))
+            ≡ Some (record_of r)) }
+        ensures absent { IsErrOf result NotFound
+            → first_hit (kept self.now) (lookup_names (part_of name.entry)) ≡ None }
     {
         match self.try_find(alloc, name) {
             Ok(found) => found.ok_or(FindError::NotFound),
@@ -47,7 +50,9 @@ impl Buffer {
         alloc: Global,
         name: PartialNameRef<'_>,
     ) -> Result<Option<Reference<'_>>, AllocError>
-        ensures { IfOk result (λ found. option_map record_of found ≡ first_hit (kept self.now) (lookup_names (part_of name.entry))) }
+        ensures { IfOk result
+            (λ found. option_map record_of found
+            ≡ first_hit (kept self.now) (lookup_names (part_of name.entry))) }
     {
         let word = name.as_bstr().as_bytes();
         if is_complete(word) {
@@ -62,7 +67,9 @@ impl Buffer {
         alloc: Global,
         word: &[u8],
     ) -> Result<Option<Reference<'_>>, AllocError>
-        ensures { IfOk result (λ found. option_map record_of found ≡ first_hit (kept self.now) (word_names word.now)) }
+        ensures { IfOk result
+            (λ found. option_map record_of found
+            ≡ first_hit (kept self.now) (word_names word.now)) }
     {
         match self.reference_between(alloc, b"refs/", word, b"")? {
             Some(found) => Ok(Some(found)),
@@ -76,7 +83,9 @@ impl Buffer {
         alloc: Global,
         word: &[u8],
     ) -> Result<Option<Reference<'_>>, AllocError>
-        ensures { IfOk result (λ found. option_map record_of found ≡ first_hit (kept self.now) (tag_names word.now)) }
+        ensures { IfOk result
+            (λ found. option_map record_of found
+            ≡ first_hit (kept self.now) (tag_names word.now)) }
     {
         match self.reference_between(alloc, b"refs/tags/", word, b"")? {
             Some(found) => Ok(Some(found)),
@@ -90,7 +99,9 @@ impl Buffer {
         alloc: Global,
         word: &[u8],
     ) -> Result<Option<Reference<'_>>, AllocError>
-        ensures { IfOk result (λ found. option_map record_of found ≡ first_hit (kept self.now) (branch_names word.now)) }
+        ensures { IfOk result
+            (λ found. option_map record_of found
+            ≡ first_hit (kept self.now) (branch_names word.now)) }
     {
         match self.reference_between(alloc, b"refs/heads/", word, b"")? {
             Some(found) => Ok(Some(found)),
@@ -104,7 +115,9 @@ impl Buffer {
         alloc: Global,
         word: &[u8],
     ) -> Result<Option<Reference<'_>>, AllocError>
-        ensures { IfOk result (λ found. option_map record_of found ≡ first_hit (kept self.now) (remote_names word.now)) }
+        ensures { IfOk result
+            (λ found. option_map record_of found
+            ≡ first_hit (kept self.now) (remote_names word.now)) }
     {
         match self.reference_between(alloc, b"refs/remotes/", word, b"")? {
             Some(found) => Ok(Some(found)),
@@ -137,7 +150,9 @@ impl Buffer {
         word: &[u8],
         back: &[u8],
     ) -> Result<Option<Reference<'_>>, AllocError>
-        ensures { IfOk result (λ found. option_map record_of found ≡ packed_hit (kept self.now) (front.now ++ (word.now ++ back.now))) }
+        ensures { IfOk result
+            (λ found. option_map record_of found
+            ≡ packed_hit (kept self.now) (front.now ++ (word.now ++ back.now))) }
     {
         let mut name = front.to_vec(alloc)?;
         name.extend_from_slice(word)?;
@@ -147,7 +162,8 @@ impl Buffer {
 
     // The first entry of this name.
     fn entry_of(&self, name: &[u8]) -> Option<&Entry>
-        ensures { option_map (λ entry. entry_record entry.now) result ≡ hit (kept self.now) name.now }
+        ensures { option_map (λ entry. entry_record entry.now) result
+            ≡ hit (kept self.now) name.now }
     {
         let at = self
             .entries

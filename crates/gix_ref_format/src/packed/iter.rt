@@ -73,7 +73,8 @@ impl<'a> Iter<'a> {
 
     // What stands behind the line that comes next, given what follows it.
     fn behind(&self, rest: &'a [u8]) -> Iter<'a>
-        ensures left { items_left result ≡ items self.now.kind (next_number self.now.line_number) false (lines rest.now) }
+        ensures left { items_left result
+            ≡ items self.now.kind (next_number self.now.line_number) false (lines rest.now) }
         ensures kind { result.kind ≡ self.now.kind }
         ensures number { result.line_number ≡ next_number self.now.line_number }
         ensures rest { result.rest.now ≡ rest.now }
@@ -134,7 +135,8 @@ fn bad<'a>(line: &'a [u8], line_number: u64) -> Error<'a>
 
 // The peeled id in the line that comes next, if it tells one, and what comes behind it.
 fn peeled<'a>(before: Iter<'a>) -> (Option<ObjectId>, Iter<'a>)
-    ensures { HasPeel before.entry.kind before.entry.line_number (lines before.entry.rest.now) (option_map id_of result.0) (items_left result.1) }
+    ensures { HasPeel before.entry.kind before.entry.line_number (lines before.entry.rest.now)
+        (option_map id_of result.0) (items_left result.1) }
 {
     if before.rest.is_empty() {
         return (None, before);

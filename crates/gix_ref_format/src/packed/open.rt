@@ -19,7 +19,8 @@ impl Buffer {
     /// The buffer of these bytes, which are taken over, with ids of this kind. It reads each line once: the first bad one is told
     /// by its number (`Iter`), a first line that begins with `#` and is no header is `HeaderParsing`.
     pub fn from_bytes(alloc: Global, bytes: Vec<u8>, kind: Kind) -> Result<Buffer, Error>
-        ensures kept { MatchResult result (λ buffer. Keeps kind bytes.items (kept buffer)) (OpenFault kind bytes.items) }
+        ensures kept { MatchResult result (λ buffer. Keeps kind bytes.items (kept buffer))
+            (OpenFault kind bytes.items) }
         ensures bytes { IfOk result (λ buffer. buffer.bytes ≡ bytes) }
     {
         let entries = sorted(collect(alloc, &bytes, kind)?)?;
@@ -35,10 +36,12 @@ impl Buffer {
         kind: Kind,
     ) -> Result<Option<Buffer>, Error>
         ensures kept { F.is_honest files.now → MatchResult result
-            (λ found. KeepsFile kind (bytes_of (node_at (F.history files.now).tree path.now)) (option_map kept found))
+            (λ found. KeepsFile kind (bytes_of (node_at (F.history files.now).tree path.now))
+            (option_map kept found))
             (FileFault kind (bytes_of (node_at (F.history files.now).tree path.now))) }
         ensures bytes { F.is_honest files.now → IfOk result
-            (λ found. option_map text_of found ≡ bytes_of (node_at (F.history files.now).tree path.now)) }
+            (λ found. option_map text_of found
+            ≡ bytes_of (node_at (F.history files.now).tree path.now)) }
         ensures failed { IsErrOf result Io → F.reading_may_fail }
     {
         let mut bytes = Vec::new(alloc);
@@ -53,7 +56,9 @@ impl Buffer {
 
 // All records, in the order of the file.
 fn collect(alloc: Global, bytes: &[u8], kind: Kind) -> Result<Vec<Entry>, Error>
-    ensures { MatchResult result (λ entries. packed_records kind bytes.now ≡ Some (entry_records entries.items)) (OpenFault kind bytes.now) }
+    ensures { MatchResult result
+        (λ entries. packed_records kind bytes.now ≡ Some (entry_records entries.items))
+        (OpenFault kind bytes.now) }
 {
     match Iter::new(bytes, kind) {
         Ok(records) => gather(alloc, records),
@@ -77,7 +82,8 @@ fn gather(alloc: Global, records: Iter<'_>) -> Result<Vec<Entry>, Error>
 
 // The record of an item, with a name of its own.
 fn owned_record(alloc: Global, item: Result<Reference<'_>, iter::Error<'_>>) -> Result<Entry, Error>
-    ensures { MatchResult result (λ entry. item_view item.entry ≡ Good (entry_record entry)) (ItemFault (item_view item.entry)) }
+    ensures { MatchResult result (λ entry. item_view item.entry ≡ Good (entry_record entry))
+        (ItemFault (item_view item.entry)) }
 {
     match item {
         Ok(record) => Ok(Entry {
@@ -93,7 +99,8 @@ fn owned_record(alloc: Global, item: Result<Reference<'_>, iter::Error<'_>>) -> 
 // The entries in the order of their names; those of one name stay in theirs.
 fn sorted(mut entries: Vec<Entry>) -> Result<Vec<Entry>, AllocError>
     ensures order { IfOk result (λ found. IsInOrder found.items) }
-    ensures holds { IfOk result (λ found. Holds (entry_records entries.items) (entry_records found.items)) }
+    ensures holds { IfOk result
+        (λ found. Holds (entry_records entries.items) (entry_records found.items)) }
 {
     entries.sort_by(|one, other| name_of(one).cmp(name_of(other)))?;
     Ok(entries)

@@ -31,7 +31,8 @@ impl Buffer {
 
     /// The records whose names begin with this prefix, ascending by name. It searches for them, and walks over no others.
     pub fn iter_prefixed(&self, prefix: &[u8]) -> Records<'_>
-        ensures { records_left result ≡ filter (λ r. spec.begins prefix.now r.name) (kept self.now) }
+        ensures { records_left result
+            ≡ filter (λ r. spec.begins prefix.now r.name) (kept self.now) }
     {
         let entries = self.entries.as_slice();
         let first = entries.partition_point(|entry| name_of(entry).cmp(prefix) == Ordering::Less);
@@ -51,7 +52,8 @@ impl Buffer {
 
 // The entries whose names begin with this prefix, where they come before all others.
 fn beginning<'a>(entries: &'a [Entry], prefix: &[u8]) -> &'a [Entry]
-    ensures { IsPartitionedBy (has_prefix prefix.now) entries.now → result.now ≡ filter (has_prefix prefix.now) entries.now }
+    ensures { IsPartitionedBy (has_prefix prefix.now) entries.now
+        → result.now ≡ filter (has_prefix prefix.now) entries.now }
 {
     let count = entries.partition_point(|entry| begins(entry, prefix));
     let (found, _) = entries.split_at(count);

@@ -12,7 +12,8 @@ use gix_object_lines::lines::is_capitals;
 
 /// The category of a name and its short name; `None` where it has none.
 pub(crate) fn category_of(name: &[u8]) -> Option<(Category<'_>, BStr<'_>)>
-    ensures { MatchOption result (HasNoCategory name.now) (λ found. Tells name.now found.0 (bstr_bytes found.1)) }
+    ensures { MatchOption result (HasNoCategory name.now)
+        (λ found. Tells name.now found.0 (bstr_bytes found.1)) }
 {
     if let Some(found) = shared(name) {
         return Some(found);
@@ -31,7 +32,8 @@ pub(crate) fn category_of(name: &[u8]) -> Option<(Category<'_>, BStr<'_>)>
 
 // Tags and branches.
 fn shared(name: &[u8]) -> Option<(Category<'_>, BStr<'_>)>
-    ensures { MatchOption result (SharedNone name.now) (λ found. Tells name.now found.0 (bstr_bytes found.1)) }
+    ensures { MatchOption result (SharedNone name.now)
+        (λ found. Tells name.now found.0 (bstr_bytes found.1)) }
 {
     if let Some(short) = strip_prefix(name, b"refs/tags/") {
         return Some((Category::Tag, BStr::new(short)));
@@ -45,7 +47,8 @@ fn shared(name: &[u8]) -> Option<(Category<'_>, BStr<'_>)>
 
 // Notes, and what each worktree has of its own.
 fn kept_apart(name: &[u8]) -> Option<(Category<'_>, BStr<'_>)>
-    ensures { MatchOption result (PrivateNone name.now) (λ found. Tells name.now found.0 (bstr_bytes found.1)) }
+    ensures { MatchOption result (PrivateNone name.now)
+        (λ found. Tells name.now found.0 (bstr_bytes found.1)) }
 {
     let short = strip_prefix(name, b"refs/")?;
     let category = below_refs(short)?;
@@ -72,7 +75,8 @@ fn below_refs(short: &[u8]) -> Option<Category<'_>>
 }
 
 fn of_main(name: &[u8]) -> Option<(Category<'_>, BStr<'_>)>
-    ensures { MatchOption result (MainNone name.now) (λ found. Tells name.now found.0 (bstr_bytes found.1)) }
+    ensures { MatchOption result (MainNone name.now)
+        (λ found. Tells name.now found.0 (bstr_bytes found.1)) }
 {
     let short = strip_prefix(name, b"main-worktree/")?;
     if starts_with(short, b"refs/") {
@@ -85,7 +89,8 @@ fn of_main(name: &[u8]) -> Option<(Category<'_>, BStr<'_>)>
 }
 
 fn of_linked(name: &[u8]) -> Option<(Category<'_>, BStr<'_>)>
-    ensures { MatchOption result (LinkedNone name.now) (λ found. Tells name.now found.0 (bstr_bytes found.1)) }
+    ensures { MatchOption result (LinkedNone name.now)
+        (λ found. Tells name.now found.0 (bstr_bytes found.1)) }
 {
     let rest = strip_prefix(name, b"worktrees/")?;
     let (worktree, short) = split_once(rest, b'/')?;

@@ -83,7 +83,8 @@ impl Category<'_> {
 
     // The prefix, with the name of a linked worktree.
     fn front(&self, alloc: Global) -> Result<ByteString, AllocError>
-        ensures { IfOk result (λ front. front ≡ spec.prefix_text self.now ++ spec.middle_text self.now) }
+        ensures { IfOk result
+            (λ front. front ≡ spec.prefix_text self.now ++ spec.middle_text self.now) }
     {
         match self {
             Category::LinkedPseudoRef { name } => worktree_front(alloc, *name, b"/"),
@@ -108,7 +109,8 @@ impl Category<'_> {
 }
 
 fn worktree_front(alloc: Global, worktree: BStr<'_>, end: &[u8]) -> Result<ByteString, AllocError>
-    ensures { IfOk result (λ front. front ≡ codes "worktrees/" ++ (bstr_bytes worktree.entry ++ end.now)) }
+    ensures { IfOk result
+        (λ front. front ≡ codes "worktrees/" ++ (bstr_bytes worktree.entry ++ end.now)) }
 {
     let mut front = Vec::from_slice(alloc, b"worktrees/")?;
     front.extend_from_slice(worktree.as_bytes())?;

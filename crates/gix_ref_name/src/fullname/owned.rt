@@ -40,7 +40,8 @@ impl FullName {
 
     /// The name of these bytes, which are taken over; `InvalidName` where they break a rule of full names.
     pub fn new(bytes: ByteString) -> Result<FullName, InvalidName>
-        ensures { MatchResult result (λ name. (name ≡ bytes) × IsTrue (is_full_name bytes)) (λ _. IsFalse (is_full_name bytes)) }
+        ensures { MatchResult result (λ name. (name ≡ bytes) × IsTrue (is_full_name bytes))
+            (λ _. IsFalse (is_full_name bytes)) }
     {
         if is_full_name(bytes.as_bytes()) {
             Ok(FullName { bytes })
@@ -134,14 +135,16 @@ impl FullName {
 
     /// The name's category and its short name; `None` where it has no category.
     pub fn category_and_short_name(&self) -> Option<(Category<'_>, BStr<'_>)>
-        ensures { MatchOption result (HasNoCategory self.now) (λ found. Tells self.now found.0 (bstr_bytes found.1)) }
+        ensures { MatchOption result (HasNoCategory self.now)
+            (λ found. Tells self.now found.0 (bstr_bytes found.1)) }
     {
         self.as_ref().category_and_short_name()
     }
 
     /// The name's category; `None` where it has none.
     pub fn category(&self) -> Option<Category<'_>>
-        ensures { MatchOption result (HasNoCategory self.now) (λ category. (short : List ℕ) × Tells self.now category short) }
+        ensures { MatchOption result (HasNoCategory self.now)
+            (λ category. (short : List ℕ) × Tells self.now category short) }
     {
         self.as_ref().category()
     }

@@ -21,7 +21,8 @@ use std::fmt;
 impl<'a> FullNameRef<'a> {
     /// The view of these bytes; `InvalidName` where they break a rule of full names.
     pub fn new(bytes: &'a [u8]) -> Result<FullNameRef<'a>, InvalidName>
-        ensures { MatchResult result (λ name. (name_of name ≡ bytes.now) × IsTrue (is_full_name bytes.now))
+        ensures { MatchResult result
+            (λ name. (name_of name ≡ bytes.now) × IsTrue (is_full_name bytes.now))
             (λ _. IsFalse (is_full_name bytes.now)) }
     {
         if is_full_name(bytes) {
@@ -57,14 +58,16 @@ impl<'a> FullNameRef<'a> {
 
     /// The name's category and its short name; `None` where it has no category.
     pub fn category_and_short_name(self) -> Option<(Category<'a>, BStr<'a>)>
-        ensures { MatchOption result (HasNoCategory (name_of self.entry)) (λ found. Tells (name_of self.entry) found.0 (bstr_bytes found.1)) }
+        ensures { MatchOption result (HasNoCategory (name_of self.entry))
+            (λ found. Tells (name_of self.entry) found.0 (bstr_bytes found.1)) }
     {
         category_of(self.bytes.as_bytes())
     }
 
     /// The name's category; `None` where it has none.
     pub fn category(self) -> Option<Category<'a>>
-        ensures { MatchOption result (HasNoCategory (name_of self.entry)) (λ category. (short : List ℕ) × Tells (name_of self.entry) category short) }
+        ensures { MatchOption result (HasNoCategory (name_of self.entry))
+            (λ category. (short : List ℕ) × Tells (name_of self.entry) category short) }
     {
         let (category, _) = self.category_and_short_name()?;
         Some(category)

@@ -35,7 +35,8 @@ impl PartialName {
 
     /// The name of these bytes, which are taken over; `InvalidName` where they break a rule of partial names.
     pub fn new(bytes: ByteString) -> Result<PartialName, InvalidName>
-        ensures { MatchResult result (λ name. (name ≡ bytes) × IsTrue (is_partial_name bytes)) (λ _. IsFalse (is_partial_name bytes)) }
+        ensures { MatchResult result (λ name. (name ≡ bytes) × IsTrue (is_partial_name bytes))
+            (λ _. IsFalse (is_partial_name bytes)) }
     {
         if is_partial_name(bytes.as_bytes()) {
             Ok(PartialName { bytes })
@@ -118,7 +119,8 @@ impl<'a> PartialNameRef<'a> {
 
     /// The view of these bytes; `InvalidName` where they break a rule of partial names.
     pub fn new(bytes: &'a [u8]) -> Result<PartialNameRef<'a>, InvalidName>
-        ensures { MatchResult result (λ name. (part_of name ≡ bytes.now) × IsTrue (is_partial_name bytes.now))
+        ensures { MatchResult result
+            (λ name. (part_of name ≡ bytes.now) × IsTrue (is_partial_name bytes.now))
             (λ _. IsFalse (is_partial_name bytes.now)) }
     {
         if is_partial_name(bytes) {

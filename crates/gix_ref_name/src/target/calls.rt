@@ -77,7 +77,8 @@ impl Target {
 
     /// The object's id, taken out; the target itself where it is a name.
     pub fn try_into_id(self) -> Result<ObjectId, Target>
-        ensures { MatchResult result (λ id. target_view self ≡ ToObject (id_of id)) (λ target. (target ≡ self) × (id_in (target_view self) ≡ None)) }
+        ensures { MatchResult result (λ id. target_view self ≡ ToObject (id_of id))
+            (λ target. (target ≡ self) × (id_in (target_view self) ≡ None)) }
     {
         match self {
             Target::Object(id) => Ok(id),

@@ -163,7 +163,8 @@ impl<'c, S: Find> Cursor<'c, S> {
             → IsChanged self.old.editor.now tree) }
         ensures full { IfErr result (λ error. (error ≡ EmptyPathComponent)
             ⊎ NamesAreFull (names_of path.now)) }
-        ensures counted { self.new.editor.now.lookups ≤ self.old.editor.now.lookups + length path.now }
+        ensures counted { self.new.editor.now.lookups
+            ≤ self.old.editor.now.lookups + length path.now }
         ensures asked { (base : Path) → StandsAt self.old base
             → Asks (S.is_honest self.old.editor.now.store)
             (S.may_fail self.old.editor.now.store) (S.table self.old.editor.now.store)
@@ -232,12 +233,14 @@ impl<'c, S: Find> Cursor<'c, S> {
         ensures folder { (base : Path) → StandsAt self.old base
             → IfErr result (λ error. IsNonLeaf error
             → HasSomeBelow (base ++ names_of path.now) (files_of no_trees self.new.editor.now)) }
-        ensures counted { self.new.editor.now.lookups ≤ self.old.editor.now.lookups + length path.now }
+        ensures counted { self.new.editor.now.lookups
+            ≤ self.old.editor.now.lookups + length path.now }
         ensures asked { (base : Path) → StandsAt self.old base
             → Asks (S.is_honest self.old.editor.now.store)
             (S.may_fail self.old.editor.now.store) (S.table self.old.editor.now.store)
             (asked_by self.old.editor.now
-            (base ++ names_of path.now)) self.old.editor.now.lookups self.new.editor.now.lookups result }
+            (base
+            ++ names_of path.now)) self.old.editor.now.lookups self.new.editor.now.lookups result }
         ensures store { self.new.editor.now.store ≡ self.old.editor.now.store }
         ensures lent { self.new.editor.ghost_name ≡ self.old.editor.ghost_name }
     {
@@ -318,14 +321,16 @@ impl<'c, S: Find> Cursor<'c, S> {
         ensures already { (base : Path) → StandsAt self.old base
             → OverStored (S.is_honest self.old.editor.now.store) (S.table self.old.editor.now.store)
             (λ trees. is_null (id_of id) ≡ false
-            → entry_over trees self.old.editor.now (base ++ names_of path.now) ≡ Some (leaf_of_kind kind id)
+            → entry_over trees self.old.editor.now (base ++ names_of path.now)
+            ≡ Some (leaf_of_kind kind id)
             → (IsOpenedAt self.old.editor.now (base ++ names_of path.now) → ⊥)
             → OnOk result (ChangesNone self.old.editor.now self.new.editor.now)) }
         ensures still { OnErr result ((tree : Path) → IsChanged self.new.editor.now tree
             → IsChanged self.old.editor.now tree) }
         ensures full { IfErr result (λ error. (error ≡ EmptyPathComponent)
             ⊎ NamesAreFull (names_of path.now)) }
-        ensures counted { self.new.editor.now.lookups ≤ self.old.editor.now.lookups + length path.now }
+        ensures counted { self.new.editor.now.lookups
+            ≤ self.old.editor.now.lookups + length path.now }
         ensures asked { (base : Path) → StandsAt self.old base
             → Asks (S.is_honest self.old.editor.now.store)
             (S.may_fail self.old.editor.now.store) (S.table self.old.editor.now.store)

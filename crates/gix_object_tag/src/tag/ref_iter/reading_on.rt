@@ -27,7 +27,8 @@ impl<'a> TagRefIter<'a> {
     /// `FieldName` where the input ends before its name or the tagger's token has been given, and else the error of the first
     /// token that has one.
     pub fn tagger(self) -> Result<Option<ActorRef<'a>>, Error>
-        ensures read { IfOk result (λ tagger. TellsTagger (place_of self.entry) (tagger_of tagger)) }
+        ensures read { IfOk result
+            (λ tagger. TellsTagger (place_of self.entry) (tagger_of tagger)) }
         ensures refused { IfErr result (λ error. TellsNoTagger (place_of self.entry) error) }
     {
         let mut tokens = self;

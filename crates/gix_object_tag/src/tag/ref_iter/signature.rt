@@ -18,8 +18,11 @@ impl<'a> TagRefIter<'a> {
         input: &'a [u8],
         hash_kind: gix_hash::Kind,
     ) -> Result<Option<(SignatureRef<'a>, SignedData<'a>)>, Error>
-        ensures read { IfOk result (λ found. (parts : Parts) × SpellsTag hash_kind input.now parts × IsSignedBy input.now parts.signature found) }
-        ensures every { (parts : Parts) → SpellsTag hash_kind input.now parts → IsOkAnd result (IsSignedBy input.now parts.signature) }
+        ensures read { IfOk result
+            (λ found. (parts : Parts) × SpellsTag hash_kind input.now parts
+            × IsSignedBy input.now parts.signature found) }
+        ensures every { (parts : Parts) → SpellsTag hash_kind input.now parts
+            → IsOkAnd result (IsSignedBy input.now parts.signature) }
         ensures refused { IfErr result (λ error. TagFault hash_kind input.now error) }
     {
         let tag = TagRef::from_bytes(input, hash_kind)?;

@@ -37,9 +37,13 @@ impl<R: ReadAt + Drop> Reverse<'_, R> {
         ensures nearer { IsNearer self.old.end self.new.is_done self.new.end }
         ensures ends { EndsWalk (Some result) → self.new.is_done ≡ true }
         ensures told { (left : List (List ℕ)) → R.is_honest self.old.log
-            → IsAt (R.contents self.old.log) self.old.is_done self.old.end self.old.held self.old.buffer.now left
-            → (after : List (List ℕ)) × IsAt (R.contents self.new.log) self.new.is_done self.new.end self.new.held self.new.buffer.now after
-            × GivesBack (length self.old.buffer.now) R.may_fail self.old.given left (Some result) after }
+            → IsAt
+            (R.contents self.old.log) self.old.is_done self.old.end self.old.held self.old.buffer.now left
+            → (after : List (List ℕ))
+            × IsAt
+            (R.contents self.new.log) self.new.is_done self.new.end self.new.held self.new.buffer.now after
+            × GivesBack (length self.old.buffer.now) R.may_fail self.old.given left
+            (Some result) after }
     {
         self.is_done = true;
         let read = read_last(self.alloc, &self.log, self.end, self.held, self.buffer);

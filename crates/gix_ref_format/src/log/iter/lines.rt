@@ -44,7 +44,8 @@ impl<'a> Iterator for Forward<'a> {
 
 // What stands before the first line feed, and what stands behind it; all of it, and `None`, where it has none.
 fn first_line(text: &[u8]) -> (&[u8], Option<&[u8]>)
-    ensures { slice_split is_feed text.now ≡ result.0.now ∷ lines_of_rest (option_map (λ rest. rest.now) result.1) }
+    ensures { slice_split is_feed text.now
+        ≡ result.0.now ∷ lines_of_rest (option_map (λ rest. rest.now) result.1) }
 {
     match split_once(text, b'\n') {
         Some((line, rest)) => (line, Some(rest)),

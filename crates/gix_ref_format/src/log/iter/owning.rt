@@ -26,15 +26,18 @@ pub(crate) fn read_last<R: ReadAt>(
 ) -> Result<(usize, usize, Option<Line>), Error>
     requires ordered { held ≤ end }
     requires within { held ≤ length buffer.old }
-    ensures bounds { IfOk result (λ found. (found.0 ≤ found.1) × (found.1 ≤ end) × (found.1 ≤ length buffer.new)) }
+    ensures bounds { IfOk result
+        (λ found. (found.0 ≤ found.1) × (found.1 ≤ end) × (found.1 ≤ length buffer.new)) }
     ensures len { length buffer.new ≡ length buffer.old }
     ensures told { R.is_honest log.now → IsWindow (R.contents log.now) end held buffer.old
         → IfOk result (λ found. IsLastLine (R.contents log.now) end found.1 found.0 buffer.new) }
-    ensures own { IfOk result (λ found. IsCopied (take (found.1 - found.0) (drop found.0 buffer.new)) found.2) }
+    ensures own { IfOk result
+        (λ found. IsCopied (take (found.1 - found.0) (drop found.0 buffer.new)) found.2) }
     ensures too_long { R.is_honest log.now → IsWindow (R.contents log.now) end held buffer.old
         → IsErrOf result (Io LineTooLong) → IsTooLong (R.contents log.now) end (length buffer.old) }
     ensures failed { IsErrOf result (Io (Reader Failed)) → R.may_fail }
-    ensures short { R.is_honest log.now → IsWindow (R.contents log.now) end held buffer.old → ¬ IsErrOf result (Io Short) }
+    ensures short { R.is_honest log.now → IsWindow (R.contents log.now) end held buffer.old
+        → ¬ IsErrOf result (Io Short) }
     ensures some_buffer { ¬ IsErrOf result (Io NoBuffer) }
     ensures no_decode { IfErr result (λ error. (line : DecodeError) → error ≢ Decode line) }
 {

@@ -21,14 +21,16 @@ pub(crate) fn last_line<R: ReadAt>(
 ) -> Result<(usize, usize), IoError>
     requires ordered { held ≤ end }
     requires within { held ≤ length buffer.old }
-    ensures bounds { IfOk result (λ found. (found.0 ≤ found.1) × (found.1 ≤ end) × (found.1 ≤ length buffer.new)) }
+    ensures bounds { IfOk result
+        (λ found. (found.0 ≤ found.1) × (found.1 ≤ end) × (found.1 ≤ length buffer.new)) }
     ensures len { length buffer.new ≡ length buffer.old }
     ensures told { R.is_honest log.now → IsWindow (R.contents log.now) end held buffer.old
         → IfOk result (λ found. IsLastLine (R.contents log.now) end found.1 found.0 buffer.new) }
     ensures too_long { R.is_honest log.now → IsWindow (R.contents log.now) end held buffer.old
         → IsErrOf result LineTooLong → IsTooLong (R.contents log.now) end (length buffer.old) }
     ensures failed { IsErrOf result (Reader Failed) → R.may_fail }
-    ensures short { R.is_honest log.now → IsWindow (R.contents log.now) end held buffer.old → ¬ IsErrOf result Short }
+    ensures short { R.is_honest log.now → IsWindow (R.contents log.now) end held buffer.old
+        → ¬ IsErrOf result Short }
     ensures some_buffer { ¬ IsErrOf result NoBuffer }
 {
     if let Some(start) = line_start(&buffer[..held], held as u64 == end) {
@@ -43,7 +45,8 @@ pub(crate) fn last_line<R: ReadAt>(
 
 // Where the last line begins, if a line feed stands before it or the bytes are all that there are.
 fn line_start(bytes: &[u8], is_all: bool) -> Option<usize>
-    ensures { MatchOption result ((is_all ≡ false) × Lacks 10 bytes.now) (IsLineStart bytes.now is_all) }
+    ensures { MatchOption result ((is_all ≡ false) × Lacks 10 bytes.now)
+        (IsLineStart bytes.now is_all) }
 {
     match memrchr(b'\n', bytes) {
         Some(at) => Some(at + 1),
@@ -59,7 +62,8 @@ pub(crate) fn read_before<R: ReadAt>(log: &R, end: u64, buffer: &mut [u8]) -> Re
     ensures told { R.is_honest log.now → end ≤ length (R.contents log.now)
         → IfOk result (λ held. IsWindow (R.contents log.now) end held buffer.new) }
     ensures failed { IsErrOf result (Reader Failed) → R.may_fail }
-    ensures short { R.is_honest log.now → end ≤ length (R.contents log.now) → ¬ IsErrOf result Short }
+    ensures short { R.is_honest log.now → end ≤ length (R.contents log.now)
+        → ¬ IsErrOf result Short }
     ensures other { IfErr result (λ error. (error ≢ LineTooLong) × (error ≢ NoBuffer)) }
 {
     let held = end.min(buffer.len() as u64) as usize;

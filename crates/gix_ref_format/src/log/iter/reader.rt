@@ -24,8 +24,12 @@ pub trait ReadAt {
 
     /// Puts the bytes from `at` on into the beginning of the buffer, as many as fit, and answers how many.
     fn read_at(&self, at: u64, buffer: &mut [u8]) -> Result<usize, FileError>
-        ensures count { is_honest self.now → IfOk result (λ n. n ≡ length (part (contents self.now) at (length buffer.old))) }
-        ensures bytes { is_honest self.now → OnOk result (buffer.new ≡ overwritten buffer.old (part (contents self.now) at (length buffer.old))) }
+        ensures count { is_honest self.now
+            → IfOk result (λ n. n ≡ length (part (contents self.now) at (length buffer.old))) }
+        ensures bytes { is_honest self.now
+            → OnOk result
+            (buffer.new
+            ≡ overwritten buffer.old (part (contents self.now) at (length buffer.old))) }
         ensures len { length buffer.new ≡ length buffer.old }
         ensures failed { IsErrOf result Failed → may_fail };
 }

@@ -25,7 +25,8 @@ impl<'a> LineRef<'a> {
     /// The ids are 40 or 64 hexadecimal digits, in any letter case. A carriage return is a byte of the message like any
     /// other. All else is an error, as is a line feed before the end.
     pub fn from_bytes(input: &'a [u8]) -> Result<LineRef<'a>, Error>
-        ensures read { IfOk result (λ line. SpellsLine (without_last_feed input.now) (parts_of line)) }
+        ensures read { IfOk result
+            (λ line. SpellsLine (without_last_feed input.now) (parts_of line)) }
         ensures every { (parts : LineParts) → SpellsLine (without_last_feed input.now) parts
             → IsOkAnd result (λ line. parts_of line ≡ parts) }
     {
@@ -75,7 +76,8 @@ fn cut_message(line: &[u8]) -> (&[u8], &[u8])
 
 // The digits of two ids with a space behind each, and what follows.
 fn cut_ids(front: &[u8]) -> Option<(&[u8], &[u8], &[u8])>
-    ensures { MatchOption result ((before after actor : List ℕ) → ¬ IsIdsCut front.now before after actor)
+    ensures { MatchOption result
+        ((before after actor : List ℕ) → ¬ IsIdsCut front.now before after actor)
         (λ cut. IsIdsCut front.now cut.0.now cut.1.now cut.2.now) }
 {
     let (before, rest) = split_once(front, b' ')?;

@@ -52,7 +52,9 @@ impl Line {
 }
 
 fn read_id(digits: BStr<'_>) -> Result<ObjectId, Error>
-    ensures { MatchResult result (λ id. IsHexOfId (bstr_bytes digits.entry) (id_of id) × IsTrue (is_id (bstr_bytes digits.entry)))
+    ensures { MatchResult result
+        (λ id. IsHexOfId (bstr_bytes digits.entry) (id_of id)
+        × IsTrue (is_id (bstr_bytes digits.entry)))
         (λ error. (error ≡ HexDigits) × ¬ IsTrue (is_id (bstr_bytes digits.entry))) }
 {
     match ObjectId::from_hex(digits.as_bytes()) {

@@ -60,8 +60,11 @@ impl Line {
 // Writes a line that has a spelling.
 fn write_whole<W: io::Write>(line: &Line, out: &mut W) -> io::Result<()>
     requires { IsSpellable line.now.signature.name line.now.signature.email line.now.signature.time }
-    ensures ok { OnOk result (Appends (W.contents out.old) (W.contents out.new) (written_text line.now ++ 10 ∷ [])) }
-    ensures err { OnErr result (AppendsFront (W.contents out.old) (W.contents out.new) (written_text line.now ++ 10 ∷ [])) }
+    ensures ok { OnOk result
+        (Appends (W.contents out.old) (W.contents out.new) (written_text line.now ++ 10 ∷ [])) }
+    ensures err { OnErr result
+        (AppendsFront (W.contents out.old) (W.contents out.new)
+        (written_text line.now ++ 10 ∷ [])) }
 {
     write_id(line.previous_oid, out)?;
     write_id(line.new_oid, out)?;
@@ -71,8 +74,12 @@ fn write_whole<W: io::Write>(line: &Line, out: &mut W) -> io::Result<()>
 
 // Writes an id's digits and a space.
 fn write_id<W: io::Write>(id: ObjectId, out: &mut W) -> io::Result<()>
-    ensures ok { OnOk result (Appends (W.contents out.old) (W.contents out.new) (hex_text (id_of id).digits ++ 32 ∷ [])) }
-    ensures err { OnErr result (AppendsFront (W.contents out.old) (W.contents out.new) (hex_text (id_of id).digits ++ 32 ∷ [])) }
+    ensures ok { OnOk result
+        (Appends (W.contents out.old) (W.contents out.new)
+        (hex_text (id_of id).digits ++ 32 ∷ [])) }
+    ensures err { OnErr result
+        (AppendsFront (W.contents out.old) (W.contents out.new)
+        (hex_text (id_of id).digits ++ 32 ∷ [])) }
 {
     let mut buffer = Kind::hex_buf();
     write_bytes(out, id.hex_to_buf(&mut buffer).as_bytes())?;
@@ -82,8 +89,12 @@ fn write_id<W: io::Write>(id: ObjectId, out: &mut W) -> io::Result<()>
 // Writes an actor's line that has a spelling.
 fn write_signature<W: io::Write>(actor: &Actor, out: &mut W) -> io::Result<()>
     requires { IsSpellable actor.now.name actor.now.email actor.now.time }
-    ensures ok { OnOk result (Appends (W.contents out.old) (W.contents out.new) (actor_text actor.now.name actor.now.email actor.now.time)) }
-    ensures err { OnErr result (AppendsFront (W.contents out.old) (W.contents out.new) (actor_text actor.now.name actor.now.email actor.now.time)) }
+    ensures ok { OnOk result
+        (Appends (W.contents out.old) (W.contents out.new)
+        (actor_text actor.now.name actor.now.email actor.now.time)) }
+    ensures err { OnErr result
+        (AppendsFront (W.contents out.old) (W.contents out.new)
+        (actor_text actor.now.name actor.now.email actor.now.time)) }
 {
     match write_actor(actor, out) {
         Ok(()) => Ok(()),
@@ -94,8 +105,10 @@ fn write_signature<W: io::Write>(actor: &Actor, out: &mut W) -> io::Result<()>
 
 // Writes a tab, a message and a line feed.
 fn write_message<W: io::Write>(message: &[u8], out: &mut W) -> io::Result<()>
-    ensures ok { OnOk result (Appends (W.contents out.old) (W.contents out.new) (9 ∷ (message.now ++ 10 ∷ []))) }
-    ensures err { OnErr result (AppendsFront (W.contents out.old) (W.contents out.new) (9 ∷ (message.now ++ 10 ∷ []))) }
+    ensures ok { OnOk result
+        (Appends (W.contents out.old) (W.contents out.new) (9 ∷ (message.now ++ 10 ∷ []))) }
+    ensures err { OnErr result
+        (AppendsFront (W.contents out.old) (W.contents out.new) (9 ∷ (message.now ++ 10 ∷ []))) }
 {
     write_bytes(out, b"\t")?;
     write_bytes(out, message)?;
