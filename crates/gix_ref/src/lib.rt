@@ -58,7 +58,7 @@ pub mod file {
         /// Reading logs.
         pub mod iter {
             pub use gix_ref_format::log::iter::{
-                FileAt, Forward, IoError, ReadAt, Reverse, forward, reverse,
+                Error, FileAt, Forward, IoError, ReadAt, Reverse, forward, reverse,
             };
             pub use gix_ref_store::store::file::LogPlatform as Platform;
 
@@ -66,6 +66,11 @@ pub mod file {
             pub mod decode {
                 pub use gix_ref_format::log::iter::decode::{Error, LineNumber};
             }
+        }
+
+        /// Why bytes are no line of a log.
+        pub mod decode {
+            pub use gix_ref_format::log::decode::Error;
         }
 
         pub use gix_ref_format::log::LineRef;
@@ -120,6 +125,11 @@ pub mod packed {
 /// Lines of logs.
 pub mod log {
     pub use gix_ref_format::log::Line;
+
+    /// Why a line isn't written.
+    pub mod write {
+        pub use gix_ref_format::log::write::Error;
+    }
 }
 
 /// Stores.
