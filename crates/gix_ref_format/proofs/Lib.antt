@@ -7,7 +7,6 @@ pub mod PrefixLemmas
 pub mod GatherLemmas
 pub mod WordLemmas
 pub mod WrittenLemmas
-pub mod LogHexDigits
 pub mod LogLineLemmas
 pub mod LogWriteLemmas
 pub mod LogSplitLemmas

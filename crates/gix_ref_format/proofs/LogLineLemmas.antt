@@ -14,7 +14,7 @@ use Rattle.gix_ref_format.specs.LogLine.{LineParts, SpellsLine, IsNoLine, front_
 use Rattle.gix_ref_format.specs.LogViews.{parts_of}
 use Rattle.gix_ref_format.specs.declared.log.line.LineRef.{LineRef}
 use Rattle.gix_ref_format.specs.declared.log.line.decode.Error.{Error}
-use Rattle.gix_ref_format.proofs.LogHexDigits.{id_lacks}
+use Rattle.gix_object_lines.proofs.HexDigits.{id_lacks}
 
 -- ---- before the tab
 

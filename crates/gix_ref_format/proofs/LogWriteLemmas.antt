@@ -21,7 +21,7 @@ use Rattle.gix_object_lines.proofs.TimeLemmas.{seconds_lack}
 use Rattle.gix_ref_format.specs.LogLine.{SpellsLine, line_text}
 use Rattle.gix_ref_format.specs.LogOwned.{IsWritable, written_parts, written_text}
 use Rattle.gix_ref_format.specs.declared.log.line.Line.{Line}
-use Rattle.gix_ref_format.proofs.LogHexDigits.{id_of_spelled}
+use Rattle.gix_object_lines.proofs.HexDigits.{id_of_spelled}
 
 -- ---- part by part
 

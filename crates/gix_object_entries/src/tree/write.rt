@@ -1,8 +1,7 @@
 //! Writing trees.
 
-ghost use Rattle.std.specs.Prelude.{◌≡◌, ◌≤◌, ◌+◌, ◌^◌, None, OnOk, OnErr, MatchOption, flat_map, length, map};
-ghost use Rattle.std.specs.Io.KnownBytes.{Appends};
-ghost use Rattle.gix_object_lines.specs.Writes.{AppendsFront, Writes};
+ghost use Rattle.std.specs.Prelude.{◌≡◌, ◌≤◌, ◌+◌, ◌^◌, None, MatchOption, length, map};
+ghost use Rattle.gix_object_lines.specs.Writes.{Writes};
 ghost use Rattle.gix_object_lines.specs.declared.kind.Kind.TheVariants.{Tree as TreeKind};
 ghost use Rattle.gix_object_entries.specs.Entry.{item_of, own_item};
 ghost use Rattle.gix_object_entries.specs.Writing.{entry_text, tree_text, tree_refusal};
@@ -10,7 +9,7 @@ ghost use Rattle.std.specs.Prelude.{[], ◌∷◌};
 
 use crate::tree::entry::AsEntry;
 use crate::tree::{EntryRef, Tree, TreeRef};
-use gix_object_lines::write::{Error, FilenameError, write_bytes};
+use gix_object_lines::write::{Error, FilenameError, write_parts};
 use gix_object_lines::{Kind, WriteTo};
 use std::io;
 
@@ -79,25 +78,10 @@ fn write_entry<W: io::Write>(entry: EntryRef<'_>, out: &mut W) -> Result<(), Err
     let mut backing = [0; 6];
     let mode = entry.mode.as_bytes(&mut backing);
     let parts: [&[u8]; 5] = [mode.as_bytes(), b" ", name, b"\0", entry.oid.as_bytes()];
-    match write_parts(&parts, out) {
+    match write_parts(out, &parts) {
         Ok(()) => Ok(()),
         Err(error) => Err(Error::Writer(error)),
     }
-}
-
-// Writes the parts in order. Where the writer fails it has taken a beginning of them.
-fn write_parts<W: io::Write>(parts: &[&[u8]], out: &mut W) -> io::Result<()>
-    ensures ok { OnOk result
-        (Appends (W.contents out.old) (W.contents out.new)
-        (flat_map (λ part. part.now) parts.now)) }
-    ensures err { OnErr result
-        (AppendsFront (W.contents out.old) (W.contents out.new)
-        (flat_map (λ part. part.now) parts.now)) }
-{
-    for part in parts {
-        write_bytes(out, part)?;
-    }
-    Ok(())
 }
 
 // How many bytes the entries take; `None` where that is more than 64 bits hold.

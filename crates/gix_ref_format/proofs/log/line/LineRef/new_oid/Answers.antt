@@ -1,7 +1,7 @@
 use Rattle.bstr.specs.BStr.{bstr_bytes}
 use Rattle.gix_hash_id.specs.Id.{id_of}
 use Rattle.gix_hash_id.specs.Views.{IsHexOfId}
-use Rattle.gix_ref_format.proofs.LogHexDigits.{id_is_read}
+use Rattle.gix_object_lines.proofs.HexDigits.{id_is_read}
 use Rattle.gix_ref_format.proofs.log.line.LineRef.new_oid.Goals as goal
 
 pub unwrap-requires : goal.unwrap-requires

@@ -3,7 +3,7 @@ use Rattle.std.proofs.lemmas.Bool.{false≢true}
 use Rattle.gix_object_lines.specs.HexLine.{is_id}
 use Rattle.gix_object_lines.proofs.Cuts.{cut_once}
 use Rattle.gix_object_lines.proofs.CutLemmas.{lacks_it}
-use Rattle.gix_ref_format.proofs.LogHexDigits.{id_lacks}
+use Rattle.gix_object_lines.proofs.HexDigits.{id_lacks}
 use Rattle.gix_ref_format.proofs.log.line.decode.cut_ids.Goals.{else-is_id-via-then-is_id+else-is_id-2, else-is_id-via-else-is_id}
 use Rattle.gix_ref_format.proofs.log.line.decode.cut_ids.Goals as goal
 

@@ -3,7 +3,7 @@ use Rattle.hex.specs.Hex.{hex_digit_value}
 use Rattle.bstr.specs.BStr.{bstr_bytes}
 use Rattle.gix_hash_id.specs.Id.{id_of}
 use Rattle.gix_hash_id.specs.Views.{IsFaultOf, IsHexOfId}
-use Rattle.gix_ref_format.proofs.LogHexDigits.{id_of_spelled, not_refused}
+use Rattle.gix_object_lines.proofs.HexDigits.{id_of_spelled, not_refused}
 use Rattle.gix_ref_format.proofs.log.line.owned.read_id.Goals as goal
 
 pub returns-in-Ok : goal.returns-in-Ok
