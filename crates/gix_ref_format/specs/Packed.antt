@@ -143,7 +143,8 @@ item_view (Err (faults.Header line)) = BadHeader (bstr_bytes line)
 -- the first line, which is no header
 abbrev pub IsHeaderFault : List ℕ → Error → Type 0
 IsHeaderFault text (faults.Header line) =
-    (rest : List ℕ) × (text ≡ bstr_bytes line ++ rest) × (header_line (bstr_bytes line) ≡ None)
+    (rest : List (List ℕ)) × (lines text ≡ bstr_bytes line ∷ rest)
+    × (header_line (bstr_bytes line) ≡ None)
 IsHeaderFault text (faults.Reference line number) = ⊥
 
 -- the peeled id in the first of the lines, and what the lines behind a record give

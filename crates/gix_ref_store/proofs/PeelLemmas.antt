@@ -97,7 +97,7 @@ module _ (read : List ℕ → Reading) (table : Table) (r : Reference) where
   pub lost_on : (H M : Type 0) (last : Reference) (first : ObjectId) (error : Error) → r.peeled ≡ None → EndsBy last first (follow_from read r) → H → TagFault H M table (id_of first) error
       → PeelFault IsGiven read table r error
   lost_on H M last first (FollowToObject e) is ends honest fault = absurd fault
-  lost_on H M last first (Find e) is ends honest fault = tt
+  lost_on H M last first (Find e) is ends honest fault = (id_of first, (last.name, option_map id_of last.peeled, ends.1))
   lost_on H M last first (NotFound oid) is ends honest fault = (is, (id_of first, (last.name, option_map id_of last.peeled, ends.1), fault honest))
   lost_on H M last first Memory is ends honest fault = tt
 

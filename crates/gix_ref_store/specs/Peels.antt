@@ -90,12 +90,21 @@ IsPeeled read table r id = (name : List ℕ) × Peels read table r name id
 abbrev pub unopened : OpenError → Error
 unopened error = FollowToObject (Follow (existing.Find (finds.PackedOpen error)))
 
+-- packed references aren't opened
+abbrev pub IsUnopened : Error → Type 0
+IsUnopened error = (cause : OpenError) × (error ≡ unopened cause)
+
+-- no id is told as the object that the reference stands for, or it is told that packed references aren't opened
+abbrev pub LacksObject : Reference → Error → Type 0
+LacksObject r error = (r.peeled ≡ None) ⊎ IsUnopened error
+
 -- why it stands for none, where `Unopened` says why packed references aren't opened
 abbrev pub PeelFault : (OpenError → Type 0) → (List ℕ → Reading) → Table → Reference → Error
     → Type 0
 PeelFault Unopened read table r (FollowToObject error) =
     FollowFault Unopened (follow_from read r) error
-PeelFault Unopened read table r (Find error) = ⊤
+PeelFault Unopened read table r (Find error) =
+    (first : Id) × EndsAt first (follow_from read r)
 PeelFault Unopened read table r (NotFound oid) =
     (r.peeled ≡ None)
     × ((first : Id) × EndsAt first (follow_from read r) × IsLost table first (id_of oid))

@@ -9,7 +9,8 @@ use gix_hash::Kind;
 pub enum WriteReflog {
     /// Those of every name.
     Always,
-    /// Those of HEAD, of branches, notes and a worktree's own names, and of names whose log stands.
+    /// Those of HEAD, of names below `refs/heads/`, `refs/remotes/`, `refs/notes/` and `refs/worktree/`, and of names whose log
+    /// stands or is asked for.
     Normal,
     /// None.
     Disable,

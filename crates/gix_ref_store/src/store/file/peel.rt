@@ -1,6 +1,6 @@
 //! Peeling references: the objects that they stand for in the end, behind names and tags.
 
-ghost use Rattle.std.specs.Prelude.{◌≡◌, IfErr, IfOk, IsSome, Contains, MatchOption, MatchResult, Some, unwrap_or};
+ghost use Rattle.std.specs.Prelude.{◌≡◌, IfErr, IfOk, IsSome, Contains, MatchOption, MatchResult, None, Some, unwrap_or};
 ghost use Rattle.std.specs.List.{list_any};
 ghost use Rattle.gix_hash_id.specs.Id.{id_of};
 ghost use Rattle.gix_hash_id.specs.Order.{id_eq};
@@ -86,6 +86,7 @@ pub(crate) fn peeled_end<F: Files, T: Find>(
         MatchResult result (λ found. Peels read (T.table objects.now) from.now
         (unwrap_or found.1 from.now).name (id_of found.0))
         (PeelFault IsGiven read (T.table objects.now) from.now) }
+    ensures lacking { IfErr result (λ _. from.now.peeled ≡ None) }
     ensures failed { IfErr result (MayTell F.reading_may_fail (T.may_fail objects.now)) }
 {
     match from.peeled {

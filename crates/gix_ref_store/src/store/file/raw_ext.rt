@@ -1,6 +1,6 @@
 //! What a reference tells with its store: its log, the reference that it points to, and the object that it stands for.
 
-ghost use Rattle.std.specs.Prelude.{◌≡◌, is_some, IfErr, IfOk, IfSome, MatchResult, Some};
+ghost use Rattle.std.specs.Prelude.{◌≡◌, is_some, IfErr, IfOk, IfSome, MatchResult, None, Some};
 ghost use Rattle.gix_hash_id.specs.Id.{id_of};
 ghost use Rattle.gix_ref_name.specs.Names.{name_of};
 ghost use Rattle.gix_ref_name.specs.Targets.{ToObject, target_view};
@@ -11,7 +11,7 @@ ghost use Rattle.gix_ref_store.specs.Follows as follows;
 ghost use Rattle.gix_ref_store.specs.Logs.{log_text};
 ghost use Rattle.gix_ref_store.specs.Logs as logs;
 ghost use Rattle.gix_ref_store.specs.Lookups.{reads_now, reads_with};
-ghost use Rattle.gix_ref_store.specs.Peels.{Peels, PeelFault, IsPeeled};
+ghost use Rattle.gix_ref_store.specs.Peels.{Peels, PeelFault, IsPeeled, LacksObject};
 ghost use Rattle.gix_ref_store.specs.Peels as peels;
 ghost use Rattle.gix_ref_store.specs.Stores.{base_of};
 ghost use Rattle.gix_ref_store.specs.declared.reference.Reference.{Reference};
@@ -70,12 +70,14 @@ pub trait ReferenceExt: Sealed {
             target_view (seen self.new).target ≡ ToObject (id_of id)) }
         ensures told { IfOk result (λ id. (seen self.new).peeled ≡ Some id) }
         ensures refused { IfErr result (λ _. self.new ≡ self.old) }
+        ensures lacking { IfErr result (LacksObject (seen self.old)) }
         ensures failed { IfErr result
             (peels.MayTell F.reading_may_fail (T.may_fail objects.now)) };
 
     /// The id of the object that the reference stands for in the end: the one that its packed record tells; else names of others
     /// are followed to an object, as `follow_to_object_packed` does, and tags to what they name. `NotFound` where no object stands
-    /// under an id on the way, or a tag that names none or leads back to itself.
+    /// under an id on the way, or a tag that names none or leads back to itself. Where an id is told as peeled nothing is looked up,
+    /// and only the opening of packed references is refused.
     fn peel_to_id<F: Files, T: Find>(
         &self,
         alloc: Global,
@@ -88,6 +90,7 @@ pub trait ReferenceExt: Sealed {
             (λ id. IsPeeled read (T.table objects.now) (seen self.now) (id_of id))
             (PeelFault (CantOpen (base_of store.now) tree) read (T.table objects.now)
             (seen self.now)) }
+        ensures lacking { IfErr result (LacksObject (seen self.now)) }
         ensures failed { IfErr result
             (peels.MayTell F.reading_may_fail (T.may_fail objects.now)) };
 
@@ -108,6 +111,7 @@ pub trait ReferenceExt: Sealed {
             target_view (seen self.new).target ≡ ToObject (id_of id)) }
         ensures told { IfOk result (λ id. (seen self.new).peeled ≡ Some id) }
         ensures refused { IfErr result (λ _. self.new ≡ self.old) }
+        ensures lacking { IfErr result (λ _. (seen self.old).peeled ≡ None) }
         ensures failed { IfErr result
             (peels.MayTell F.reading_may_fail (T.may_fail objects.now)) };
 
@@ -124,6 +128,7 @@ pub trait ReferenceExt: Sealed {
             MatchResult result
             (λ id. IsPeeled read (T.table objects.now) (seen self.now) (id_of id))
             (PeelFault IsGiven read (T.table objects.now) (seen self.now)) }
+        ensures lacking { IfErr result (λ _. (seen self.now).peeled ≡ None) }
         ensures failed { IfErr result
             (peels.MayTell F.reading_may_fail (T.may_fail objects.now)) };
 
