@@ -1,13 +1,11 @@
-//! Words in the lines of cases: bytes as they stand there, files that words change and read, the words of a line, and
-//! the page of an answer.
+//! Words in the lines of cases: bytes as they stand there, files that words change and read, and the words of a line.
 #![tactic(auto)]
 
 mod bytes;
 mod files;
-mod page;
 mod session;
 
 pub use bytes::read_bytes;
+pub use case_page::Page;
 pub use files::{Trial, act_on, sound};
-pub use page::Page;
 pub use session::{Session, answer};

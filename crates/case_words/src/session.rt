@@ -1,6 +1,6 @@
 //! The words of a line, one after another, or again and again with a number that grows.
 
-use crate::page::Page;
+use case_page::Page;
 use std::alloc::{AllocError, Global};
 
 /// What the words of a line act on.

@@ -1,6 +1,7 @@
 //! The operations by their names.
 
-use crate::{changes, digests, fields, ids, kinds, orders, prefixes, runs, streams, views};
+use crate::{changes, digests, ids, kinds, orders, prefixes, runs, streams, views};
+use case_page::read_texts;
 use gix_hash::ObjectId;
 use std::alloc::Global;
 use std::rt::Files;
@@ -8,7 +9,7 @@ use std::rt::Files;
 /// What the operation of the line gives, with this list of ids. `None` where the line is no case or no memory is left.
 pub fn answer<F: Files>(files: &F, alloc: Global, list: &[ObjectId], line: &str) -> Option<String> {
     let (operation, line) = line.split_once(' ')?;
-    let fields = fields::fields(alloc, line)?;
+    let fields = read_texts(alloc, line)?;
     answer_of_fields(files, alloc, list, operation, &fields)
 }
 

@@ -2,6 +2,7 @@
 
 use crate::fields;
 use bstr::BStr;
+use case_page::text_of;
 use gix_hash::{ChangeId, Kind, ObjectId};
 use std::alloc::Global;
 
@@ -41,7 +42,7 @@ pub fn parse(alloc: Global, fields: &[Vec<u8>]) -> Option<String> {
     let [text] = fields else {
         return None;
     };
-    match fields::text(text)?.parse::<ChangeId>() {
+    match text_of(text)?.parse::<ChangeId>() {
         Ok(change) => format!(in alloc; "{change}").ok(),
         Err(error) => format!(in alloc; "{error}").ok(),
     }

@@ -2,6 +2,7 @@
 
 use crate::{fields, kinds};
 use bstr::BStr;
+use case_page::text_of;
 use gix_hash::{Kind, ObjectId};
 use std::alloc::Global;
 use std::convert::TryFrom;
@@ -43,7 +44,7 @@ pub fn parse(alloc: Global, fields: &[Vec<u8>]) -> Option<String> {
     let [text] = fields else {
         return None;
     };
-    match fields::text(text)?.parse::<ObjectId>() {
+    match text_of(text)?.parse::<ObjectId>() {
         Ok(id) => format!(in alloc; "{id}").ok(),
         Err(error) => format!(in alloc; "{error}").ok(),
     }

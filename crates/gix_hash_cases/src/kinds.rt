@@ -1,6 +1,7 @@
 //! Kinds of ids.
 
 use crate::fields;
+use case_page::text_of;
 use gix_hash::{Kind, ObjectId};
 use std::alloc::Global;
 use std::convert::TryFrom;
@@ -10,7 +11,7 @@ pub fn of_name(alloc: Global, fields: &[Vec<u8>]) -> Option<String> {
     let [name] = fields else {
         return None;
     };
-    match fields::text(name)?.parse::<Kind>() {
+    match text_of(name)?.parse::<Kind>() {
         Ok(kind) => format!(in alloc; "{kind}").ok(),
         Err(error) => format!(in alloc; "{error}").ok(),
     }

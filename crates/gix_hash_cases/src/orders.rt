@@ -2,31 +2,17 @@
 
 use crate::fields;
 use bstr::BStr;
+use case_page::{digest, order_told, text_of};
 use gix_hash::{ChangeId, ObjectId, Prefix, oid};
 use std::alloc::Global;
 use std::cmp::Ordering;
-use std::hash::{DefaultHasher, Hash, Hasher};
-
-// The digest of what a value feeds a hasher.
-fn digest<T: Hash>(value: &T) -> u64 {
-    let mut hasher = DefaultHasher::new();
-    value.hash(&mut hasher);
-    hasher.finish()
-}
-
-// The order of two values, whether they are equal, and whether their hashes are.
-fn stand<T: Ord + Hash>(alloc: Global, first: &T, second: &T) -> Option<String> {
-    let order = first.cmp(second);
-    let is_hash = digest(first) == digest(second);
-    format!(in alloc; "{order:?} {} {is_hash}", *first == *second).ok()
-}
 
 /// How two kinds stand to each other.
 pub fn kinds(alloc: Global, fields: &[Vec<u8>]) -> Option<String> {
     let [first, second] = fields else {
         return None;
     };
-    stand(alloc, &fields::kind(first)?, &fields::kind(second)?)
+    order_told(alloc, &fields::kind(first)?, &fields::kind(second)?).ok()
 }
 
 /// How two ids stand to each other, and whether the first hashes like its view.
@@ -38,7 +24,11 @@ pub fn ids(alloc: Global, fields: &[Vec<u8>]) -> Option<String> {
     let second = fields::id(second)?;
     let is_equal = first.eq_oid(second.as_oid());
     let is_view = digest(&first) == digest(&first.as_oid());
-    format!(in alloc; "{} {is_equal} {is_view}", stand(alloc, &first, &second)?).ok()
+    format!(in alloc;
+        "{} {is_equal} {is_view}",
+        order_told(alloc, &first, &second).ok()?
+    )
+    .ok()
 }
 
 /// How two views of ids stand to each other.
@@ -49,7 +39,7 @@ pub fn views(alloc: Global, fields: &[Vec<u8>]) -> Option<String> {
     let first = oid::try_from_bytes(first).ok()?;
     let second = oid::try_from_bytes(second).ok()?;
     let is_equal = first.eq_oid(second);
-    format!(in alloc; "{} {is_equal}", stand(alloc, &first, &second)?).ok()
+    format!(in alloc; "{} {is_equal}", order_told(alloc, &first, &second).ok()?).ok()
 }
 
 /// How two change ids stand to each other.
@@ -60,7 +50,7 @@ pub fn changes(alloc: Global, fields: &[Vec<u8>]) -> Option<String> {
     let first = ChangeId::from(fields::id(first)?);
     let second = ChangeId::from(fields::id(second)?);
     let is_equal = first.eq_oid(second.as_oid());
-    format!(in alloc; "{} {is_equal}", stand(alloc, &first, &second)?).ok()
+    format!(in alloc; "{} {is_equal}", order_told(alloc, &first, &second).ok()?).ok()
 }
 
 /// How the prefixes of two texts stand to each other.
@@ -68,9 +58,9 @@ pub fn prefixes(alloc: Global, fields: &[Vec<u8>]) -> Option<String> {
     let [first, second] = fields else {
         return None;
     };
-    let first = Prefix::from_hex_nonempty(fields::text(first)?).ok()?;
-    let second = Prefix::from_hex_nonempty(fields::text(second)?).ok()?;
-    stand(alloc, &first, &second)
+    let first = Prefix::from_hex_nonempty(text_of(first)?).ok()?;
+    let second = Prefix::from_hex_nonempty(text_of(second)?).ok()?;
+    order_told(alloc, &first, &second).ok()
 }
 
 /// How a text's prefix stands to an id.
@@ -78,7 +68,7 @@ pub fn candidate(alloc: Global, fields: &[Vec<u8>]) -> Option<String> {
     let [text, bytes] = fields else {
         return None;
     };
-    let prefix = Prefix::from_hex_nonempty(fields::text(text)?).ok()?;
+    let prefix = Prefix::from_hex_nonempty(text_of(text)?).ok()?;
     let id = fields::id(bytes)?;
     let order = order(&prefix, id.as_oid())?;
     format!(in alloc; "{order:?}").ok()
@@ -113,8 +103,8 @@ pub fn texts(alloc: Global, fields: &[Vec<u8>]) -> Option<String> {
         return None;
     };
     let id = fields::id(bytes)?;
-    let plain = plain_texts(&id, fields::text(text)?);
-    let others = other_texts(&id, fields::text(text)?);
+    let plain = plain_texts(&id, text_of(text)?);
+    let others = other_texts(&id, text_of(text)?);
     format!(in alloc; "{plain:?} {others:?}").ok()
 }
 

@@ -2,6 +2,7 @@
 
 use crate::fields;
 use bstr::BStr;
+use case_page::text_of;
 use gix_hash::prefix::from_hex;
 use gix_hash::{Kind, Prefix};
 use std::alloc::Global;
@@ -39,7 +40,7 @@ pub fn read(alloc: Global, fields: &[Vec<u8>]) -> Option<String> {
     let [text] = fields else {
         return None;
     };
-    told_if_read(alloc, Prefix::from_hex(fields::text(text)?))
+    told_if_read(alloc, Prefix::from_hex(text_of(text)?))
 }
 
 /// The prefix that a text spells, of one digit or more.
@@ -47,7 +48,7 @@ pub fn read_nonempty(alloc: Global, fields: &[Vec<u8>]) -> Option<String> {
     let [text] = fields else {
         return None;
     };
-    told_if_read(alloc, Prefix::from_hex_nonempty(fields::text(text)?))
+    told_if_read(alloc, Prefix::from_hex_nonempty(text_of(text)?))
 }
 
 /// The prefix that a text spells in reverse, of four digits or more.
@@ -55,7 +56,7 @@ pub fn read_reverse(alloc: Global, fields: &[Vec<u8>]) -> Option<String> {
     let [text] = fields else {
         return None;
     };
-    told_if_read(alloc, Prefix::from_reverse_hex(fields::text(text)?))
+    told_if_read(alloc, Prefix::from_reverse_hex(text_of(text)?))
 }
 
 /// The prefix that a text spells in reverse, of one digit or more.
@@ -63,10 +64,7 @@ pub fn read_nonempty_reverse(alloc: Global, fields: &[Vec<u8>]) -> Option<String
     let [text] = fields else {
         return None;
     };
-    told_if_read(
-        alloc,
-        Prefix::from_reverse_hex_nonempty(fields::text(text)?),
-    )
+    told_if_read(alloc, Prefix::from_reverse_hex_nonempty(text_of(text)?))
 }
 
 /// The digits of a text's prefix in a buffer, and those of its view.
@@ -74,7 +72,7 @@ pub fn texts(alloc: Global, fields: &[Vec<u8>]) -> Option<String> {
     let [text] = fields else {
         return None;
     };
-    let prefix = Prefix::try_from(fields::text(text)?).ok()?;
+    let prefix = Prefix::try_from(text_of(text)?).ok()?;
     let view = prefix.as_oid();
     let mut buffer = Kind::hex_buf();
     let text = prefix.hex_to_buf(&mut buffer);
@@ -86,7 +84,7 @@ pub fn write(alloc: Global, fields: &[Vec<u8>]) -> Option<String> {
     let [text] = fields else {
         return None;
     };
-    let prefix = Prefix::from_hex_nonempty(fields::text(text)?).ok()?;
+    let prefix = Prefix::from_hex_nonempty(text_of(text)?).ok()?;
     let mut out = Vec::new(alloc);
     prefix.write_hex_to(&mut out).ok()?;
     format!(in alloc; "{}", BStr::new(&out)).ok()

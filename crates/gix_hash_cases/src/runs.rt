@@ -1,13 +1,14 @@
 //! Runs of a prefix's matches in a list of ids.
 
 use crate::fields;
+use case_page::{read_texts, text_of};
 use gix_hash::{ObjectId, Prefix, Run, can_run, prefix_run};
 use std::alloc::Global;
 
 /// The ids of a line that sets the list, one a field. `None` of any other line, or where no memory is left.
 pub fn list(alloc: Global, line: &str) -> Option<Vec<ObjectId>> {
     let line = line.strip_prefix("list ")?;
-    let fields = fields::fields(alloc, line)?;
+    let fields = read_texts(alloc, line)?;
     ids(alloc, &fields)
 }
 
@@ -33,7 +34,7 @@ pub fn find(alloc: Global, list: &[ObjectId], fields: &[Vec<u8>]) -> Option<Stri
     let [text] = fields else {
         return None;
     };
-    let prefix = Prefix::from_hex_nonempty(fields::text(text)?).ok()?;
+    let prefix = Prefix::from_hex_nonempty(text_of(text)?).ok()?;
     if can_run(list, &prefix) {
         shown(alloc, &prefix_run(list, &prefix), list.len())
     } else {

@@ -1,6 +1,7 @@
 //! Streams and files that are hashed.
 
 use crate::fields;
+use case_page::text_of;
 use gix_hash::hasher::hasher;
 use gix_hash::io::{Error, Interrupt, Progress, bytes, bytes_of_file, bytes_with_hasher};
 use gix_hash::{Kind, ObjectId};
@@ -101,7 +102,7 @@ pub fn file<F: Files>(files: &F, alloc: Global, fields: &[Vec<u8>]) -> Option<St
     };
     let kind = fields::kind(kind)?;
     let count = fields::number(count)? as u64;
-    let path = fields::text(path)?;
+    let path = text_of(path)?;
     let mut progress = Amount(0);
     let mut interrupt = YesAt {
         number: 0,

@@ -1,22 +1,23 @@
 //! Commits with one part changed: what is written of them, and whether they can be owned.
 
-use crate::case::Case;
-use crate::page::Page;
 use bstr::BStr;
+use case_ids::Case;
+use case_objects::show_written;
+use case_page::Page;
 use gix_object_commit::CommitRef;
 use gix_object_commit::commit::HeaderRef;
 use gix_object_lines::lines::{ActorRef, Time};
 use std::alloc::Global;
 
 fn show_both(alloc: Global, commit: CommitRef<'_>, page: &mut Page) {
-    page.written(alloc, &commit);
+    show_written(alloc, &commit, page);
     match commit.into_owned() {
         Ok(own) => {
-            page.word("; own ");
-            page.written(alloc, &own);
+            page.text("; own ");
+            show_written(alloc, &own, page);
         }
         Err(error) => {
-            page.word("; not owned ");
+            page.text("; not owned ");
             page.name(error);
         }
     }
@@ -31,7 +32,7 @@ pub fn tree<'a>(alloc: Global, mut commit: CommitRef<'a>, case: &'a Case, page: 
 /// With the second text as a further parent's id.
 pub fn parent<'a>(alloc: Global, mut commit: CommitRef<'a>, case: &'a Case, page: &mut Page) {
     if commit.parents.push(BStr::new(case.text(1))).is_err() {
-        return page.word("no memory");
+        return page.text("no memory");
     }
     show_both(alloc, commit, page);
 }
@@ -59,9 +60,9 @@ pub fn header<'a>(alloc: Global, mut commit: CommitRef<'a>, case: &'a Case, page
         value: BStr::new(case.text(2)),
     };
     if commit.extra_headers.push(header).is_err() {
-        return page.word("no memory");
+        return page.text("no memory");
     }
-    page.written(alloc, &commit);
+    show_written(alloc, &commit, page);
 }
 
 fn time_of(seconds: &[u8], offset: &[u8]) -> Option<Time> {
@@ -74,15 +75,15 @@ fn time_of(seconds: &[u8], offset: &[u8]) -> Option<Time> {
 /// Owned, with the further texts as the seconds and the offset of its author's time.
 pub fn time(alloc: Global, commit: CommitRef<'_>, case: &Case, page: &mut Page) {
     let Some(time) = time_of(case.text(1), case.text(2)) else {
-        return page.word("no time");
+        return page.text("no time");
     };
     match commit.into_owned() {
         Ok(mut own) => {
             own.author.time = time;
-            page.written(alloc, &own);
+            show_written(alloc, &own, page);
         }
         Err(error) => {
-            page.word("not owned ");
+            page.text("not owned ");
             page.name(error);
         }
     }

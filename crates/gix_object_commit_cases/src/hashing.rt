@@ -1,7 +1,8 @@
 //! Blobs, and the ids of objects.
 
-use crate::case::Case;
-use crate::page::Page;
+use case_ids::Case;
+use case_objects::show_object;
+use case_page::Page;
 use gix_hash::io::{self, Interrupt, Progress};
 use gix_object_hash::{BlobRef, compute_hash, compute_stream_hash};
 use gix_object_lines::Kind;
@@ -11,16 +12,16 @@ use std::alloc::Global;
 /// A blob, borrowed, owned, and borrowed from the owned one.
 pub fn blob(alloc: Global, case: &Case, page: &mut Page) {
     let blob = BlobRef::from_bytes(case.text(0));
-    page.object(alloc, case.kind, &blob);
+    show_object(alloc, case.kind, &blob, page);
     let own = match blob.into_owned(alloc) {
         Ok(own) => own,
         Err(error) => return page.name(error),
     };
-    page.word("; own ");
-    page.object(alloc, case.kind, &own);
-    page.word("; lent ");
-    page.object(alloc, case.kind, &own.to_ref());
-    page.text("; ", own.to_ref().content, "");
+    page.text("; own ");
+    show_object(alloc, case.kind, &own, page);
+    page.text("; lent ");
+    show_object(alloc, case.kind, &own.to_ref(), page);
+    page.between("; ", own.to_ref().content, "");
 }
 
 /// The id of an object: the word of its kind, and its content.
@@ -58,7 +59,7 @@ impl Interrupt for Stop {
 pub fn stream(case: &Case, wanted: bool, page: &mut Page) {
     let (Ok(kind), Some(length)) = (Kind::from_bytes(case.text(0)), read_unsigned(case.text(1)))
     else {
-        return page.word("no object");
+        return page.text("no object");
     };
     let mut bytes = case.text(2);
     let mut progress = Amount { sum: 0 };
@@ -71,11 +72,11 @@ pub fn stream(case: &Case, wanted: bool, page: &mut Page) {
         &mut Stop { wanted },
     ) {
         Ok(id) => {
-            page.value("", id, "; told ");
-            page.value("", progress.sum, "; left ");
+            page.put_between("", id, "; told ");
+            page.put_between("", progress.sum, "; left ");
             page.put(bytes.len());
         }
-        Err(io::Error::Io(_)) => page.word("refused Io"),
-        Err(io::Error::Interrupted) => page.word("refused Interrupted"),
+        Err(io::Error::Io(_)) => page.text("refused Io"),
+        Err(io::Error::Interrupted) => page.text("refused Interrupted"),
     }
 }

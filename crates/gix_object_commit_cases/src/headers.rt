@@ -1,7 +1,7 @@
 //! Further headers: by name, and without the spaces of a commit's lines.
 
-use crate::case::Case;
-use crate::page::Page;
+use case_ids::Case;
+use case_page::Page;
 use gix_object_commit::commit::{
     ExtraHeaders, SIGNATURE_FIELD_NAME, SIGNATURE_FIELD_NAME_SHA256, signature_field_name,
 };
@@ -11,12 +11,12 @@ use std::alloc::Global;
 // The place of the first header of the name, its value, and all values of the name.
 fn show_found(headers: ExtraHeaders<'_, '_>, name: &[u8], page: &mut Page) {
     match headers.find_pos(name) {
-        Some(place) => page.value("", place, "; "),
-        None => page.word("none; "),
+        Some(place) => page.put_between("", place, "; "),
+        None => page.text("none; "),
     }
     page.told("", headers.find(name), "; ");
     for value in headers.find_all(name) {
-        page.text("value ", value.as_bytes(), "; ");
+        page.between("value ", value.as_bytes(), "; ");
     }
 }
 
@@ -25,10 +25,10 @@ pub fn find(commit: &CommitRef<'_>, name: &[u8], page: &mut Page) {
     show_found(commit.extra_headers(), name, page);
     match commit.to_owned() {
         Ok(own) => {
-            page.word("own ");
+            page.text("own ");
             show_found(own.extra_headers(), name, page);
         }
-        Err(_) => page.word("not owned"),
+        Err(_) => page.text("not owned"),
     }
 }
 
@@ -36,15 +36,15 @@ pub fn find(commit: &CommitRef<'_>, name: &[u8], page: &mut Page) {
 fn show_named(headers: ExtraHeaders<'_, '_>, page: &mut Page) {
     page.told("signature ", headers.pgp_signature(), "; ");
     for tag in headers.mergetags() {
-        page.text("tag ", tag.as_bytes(), "; ");
+        page.between("tag ", tag.as_bytes(), "; ");
     }
 }
 
 fn show_unfolded(alloc: Global, commit: &CommitRef<'_>, page: &mut Page) {
     for header in commit.extra_headers.as_slice() {
-        page.text("header ", header.name.as_bytes(), "|");
+        page.between("header ", header.name.as_bytes(), "|");
         match header.unfolded(alloc) {
-            Ok(value) => page.text("", value.as_bytes(), "; "),
+            Ok(value) => page.between("", value.as_bytes(), "; "),
             Err(error) => page.name(error),
         }
     }
@@ -52,10 +52,10 @@ fn show_unfolded(alloc: Global, commit: &CommitRef<'_>, page: &mut Page) {
 }
 
 fn show_own(own: &Commit, page: &mut Page) {
-    page.word("own ");
+    page.text("own ");
     for header in own.extra_headers.as_slice() {
-        page.text("header ", header.name.as_bytes(), "|");
-        page.text("", header.value.as_bytes(), "; ");
+        page.between("header ", header.name.as_bytes(), "|");
+        page.between("", header.value.as_bytes(), "; ");
     }
     show_named(own.extra_headers(), page);
 }
@@ -66,13 +66,13 @@ pub fn all(alloc: Global, commit: &CommitRef<'_>, page: &mut Page) {
     show_unfolded(alloc, commit, page);
     match commit.to_owned() {
         Ok(own) => show_own(&own, page),
-        Err(_) => page.word("not owned"),
+        Err(_) => page.text("not owned"),
     }
 }
 
 /// The name of the header that holds a signature, among all such names.
 pub fn field_name(case: &Case, page: &mut Page) {
     page.put(signature_field_name(case.kind));
-    page.value(" of ", SIGNATURE_FIELD_NAME, " ");
+    page.put_between(" of ", SIGNATURE_FIELD_NAME, " ");
     page.put(SIGNATURE_FIELD_NAME_SHA256);
 }

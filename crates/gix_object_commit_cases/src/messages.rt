@@ -1,27 +1,27 @@
 //! A commit's message, parted, and its trailers.
 
-use crate::page::Page;
+use case_page::Page;
 use gix_object_commit::CommitRef;
 use gix_object_message::{SelectedTrailers, TrailerRef};
 
 /// The title, the body and the summary.
 pub fn parts(commit: &CommitRef<'_>, page: &mut Page) {
     let message = commit.message();
-    page.text("title ", message.title.as_bytes(), "; ");
+    page.between("title ", message.title.as_bytes(), "; ");
     page.told("body ", message.body, "; ");
     match commit.message_summary() {
-        Ok(summary) => page.text("summary ", summary.as_slice(), ""),
+        Ok(summary) => page.between("summary ", summary.as_slice(), ""),
         Err(error) => page.name(error),
     }
 }
 
 fn show_trailer(trailer: TrailerRef<'_>, page: &mut Page) {
-    page.text(" ", trailer.token.as_bytes(), ": ");
-    page.text("", trailer.value.as_bytes(), ";");
+    page.between(" ", trailer.token.as_bytes(), ": ");
+    page.between("", trailer.value.as_bytes(), ";");
 }
 
 fn show_selected(word: &str, trailers: SelectedTrailers<'_>, page: &mut Page) {
-    page.word(word);
+    page.text(word);
     for trailer in trailers {
         show_trailer(trailer, page);
     }
@@ -29,7 +29,7 @@ fn show_selected(word: &str, trailers: SelectedTrailers<'_>, page: &mut Page) {
 
 /// The trailers, all and those of each filter.
 pub fn trailers(commit: &CommitRef<'_>, page: &mut Page) {
-    page.word("all");
+    page.text("all");
     for trailer in commit.message_trailers() {
         show_trailer(trailer, page);
     }

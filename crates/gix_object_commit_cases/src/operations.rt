@@ -1,10 +1,11 @@
 //! One line to one answer.
 
-use crate::case::{Case, read_case};
-use crate::page::Page;
 use crate::{edits, hashing, headers, messages, signing, tokens, whole};
+use case_ids::{Case, Operations};
+use case_objects::show_object;
+use case_page::Page;
 use gix_object_commit::CommitRef;
-use std::alloc::{AllocError, Global};
+use std::alloc::Global;
 
 // What is asked of a commit that is read whole.
 fn write_of_commit<'a>(
@@ -16,7 +17,7 @@ fn write_of_commit<'a>(
 ) {
     match operation {
         "read" => whole::read(&commit, page),
-        "write" => page.object(alloc, case.kind, &commit),
+        "write" => show_object(alloc, case.kind, &commit, page),
         "own" => whole::own(alloc, case.kind, commit, page),
         "message" => messages::parts(&commit, page),
         "trailers" => messages::trailers(&commit, page),
@@ -43,38 +44,30 @@ fn write_of_edited<'a>(
         "with-encoding" => edits::encoding(alloc, commit, case, page),
         "with-header" => edits::header(alloc, commit, case, page),
         "with-time" => edits::time(alloc, commit, case, page),
-        _ => page.word("no operation"),
+        _ => page.text("no operation"),
     }
 }
 
-fn write_answer(alloc: Global, operation: &str, case: &Case, page: &mut Page) {
-    match operation {
-        "lent" => whole::lent(alloc, case, page),
-        "tokens" => tokens::in_order(case, page),
-        "ids" => tokens::ids(case, page),
-        "ahead" => tokens::ahead(case, page),
-        "signature" => signing::signature(alloc, case, page),
-        "field" => headers::field_name(case, page),
-        "blob" => hashing::blob(alloc, case, page),
-        "hash" => hashing::hash(case, page),
-        "stream" => hashing::stream(case, false, page),
-        "stopped" => hashing::stream(case, true, page),
-        _ => match CommitRef::from_bytes(alloc, case.text(0), case.kind) {
-            Ok(commit) => write_of_commit(alloc, operation, commit, case, page),
-            Err(error) => page.refused(error),
-        },
-    }
-}
+/// The operations of these cases.
+pub struct Commits;
 
-/// What the operation of the line gives.
-pub fn answer(alloc: Global, line: &str) -> Result<String, AllocError> {
-    let mut page = Page::new(alloc);
-    match line.split_once(' ') {
-        Some((operation, words)) => match read_case(alloc, words) {
-            Some(case) => write_answer(alloc, operation, &case, &mut page),
-            None => page.word("no bytes"),
-        },
-        None => page.word("no case"),
+impl Operations for Commits {
+    fn write_answer(alloc: Global, operation: &str, case: &Case, page: &mut Page) {
+        match operation {
+            "lent" => whole::lent(alloc, case, page),
+            "tokens" => tokens::in_order(case, page),
+            "ids" => tokens::ids(case, page),
+            "ahead" => tokens::ahead(case, page),
+            "signature" => signing::signature(alloc, case, page),
+            "field" => headers::field_name(case, page),
+            "blob" => hashing::blob(alloc, case, page),
+            "hash" => hashing::hash(case, page),
+            "stream" => hashing::stream(case, false, page),
+            "stopped" => hashing::stream(case, true, page),
+            _ => match CommitRef::from_bytes(alloc, case.text(0), case.kind) {
+                Ok(commit) => write_of_commit(alloc, operation, commit, case, page),
+                Err(error) => page.refused(error),
+            },
+        }
     }
-    page.finish()
 }

@@ -1,9 +1,10 @@
 //! Signatures of commits, found and made.
 
-use crate::case::Case;
-use crate::page::Page;
-use crate::program::Program;
+use crate::parts::show_header;
 use bstr::BStr;
+use case_ids::Case;
+use case_objects::{Program, show_written};
+use case_page::Page;
 use gix_object_commit::{Commit, CommitRef};
 use gix_object_commit_tokens::CommitRefIter;
 use gix_object_commit_tokens::ref_iter::CommitSignature;
@@ -13,15 +14,15 @@ use gix_object_signature::sign::Options;
 use std::alloc::Global;
 
 fn show_signature(alloc: Global, found: CommitSignature<'_>, page: &mut Page) {
-    page.header("header ", found.header, "; ");
+    show_header("header ", found.header, "; ", page);
     match found.header.unfolded(alloc) {
-        Ok(value) => page.text("signature ", value.as_bytes(), "; "),
+        Ok(value) => page.between("signature ", value.as_bytes(), "; "),
         Err(error) => page.name(error),
     }
-    page.text("before ", found.signed_data.before.as_bytes(), "; ");
-    page.text("behind ", found.signed_data.behind.as_bytes(), "; ");
+    page.between("before ", found.signed_data.before.as_bytes(), "; ");
+    page.between("behind ", found.signed_data.behind.as_bytes(), "; ");
     match found.signed_data.to_bstring(alloc) {
-        Ok(signed) => page.text("signed ", signed.as_bytes(), ""),
+        Ok(signed) => page.between("signed ", signed.as_bytes(), ""),
         Err(error) => page.name(error),
     }
 }
@@ -30,7 +31,7 @@ fn show_signature(alloc: Global, found: CommitSignature<'_>, page: &mut Page) {
 pub fn signature(alloc: Global, case: &Case, page: &mut Page) {
     match CommitRefIter::signature(case.text(0), case.kind) {
         Ok(Some(found)) => show_signature(alloc, found, page),
-        Ok(None) => page.word("none"),
+        Ok(None) => page.text("none"),
         Err(error) => page.refused(error),
     }
 }
@@ -51,7 +52,7 @@ fn sign_own(
     program: &mut Program<'_>,
     page: &mut Page,
 ) {
-    page.word("; own ");
+    page.text("; own ");
     match own.sign(
         options,
         &mut |words: &[Word<'_>], input: &[u8]| { program.answer(words, input) },
@@ -59,10 +60,10 @@ fn sign_own(
         Ok(()) => {}
         Err(error) => {
             page.refused(error);
-            page.word(", is ");
+            page.text(", is ");
         }
     }
-    page.written(alloc, &own);
+    show_written(alloc, &own, page);
 }
 
 // Signs a commit that is lent.
@@ -78,7 +79,7 @@ fn sign_lent(
         &mut |words: &[Word<'_>], input: &[u8]| { program.answer(words, input) },
     ) {
         Ok(signed) => {
-            page.written(alloc, &signed);
+            show_written(alloc, &signed, page);
             sign_own(alloc, signed, options, program, page);
         }
         Err(error) => page.refused(error),
@@ -95,11 +96,11 @@ pub fn sign(alloc: Global, commit: CommitRef<'_>, case: &Case, page: &mut Page) 
     match copy {
         Ok(own) => sign_own(alloc, own, &options, &mut program, page),
         Err(error) => {
-            page.word("; not owned ");
+            page.text("; not owned ");
             page.name(error);
         }
     }
-    page.word("; ");
+    page.text("; ");
     program.tell(page);
 }
 
@@ -113,6 +114,6 @@ pub fn sign_with_tree<'a>(
     commit.tree = BStr::new(case.text(1));
     let mut program = Program::new(alloc, case.behind(2));
     sign_lent(alloc, commit, &options(b"key"), &mut program, page);
-    page.word("; ");
+    page.text("; ");
     program.tell(page);
 }

@@ -1,7 +1,9 @@
 //! Commits read whole, owned and written again.
 
-use crate::case::Case;
-use crate::page::Page;
+use crate::parts::show_header;
+use case_ids::Case;
+use case_objects::{show_actor, show_object};
+use case_page::Page;
 use gix_object_commit::CommitRef;
 use gix_object_commit::laws::ids_read_are_ids;
 use gix_object_lines::WriteTo;
@@ -9,29 +11,29 @@ use std::alloc::Global;
 
 /// The parts of a commit as its fields hold them.
 pub fn read(commit: &CommitRef<'_>, page: &mut Page) {
-    page.text("tree ", commit.tree.as_bytes(), "; ");
+    page.between("tree ", commit.tree.as_bytes(), "; ");
     for parent in commit.parents.as_slice() {
-        page.text("parent ", parent.as_bytes(), "; ");
+        page.between("parent ", parent.as_bytes(), "; ");
     }
-    page.actor("author ", commit.author, "; ");
-    page.actor("committer ", commit.committer, "; ");
+    show_actor("author ", commit.author, "; ", page);
+    show_actor("committer ", commit.committer, "; ", page);
     if let Some(encoding) = commit.encoding {
-        page.text("encoding ", encoding.as_bytes(), "; ");
+        page.between("encoding ", encoding.as_bytes(), "; ");
     }
     for header in commit.extra_headers.as_slice() {
-        page.header("header ", *header, "; ");
+        show_header("header ", *header, "; ", page);
     }
-    page.text("message ", commit.message.as_bytes(), "");
+    page.between("message ", commit.message.as_bytes(), "");
 }
 
 fn show_time(commit: &CommitRef<'_>, page: &mut Page) {
     match commit.time() {
         Ok(time) => {
-            page.value("; time ", time.seconds, " ");
+            page.put_between("; time ", time.seconds, " ");
             page.put(time.offset);
         }
         Err(error) => {
-            page.word("; ");
+            page.text("; ");
             page.refused(error);
         }
     }
@@ -45,13 +47,13 @@ pub fn lent(alloc: Global, case: &Case, page: &mut Page) {
         Err(error) => return page.refused(error),
     };
     ids_read_are_ids(content, case.kind);
-    page.value("", commit.kind(), " ");
+    page.put_between("", commit.kind(), " ");
     page.put(commit.tree());
     for parent in commit.parents() {
-        page.value(" ", parent, "");
+        page.put_between(" ", parent, "");
     }
-    page.actor("; author ", commit.author(), "; ");
-    page.actor("committer ", commit.committer(), "");
+    show_actor("; author ", commit.author(), "; ", page);
+    show_actor("committer ", commit.committer(), "", page);
     show_time(&commit, page);
 }
 
@@ -59,10 +61,10 @@ pub fn lent(alloc: Global, case: &Case, page: &mut Page) {
 /// that was lent.
 pub fn own(alloc: Global, kind: gix_hash::Kind, commit: CommitRef<'_>, page: &mut Page) {
     let (Ok(lent), Ok(given)) = (commit.to_owned(), commit.into_owned()) else {
-        return page.word("not owned");
+        return page.text("not owned");
     };
-    page.object(alloc, kind, &given);
-    page.word(if lent == given {
+    show_object(alloc, kind, &given, page);
+    page.text(if lent == given {
         " alike"
     } else {
         " different"

@@ -1,9 +1,12 @@
 //! The words of a line.
 
-use crate::store::{Trees, row_of_content};
-use gix_hash::{Kind, ObjectId};
+use case_ids::read_kind;
+use case_page::read_digits;
+use case_store::{Row, Trees, row_of_content};
+use gix_hash::Kind;
 use gix_object_entries::tree::EntryKind;
 use gix_object_entries::{Tree, TreeRef};
+use gix_object_lines::WriteTo;
 use std::alloc::Global;
 
 /// What a line gives: trees and the edits of the first.
@@ -15,20 +18,6 @@ pub struct Case {
     pub root: Tree,
     /// The trees that may be asked for.
     pub trees: Trees,
-}
-
-/// The hash function of this name.
-pub fn read_kind(word: &str) -> Option<Kind> {
-    match word {
-        "sha1" => Some(Kind::Sha1),
-        "sha256" => Some(Kind::Sha256),
-        _ => None,
-    }
-}
-
-/// The bytes of hexadecimal digits; none for `-`.
-pub fn read_bytes(alloc: Global, word: &str) -> Option<Vec<u8>> {
-    hex::decode(alloc, if word == "-" { "" } else { word }).ok()
 }
 
 /// What the first three words of a line give.
@@ -43,7 +32,7 @@ pub fn read_case(alloc: Global, kind: &str, root: &str, trees: &str) -> Option<C
 
 /// The tree of this content.
 pub fn read_tree(alloc: Global, kind: Kind, word: &str) -> Option<Tree> {
-    let content = read_bytes(alloc, word)?;
+    let content = read_digits(alloc, word)?;
     let tree = TreeRef::from_bytes(alloc, content.as_slice(), kind).ok()?;
     tree.into_owned().ok()
 }
@@ -56,7 +45,7 @@ fn read_trees(alloc: Global, kind: Kind, words: &str) -> Option<Trees> {
     }
     for word in words.split(',') {
         trees
-            .add(row_of_content(kind, read_bytes(alloc, word)?))
+            .add(row_of_content(kind, read_digits(alloc, word)?))
             .ok()?;
     }
     Some(trees)
@@ -86,7 +75,9 @@ pub fn read_entry_kind(word: &str) -> Option<EntryKind> {
     }
 }
 
-/// An id in hexadecimal digits.
-pub fn read_id(word: &str) -> Option<ObjectId> {
-    ObjectId::from_hex(word.as_bytes()).ok()
+/// A tree's content under the id that Git gives it.
+pub fn row_of(alloc: Global, kind: Kind, tree: &Tree) -> Option<Row> {
+    let mut content = Vec::new(alloc);
+    tree.write_to(&mut content).ok()?;
+    Some(row_of_content(kind, content))
 }

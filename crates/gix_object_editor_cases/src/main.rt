@@ -2,9 +2,7 @@
 #![tactic(auto)]
 
 mod case;
-mod page;
 mod session;
-mod store;
 
 use std::io::{self, BufRead, BufReader, BufWriter, Write};
 

@@ -1,8 +1,9 @@
 //! The edits of a line, one after another.
 
-use crate::case::{Case, read_case, read_entry_kind, read_id, read_path, read_tree};
-use crate::page::Page;
-use crate::store::{Row, Trees, row_of};
+use crate::case::{Case, read_case, read_entry_kind, read_path, read_tree, row_of};
+use case_ids::read_id;
+use case_page::Page;
+use case_store::{Row, Trees};
 use gix_hash::{Kind, ObjectId};
 use gix_object_editor::tree::editor::{Cursor, Editor, Error, write};
 use gix_object_entries::Tree;
@@ -78,15 +79,21 @@ fn set_root(
     Some(())
 }
 
+// The names of a path, lent.
+fn lent(alloc: Global, names: &[Vec<u8>]) -> Option<Vec<&[u8]>> {
+    let mut path = Vec::new(alloc);
+    for name in names {
+        path.push(name.as_slice()).ok()?;
+    }
+    Some(path)
+}
+
 // An edit or a question of a path.
 fn at_path(alloc: Global, editor: &mut Editor<Trees>, word: &str, page: &mut Page) -> Option<()> {
     let mut parts = word.split(':');
     let what = parts.next()?;
     let names = read_path(alloc, parts.next()?)?;
-    let mut path = Vec::new(alloc);
-    for name in &names {
-        path.push(name.as_slice()).ok()?;
-    }
+    let path = lent(alloc, names.as_slice())?;
     let path = path.as_slice();
     match what {
         "get" => show_entry(editor.get(path), page),
@@ -113,16 +120,10 @@ fn at_cursor(
     let mut parts = word.split(':');
     parts.next()?;
     let base = read_path(alloc, parts.next()?)?;
-    let mut folder = Vec::new(alloc);
-    for name in &base {
-        folder.push(name.as_slice()).ok()?;
-    }
+    let folder = lent(alloc, base.as_slice())?;
     let what = parts.next()?;
     let below = read_path(alloc, parts.next()?)?;
-    let mut path = Vec::new(alloc);
-    for name in &below {
-        path.push(name.as_slice()).ok()?;
-    }
+    let path = lent(alloc, below.as_slice())?;
     let path = path.as_slice();
     let mut cursor = match cursor_of(alloc, kind, editor, folder.as_slice()) {
         Ok(cursor) => cursor,

@@ -1,8 +1,8 @@
 //! Modes and kinds.
 
-use crate::case::Case;
 use crate::orders;
-use crate::page::Page;
+use case_ids::Case;
+use case_page::Page;
 use gix_object_entries::tree::{EntryKind, EntryMode};
 use std::convert::TryFrom;
 use std::fmt;
@@ -20,11 +20,11 @@ impl fmt::Display for InOctal {
 /// Adds a mode's number, its two texts, what it names and what its tests tell.
 pub fn show(mode: EntryMode, page: &mut Page) {
     let mut backing = [0; 6];
-    page.value("", mode.value(), " ");
-    page.bytes(mode.as_bytes(&mut backing).as_bytes());
-    page.word(" ");
+    page.put_between("", mode.value(), " ");
+    page.escaped(mode.as_bytes(&mut backing).as_bytes());
+    page.text(" ");
     page.put(InOctal(mode));
-    page.value(" ", mode.as_str(), " ");
+    page.put_between(" ", mode.as_str(), " ");
     page.name(mode.kind());
     page.test(" tree", mode.is_tree());
     page.test(" no-tree", mode.is_no_tree());
@@ -39,14 +39,14 @@ pub fn show(mode: EntryMode, page: &mut Page) {
 pub fn mode(case: &Case, page: &mut Page) {
     match EntryMode::from_bytes(case.text(0)) {
         Some(mode) => show(mode, page),
-        None => page.word("none"),
+        None => page.text("none"),
     }
     match EntryMode::try_from(case.text(0)) {
         Ok(mode) => {
-            page.word("; ");
+            page.text("; ");
             show(mode, page);
         }
-        Err(back) => page.text("; back ", back, ""),
+        Err(back) => page.between("; back ", back, ""),
     }
 }
 
@@ -64,9 +64,9 @@ pub fn number(case: &Case, page: &mut Page) {
     match EntryMode::try_from(number_of(case.text(0))) {
         Ok(mode) => {
             show(mode, page);
-            page.value("; ", EntryMode::from(EntryKind::from(mode)).value(), "");
+            page.put_between("; ", EntryMode::from(EntryKind::from(mode)).value(), "");
         }
-        Err(back) => page.value("back ", back, ""),
+        Err(back) => page.put_between("back ", back, ""),
     }
 }
 
@@ -84,10 +84,10 @@ fn kind_of(name: &[u8]) -> Option<EntryKind> {
 /// A kind's mode.
 pub fn kind(case: &Case, page: &mut Page) {
     let Some(kind) = kind_of(case.text(0)) else {
-        return page.word("no kind");
+        return page.text("no kind");
     };
-    page.bytes(kind.as_octal_str().as_bytes());
-    page.value(" ", kind.value(), " ");
+    page.escaped(kind.as_octal_str().as_bytes());
+    page.put_between(" ", kind.value(), " ");
     show(EntryMode::from(kind), page);
 }
 
@@ -95,7 +95,7 @@ pub fn kind(case: &Case, page: &mut Page) {
 pub fn kinds(case: &Case, page: &mut Page) {
     match (kind_of(case.text(0)), kind_of(case.text(1))) {
         (Some(one), Some(other)) => orders::stand(&one, &other, page),
-        _ => page.word("no kinds"),
+        _ => page.text("no kinds"),
     }
 }
 
@@ -106,6 +106,6 @@ pub fn modes(case: &Case, page: &mut Page) {
         EntryMode::from_bytes(case.text(1)),
     ) {
         (Some(one), Some(other)) => orders::stand(&one, &other, page),
-        _ => page.word("no modes"),
+        _ => page.text("no modes"),
     }
 }

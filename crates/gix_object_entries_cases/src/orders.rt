@@ -1,14 +1,7 @@
 //! How two values stand to each other.
 
-use crate::page::Page;
-use std::hash::{DefaultHasher, Hash, Hasher};
-
-/// The digest of what a value feeds a hasher.
-pub fn digest<T: Hash>(value: &T) -> u64 {
-    let mut hasher = DefaultHasher::new();
-    value.hash(&mut hasher);
-    hasher.finish()
-}
+use case_page::{Page, digest};
+use std::hash::Hash;
 
 /// Adds the order of two values, whether they are equal, and whether their hashes are.
 pub fn stand<T: Ord + Hash>(one: &T, other: &T, page: &mut Page) {

@@ -1,9 +1,9 @@
 //! Trees, read whole and entry by entry, and written.
 
-use crate::case::Case;
 use crate::entries;
-use crate::page::Page;
 use bstr::BStr;
+use case_ids::Case;
+use case_page::Page;
 use gix_hash::ObjectId;
 use gix_object_entries::tree::{Entry, EntryKind, EntryMode};
 use gix_object_entries::{Tree, TreeRef, TreeRefIter};
@@ -14,19 +14,19 @@ use std::alloc::{AllocError, Global};
 fn show_written<T: WriteTo>(alloc: Global, kind: gix_hash::Kind, tree: &T, page: &mut Page) {
     let mut content = Vec::new(alloc);
     if let Err(error) = tree.write_to(&mut content) {
-        page.value("; ", content.len(), " bytes, then refused ");
+        page.put_between("; ", content.len(), " bytes, then refused ");
         return page.name(error);
     }
     let mut digest = gix_hash::hasher::hasher(kind);
     match tree.loose_header() {
         Some(header) => digest.update(header.as_slice()),
-        None => page.word("no header "),
+        None => page.text("no header "),
     }
     digest.update(content.as_slice());
-    page.value("; ", tree.kind(), " ");
+    page.put_between("; ", tree.kind(), " ");
     match tree.size() {
-        Some(size) => page.value("", size, " "),
-        None => page.word("no size "),
+        Some(size) => page.put_between("", size, " "),
+        None => page.text("no size "),
     }
     page.put(digest.try_finalize());
 }
@@ -37,9 +37,9 @@ pub fn tree(alloc: Global, case: &Case, page: &mut Page) {
         Ok(tree) => tree,
         Err(error) => return page.refused(error),
     };
-    page.value("", tree.entries.len(), " entries");
+    page.put_between("", tree.entries.len(), " entries");
     for entry in &tree.entries {
-        page.word("; ");
+        page.text("; ");
         entries::show(*entry, page);
     }
     page.test("; well-formed", tree.is_well_formed());
@@ -55,23 +55,23 @@ fn read_owned(alloc: Global, case: &Case) -> Option<Tree> {
 /// The tree that owns the entries of a content: the same, and whether a copy that is lent is like it.
 pub fn owned(alloc: Global, case: &Case, page: &mut Page) {
     let Some(tree) = read_owned(alloc, case) else {
-        return page.word("not owned");
+        return page.text("not owned");
     };
-    page.value("", tree.entries.len(), " entries");
+    page.put_between("", tree.entries.len(), " entries");
     page.test("; well-formed", tree.is_well_formed());
     page.test("; empty", tree == Tree::empty(alloc));
     show_written(alloc, case.kind, &tree, page);
     if let Ok(borrowed) = TreeRef::from_bytes(alloc, case.text(0), case.kind) {
         match borrowed.to_owned() {
             Ok(other) => page.test("; alike", tree == other),
-            Err(AllocError) => page.word("; not owned"),
+            Err(AllocError) => page.text("; not owned"),
         }
     }
 }
 
 fn make(alloc: Global, case: &Case) -> Result<Tree, AllocError> {
     let mut tree = Tree::empty(alloc);
-    for name in &case.texts {
+    for name in case.behind(0) {
         tree.entries.push(Entry {
             mode: EntryMode::from(EntryKind::Blob),
             filename: ByteString::from_slice(alloc, name.as_slice())?,
@@ -84,9 +84,9 @@ fn make(alloc: Global, case: &Case) -> Result<Tree, AllocError> {
 /// A tree of files of these names and the null id: whether it is well-formed, and what is written of it.
 pub fn made(alloc: Global, case: &Case, page: &mut Page) {
     let Ok(tree) = make(alloc, case) else {
-        return page.word("not made");
+        return page.text("not made");
     };
-    page.value("", tree.entries.len(), " entries");
+    page.put_between("", tree.entries.len(), " entries");
     page.test("; well-formed", tree.is_well_formed());
     show_written(alloc, case.kind, &tree, page);
 }
@@ -101,10 +101,10 @@ pub fn iter(alloc: Global, case: &Case, page: &mut Page) {
             Ok(entry) => entries::show(entry, page),
             Err(error) => page.refused(error),
         }
-        page.value(" to ", tokens.offset_to_next_entry(content), "; ");
+        page.put_between(" to ", tokens.offset_to_next_entry(content), "; ");
     }
     match TreeRefIter::from_bytes(content, case.kind).entries(alloc) {
-        Ok(entries) => page.value("", entries.len(), " in all"),
+        Ok(entries) => page.put_between("", entries.len(), " in all"),
         Err(error) => page.refused(error),
     }
 }
@@ -112,10 +112,10 @@ pub fn iter(alloc: Global, case: &Case, page: &mut Page) {
 /// The entry of a name, a tree's where the last word isn't empty.
 pub fn bisect(alloc: Global, case: &Case, page: &mut Page) {
     let Ok(tree) = TreeRef::from_bytes(alloc, case.text(0), case.kind) else {
-        return page.word("no tree");
+        return page.text("no tree");
     };
     match tree.bisect_entry(BStr::new(case.text(1)), !case.text(2).is_empty()) {
         Some(entry) => entries::show(entry, page),
-        None => page.word("none"),
+        None => page.text("none"),
     }
 }

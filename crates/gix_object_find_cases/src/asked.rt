@@ -1,8 +1,8 @@
 //! One operation, asked of whatever looks objects up.
 
-use crate::case::Case;
-use crate::page::Page;
 use crate::{kinds, paths};
+use case_ids::Case;
+use case_page::Page;
 use gix_hash::ObjectId;
 use gix_object_find::{Exists, Find, FindHeader};
 use std::alloc::Global;
@@ -16,7 +16,7 @@ pub fn ask<T: Exists + Find + FindHeader>(
     page: &mut Page,
 ) {
     let Ok(id) = ObjectId::try_from(case.text(0)) else {
-        return page.word("no id");
+        return page.text("no id");
     };
     let id = id.as_oid();
     let mut buffer = Vec::new(alloc);
@@ -29,6 +29,6 @@ pub fn ask<T: Exists + Find + FindHeader>(
         "tag" => kinds::tag(objects, id, &mut buffer, page),
         "path" => paths::entry(alloc, objects, id, case.text(1), true, page),
         "names" => paths::entry(alloc, objects, id, case.text(1), false, page),
-        _ => page.word("no operation"),
+        _ => page.text("no operation"),
     }
 }

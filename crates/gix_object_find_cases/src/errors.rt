@@ -1,18 +1,18 @@
 //! Why an object isn't given, as it is written.
 
-use crate::page::Page;
+use case_page::Page;
 use gix_hash::ObjectId;
 use gix_object_find::find::{existing, existing_iter, existing_object};
 use gix_object_find::lookup;
 use gix_object_lines::Kind;
 
 fn absent(id: ObjectId, page: &mut Page) {
-    page.value("refused NotFound ", id, "");
+    page.put_between("refused NotFound ", id, "");
 }
 
 fn other_kind(id: ObjectId, actual: Kind, expected: Kind, page: &mut Page) {
-    page.value("refused ObjectKind ", id, " ");
-    page.value("is ", actual, ", not ");
+    page.put_between("refused ObjectKind ", id, " ");
+    page.put_between("is ", actual, ", not ");
     page.put(expected);
 }
 
@@ -42,7 +42,7 @@ pub fn existing_object(error: existing_object::Error, page: &mut Page) {
     match error {
         existing_object::Error::Find(error) => page.refused(error),
         existing_object::Error::Decode { oid, source } => {
-            page.value("refused Decode ", oid, " ");
+            page.put_between("refused Decode ", oid, " ");
             page.name(source);
         }
         existing_object::Error::NotFound { oid } => absent(oid, page),
@@ -59,6 +59,6 @@ pub fn lookup(error: lookup::Error, page: &mut Page) {
     match error {
         lookup::Error::Find(error) => existing_iter(error, page),
         lookup::Error::Decode(error) => page.refused(error),
-        lookup::Error::Memory => page.word("refused Memory"),
+        lookup::Error::Memory => page.text("refused Memory"),
     }
 }

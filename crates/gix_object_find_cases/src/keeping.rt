@@ -2,9 +2,10 @@
 
 ghost use Rattle.std.specs.Prelude.{◌≡◌, true};
 
-use crate::case::Case;
-use crate::page::Page;
-use crate::store::{Store, Stored};
+use crate::store::Store;
+use case_ids::Case;
+use case_page::Page;
+use case_store::Stored;
 use gix_hash::{Kind as HashKind, ObjectId};
 use gix_object_find::FindExt;
 use gix_object_find::find::Never;
@@ -46,10 +47,10 @@ impl Write for Store {
 // The id that an object was kept under.
 fn show(kept: Result<ObjectId, Error>, page: &mut Page) {
     match kept {
-        Ok(id) => page.value("", id, "; "),
+        Ok(id) => page.put_between("", id, "; "),
         Err(error) => {
             page.refused(error);
-            page.word("; ");
+            page.text("; ");
         }
     }
 }
@@ -85,7 +86,7 @@ fn keep_stream<W: Write>(
 // Each call in turn.
 fn keep_in<W: Write>(alloc: Global, store: &mut W, case: &Case, page: &mut Page) {
     let Ok((kind, size, header)) = loose_header(case.text(2)) else {
-        return page.word("no object");
+        return page.text("no object");
     };
     let content = case.text(2).get(header..).unwrap_or(b"");
     keep_read(alloc, store, case, page);
@@ -100,19 +101,19 @@ fn keep_in<W: Write>(alloc: Global, store: &mut W, case: &Case, page: &mut Page)
 /// what the first holds under the object's own id and under the null one.
 pub fn keep(alloc: Global, case: &Case, page: &mut Page) {
     let Some(mut store) = Store::new(alloc, case.kind, &[]) else {
-        return page.word("no store");
+        return page.text("no store");
     };
     keep_in(alloc, &mut store, case, page);
     let mut buffer = Vec::new(alloc);
     for stored in &store.objects {
         if let Ok(found) = store.find(stored.id.as_oid(), &mut buffer) {
-            page.value("", found.kind, " ");
-            page.value("", found.content.len(), " ");
+            page.put_between("", found.kind, " ");
+            page.put_between("", found.content.len(), " ");
         }
     }
-    page.word("| ");
+    page.text("| ");
     store.is_broken = true;
     keep_in(alloc, &mut store, case, page);
-    page.word("| ");
+    page.text("| ");
     keep_in(alloc, &mut Never, case, page);
 }

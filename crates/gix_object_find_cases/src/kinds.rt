@@ -1,7 +1,7 @@
 //! Objects that must stand, of any kind and of each.
 
 use crate::errors;
-use crate::page::Page;
+use case_page::Page;
 use gix_hash::oid;
 use gix_object_find::{Exists, Find, FindExt, FindHeader, HeaderExt};
 use std::alloc::Global;
@@ -10,17 +10,17 @@ use std::alloc::Global;
 pub fn header<T: Exists + FindHeader>(objects: &T, id: oid<'_>, page: &mut Page) {
     page.test("exists", objects.exists(id));
     match objects.try_header(id) {
-        Ok(Some(header)) => page.value(" ", header.size, "; "),
-        Ok(None) => page.word(" none; "),
+        Ok(Some(header)) => page.put_between(" ", header.size, "; "),
+        Ok(None) => page.text(" none; "),
         Err(error) => {
-            page.word(" ");
+            page.text(" ");
             page.refused(error);
-            page.word("; ");
+            page.text("; ");
         }
     }
     match objects.header(id) {
         Ok(header) => {
-            page.value("", header.kind, " ");
+            page.put_between("", header.kind, " ");
             page.put(header.size);
         }
         Err(error) => errors::existing(error, page),
@@ -30,18 +30,18 @@ pub fn header<T: Exists + FindHeader>(objects: &T, id: oid<'_>, page: &mut Page)
 /// The object of the id, by `try_find` and `find`.
 pub fn find<T: Find>(objects: &T, id: oid<'_>, buffer: &mut Vec<u8>, page: &mut Page) {
     match objects.try_find(id, buffer) {
-        Ok(Some(found)) => page.value("", found.content.len(), "; "),
-        Ok(None) => page.word("none; "),
+        Ok(Some(found)) => page.put_between("", found.content.len(), "; "),
+        Ok(None) => page.text("none; "),
         Err(error) => {
             page.refused(error);
-            page.word("; ");
+            page.text("; ");
         }
     }
     match objects.find(id, buffer) {
         Ok(found) => {
-            page.value("", found.kind, " ");
-            page.value("of ", found.object_hash, " ");
-            page.bytes(found.content);
+            page.put_between("", found.kind, " ");
+            page.put_between("of ", found.object_hash, " ");
+            page.escaped(found.content);
         }
         Err(error) => errors::existing(error, page),
     }
@@ -50,7 +50,7 @@ pub fn find<T: Find>(objects: &T, id: oid<'_>, buffer: &mut Vec<u8>, page: &mut 
 /// The content of the blob of the id.
 pub fn blob<T: Find>(objects: &T, id: oid<'_>, buffer: &mut Vec<u8>, page: &mut Page) {
     match objects.find_blob(id, buffer) {
-        Ok(blob) => page.bytes(blob.content),
+        Ok(blob) => page.escaped(blob.content),
         Err(error) => errors::existing_object(error, page),
     }
 }
@@ -66,15 +66,15 @@ pub fn tree<T: Find>(
     match objects.find_tree(alloc, id, buffer) {
         Ok(tree) => {
             for entry in &tree.entries {
-                page.text("", entry.filename.as_bytes(), " ");
+                page.between("", entry.filename.as_bytes(), " ");
             }
         }
         Err(error) => errors::existing_object(error, page),
     }
     match objects.find_tree_iter(id, buffer) {
-        Ok(entries) => page.value("; ", entries.count(), " read"),
+        Ok(entries) => page.put_between("; ", entries.count(), " read"),
         Err(error) => {
-            page.word("; ");
+            page.text("; ");
             errors::existing_iter(error, page);
         }
     }
@@ -89,13 +89,13 @@ pub fn commit<T: Find>(
     page: &mut Page,
 ) {
     match objects.find_commit(alloc, id, buffer) {
-        Ok(commit) => page.bytes(commit.message.as_bytes()),
+        Ok(commit) => page.escaped(commit.message.as_bytes()),
         Err(error) => errors::existing_object(error, page),
     }
     match objects.find_commit_iter(id, buffer) {
-        Ok(tokens) => page.value("; ", tokens.count(), " read"),
+        Ok(tokens) => page.put_between("; ", tokens.count(), " read"),
         Err(error) => {
-            page.word("; ");
+            page.text("; ");
             errors::existing_iter(error, page);
         }
     }
@@ -104,13 +104,13 @@ pub fn commit<T: Find>(
 /// The name of the tag of the id, and how many parts it has.
 pub fn tag<T: Find>(objects: &T, id: oid<'_>, buffer: &mut Vec<u8>, page: &mut Page) {
     match objects.find_tag(id, buffer) {
-        Ok(tag) => page.bytes(tag.name.as_bytes()),
+        Ok(tag) => page.escaped(tag.name.as_bytes()),
         Err(error) => errors::existing_object(error, page),
     }
     match objects.find_tag_iter(id, buffer) {
-        Ok(tokens) => page.value("; ", tokens.count(), " read"),
+        Ok(tokens) => page.put_between("; ", tokens.count(), " read"),
         Err(error) => {
-            page.word("; ");
+            page.text("; ");
             errors::existing_iter(error, page);
         }
     }

@@ -1,7 +1,7 @@
 //! Entries by their paths.
 
 use crate::errors;
-use crate::page::Page;
+use case_page::Page;
 use gix_hash::{ObjectId, oid};
 use gix_object_entries::TreeRefIter;
 use gix_object_entries::tree::Entry;
@@ -12,11 +12,11 @@ use std::alloc::{AllocError, Global};
 fn show(found: Result<Option<Entry>, Error>, page: &mut Page) {
     match found {
         Ok(Some(entry)) => {
-            page.value("", entry.mode.as_str(), " ");
-            page.value("", entry.oid, " ");
-            page.bytes(entry.filename.as_bytes());
+            page.put_between("", entry.mode.as_str(), " ");
+            page.put_between("", entry.oid, " ");
+            page.escaped(entry.filename.as_bytes());
         }
-        Ok(None) => page.word("none"),
+        Ok(None) => page.text("none"),
         Err(error) => errors::lookup(error, page),
     }
 }

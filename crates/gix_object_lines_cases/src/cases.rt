@@ -1,12 +1,13 @@
 //! The operations by their names.
 
-use crate::{actors, cuts, fields, hex_lines, kinds, strings, times};
+use crate::{actors, cuts, hex_lines, kinds, strings, times};
+use case_page::read_texts;
 use std::alloc::Global;
 
 /// What the operation of the line gives. `None` where the line is no case or no memory is left.
 pub fn answer(alloc: Global, line: &str) -> Option<String> {
     let (operation, text) = line.split_once(' ')?;
-    let fields = fields::fields(alloc, text)?;
+    let fields = read_texts(alloc, text)?;
     let fields = fields.as_slice();
     match operation {
         "kind" => kinds::kind(alloc, fields),

@@ -1,30 +1,7 @@
-//! The fields of a case.
+//! Bytes as they are shown.
 
 use bstr::BStr;
 use std::alloc::Global;
-use std::str;
-
-// The bytes of a field: two hexadecimal digits each, and `-` for none. `None` where it has another form or no memory is left.
-fn bytes(alloc: Global, field: &str) -> Option<Vec<u8>> {
-    if field == "-" {
-        return Some(Vec::new(alloc));
-    }
-    hex::decode(alloc, field).ok()
-}
-
-/// The bytes of each of the fields, which single spaces part.
-pub fn fields(alloc: Global, line: &str) -> Option<Vec<Vec<u8>>> {
-    let mut fields = Vec::new(alloc);
-    for field in line.split(' ') {
-        fields.push(bytes(alloc, field)?).ok()?;
-    }
-    Some(fields)
-}
-
-/// The text of a field.
-pub fn text(field: &[u8]) -> Option<&str> {
-    str::from_utf8(field).ok()
-}
 
 /// The bytes in quotes, with escapes for what doesn't print.
 pub fn quoted(alloc: Global, bytes: &[u8]) -> Option<String> {

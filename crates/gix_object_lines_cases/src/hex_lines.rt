@@ -1,7 +1,8 @@
 //! Decimal numbers, and lines of hexadecimal digits.
 
-use crate::fields::{quoted, text};
+use crate::fields::quoted;
 use bstr::BStr;
+use case_page::text_of;
 use gix_object_lines::decimal::read_unsigned;
 use gix_object_lines::hex_line::{is_id, read_hex_line, write_hex_line};
 use std::alloc::Global;
@@ -30,7 +31,7 @@ pub fn read(alloc: Global, fields: &[Vec<u8>]) -> Option<String> {
     let [count, word, input] = fields else {
         return None;
     };
-    let count = text(count)?.parse().ok()?;
+    let count = text_of(count)?.parse().ok()?;
     match read_hex_line(input, word, count) {
         Ok((digits, rest)) => {
             let digits = BStr::new(digits);

@@ -2,9 +2,9 @@
 
 ghost use Rattle.gix_object_lines.specs.declared.kind.Kind.TheVariants as kinds;
 
-use crate::fields::{quoted, text};
-use crate::orders;
+use crate::fields::quoted;
 use bstr::BStr;
+use case_page::{order_told, text_of};
 use gix_object_lines::decode::loose_header;
 use gix_object_lines::write::{Error, write_bytes};
 use gix_object_lines::{Kind, WriteTo, encode};
@@ -38,7 +38,7 @@ pub fn order(alloc: Global, fields: &[Vec<u8>]) -> Option<String> {
     };
     let first = Kind::from_bytes(first).ok()?;
     let second = Kind::from_bytes(second).ok()?;
-    orders::stand(alloc, &first, &second)
+    order_told(alloc, &first, &second).ok()
 }
 
 /// The kind, the size and the length of the header that begins the bytes.
@@ -58,7 +58,7 @@ pub fn write_header(alloc: Global, fields: &[Vec<u8>]) -> Option<String> {
         return None;
     };
     let kind = Kind::from_bytes(word).ok()?;
-    let size = text(size)?.parse().ok()?;
+    let size = text_of(size)?.parse().ok()?;
     let header = encode::loose_header(kind, size);
     quoted(alloc, header.as_slice())
 }

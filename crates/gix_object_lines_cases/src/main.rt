@@ -7,7 +7,6 @@ mod cuts;
 mod fields;
 mod hex_lines;
 mod kinds;
-mod orders;
 mod strings;
 mod times;
 

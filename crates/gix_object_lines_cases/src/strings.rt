@@ -1,8 +1,8 @@
 //! Bytes that are written or owned.
 
 use crate::fields::quoted;
-use crate::orders;
 use bstr::BStr;
+use case_page::order_told;
 use gix_object_lines::ByteString;
 use gix_object_lines::write::write_bytes;
 use std::alloc::Global;
@@ -44,7 +44,7 @@ pub fn order(alloc: Global, fields: &[Vec<u8>]) -> Option<String> {
 
 fn stand(alloc: Global, string: &ByteString, bytes: &[u8]) -> Option<String> {
     let other = ByteString::new(Vec::from_slice(string.allocator(), bytes).ok()?);
-    orders::stand(alloc, string, &other)
+    order_told(alloc, string, &other).ok()
 }
 
 /// The bytes without the line feed at their end.

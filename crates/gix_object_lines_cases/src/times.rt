@@ -1,7 +1,7 @@
 //! Times.
 
-use crate::fields::{quoted, text};
-use crate::orders;
+use crate::fields::quoted;
+use case_page::{order_told, text_of};
 use gix_object_lines::lines::{Time, read_time, tells_time, write_time};
 use std::alloc::Global;
 
@@ -38,14 +38,14 @@ pub fn order(alloc: Global, fields: &[Vec<u8>]) -> Option<String> {
     };
     let first = read_time(first).ok()?;
     let second = read_time(second).ok()?;
-    orders::stand(alloc, &first, &second)
+    order_told(alloc, &first, &second).ok()
 }
 
 /// The time of seconds and offset.
 pub fn of_numbers(seconds: &[u8], offset: &[u8]) -> Option<Time> {
     Some(Time {
-        seconds: text(seconds)?.parse().ok()?,
-        offset: text(offset)?.parse().ok()?,
+        seconds: text_of(seconds)?.parse().ok()?,
+        offset: text_of(offset)?.parse().ok()?,
     })
 }
 

@@ -1,20 +1,13 @@
 //! The operations by their names.
 
 use crate::{bodies, messages, trailers};
+use case_page::read_digits;
 use std::alloc::Global;
-
-// The bytes of a field: two hexadecimal digits each, and `-` for none.
-fn bytes(alloc: Global, field: &str) -> Option<Vec<u8>> {
-    if field == "-" {
-        return Some(Vec::new(alloc));
-    }
-    hex::decode(alloc, field).ok()
-}
 
 /// What the operation of the line gives. `None` where the line is no case or no memory is left.
 pub fn answer(alloc: Global, line: &str) -> Option<String> {
     let (operation, field) = line.split_once(' ')?;
-    let bytes = bytes(alloc, field)?;
+    let bytes = read_digits(alloc, field)?;
     answer_of(alloc, operation, &bytes)
 }
 

@@ -1,9 +1,7 @@
 //! Answers cases of `gix_object_signature`, a line each: an operation and bytes in hexadecimal digits.
 #![tactic(auto)]
 
-mod case;
 mod operations;
-mod page;
 mod program;
 mod signing;
 mod verifying;

@@ -1,12 +1,11 @@
 //! One line to one answer.
 
-use crate::case::{Case, read_case};
-use crate::page::Page;
 use crate::{signing, verifying, words};
+use case_page::{Page, Texts};
 use gix_object_signature::Format;
 use std::alloc::{AllocError, Global};
 
-fn write_answer(alloc: Global, operation: &str, case: &Case, page: &mut Page) {
+fn write_answer(alloc: Global, operation: &str, case: &Texts, page: &mut Page) {
     match operation {
         "format" => words::format(case, page),
         "level" => words::level(case, page),
@@ -20,7 +19,7 @@ fn write_answer(alloc: Global, operation: &str, case: &Case, page: &mut Page) {
         "verify-openpgp" => verifying::openpgp(alloc, case, page),
         "verify-x509" => verifying::x509(alloc, case, page),
         "verify-ssh" => verifying::ssh(alloc, case, page),
-        _ => page.word("no operation"),
+        _ => page.text("no operation"),
     }
 }
 
@@ -28,11 +27,11 @@ fn write_answer(alloc: Global, operation: &str, case: &Case, page: &mut Page) {
 pub fn answer(alloc: Global, line: &str) -> Result<String, AllocError> {
     let mut page = Page::new(alloc);
     match line.split_once(' ') {
-        Some((operation, words)) => match read_case(alloc, words) {
+        Some((operation, words)) => match Texts::read(alloc, words) {
             Some(case) => write_answer(alloc, operation, &case, &mut page),
-            None => page.word("no bytes"),
+            None => page.text("no bytes"),
         },
-        None => page.word("no case"),
+        None => page.text("no case"),
     }
     page.finish()
 }

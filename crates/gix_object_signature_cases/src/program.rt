@@ -1,7 +1,7 @@
 //! A program that answers from a table.
 
-use crate::page::Page;
-use gix_object_lines::ByteString;
+use case_objects::{answer_of, note_request};
+use case_page::Page;
 use gix_object_signature::run::{Answer, RunError, Word};
 use std::alloc::Global;
 
@@ -12,23 +12,6 @@ pub struct Program<'a> {
     // of each answer the status, the standard output and the standard error
     answers: &'a [Vec<u8>],
     notes: Page,
-}
-
-fn note_word(word: &Word<'_>, notes: &mut Page) {
-    match word {
-        Word::Text(text) => notes.bytes(text.as_bytes()),
-        Word::FileWith(text) => {
-            notes.word("(file ");
-            notes.bytes(text.as_bytes());
-            notes.word(")");
-        }
-        Word::FileToSign(text) => {
-            notes.word("(to sign ");
-            notes.bytes(text.as_bytes());
-            notes.word(")");
-        }
-    }
-    notes.word(" ");
 }
 
 impl<'a> Program<'a> {
@@ -48,12 +31,8 @@ impl<'a> Program<'a> {
 
     /// The answer to a request.
     pub fn answer(&mut self, words: &[Word<'_>], input: &[u8]) -> Result<Answer, RunError> {
-        self.notes.word("; asked ");
-        for word in words {
-            note_word(word, &mut self.notes);
-        }
-        self.notes.word("input ");
-        self.notes.bytes(input);
+        self.notes.text("; ");
+        note_request(words, input, &mut self.notes);
         let [status, output, errors, rest @ ..] = self.answers else {
             return Err(RunError::Spawn);
         };
@@ -65,23 +44,4 @@ impl<'a> Program<'a> {
             errors.as_slice(),
         )
     }
-}
-
-fn answer_of(
-    alloc: Global,
-    status: &[u8],
-    output: &[u8],
-    errors: &[u8],
-) -> Result<Answer, RunError> {
-    let Ok(output) = ByteString::from_slice(alloc, output) else {
-        return Err(RunError::Memory);
-    };
-    let Ok(errors) = ByteString::from_slice(alloc, errors) else {
-        return Err(RunError::Memory);
-    };
-    Ok(Answer {
-        succeeded: status == b"0".as_slice(),
-        output,
-        errors,
-    })
 }

@@ -1,9 +1,8 @@
 //! Signatures made.
 
-use crate::case::Case;
-use crate::page::Page;
 use crate::program::Program;
 use bstr::BStr;
+use case_page::{Page, Texts};
 use gix_object_signature::Format;
 use gix_object_signature::run::Word;
 use gix_object_signature::sign::{Options, sign as make};
@@ -24,11 +23,11 @@ fn show_signature(
         &mut |words: &[Word<'_>], input: &[u8]| { program.answer(words, input) },
     ) {
         Ok(signature) => {
-            page.word("signature ");
-            page.bytes(signature.as_bytes());
+            page.text("signature ");
+            page.escaped(signature.as_bytes());
         }
         Err(error) => {
-            page.word("refused ");
+            page.text("refused ");
             page.name(error);
         }
     }
@@ -36,7 +35,7 @@ fn show_signature(
 }
 
 /// The signature of a content: the program, the key, the content and the program's answers.
-pub fn sign(alloc: Global, format: Format, case: &Case, page: &mut Page) {
+pub fn sign(alloc: Global, format: Format, case: &Texts, page: &mut Page) {
     let options = Options {
         format,
         program: BStr::new(case.text(0)),
@@ -46,7 +45,7 @@ pub fn sign(alloc: Global, format: Format, case: &Case, page: &mut Page) {
 }
 
 /// The same in each format where no key is told: the program, the content and the program's answers.
-pub fn sign_without_key(alloc: Global, case: &Case, page: &mut Page) {
+pub fn sign_without_key(alloc: Global, case: &Texts, page: &mut Page) {
     for format in [Format::OpenPgp, Format::X509, Format::Ssh] {
         let options = Options {
             format,
@@ -54,8 +53,8 @@ pub fn sign_without_key(alloc: Global, case: &Case, page: &mut Page) {
             signing_key: None,
         };
         page.name(format);
-        page.word(" ");
+        page.text(" ");
         show_signature(alloc, case.text(1), &options, case.behind(2), page);
-        page.word("; ");
+        page.text("; ");
     }
 }

@@ -1,9 +1,8 @@
 //! Signatures verified.
 
-use crate::case::Case;
-use crate::page::Page;
 use crate::program::Program;
 use bstr::BStr;
+use case_page::{Page, Texts};
 use gix_object_signature::SignedData;
 use gix_object_signature::run::Word;
 use gix_object_signature::verify::{Options, Outcome, TrustLevel};
@@ -18,7 +17,7 @@ struct Signed<'a> {
     answers: &'a [Vec<u8>],
 }
 
-fn read_signed(case: &Case, place: usize) -> Option<Signed<'_>> {
+fn read_signed(case: &Texts, place: usize) -> Option<Signed<'_>> {
     let [trust, before, behind, signature, answers @ ..] = case.behind(place) else {
         return None;
     };
@@ -34,30 +33,30 @@ fn read_signed(case: &Case, place: usize) -> Option<Signed<'_>> {
 }
 
 fn show_outcome(outcome: &Outcome, page: &mut Page) {
-    page.word(if outcome.is_valid() {
+    page.text(if outcome.is_valid() {
         "valid "
     } else {
         "invalid "
     });
     page.name(outcome.status);
-    page.word(" ");
+    page.text(" ");
     page.name(outcome.trust);
-    page.word(" of ");
+    page.text(" of ");
     page.name(outcome.minimum_trust);
-    page.word(if outcome.has_signer {
+    page.text(if outcome.has_signer {
         " signer"
     } else {
         " no signer"
     });
-    page.word(if outcome.answer.succeeded {
+    page.text(if outcome.answer.succeeded {
         " ended"
     } else {
         " failed"
     });
-    page.word(" output ");
-    page.bytes(outcome.answer.output.as_bytes());
-    page.word(" errors ");
-    page.bytes(outcome.answer.errors.as_bytes());
+    page.text(" output ");
+    page.escaped(outcome.answer.output.as_bytes());
+    page.text(" errors ");
+    page.escaped(outcome.answer.errors.as_bytes());
 }
 
 fn verify(alloc: Global, signed: &Signed<'_>, options: &Options<'_>, page: &mut Page) {
@@ -70,7 +69,7 @@ fn verify(alloc: Global, signed: &Signed<'_>, options: &Options<'_>, page: &mut 
     ) {
         Ok(outcome) => show_outcome(&outcome, page),
         Err(error) => {
-            page.word("refused ");
+            page.text("refused ");
             page.name(error);
         }
     }
@@ -79,9 +78,9 @@ fn verify(alloc: Global, signed: &Signed<'_>, options: &Options<'_>, page: &mut 
 
 /// What a program tells of a signature of OpenPGP: the program, the least trust, the bytes before and behind the signature, the
 /// signature, and the program's answers.
-pub fn openpgp(alloc: Global, case: &Case, page: &mut Page) {
+pub fn openpgp(alloc: Global, case: &Texts, page: &mut Page) {
     let Some(signed) = read_signed(case, 1) else {
-        return page.word("no case");
+        return page.text("no case");
     };
     let options = Options::OpenPgp {
         program: BStr::new(case.text(0)),
@@ -91,9 +90,9 @@ pub fn openpgp(alloc: Global, case: &Case, page: &mut Page) {
 }
 
 /// The same of X.509.
-pub fn x509(alloc: Global, case: &Case, page: &mut Page) {
+pub fn x509(alloc: Global, case: &Texts, page: &mut Page) {
     let Some(signed) = read_signed(case, 1) else {
-        return page.word("no case");
+        return page.text("no case");
     };
     let options = Options::X509 {
         program: BStr::new(case.text(0)),
@@ -104,9 +103,9 @@ pub fn x509(alloc: Global, case: &Case, page: &mut Page) {
 
 /// The same of the secure shell, with the paths of the allowed signers and of the revoked keys, of which there are none where the
 /// path is empty, behind the program.
-pub fn ssh(alloc: Global, case: &Case, page: &mut Page) {
+pub fn ssh(alloc: Global, case: &Texts, page: &mut Page) {
     let Some(signed) = read_signed(case, 3) else {
-        return page.word("no case");
+        return page.text("no case");
     };
     let revoked = case.text(2);
     let revoked_keys = if revoked.is_empty() {

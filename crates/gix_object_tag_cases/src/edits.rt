@@ -1,21 +1,22 @@
 //! Tags with one part changed: what is written of them, and whether they can be owned.
 
-use crate::case::Case;
-use crate::page::Page;
 use bstr::BStr;
+use case_ids::Case;
+use case_objects::show_written;
+use case_page::Page;
 use gix_object_lines::lines::ActorRef;
 use gix_object_tag::TagRef;
 use std::alloc::Global;
 
 fn show_both(alloc: Global, tag: TagRef<'_>, page: &mut Page) {
-    page.written(alloc, &tag);
+    show_written(alloc, &tag, page);
     match tag.into_owned(alloc) {
         Ok(own) => {
-            page.word("; own ");
-            page.written(alloc, &own);
+            page.text("; own ");
+            show_written(alloc, &own, page);
         }
         Err(error) => {
-            page.word("; not owned ");
+            page.text("; not owned ");
             page.name(error);
         }
     }

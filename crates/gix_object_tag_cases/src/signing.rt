@@ -1,21 +1,22 @@
 //! Signatures of tags, found and made.
 
-use crate::case::Case;
-use crate::page::Page;
-use crate::program::Program;
+use crate::parts::show_signature;
 use bstr::BStr;
+use case_ids::Case;
+use case_objects::{Program, show_written};
+use case_page::Page;
 use gix_object_signature::run::Word;
 use gix_object_signature::sign::Options;
 use gix_object_signature::{Format, SignatureRef, SignedData};
 use gix_object_tag::{TagRef, TagRefIter};
 use std::alloc::Global;
 
-fn show_signature(alloc: Global, found: SignatureRef<'_>, data: SignedData<'_>, page: &mut Page) {
-    page.signature(Some(found));
-    page.text("; before ", data.before.as_bytes(), "; ");
-    page.text("behind ", data.behind.as_bytes(), "; ");
+fn show_found(alloc: Global, found: SignatureRef<'_>, data: SignedData<'_>, page: &mut Page) {
+    show_signature(Some(found), page);
+    page.between("; before ", data.before.as_bytes(), "; ");
+    page.between("behind ", data.behind.as_bytes(), "; ");
     match data.to_bstring(alloc) {
-        Ok(signed) => page.text("signed ", signed.as_bytes(), ""),
+        Ok(signed) => page.between("signed ", signed.as_bytes(), ""),
         Err(error) => page.name(error),
     }
 }
@@ -23,8 +24,8 @@ fn show_signature(alloc: Global, found: SignatureRef<'_>, data: SignedData<'_>, 
 /// The signature of a tag and what it signs.
 pub fn signature(alloc: Global, case: &Case, page: &mut Page) {
     match TagRefIter::signature(case.text(0), case.kind) {
-        Ok(Some((found, data))) => show_signature(alloc, found, data, page),
-        Ok(None) => page.word("none"),
+        Ok(Some((found, data))) => show_found(alloc, found, data, page),
+        Ok(None) => page.text("none"),
         Err(error) => page.refused(error),
     }
 }
@@ -49,7 +50,7 @@ fn sign_own(
         Ok(own) => own,
         Err(error) => return page.name(error),
     };
-    page.word("own ");
+    page.text("own ");
     match own.sign(
         options,
         &mut |words: &[Word<'_>], input: &[u8]| { program.answer(words, input) },
@@ -57,10 +58,10 @@ fn sign_own(
         Ok(()) => {}
         Err(error) => {
             page.refused(error);
-            page.word(", is ");
+            page.text(", is ");
         }
     }
-    page.written(alloc, &own);
+    show_written(alloc, &own, page);
 }
 
 // Signs a tag that is lent.
@@ -76,10 +77,10 @@ fn sign_lent(
         options,
         &mut |words: &[Word<'_>], input: &[u8]| { program.answer(words, input) },
     ) {
-        Ok(signed) => page.written(alloc, &signed),
+        Ok(signed) => show_written(alloc, &signed, page),
         Err(error) => page.refused(error),
     }
-    page.word("; ");
+    page.text("; ");
 }
 
 /// Signs a tag, lent and owned, with what a program answers: the tag, the signature in the place of its own where that isn't
@@ -93,7 +94,7 @@ pub fn sign<'a>(alloc: Global, mut tag: TagRef<'a>, case: &'a Case, page: &mut P
     let mut program = Program::new(alloc, case.behind(3));
     sign_lent(alloc, tag, &options, &mut program, page);
     sign_own(alloc, tag, &options, &mut program, page);
-    page.word("; ");
+    page.text("; ");
     program.tell(page);
 }
 

@@ -1,22 +1,23 @@
 //! Tags read token by token, and what the tokens to come tell.
 
-use crate::case::Case;
-use crate::page::Page;
+use crate::parts::show_tagger;
+use case_ids::Case;
+use case_page::Page;
 use gix_object_tag::TagRefIter;
 use gix_object_tag::laws::tokens_tell_a_tag;
 use gix_object_tag::tag::ref_iter::Token;
 
 fn show_token(token: Token<'_>, page: &mut Page) {
     match token {
-        Token::Target { id } => page.value("object ", id, ""),
-        Token::TargetKind(kind) => page.value("type ", kind, ""),
-        Token::Name(name) => page.text("tag ", name.as_bytes(), ""),
-        Token::Tagger(tagger) => page.tagger(tagger),
+        Token::Target { id } => page.put_between("object ", id, ""),
+        Token::TargetKind(kind) => page.put_between("type ", kind, ""),
+        Token::Name(name) => page.between("tag ", name.as_bytes(), ""),
+        Token::Tagger(tagger) => show_tagger(tagger, page),
         Token::Body {
             message,
             pgp_signature,
         } => {
-            page.text("message ", message.as_bytes(), "; ");
+            page.between("message ", message.as_bytes(), "; ");
             page.told("signature ", pgp_signature, "");
         }
     }
@@ -31,23 +32,23 @@ pub fn in_order(case: &Case, page: &mut Page) {
             Ok(token) => show_token(token, page),
             Err(error) => page.refused(error),
         }
-        page.word("; ");
+        page.text("; ");
     }
     let whole = tokens_tell_a_tag(content, case.kind);
-    page.word(if whole { "whole" } else { "no tag" });
+    page.text(if whole { "whole" } else { "no tag" });
     if tokens.next().is_some() {
-        page.word(" and more");
+        page.text(" and more");
     }
 }
 
 fn show_ids(token: Token<'_>, page: &mut Page) {
     match token.id() {
         Some(id) => page.put(id),
-        None => page.word("none"),
+        None => page.text("none"),
     }
     match token.into_id() {
-        Some(id) => page.value(" ", id, ""),
-        None => page.word(" none"),
+        Some(id) => page.put_between(" ", id, ""),
+        None => page.text(" none"),
     }
 }
 
@@ -58,21 +59,21 @@ pub fn ids(case: &Case, page: &mut Page) {
             Ok(token) => show_ids(token, page),
             Err(error) => page.refused(error),
         }
-        page.word("; ");
+        page.text("; ");
     }
 }
 
 fn show_ahead(tokens: TagRefIter<'_>, page: &mut Page) {
-    page.word("object ");
+    page.text("object ");
     match tokens.target_id() {
         Ok(id) => page.put(id),
         Err(error) => page.name(error),
     }
-    page.word("; ");
+    page.text("; ");
     match tokens.tagger() {
-        Ok(tagger) => page.tagger(tagger),
+        Ok(tagger) => show_tagger(tagger, page),
         Err(error) => {
-            page.word("tagger ");
+            page.text("tagger ");
             page.name(error);
         }
     }
@@ -84,7 +85,7 @@ pub fn ahead(case: &Case, page: &mut Page) {
     show_ahead(tokens, page);
     while let Some(token) = tokens.next() {
         if token.is_ok() {
-            page.word(" / ");
+            page.text(" / ");
             show_ahead(tokens, page);
         }
     }

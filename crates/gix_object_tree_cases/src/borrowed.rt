@@ -1,7 +1,9 @@
 //! Objects whose parts are borrowed.
 
-use crate::case::Case;
-use crate::page::Page;
+use crate::parts::{show_entries, show_part};
+use case_ids::Case;
+use case_objects::show_object;
+use case_page::Page;
 use gix_object_commit::CommitRef;
 use gix_object_entries::TreeRef;
 use gix_object_hash::BlobRef;
@@ -14,15 +16,16 @@ use std::convert::TryFrom;
 
 /// An object's kind, the length and the id of what is written of it, and what it lends as each kind.
 pub fn show(alloc: Global, hash_kind: gix_hash::Kind, object: &ObjectRef<'_>, page: &mut Page) {
-    page.value("", ObjectRef::kind(object), ": ");
-    page.object(alloc, hash_kind, object);
-    page.part("blob", object.as_blob().map(|blob| blob.content));
-    page.part(
+    page.put_between("", ObjectRef::kind(object), ": ");
+    show_object(alloc, hash_kind, object, page);
+    show_part("blob", object.as_blob().map(|blob| blob.content), page);
+    show_part(
         "commit",
         object.as_commit().map(|commit| commit.message.as_bytes()),
+        page,
     );
-    page.part("tag", object.as_tag().map(|tag| tag.name.as_bytes()));
-    page.entries(object.as_tree().map(|tree| tree.entries.len()));
+    show_part("tag", object.as_tag().map(|tag| tag.name.as_bytes()), page);
+    show_entries(object.as_tree().map(|tree| tree.entries.len()), page);
 }
 
 /// A loose object.
@@ -36,7 +39,7 @@ pub fn loose(alloc: Global, case: &Case, page: &mut Page) {
 /// An object of a kind and its content.
 pub fn content(alloc: Global, case: &Case, page: &mut Page) {
     let Ok(kind) = Kind::from_bytes(case.text(0)) else {
-        return page.word("no kind");
+        return page.text("no kind");
     };
     match ObjectRef::from_bytes(alloc, kind, case.text(1), case.kind) {
         Ok(object) => show(alloc, case.kind, &object, page),
@@ -50,29 +53,29 @@ fn read(alloc: Global, case: &Case) -> Option<ObjectRef<'_>> {
 
 fn given_blob<'a>(object: ObjectRef<'a>, page: &mut Page) {
     match object.into_blob() {
-        Some(blob) => page.part("blob", Some(blob.content)),
-        None => page.part("blob", None),
+        Some(blob) => show_part("blob", Some(blob.content), page),
+        None => show_part("blob", None, page),
     }
 }
 
 fn given_commit<'a>(object: ObjectRef<'a>, page: &mut Page) {
     match object.into_commit() {
-        Some(commit) => page.part("commit", Some(commit.message.as_bytes())),
-        None => page.part("commit", None),
+        Some(commit) => show_part("commit", Some(commit.message.as_bytes()), page),
+        None => show_part("commit", None, page),
     }
 }
 
 fn given_tag<'a>(object: ObjectRef<'a>, page: &mut Page) {
     match object.into_tag() {
-        Some(tag) => page.part("tag", Some(tag.name.as_bytes())),
-        None => page.part("tag", None),
+        Some(tag) => show_part("tag", Some(tag.name.as_bytes()), page),
+        None => show_part("tag", None, page),
     }
 }
 
 fn given_tree<'a>(object: ObjectRef<'a>, page: &mut Page) {
     match object.into_tree() {
-        Some(tree) => page.entries(Some(tree.entries.len())),
-        None => page.entries(None),
+        Some(tree) => show_entries(Some(tree.entries.len()), page),
+        None => show_entries(None, page),
     }
 }
 
@@ -80,19 +83,19 @@ fn given_tree<'a>(object: ObjectRef<'a>, page: &mut Page) {
 pub fn give(alloc: Global, case: &Case, page: &mut Page) {
     match read(alloc, case) {
         Some(object) => given_blob(object, page),
-        None => page.part("blob", None),
+        None => show_part("blob", None, page),
     }
     match read(alloc, case) {
         Some(object) => given_commit(object, page),
-        None => page.part("commit", None),
+        None => show_part("commit", None, page),
     }
     match read(alloc, case) {
         Some(object) => given_tag(object, page),
-        None => page.part("tag", None),
+        None => show_part("tag", None, page),
     }
     match read(alloc, case) {
         Some(object) => given_tree(object, page),
-        None => page.entries(None),
+        None => show_entries(None, page),
     }
 }
 
@@ -105,12 +108,12 @@ fn show_either(
 ) {
     match converted {
         Ok(made) => {
-            page.word("; made ");
-            page.object(alloc, hash_kind, &made);
+            page.text("; made ");
+            show_object(alloc, hash_kind, &made, page);
         }
         Err(back) => {
-            page.word("; back ");
-            page.object(alloc, hash_kind, &back);
+            page.text("; back ");
+            show_object(alloc, hash_kind, &back, page);
         }
     }
 }

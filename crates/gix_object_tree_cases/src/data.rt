@@ -1,8 +1,8 @@
 //! Objects that weren't read yet.
 
 use crate::borrowed;
-use crate::case::Case;
-use crate::page::Page;
+use case_ids::Case;
+use case_page::Page;
 use gix_hash::ObjectId;
 use gix_object_lines::Kind;
 use gix_object_tree::Data;
@@ -17,7 +17,7 @@ fn data(case: &Case) -> Option<Data<'_>> {
 /// The object of a kind and its content.
 pub fn decode(alloc: Global, case: &Case, page: &mut Page) {
     let Some(data) = data(case) else {
-        return page.word("no kind");
+        return page.text("no kind");
     };
     match data.decode(alloc) {
         Ok(object) => borrowed::show(alloc, case.kind, &object, page),
@@ -28,31 +28,31 @@ pub fn decode(alloc: Global, case: &Case, page: &mut Page) {
 /// How many tokens a commit's and a tag's reader and entries a tree's give of the content, the last of which may be an error.
 pub fn tokens(case: &Case, page: &mut Page) {
     let Some(data) = data(case) else {
-        return page.word("no kind");
+        return page.text("no kind");
     };
     match data.try_into_commit_iter() {
-        Some(tokens) => page.value("commit ", tokens.count(), ""),
-        None => page.word("commit none"),
+        Some(tokens) => page.put_between("commit ", tokens.count(), ""),
+        None => page.text("commit none"),
     }
     match data.try_into_tag_iter() {
-        Some(tokens) => page.value("; tag ", tokens.count(), ""),
-        None => page.word("; tag none"),
+        Some(tokens) => page.put_between("; tag ", tokens.count(), ""),
+        None => page.text("; tag none"),
     }
     match data.try_into_tree_iter() {
-        Some(entries) => page.value("; tree ", entries.count(), ""),
-        None => page.word("; tree none"),
+        Some(entries) => page.put_between("; tree ", entries.count(), ""),
+        None => page.text("; tree none"),
     }
 }
 
 /// The id of an object of a kind and its content, where it is this one.
 pub fn verify(case: &Case, page: &mut Page) {
     let (Some(data), Ok(expected)) = (data(case), ObjectId::from_hex(case.text(2))) else {
-        return page.word("no kind or id");
+        return page.text("no kind or id");
     };
     match data.verify_checksum(expected.as_oid()) {
         Ok(id) => page.put(id),
         Err(Error::Verify(fault)) => {
-            page.value("refused actual ", fault.actual, " expected ");
+            page.put_between("refused actual ", fault.actual, " expected ");
             page.put(fault.expected);
         }
     }

@@ -1,18 +1,11 @@
 //! The entries of trees: borrowed ones beside those that own their names.
 
-use crate::case::Case;
-use crate::page::Page;
+use case_ids::Case;
+use case_page::{Page, digest};
 use gix_object_entries::tree::{Entry, EntryRef};
 use gix_object_tree::ObjectRef;
 use std::alloc::Global;
-use std::hash::{DefaultHasher, Hash, Hasher};
-
-// The digest of what a value feeds a hasher.
-fn digest<T: Hash>(value: &T) -> u64 {
-    let mut hasher = DefaultHasher::new();
-    value.hash(&mut hasher);
-    hasher.finish()
-}
+use std::hash::Hash;
 
 fn is_lent(entry: &EntryRef<'_>, own: &Entry) -> bool {
     EntryRef::from(own) == *entry && digest(own) == digest(entry)
@@ -22,27 +15,27 @@ fn is_lent(entry: &EntryRef<'_>, own: &Entry) -> bool {
 /// each comes before the next, hashes apart from it and so does the copy's.
 pub fn entries(alloc: Global, case: &Case, page: &mut Page) {
     let Ok(object) = ObjectRef::from_loose(alloc, case.text(0), case.kind) else {
-        return page.word("no object");
+        return page.text("no object");
     };
     let Ok(copy) = object.to_owned(alloc) else {
-        return page.word("not owned");
+        return page.text("not owned");
     };
     let (Some(tree), Some(own)) = (object.as_tree(), copy.as_tree()) else {
-        return page.word("no tree");
+        return page.text("no tree");
     };
     let are_lent = tree
         .entries
         .iter()
         .zip(&own.entries)
         .all(|(entry, own)| is_lent(entry, own));
-    page.value("", tree.entries.len(), " entries; lent");
-    page.word(if are_lent { "+" } else { "-" });
-    page.word(if are_apart(tree.entries.as_slice()) {
+    page.put_between("", tree.entries.len(), " entries; lent");
+    page.text(if are_lent { "+" } else { "-" });
+    page.text(if are_apart(tree.entries.as_slice()) {
         "; apart+"
     } else {
         "; apart-"
     });
-    page.word(if are_apart(own.entries.as_slice()) {
+    page.text(if are_apart(own.entries.as_slice()) {
         "; apart+"
     } else {
         "; apart-"

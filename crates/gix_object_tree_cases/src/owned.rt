@@ -1,7 +1,9 @@
 //! Objects that own their parts.
 
-use crate::case::Case;
-use crate::page::Page;
+use crate::parts::{show_entries, show_part};
+use case_ids::Case;
+use case_objects::show_object;
+use case_page::Page;
 use gix_object_commit::Commit;
 use gix_object_entries::Tree;
 use gix_object_hash::Blob;
@@ -12,19 +14,25 @@ use std::alloc::Global;
 use std::convert::TryFrom;
 
 fn show(alloc: Global, hash_kind: gix_hash::Kind, object: &Object, page: &mut Page) {
-    page.value("", Object::kind(object), ": ");
-    page.object(alloc, hash_kind, object);
-    page.part("blob", object.as_blob().map(|blob| blob.content.as_bytes()));
-    page.part(
+    page.put_between("", Object::kind(object), ": ");
+    show_object(alloc, hash_kind, object, page);
+    show_part(
+        "blob",
+        object.as_blob().map(|blob| blob.content.as_bytes()),
+        page,
+    );
+    show_part(
         "lent blob",
         object.try_into_blob_ref().map(|blob| blob.content),
+        page,
     );
-    page.part(
+    show_part(
         "commit",
         object.as_commit().map(|commit| commit.message.as_bytes()),
+        page,
     );
-    page.part("tag", object.as_tag().map(|tag| tag.name.as_bytes()));
-    page.entries(object.as_tree().map(|tree| tree.entries.len()));
+    show_part("tag", object.as_tag().map(|tag| tag.name.as_bytes()), page);
+    show_entries(object.as_tree().map(|tree| tree.entries.len()), page);
 }
 
 /// A copy of a loose object, and whether one that is given is like one that is lent.
@@ -34,10 +42,10 @@ pub fn own(alloc: Global, case: &Case, page: &mut Page) {
         Err(error) => return page.refused(error),
     };
     let (Ok(lent), Ok(given)) = (object.to_owned(alloc), object.into_owned(alloc)) else {
-        return page.word("not owned");
+        return page.text("not owned");
     };
     show(alloc, case.kind, &given, page);
-    page.word(if lent == given {
+    page.text(if lent == given {
         "; alike"
     } else {
         "; different"
@@ -52,13 +60,13 @@ fn read(alloc: Global, case: &Case) -> Option<Object> {
 /// What a copy of a loose object gives of itself.
 pub fn give(alloc: Global, case: &Case, page: &mut Page) {
     let Some(object) = read(alloc, case) else {
-        return page.word("not owned");
+        return page.text("not owned");
     };
     match Object::kind(&object) {
-        Kind::Blob => page.object(alloc, case.kind, &object.into_blob()),
-        Kind::Commit => page.object(alloc, case.kind, &object.into_commit()),
-        Kind::Tag => page.object(alloc, case.kind, &object.into_tag()),
-        Kind::Tree => page.object(alloc, case.kind, &object.into_tree()),
+        Kind::Blob => show_object(alloc, case.kind, &object.into_blob(), page),
+        Kind::Commit => show_object(alloc, case.kind, &object.into_commit(), page),
+        Kind::Tag => show_object(alloc, case.kind, &object.into_tag(), page),
+        Kind::Tree => show_object(alloc, case.kind, &object.into_tree(), page),
     }
 }
 
@@ -71,12 +79,12 @@ fn show_either(
 ) {
     match converted {
         Ok(made) => {
-            page.word("; made ");
-            page.object(alloc, hash_kind, &made);
+            page.text("; made ");
+            show_object(alloc, hash_kind, &made, page);
         }
         Err(back) => {
-            page.word("; back ");
-            page.object(alloc, hash_kind, &back);
+            page.text("; back ");
+            show_object(alloc, hash_kind, &back, page);
         }
     }
 }

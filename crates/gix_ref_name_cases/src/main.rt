@@ -4,7 +4,6 @@
 mod cases;
 mod conversions;
 mod edits;
-mod fields;
 mod full;
 mod operations;
 mod orders;

@@ -1,6 +1,7 @@
 //! The operations by their names.
 
-use crate::{cases, conversions, edits, fields, full, orders, partial, targets};
+use crate::{cases, conversions, edits, full, orders, partial, targets};
+use case_page::read_texts;
 use std::alloc::{AllocError, Global};
 
 /// What the operation of the line gives.
@@ -8,7 +9,7 @@ pub fn answer(alloc: Global, line: &str) -> Result<String, AllocError> {
     let Some((operation, rest)) = line.split_once(' ') else {
         return format!(in alloc; "no case: {line}");
     };
-    let Some(fields) = fields::fields(alloc, rest) else {
+    let Some(fields) = read_texts(alloc, rest) else {
         return format!(in alloc; "no bytes: {line}");
     };
     match fields.as_slice() {

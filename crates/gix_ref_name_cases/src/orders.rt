@@ -2,25 +2,12 @@
 
 use crate::edits::{concern, expectation};
 use crate::targets::read;
+use case_page::order_told;
 use gix_ref_name::namespace::expand;
 use gix_ref_name::{Category, FullNameRef, PartialNameRef};
 use std::alloc::{AllocError, Global};
-use std::hash::{DefaultHasher, Hash, Hasher};
 
 const REFUSED: &str = "refused";
-
-// The digest of what a value feeds a hasher.
-fn digest<T: Hash>(value: &T) -> u64 {
-    let mut hasher = DefaultHasher::new();
-    value.hash(&mut hasher);
-    hasher.finish()
-}
-
-// How two values stand to each other, whether they are equal, and whether their hashes are.
-fn order<T: Ord + Hash>(alloc: Global, one: &T, other: &T) -> Result<String, AllocError> {
-    let is_hash = digest(one) == digest(other);
-    format!(in alloc; "{:?} {} {is_hash}", one.cmp(other), *one == *other)
-}
 
 /// How two partial names stand to each other, as views and as names of their own.
 pub fn partial(alloc: Global, one: &[u8], other: &[u8]) -> Result<String, AllocError> {
@@ -30,8 +17,8 @@ pub fn partial(alloc: Global, one: &[u8], other: &[u8]) -> Result<String, AllocE
     let Ok(other) = PartialNameRef::new(other) else {
         return format!(in alloc; "{REFUSED}");
     };
-    let views = order(alloc, &one, &other)?;
-    let own = order(alloc, &one.to_owned(alloc)?, &other.to_owned(alloc)?)?;
+    let views = order_told(alloc, &one, &other)?;
+    let own = order_told(alloc, &one.to_owned(alloc)?, &other.to_owned(alloc)?)?;
     format!(in alloc; "{views} {own}")
 }
 
@@ -43,8 +30,8 @@ pub fn full(alloc: Global, one: &[u8], other: &[u8]) -> Result<String, AllocErro
     let Ok(other) = FullNameRef::new(other) else {
         return format!(in alloc; "{REFUSED}");
     };
-    let views = order(alloc, &one, &other)?;
-    let own = order(alloc, &one.to_owned(alloc)?, &other.to_owned(alloc)?)?;
+    let views = order_told(alloc, &one, &other)?;
+    let own = order_told(alloc, &one.to_owned(alloc)?, &other.to_owned(alloc)?)?;
     format!(in alloc; "{views} {own}")
 }
 
@@ -56,7 +43,7 @@ pub fn namespaces(alloc: Global, one: &[u8], other: &[u8]) -> Result<String, All
     let Ok(other) = PartialNameRef::new(other) else {
         return format!(in alloc; "{REFUSED}");
     };
-    order(alloc, &expand(alloc, one)?, &expand(alloc, other)?)
+    order_told(alloc, &expand(alloc, one)?, &expand(alloc, other)?)
 }
 
 /// How the categories of two full names stand to each other.
@@ -67,7 +54,7 @@ pub fn categories(alloc: Global, one: &[u8], other: &[u8]) -> Result<String, All
     let Some(other) = category(other) else {
         return format!(in alloc; "{REFUSED}");
     };
-    order(alloc, &one, &other)
+    order_told(alloc, &one, &other)
 }
 
 fn category(name: &[u8]) -> Option<Category<'_>> {
@@ -82,7 +69,7 @@ pub fn logs(alloc: Global, one: &[u8], other: &[u8]) -> Result<String, AllocErro
     let Some(other) = concern(other) else {
         return format!(in alloc; "{REFUSED}");
     };
-    order(alloc, &one, &other)
+    order_told(alloc, &one, &other)
 }
 
 /// How two targets stand to each other, by themselves, by their views and by their kinds.
@@ -93,9 +80,9 @@ pub fn targets(alloc: Global, one: &[u8], other: &[u8]) -> Result<String, AllocE
     let Some(other) = read(alloc, other) else {
         return format!(in alloc; "{REFUSED}");
     };
-    let own = order(alloc, &one, &other)?;
-    let views = order(alloc, &one.to_ref(), &other.to_ref())?;
-    let kinds = order(alloc, &one.kind(), &other.kind())?;
+    let own = order_told(alloc, &one, &other)?;
+    let views = order_told(alloc, &one.to_ref(), &other.to_ref())?;
+    let kinds = order_told(alloc, &one.kind(), &other.kind())?;
     format!(in alloc; "{own} {views} {kinds}")
 }
 
@@ -113,5 +100,5 @@ pub fn expectations(
     let Some(other) = expectation(alloc, word, target) else {
         return format!(in alloc; "{REFUSED}");
     };
-    order(alloc, &one, &other)
+    order_told(alloc, &one, &other)
 }

@@ -4,9 +4,8 @@ use crate::ends::{end, pristine};
 use crate::lists::list;
 use crate::logs::log;
 use crate::names::{folders, order_of_updates, strip, threshold};
-use crate::objects::Objects;
 use crate::tries::{look_up, refreshed};
-use crate::{files, packed};
+use crate::{files, objects, packed};
 use gix_ref_file::MemoryFiles;
 use gix_ref_format::packed::FindError;
 use gix_ref_name::PartialNameRef;
@@ -162,7 +161,7 @@ fn other(
         }
         "force_refresh_packed_buffer" => refreshed(alloc, &store),
         "follow_packed" | "follow_in_place" | "peel_packed" => {
-            let objects = Objects::read(alloc, last)?;
+            let objects = objects::read(alloc, last)?;
             packed::end(alloc, &store, &objects, operation, asked)
         }
         "strip" => strip(alloc, &store, asked, last),
@@ -196,7 +195,7 @@ pub fn answer(alloc: Global, line: &str) -> Result<String, AllocError> {
         "log" | "log_iter" | "reflog_exists" => log(alloc, &store, operation, asked),
         "follow" => follow(alloc, &store, asked),
         "next" | "peel" | "lines" => {
-            let objects = Objects::read(alloc, objects)?;
+            let objects = objects::read(alloc, objects)?;
             end(alloc, &store, &objects, operation, asked)
         }
         "pristine" => pristine(alloc, &store, asked),

@@ -1,7 +1,7 @@
 //! What references lead to: the next one, and the object in the end.
 
 use crate::cases::{found_in, shown};
-use crate::objects::Objects;
+use case_store::Store as Objects;
 use gix_ref_file::MemoryFiles;
 use gix_ref_name::{FullNameRef, PartialNameRef};
 use gix_ref_store::Reference;
@@ -38,25 +38,35 @@ fn peeled(
     }
 }
 
-// A mark for each line of a reference's log, from its beginning, and behind a slash from its end.
+// A mark for each line of a reference's log, from its beginning, from its end, and from its beginning again.
 fn lines(
     alloc: Global,
     store: &Store<MemoryFiles>,
     reference: &Reference,
 ) -> Result<String, AllocError> {
     let mut log = reference.log_iter(alloc, store);
-    let mut text = String::new(alloc);
+    let mut text = from_beginning(alloc, &mut log, String::new(alloc))?;
+    text.push_str("/")?;
+    let mut text = from_end(alloc, &mut log, text)?;
+    text.push_str("/")?;
+    from_beginning(alloc, &mut log, text)
+}
+
+fn from_beginning(
+    alloc: Global,
+    log: &mut LogPlatform<'_, '_, MemoryFiles>,
+    mut text: String,
+) -> Result<String, AllocError> {
     match log.all(alloc) {
         Ok(Some(lines)) => {
             for line in lines {
                 text.push_str(mark(line.is_ok()))?;
             }
+            Ok(text)
         }
-        Ok(None) => return format!(in alloc; "none"),
-        Err(error) => return format!(in alloc; "{error}"),
+        Ok(None) => format!(in alloc; "none"),
+        Err(error) => format!(in alloc; "{error}"),
     }
-    text.push_str("/")?;
-    from_end(alloc, &mut log, text)
 }
 
 fn from_end(

@@ -2,12 +2,12 @@
 
 use crate::cases::shown;
 use bstr::BStr;
+use case_page::order_told;
 use gix_ref_file::{Files, MemoryFiles, Place};
 use gix_ref_name::{PartialNameRef, namespace};
 use gix_ref_store::store::file::Store;
 use gix_ref_store::{Options, WriteReflog};
 use std::alloc::{AllocError, Global};
-use std::hash::{DefaultHasher, Hash, Hasher};
 
 /// The name of a word's reference without the front of this namespace, and the reference once the front is taken off.
 pub fn strip(
@@ -75,19 +75,11 @@ fn read_updates(word: &str) -> Option<WriteReflog> {
     }
 }
 
-fn digest(updates: WriteReflog) -> u64 {
-    let mut hasher = DefaultHasher::new();
-    updates.hash(&mut hasher);
-    hasher.finish()
-}
-
 /// How two words for the updates that are written to logs stand to each other, with a comma between them.
 pub fn order_of_updates(alloc: Global, words: &str) -> Result<String, AllocError> {
     let (one, other) = words.split_once(',').unwrap_or((words, ""));
     let (Some(one), Some(other)) = (read_updates(one), read_updates(other)) else {
         return format!(in alloc; "no words");
     };
-    let order = one.cmp(&other);
-    let is_hash = digest(one) == digest(other);
-    format!(in alloc; "{order:?} {} {is_hash}", one == other)
+    order_told(alloc, &one, &other)
 }

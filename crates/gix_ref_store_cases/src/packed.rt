@@ -1,7 +1,7 @@
 //! What references lead to, by packed references that were opened before.
 
 use crate::cases::{found_in, shown};
-use crate::objects::Objects;
+use case_store::Store as Objects;
 use gix_ref_file::MemoryFiles;
 use gix_ref_format::packed::Buffer;
 use gix_ref_name::PartialNameRef;

@@ -1,9 +1,10 @@
 //! Walks of `Simple`, call by call.
 
-use crate::page::Page;
 use crate::predicate::Refusing;
-use crate::store::Store;
-use crate::words::{ids, number, put_find_error, put_ids, sorting};
+use crate::words::{put_find_error, put_ids, sorting};
+use case_commits::{ids, number};
+use case_page::Page;
+use case_store::Store;
 use gix_hash::ObjectId;
 use gix_traverse::commit::simple::{Error, HiddenGraphError};
 use gix_traverse::commit::{Accept, Graph, Info, Parents, Simple};
@@ -47,7 +48,7 @@ fn filtered(
     };
     let simple = Simple::filtered(tips, walk.store, predicate).ok()?;
     make_calls(walk, simple, calls, page)?;
-    page.word(" asked ");
+    page.text(" asked ");
     put_ids(page, asked.as_slice());
     Some(())
 }
@@ -68,16 +69,16 @@ fn make_calls<'s, P: Accept + Drop>(
     let mut simple = made;
     for (place, call) in calls.iter().enumerate() {
         if place > 0 {
-            page.word(" ");
+            page.text(" ");
         }
         if shows(&mut simple, *call, page) {
             continue;
         }
-        page.word(*call);
+        page.text(*call);
         match built(walk, simple, *call)? {
             Called::Walk(next) => simple = next,
             Called::Refused(error) => {
-                page.word(" ");
+                page.text(" ");
                 put_error(page, error);
                 return Some(());
             }
@@ -120,7 +121,7 @@ fn shows<P: Accept + Drop>(walk: &mut Simple<&Store, P>, call: &str, page: &mut 
     match call {
         "end" => put_next(walk, u32::MAX, page),
         "info" => put_info(walk, page),
-        "lookups" => page.value("lookups ", walk.lookups(), ""),
+        "lookups" => page.put_between("lookups ", walk.lookups(), ""),
         "data" => put_data(walk, page),
         _ => return false,
     }
@@ -135,7 +136,7 @@ fn step<P: Accept + Drop>(walk: &mut Simple<&Store, P>, page: &mut Page) -> bool
             return true;
         }
         Some(Err(error)) => put_error(page, error),
-        None => page.word("end"),
+        None => page.text("end"),
     }
     false
 }
@@ -144,7 +145,7 @@ fn step<P: Accept + Drop>(walk: &mut Simple<&Store, P>, page: &mut Page) -> bool
 fn put_next<P: Accept + Drop>(walk: &mut Simple<&Store, P>, count: u32, page: &mut Page) {
     for place in 0..count {
         if place > 0 {
-            page.word(" ");
+            page.text(" ");
         }
         if !step(walk, page) {
             return;
@@ -155,15 +156,15 @@ fn put_next<P: Accept + Drop>(walk: &mut Simple<&Store, P>, count: u32, page: &m
 /// All that is given of a commit.
 pub fn put_all(page: &mut Page, info: &Info) {
     page.put(number(&info.id));
-    page.word(" parents ");
+    page.text(" parents ");
     put_ids(page, info.parent_ids.as_slice());
     match info.generation {
-        Some(generation) => page.value(" generation ", generation, ""),
-        None => page.word(" no generation"),
+        Some(generation) => page.put_between(" generation ", generation, ""),
+        None => page.text(" no generation"),
     }
     match info.commit_time {
-        Some(time) => page.value(" time ", time, ""),
-        None => page.word(" no time"),
+        Some(time) => page.put_between(" time ", time, ""),
+        None => page.text(" no time"),
     }
 }
 
@@ -172,16 +173,16 @@ fn put_info<P: Accept + Drop>(walk: &mut Simple<&Store, P>, page: &mut Page) {
     match walk.next() {
         Some(Ok(info)) => put_all(page, &info),
         Some(Err(error)) => put_error(page, error),
-        None => page.word("end"),
+        None => page.text("end"),
     }
 }
 
 // The content of the commit that was given last, and its tree.
 fn put_data<P: Accept + Drop>(walk: &mut Simple<&Store, P>, page: &mut Page) {
-    page.value("data ", walk.commit_data().len(), "");
+    page.put_between("data ", walk.commit_data().len(), "");
     match walk.commit_iter().tree_id() {
-        Ok(tree) => page.value(" tree ", number(&tree), ""),
-        Err(_) => page.word(" no tree"),
+        Ok(tree) => page.put_between(" tree ", number(&tree), ""),
+        Err(_) => page.text(" no tree"),
     }
 }
 
@@ -189,12 +190,12 @@ fn put_data<P: Accept + Drop>(walk: &mut Simple<&Store, P>, page: &mut Page) {
 pub fn put_error(page: &mut Page, error: Error) {
     match error {
         Error::Find(error) => put_find_error(page, error),
-        Error::ObjectDecode(_) => page.word("decode"),
+        Error::ObjectDecode(_) => page.text("decode"),
         Error::HiddenGraph(HiddenGraphError::Find(error)) => {
-            page.word("hidden ");
+            page.text("hidden ");
             put_find_error(page, error);
         }
-        Error::HiddenGraph(HiddenGraphError::ObjectDecode(_)) => page.word("hidden decode"),
-        Error::Memory => page.word("memory"),
+        Error::HiddenGraph(HiddenGraphError::ObjectDecode(_)) => page.text("hidden decode"),
+        Error::Memory => page.text("memory"),
     }
 }

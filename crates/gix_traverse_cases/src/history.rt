@@ -1,15 +1,16 @@
 //! The objects and rows that the lines give, and what is asked of them.
 
 use crate::by_time::{Walk, put_error, walked};
-use crate::page::Page;
 use crate::sets::put_one_set;
-use crate::store::{Store, Stored};
 use crate::topo_walk::topo_walked;
-use crate::words::{id, ids, number, put_find_error, words};
+use crate::words::put_find_error;
+use case_commits::{id, ids, number, read_row, words};
+use case_page::Page;
+use case_store::{Store, Stored};
 use gix_hash::ObjectId;
 use gix_object_lines::Kind;
 use gix_traverse::commit::simple::{Error, HiddenGraphError};
-use gix_traverse::commit::{Either, Graph, ParentIds, Row, find};
+use gix_traverse::commit::{Either, Graph, Row, find};
 use std::alloc::{AllocError, Global};
 use std::mem;
 
@@ -55,7 +56,7 @@ impl History {
     pub fn answer(&mut self, line: &str) -> Result<String, AllocError> {
         let mut page = Page::new(self.alloc);
         if self.put_answer(line, &mut page).is_none() {
-            page.word("no case");
+            page.text("no case");
         }
         page.finish()
     }
@@ -69,6 +70,7 @@ impl History {
             "bare" => self.add_bare(word, page),
             "broken" => self.add_broken(word, page),
             "blob" => self.add_blob(word, page),
+            "fails" => self.add_failing(word, page),
             "row" => self.add_row(word, page),
             "graph" => self.make_graph(page),
             "find" => self.put_found(word, page),
@@ -96,7 +98,7 @@ impl History {
     fn begin(&mut self, page: &mut Page) -> Option<()> {
         self.store = Store::new(self.alloc);
         self.graph = None;
-        page.word("history");
+        page.text("history");
         Some(())
     }
 
@@ -112,7 +114,7 @@ impl History {
         let parents = ids(self.alloc, *word.get(3)?)?;
         let mut text = front(self.alloc, &id, parents.as_slice())?;
         text.push_str(rest(self.alloc, seconds)?.as_str()).ok()?;
-        page.word("commit");
+        page.text("commit");
         self.put(id, Kind::Commit, text.as_str())
     }
 
@@ -121,36 +123,34 @@ impl History {
         let id = id(word.get(1)?.parse::<u8>().ok()?);
         let parents = ids(self.alloc, *word.get(2)?)?;
         let text = front(self.alloc, &id, parents.as_slice())?;
-        page.word("bare");
+        page.text("bare");
         self.put(id, Kind::Commit, text.as_str())
     }
 
     // An object of a commit's kind, whose lines aren't a commit's.
     fn add_broken(&mut self, word: &[&str], page: &mut Page) -> Option<()> {
         let id = id(word.get(1)?.parse::<u8>().ok()?);
-        page.word("broken");
+        page.text("broken");
         self.put(id, Kind::Commit, "no tree\n")
     }
 
     fn add_blob(&mut self, word: &[&str], page: &mut Page) -> Option<()> {
         let id = id(word.get(1)?.parse::<u8>().ok()?);
-        page.word("blob");
+        page.text("blob");
         self.put(id, Kind::Blob, "tree\n")
+    }
+
+    // An id of which each lookup fails.
+    fn add_failing(&mut self, word: &[&str], page: &mut Page) -> Option<()> {
+        let id = id(word.get(1)?.parse::<u8>().ok()?);
+        page.word("fails");
+        self.store.fail(id).ok()
     }
 
     // A further row: a number, a time, a generation and the parents' numbers.
     fn add_row(&mut self, word: &[&str], page: &mut Page) -> Option<()> {
-        let id = id(word.get(1)?.parse::<u8>().ok()?);
-        let parents = ids(self.alloc, *word.get(4)?)?;
-        let row = Row {
-            id,
-            tree: id,
-            parents: ParentIds::from_slice(self.alloc, parents.as_slice()).ok()?,
-            time: word.get(2)?.parse::<i64>().ok()?,
-            generation: word.get(3)?.parse::<u32>().ok()?,
-        };
-        self.rows.push(row).ok()?;
-        page.word("row");
+        self.rows.push(read_row(self.alloc, word)?).ok()?;
+        page.text("row");
         Some(())
     }
 
@@ -158,7 +158,7 @@ impl History {
     fn make_graph(&mut self, page: &mut Page) -> Option<()> {
         let rows = mem::replace(&mut self.rows, Vec::new(self.alloc));
         self.graph = Some(Graph::from_rows(rows).ok()?);
-        page.word("graph");
+        page.text("graph");
         Some(())
     }
 
@@ -188,23 +188,23 @@ impl History {
 // The same of a commit that is read.
 fn put_fault_of_time(page: &mut Page, found: Either<'_, '_>) {
     match found.commit_time() {
-        Ok(_) => page.word("read"),
+        Ok(_) => page.text("read"),
         Err(error) => put_error(page, Error::from(HiddenGraphError::from(error))),
     }
 }
 
 // What a commit that was found tells.
 fn put_either(page: &mut Page, found: Either<'_, '_>) {
-    page.word(match found {
+    page.text(match found {
         Either::CommitRefIter(_) => "object",
         Either::CachedCommit(_) => "row",
     });
     match found.tree_id() {
-        Ok(tree) => page.value(" tree ", number(&tree), ""),
-        Err(_) => page.word(" no tree"),
+        Ok(tree) => page.put_between(" tree ", number(&tree), ""),
+        Err(_) => page.text(" no tree"),
     }
     match found.commit_time() {
-        Ok(time) => page.value(" time ", time, ""),
-        Err(_) => page.word(" no time"),
+        Ok(time) => page.put_between(" time ", time, ""),
+        Err(_) => page.text(" no time"),
     }
 }

@@ -3,10 +3,8 @@
 
 mod by_time;
 mod history;
-mod page;
 mod predicate;
 mod sets;
-mod store;
 mod topo_walk;
 mod words;
 

@@ -1,9 +1,10 @@
 //! The set that all orders list.
 
 use crate::by_time::Walk;
-use crate::page::Page;
-use crate::store::Store;
-use crate::words::{ids, put_ids, sorting, topo_sorting};
+use crate::words::{put_ids, sorting, topo_sorting};
+use case_commits::ids;
+use case_page::Page;
+use case_store::Store;
 use gix_hash::ObjectId;
 use gix_traverse::commit::topo::Builder;
 use gix_traverse::commit::{All, Simple, Topo};
@@ -19,7 +20,7 @@ pub fn put_one_set(walk: &Walk<'_>, page: &mut Page) -> Option<()> {
     ];
     for other in &others {
         if other.as_slice() != first.as_slice() {
-            page.word("differ");
+            page.text("differ");
             return Some(());
         }
     }

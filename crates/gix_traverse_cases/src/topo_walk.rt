@@ -1,10 +1,11 @@
 //! Walks in which each commit comes after its children, call by call.
 
 use crate::by_time::{Walk, put_all};
-use crate::page::Page;
 use crate::predicate::Refusing;
-use crate::store::Store;
-use crate::words::{ids, number, put_find_error, put_ids, topo_sorting};
+use crate::words::{put_find_error, put_ids, topo_sorting};
+use case_commits::{ids, number};
+use case_page::Page;
+use case_store::Store;
 use gix_hash::ObjectId;
 use gix_traverse::commit::topo::{Builder, Error};
 use gix_traverse::commit::{Parents, Topo};
@@ -28,15 +29,15 @@ pub fn topo_walked(walk: &Walk<'_>, page: &mut Page) -> Option<()> {
             break 'calls;
         }
         builder = built(walk, builder, *call)?;
-        page.word(*call);
-        page.word(" ");
+        page.text(*call);
+        page.text(" ");
         read = read.saturating_add(1);
     }
     match builder.build() {
         Ok(mut topo) => put_calls(&mut topo, calls.get(read..)?, page),
         Err(error) => put_error(page, error),
     }
-    page.word(" asked ");
+    page.text(" asked ");
     put_ids(page, asked.as_slice());
     Some(())
 }
@@ -82,12 +83,12 @@ fn built<'s, 'p>(
 fn put_calls(topo: &mut Topo<Refusing<'_>>, calls: &[&str], page: &mut Page) {
     for (place, call) in calls.iter().enumerate() {
         if place > 0 {
-            page.word(" ");
+            page.text(" ");
         }
         match *call {
             "end" => put_next(topo, u32::MAX, page),
             "info" => put_info(topo, page),
-            "lookups" => page.value("lookups ", topo.lookups(), ""),
+            "lookups" => page.put_between("lookups ", topo.lookups(), ""),
             other => {
                 let count = other.strip_prefix("next=").unwrap_or("0");
                 put_next(topo, count.parse::<u32>().unwrap_or(0), page);
@@ -104,7 +105,7 @@ fn step(topo: &mut Topo<Refusing<'_>>, page: &mut Page) -> bool {
             return true;
         }
         Some(Err(error)) => put_error(page, error),
-        None => page.word("end"),
+        None => page.text("end"),
     }
     false
 }
@@ -113,7 +114,7 @@ fn step(topo: &mut Topo<Refusing<'_>>, page: &mut Page) -> bool {
 fn put_next(topo: &mut Topo<Refusing<'_>>, count: u32, page: &mut Page) {
     for place in 0..count {
         if place > 0 {
-            page.word(" ");
+            page.text(" ");
         }
         if !step(topo, page) {
             return;
@@ -126,16 +127,16 @@ fn put_info(topo: &mut Topo<Refusing<'_>>, page: &mut Page) {
     match topo.next() {
         Some(Ok(info)) => put_all(page, &info),
         Some(Err(error)) => put_error(page, error),
-        None => page.word("end"),
+        None => page.text("end"),
     }
 }
 
 fn put_error(page: &mut Page, error: Error) {
     match error {
         Error::Find(error) => put_find_error(page, error),
-        Error::ObjectDecode(_) => page.word("decode"),
-        Error::MissingIndegreeUnexpected => page.word("missing indegree"),
-        Error::MissingStateUnexpected => page.word("missing state"),
-        Error::Memory => page.word("memory"),
+        Error::ObjectDecode(_) => page.text("decode"),
+        Error::MissingIndegreeUnexpected => page.text("missing indegree"),
+        Error::MissingStateUnexpected => page.text("missing state"),
+        Error::Memory => page.text("memory"),
     }
 }

@@ -1,43 +1,11 @@
 //! The words of a line.
 
-use crate::page::Page;
+use case_commits::number;
+use case_page::Page;
 use gix_hash::ObjectId;
 use gix_object_find::find::existing_iter;
 use gix_traverse::commit::simple::{CommitTimeOrder, Sorting};
 use gix_traverse::commit::topo;
-use std::alloc::Global;
-
-/// The words between spaces. `None` where no memory is left.
-pub fn words(alloc: Global, line: &str) -> Option<Vec<&str>> {
-    let mut words = Vec::new(alloc);
-    for word in line.split(' ') {
-        words.push(word).ok()?;
-    }
-    Some(words)
-}
-
-/// The id of a number, which is its last byte.
-pub fn id(number: u8) -> ObjectId {
-    let mut bytes = [0u8; 20];
-    bytes[19] = number;
-    ObjectId::Sha1(bytes)
-}
-
-/// The number of an id.
-pub fn number(id: &ObjectId) -> u8 {
-    id.as_bytes().last().copied().unwrap_or(0)
-}
-
-/// The ids of numbers between commas; `-` is none.
-pub fn ids(alloc: Global, text: &str) -> Option<Vec<ObjectId>> {
-    let mut ids = Vec::new(alloc);
-    if text != "-" {
-        for part in text.split(',') {
-            ids.push(id(part.parse::<u8>().ok()?)).ok()?;
-        }
-    }
-    Some(ids)
-}
 
 /// The order of this name, in a walk that goes before all children are given.
 pub fn sorting(word: &str) -> Option<Sorting> {
@@ -72,18 +40,18 @@ pub fn topo_sorting(word: &str) -> Option<topo::Sorting> {
 /// The numbers of these ids between commas, `-` for none.
 pub fn put_ids(page: &mut Page, ids: &[ObjectId]) {
     if ids.is_empty() {
-        page.word("-");
+        page.text("-");
     }
     for (place, id) in ids.iter().enumerate() {
-        page.value(if place == 0 { "" } else { "," }, number(id), "");
+        page.put_between(if place == 0 { "" } else { "," }, number(id), "");
     }
 }
 
 /// Why a commit isn't found.
 pub fn put_find_error(page: &mut Page, error: existing_iter::Error) {
     match error {
-        existing_iter::Error::NotFound { oid } => page.value("find ", number(&oid), ""),
-        existing_iter::Error::ObjectKind { oid, .. } => page.value("kind ", number(&oid), ""),
+        existing_iter::Error::NotFound { oid } => page.put_between("find ", number(&oid), ""),
+        existing_iter::Error::ObjectKind { oid, .. } => page.put_between("kind ", number(&oid), ""),
         existing_iter::Error::Find(error) => page.refused(error),
     }
 }

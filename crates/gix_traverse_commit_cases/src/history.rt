@@ -2,11 +2,10 @@
 
 use crate::infos;
 use crate::walks::{Asked, given};
+use case_commits::{id, ids, number, read_row, words};
 use gix_hash::ObjectId;
 use gix_traverse_commit::simple::{CommitTimeOrder, Sorting};
-use gix_traverse_commit::{
-    Graph, Info, ParentIds, Parents, Row, RowsError, WalkError, breadth_first,
-};
+use gix_traverse_commit::{Graph, Info, Parents, Row, RowsError, WalkError, breadth_first};
 use std::alloc::Global;
 use std::mem;
 
@@ -44,15 +43,7 @@ impl History {
 
     // A further row: a number, a time, a generation and the parents' numbers.
     fn added(&mut self, alloc: Global, word: &[&str]) -> Option<String> {
-        let id = id(word.get(1)?.parse::<u8>().ok()?);
-        let row = Row {
-            id,
-            tree: id,
-            parents: ParentIds::from_slice(alloc, ids(alloc, *word.get(4)?)?.as_slice()).ok()?,
-            time: word.get(2)?.parse::<i64>().ok()?,
-            generation: word.get(3)?.parse::<u32>().ok()?,
-        };
-        self.rows.push(row).ok()?;
+        self.rows.push(read_row(alloc, word)?).ok()?;
         format!(in alloc; "row").ok()
     }
 
@@ -198,37 +189,6 @@ fn sorting(order: &str, seconds: &str) -> Option<Sorting> {
 // The ids in ascending order.
 fn sorted(mut ids: Vec<ObjectId>) -> Option<Vec<ObjectId>> {
     ids.sort().ok()?;
-    Some(ids)
-}
-
-// The words between spaces.
-fn words(alloc: Global, line: &str) -> Option<Vec<&str>> {
-    let mut words = Vec::new(alloc);
-    for word in line.split(' ') {
-        words.push(word).ok()?;
-    }
-    Some(words)
-}
-
-/// The id of a number, which is its last byte.
-pub fn id(number: u8) -> ObjectId {
-    let mut bytes = [0u8; 20];
-    bytes[19] = number;
-    ObjectId::Sha1(bytes)
-}
-
-fn number(id: &ObjectId) -> u8 {
-    id.as_bytes().last().copied().unwrap_or(0)
-}
-
-/// The ids of numbers between commas; `-` is none.
-pub fn ids(alloc: Global, text: &str) -> Option<Vec<ObjectId>> {
-    let mut ids = Vec::new(alloc);
-    if text != "-" {
-        for part in text.split(',') {
-            ids.push(id(part.parse::<u8>().ok()?)).ok()?;
-        }
-    }
     Some(ids)
 }
 

@@ -1,25 +1,17 @@
 //! What walks give of commits, in their order.
 
-use crate::history::{id, ids};
+use case_commits::{id, ids};
+use case_page::order_told;
 use gix_traverse_commit::{Info, ParentIds};
 use std::alloc::Global;
-use std::hash::{DefaultHasher, Hash, Hasher};
-
-fn digest(info: &Info) -> u64 {
-    let mut hasher = DefaultHasher::new();
-    info.hash(&mut hasher);
-    hasher.finish()
-}
 
 /// How two texts of what a walk gives stand to each other: their order, whether they are equal, and whether their hashes are; and
 /// whether a copy of the first is equal to it.
 pub fn order(alloc: Global, one: &str, other: &str) -> Option<String> {
     let one = read(alloc, one)?;
     let other = read(alloc, other)?;
-    let order = one.cmp(&other);
-    let is_hash = digest(&one) == digest(&other);
     let is_copy = one.try_clone().ok()? == one;
-    format!(in alloc; "{order:?} {} {is_hash} {is_copy}", one == other).ok()
+    format!(in alloc; "{} {is_copy}", order_told(alloc, &one, &other).ok()?).ok()
 }
 
 // The number of a commit, those of its parents, its generation and its time, with colons between them.

@@ -1,9 +1,9 @@
 //! Copies: of a recorder, its entries and its paths, and of the states that walks take.
 
 use crate::operations::{Order, records};
-use crate::page::Page;
-use crate::store::Store;
 use bstr::BStr;
+use case_page::Page;
+use case_store::Store;
 use gix_hash::ObjectId;
 use gix_object_find::FindExt;
 use gix_traverse_tree::recorder::{Entry, Recorder};
@@ -14,11 +14,11 @@ use std::alloc::Global;
 fn used_state(alloc: Global, page: &mut Page) -> Option<depthfirst::State> {
     let mut state = depthfirst::State::new(alloc);
     let mut buffer = state.pop_buf();
-    page.value("", buffer.len(), " ");
+    page.put_between("", buffer.len(), " ");
     buffer.push(7).ok()?;
     state.push_buf(buffer);
     let again = state.pop_buf();
-    page.value("", again.len(), " ");
+    page.put_between("", again.len(), " ");
     state.push_buf(again);
     Some(state)
 }
@@ -78,9 +78,9 @@ pub fn copy(
     let mut recorder = Recorder::new(alloc);
     walk(alloc, order, root, store, &mut recorder, page)?;
     let mut copy = told(recorder)?.try_clone().ok()?;
-    page.text("", copy.path_clone().ok()?.as_bytes(), " ");
+    page.between("", copy.path_clone().ok()?.as_bytes(), " ");
     copy.pop_front_tracked_path_and_set_current().ok()?;
-    page.bytes(copy.path_clone().ok()?.as_bytes());
+    page.escaped(copy.path_clone().ok()?.as_bytes());
     records(page, copied(alloc, copy.records.as_slice())?.as_slice());
     Some(())
 }

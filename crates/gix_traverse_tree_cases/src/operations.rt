@@ -1,16 +1,17 @@
 //! One line to one answer.
 
-use crate::case::{Case, read_case};
 use crate::copies::copy;
-use crate::page::Page;
 use crate::stopping::Stopping;
-use crate::store::Store;
+use crate::store::read;
+use case_ids::{Case, Operations};
+use case_page::Page;
+use case_store::Store;
 use gix_hash::ObjectId;
 use gix_object_entries::TreeRefIter;
 use gix_object_find::FindExt;
 use gix_traverse_tree::recorder::{Entry, Location, Recorder};
 use gix_traverse_tree::{Visit, breadthfirst, depthfirst};
-use std::alloc::{AllocError, Global};
+use std::alloc::Global;
 
 /// The two orders.
 #[derive(Clone, Copy)]
@@ -24,9 +25,9 @@ pub enum Order {
 /// Adds the entries, one after another, each as its mode, its path and its id.
 pub fn records(page: &mut Page, entries: &[Entry]) {
     for entry in entries {
-        page.value(" ", entry.mode.as_str(), " ");
-        page.bytes(entry.filepath.as_bytes());
-        page.value(" ", entry.oid, "");
+        page.put_between(" ", entry.mode.as_str(), " ");
+        page.escaped(entry.filepath.as_bytes());
+        page.put_between(" ", entry.oid, "");
     }
 }
 
@@ -51,7 +52,7 @@ fn walk<V: Visit>(
         },
     };
     match ended {
-        Ok(()) => page.word("whole"),
+        Ok(()) => page.text("whole"),
         Err(error) => page.refused(error),
     }
 }
@@ -83,7 +84,7 @@ fn record(
 // What copies have after a walk.
 fn copies(alloc: Global, order: Order, root: &ObjectId, store: &Store, page: &mut Page) {
     if copy(alloc, order, root, store, page).is_none() {
-        page.word("no walk");
+        page.text("no walk");
     }
 }
 
@@ -97,40 +98,32 @@ fn stop(alloc: Global, order: Order, root: &ObjectId, store: &Store, page: &mut 
     records(page, delegate.recorder.records.as_slice());
 }
 
-fn perform(alloc: Global, operation: &str, case: &Case, page: &mut Page) {
-    let trees = case.texts.get(1..).unwrap_or(&[]);
-    let Some(store) = Store::new(alloc, case.kind.len_in_bytes(), trees) else {
-        return page.word("no trees");
-    };
-    let Ok(root) = ObjectId::try_from(case.text(0)) else {
-        return page.word("no root");
-    };
-    let whole = Some(Location::Path);
-    let name = Some(Location::FileName);
-    match operation {
-        "breadth" => record(alloc, Order::Breadth, whole, &root, &store, page),
-        "depth" => record(alloc, Order::Depth, whole, &root, &store, page),
-        "breadth-names" => record(alloc, Order::Breadth, name, &root, &store, page),
-        "depth-names" => record(alloc, Order::Depth, name, &root, &store, page),
-        "breadth-untracked" => record(alloc, Order::Breadth, None, &root, &store, page),
-        "depth-untracked" => record(alloc, Order::Depth, None, &root, &store, page),
-        "breadth-stopped" => stop(alloc, Order::Breadth, &root, &store, page),
-        "depth-stopped" => stop(alloc, Order::Depth, &root, &store, page),
-        "breadth-copied" => copies(alloc, Order::Breadth, &root, &store, page),
-        "depth-copied" => copies(alloc, Order::Depth, &root, &store, page),
-        _ => page.word("no operation"),
-    }
-}
+/// The operations of these cases.
+pub struct Walks;
 
-/// What the operation of the line gives.
-pub fn answer(alloc: Global, line: &str) -> Result<String, AllocError> {
-    let mut page = Page::new(alloc);
-    match line.split_once(' ') {
-        Some((operation, words)) => match read_case(alloc, words) {
-            Some(case) => perform(alloc, operation, &case, &mut page),
-            None => page.word("no bytes"),
-        },
-        None => page.word("no case"),
+impl Operations for Walks {
+    fn write_answer(alloc: Global, operation: &str, case: &Case, page: &mut Page) {
+        let trees = case.behind(1);
+        let Some(store) = read(alloc, case.kind.len_in_bytes(), trees) else {
+            return page.text("no trees");
+        };
+        let Ok(root) = ObjectId::try_from(case.text(0)) else {
+            return page.text("no root");
+        };
+        let whole = Some(Location::Path);
+        let name = Some(Location::FileName);
+        match operation {
+            "breadth" => record(alloc, Order::Breadth, whole, &root, &store, page),
+            "depth" => record(alloc, Order::Depth, whole, &root, &store, page),
+            "breadth-names" => record(alloc, Order::Breadth, name, &root, &store, page),
+            "depth-names" => record(alloc, Order::Depth, name, &root, &store, page),
+            "breadth-untracked" => record(alloc, Order::Breadth, None, &root, &store, page),
+            "depth-untracked" => record(alloc, Order::Depth, None, &root, &store, page),
+            "breadth-stopped" => stop(alloc, Order::Breadth, &root, &store, page),
+            "depth-stopped" => stop(alloc, Order::Depth, &root, &store, page),
+            "breadth-copied" => copies(alloc, Order::Breadth, &root, &store, page),
+            "depth-copied" => copies(alloc, Order::Depth, &root, &store, page),
+            _ => page.text("no operation"),
+        }
     }
-    page.finish()
 }

@@ -1,6 +1,7 @@
 //! The parts of words.
 
-use gix_hash::{Kind, ObjectId};
+use case_ids::read_id;
+use case_page::read_digits;
 use history_files::{Change, Edit};
 use history_model::FileKind;
 use std::alloc::Global;
@@ -10,25 +11,6 @@ use std::alloc::Global;
 pub struct PathEdit {
     path: Vec<u8>,
     change: Change,
-}
-
-/// The hash function of this name.
-pub fn read_kind(word: &str) -> Option<Kind> {
-    match word {
-        "sha1" => Some(Kind::Sha1),
-        "sha256" => Some(Kind::Sha256),
-        _ => None,
-    }
-}
-
-/// The bytes of hexadecimal digits; none for `-`.
-pub fn read_bytes(alloc: Global, word: &str) -> Option<Vec<u8>> {
-    hex::decode(alloc, if word == "-" { "" } else { word }).ok()
-}
-
-/// An id in hexadecimal digits.
-pub fn read_id(word: &str) -> Option<ObjectId> {
-    ObjectId::from_hex(word.as_bytes()).ok()
 }
 
 fn read_file_kind(word: &str) -> Option<FileKind> {
@@ -55,18 +37,18 @@ pub fn read_edit(alloc: Global, word: &str) -> Option<PathEdit> {
     match parts.next()? {
         "put" => {
             let kind = read_file_kind(parts.next()?)?;
-            let path = read_bytes(alloc, parts.next()?)?;
+            let path = read_digits(alloc, parts.next()?)?;
             let id = read_id(parts.next()?)?;
             let change = Change::Put { kind, id };
             Some(PathEdit { path, change })
         }
         "remove" => {
-            let path = read_bytes(alloc, parts.next()?)?;
+            let path = read_digits(alloc, parts.next()?)?;
             let change = Change::Remove;
             Some(PathEdit { path, change })
         }
         "remove-file" => {
-            let path = read_bytes(alloc, parts.next()?)?;
+            let path = read_digits(alloc, parts.next()?)?;
             let change = Change::RemoveFile;
             Some(PathEdit { path, change })
         }

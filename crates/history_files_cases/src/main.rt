@@ -2,7 +2,6 @@
 #![tactic(auto)]
 
 mod case;
-mod page;
 mod session;
 mod store;
 

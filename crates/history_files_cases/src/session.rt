@@ -1,8 +1,10 @@
 //! The words of a line, one after another.
 
-use crate::case::{PathEdit, kind_word, lent, read_bytes, read_edit, read_id, read_kind};
-use crate::page::Page;
-use crate::store::{Row, Trees, row_of_content};
+use crate::case::{PathEdit, kind_word, lent, read_edit};
+use crate::store::has_named;
+use case_ids::{read_id, read_kind};
+use case_page::{Page, read_digits};
+use case_store::{Row, Trees, row_of_content};
 use gix_hash::{Kind, ObjectId};
 use history_files::{EditError, EditedFiles, Found, ReadError, edit_files, entry_at, files};
 use std::alloc::{AllocError, Global};
@@ -63,7 +65,7 @@ impl Session {
 
     // One tree more, whose id is told.
     fn add(&mut self, alloc: Global, content: &str, page: &mut Page) -> Option<()> {
-        let row = row_of_content(self.kind, read_bytes(alloc, content)?);
+        let row = row_of_content(self.kind, read_digits(alloc, content)?);
         page.value(row.oid);
         self.trees.add(row).ok()
     }
@@ -113,10 +115,7 @@ impl Session {
         self.root = Some(edited.root);
         let mut known = true;
         for tree in edited.trees {
-            known = known
-                && self
-                    .trees
-                    .has_named(alloc, self.kind, tree.content.as_slice());
+            known = known && has_named(&self.trees, alloc, self.kind, tree.content.as_slice());
             let row = Row {
                 oid: tree.id,
                 content: tree.content,
@@ -149,7 +148,7 @@ impl Session {
 
     // What the root has at a path.
     fn find(&self, alloc: Global, path: &str, page: &mut Page) -> Option<()> {
-        let path = read_bytes(alloc, path)?;
+        let path = read_digits(alloc, path)?;
         match entry_at(alloc, &self.trees, self.root.as_ref()?, path.as_slice()) {
             Ok(found) => show_found(found, page),
             Err(error) => show_read_error(error, page),
@@ -158,10 +157,11 @@ impl Session {
         Some(())
     }
 
-    // How often the trees were asked for one.
+    // How often the trees were asked for one. The count begins once more.
     fn show_asked(&self, page: &mut Page) {
         page.word("asked");
         page.value(self.trees.asked());
+        self.trees.count_anew();
     }
 }
 

@@ -1,6 +1,7 @@
 //! Objects that are put, looked up and listed.
 
 use crate::session::Parts;
+use case_ids::read_id;
 use case_words::{Page, Trial, read_bytes};
 use gix_hash::ObjectId;
 use gix_object::{Exists, Find, FindHeader};
@@ -26,11 +27,6 @@ fn kind_name(kind: ObjectKind) -> &'static str {
         ObjectKind::Commit => "commit",
         ObjectKind::Tag => "tag",
     }
-}
-
-/// The id of these digits.
-pub fn read_id(word: &str) -> Option<ObjectId> {
-    ObjectId::from_hex(word.as_bytes()).ok()
 }
 
 /// Adds a name, a colon and an id as a word.

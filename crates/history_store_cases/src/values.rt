@@ -1,6 +1,7 @@
 //! Texts of actors, commits, ids and lines of logs, printed and read.
 
-use crate::objects::{read_id, read_kind, show_id};
+use crate::objects::{read_kind, show_id};
+use case_ids::read_id;
 use case_words::{Page, read_bytes};
 use gix_hash::Kind;
 use gix_object::Commit;
@@ -38,21 +39,21 @@ pub fn act(alloc: Global, kind: Kind, operation: &str, rest: &str, page: &mut Pa
             page.named("digits", hex_digits(&read_id(rest)?, &mut buffer));
             Some(())
         }
-        "object" => {
-            let (object, content) = rest.split_once(':')?;
-            let content = read_bytes(alloc, content)?;
-            show_id(
-                "id",
-                &NewObject::new(kind, read_kind(object)?, content).id,
-                page,
-            );
-            Some(())
-        }
+        "object" => show_new(alloc, kind, rest, page),
         _ => {
             page.named("line", &read_entry(alloc, rest)?.to_bytes(alloc).ok()?);
             Some(())
         }
     }
+}
+
+// The id of an object that isn't stored yet.
+fn show_new(alloc: Global, kind: Kind, rest: &str, page: &mut Page) -> Option<()> {
+    let (object, content) = rest.split_once(':')?;
+    let content = read_bytes(alloc, content)?;
+    let object = NewObject::new(kind, read_kind(object)?, content);
+    show_id("id", &object.id, page);
+    Some(())
 }
 
 // An actor of a name, an email, seconds and an offset in seconds, where these are one's.
