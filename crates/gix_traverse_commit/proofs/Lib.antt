@@ -21,6 +21,7 @@ mod Cutoff
 mod ByTime
 mod Times
 mod Pending
+mod Awaiting
 mod Rest
 mod Counting
 pub mod Ending

@@ -20,7 +20,7 @@ use Rattle.gix_traverse_commit.specs.Told.{AreTold, rows_of}
 use Rattle.gix_traverse_commit.specs.Standing.{Reads}
 use Rattle.gix_traverse_commit.specs.Order.{At, IsListOf, IsOpen}
 use Rattle.gix_traverse_commit.specs.Sorting.{ComesFirst, InOrder, IsNextIn, cutoff_in, timing_of}
-use Rattle.gix_traverse_commit.specs.Timely.{AllRowed, IsChosenSoFar, IsMetSoFar, keep_since}
+use Rattle.gix_traverse_commit.specs.Timely.{AllRowed, IsChosenSoFar, IsMetSoFar, LetsWaitIn, TakesTurn, keep_since}
 use Rattle.gix_traverse_commit.specs.declared.fetch.FetchError.{FetchError}
 use Rattle.gix_traverse_commit.specs.declared.fetch.FetchError.TheVariants as fetch
 use Rattle.gix_traverse_commit.specs.declared.fetch.Source.{Source}
@@ -34,6 +34,7 @@ use Rattle.gix_traverse_commit.specs.declared.simple.faults.HiddenGraphError.The
 use Rattle.gix_traverse_commit.specs.declared.simple.Simple.{Simple}
 use Rattle.gix_traverse_commit.specs.declared.simple.sorting.Sorting.{Sorting}
 use Rattle.gix_traverse_commit.specs.declared.simple.sorting.Timing.{Timing}
+use Rattle.gix_traverse_commit.specs.declared.simple.waiting.Turn.{Turn}
 
 -- ---- what a clause says of a walk
 
@@ -432,6 +433,10 @@ IsReadBefore honest rows table nodes tips place =
 abbrev pub IsAccepted : Asked → ObjectId → Type 0
 IsAccepted a x = a.accepts (id_of x) ≡ true
 
+-- a tip that the predicate accepts and no hidden commit reaches
+abbrev pub IsWanted : Commits ObjectId → Asked → ObjectId → Type 0
+IsWanted g a x = Contains a.tips x × IsAccepted a x × (¬ ReachedFrom g a.hidden x)
+
 -- all that the walk begins from, hides and has queued has rows
 pub record InRows {F P : Type 0} (walk : Simple F P) : Type 0 where
   pub tips : AllHeld (rows_of walk.source.rows) walk.tips.items
@@ -487,6 +492,30 @@ Meets accepts goes rows before info after =
     MeetsParents accepts goes rows before.known.nodes
     (timing_of before.parents before.sorting) info before.predicate before.source.lookups after.predicate after.source.lookups
 
+-- one of these parents that is met with its child, and that the predicate accepts
+abbrev pub IsMetWith : {F P : Type 0} → (P → Id → Bool) → Simple F P → List ObjectId → ObjectId
+    → Type 0
+IsMetWith accepts before parents x =
+    IsFresh before.known.nodes parents x × (accepts before.predicate (id_of x) ≡ true)
+
+-- by time a commit comes whose turn it is, and its parents that are met with it and accepted wait then, also those whose lookups
+-- fail; no other that waits is lost
+pub record ComesInTurn {F P : Type 0} (accepts : P → Id → Bool) (may_fail : Type 0)
+    (g : Commits ObjectId) (before : Simple F P) (info : Info) (after : Simple F P) : Type 0 where
+  pub others : List Turn
+  pub taken : TakesTurn (timing_of before.parents before.sorting)
+      (turns_of before.known) info.id others
+  pub parents : LetsWaitIn (timing_of before.parents before.sorting) may_fail g
+      (IsMetWith accepts before info.parent_ids.items) others (turns_of after.known)
+
+-- by time it is the turn of a commit that isn't read, for this cause
+pub record FailsInTurn {F P : Type 0} (honest may_fail : Type 0) (rows : List Row) (table : Table)
+    (before : Simple F P) (error : Error) : Type 0 where
+  pub id : ObjectId
+  pub others : List Turn
+  pub taken : TakesTurn (timing_of before.parents before.sorting) (turns_of before.known) id others
+  pub cause : StopsFetch honest may_fail rows table id error
+
 -- the walk begins, for which the predicate isn't asked, and the first commit comes
 pub record CountsFirst {F P : Type 0} (accepts : P → Id → Bool) (goes : P → Id → P → Type 0)
     (honest may_fail : Type 0) (table : Table) (ids : List Id) (a : Asked) (before : Simple F P)
@@ -502,6 +531,11 @@ pub record CountsFirst {F P : Type 0} (accepts : P → Id → Bool) (goes : P �
       → CountsOne (rows_of before.source.rows) info.id begun.source.lookups after.source.lookups
   pub more : CountsUpTo (rows_of before.source.rows) info.id
       (length info.parent_ids.items) begun.source.lookups after.source.lookups
+  pub order : timing_of begun.parents begun.sorting ≡ timing a
+  pub tips_wait : honest → (g : Commits ObjectId) → AreTold (rows_of before.source.rows) table g
+      → LetsWaitIn (timing a) may_fail g (IsWanted g a) [] (turns_of begun.known)
+  pub in_turn : honest → (g : Commits ObjectId) → AreTold (rows_of before.source.rows) table g
+      → ComesInTurn accepts may_fail g begun info after
 
 -- one object was asked for where a commit isn't read; where memory is wanting none that was counted is lost
 abbrev pub CountsFault : ℕ → ℕ → Error → Type 0
@@ -585,3 +619,16 @@ pub record GivesNext {F P : Type 0} (accepts : P → Id → Bool) (goes : P → 
       (CountsBeginning honest
       (rows_of before.source.rows) table a before.source.lookups after.source.lookups)
   pub falls : IfSome item (λ answer. OnOk answer (left_of ids after < left_of ids before))
+  pub in_turn : before.begun ≡ true → honest → (g : Commits ObjectId)
+      → AreTold (rows_of before.source.rows) table g
+      → IfSome item
+      (λ answer. IfOk answer (λ info. ComesInTurn accepts may_fail g before info after))
+  pub in_turn_end : before.begun ≡ true → IsSome (timing_of before.parents before.sorting)
+      → IfNone item (turns_of before.known ≡ [])
+  pub tips_end : (a : Asked) → IsMade accepts a before → honest → (g : Commits ObjectId)
+      → AreTold (rows_of before.source.rows) table g
+      → IfNone item (LetsWaitIn (timing a) may_fail g (IsWanted g a) [] [])
+  pub in_turn_fault : before.begun ≡ true
+      → IfSome item
+      (λ answer. IfErr answer
+      (FailsInTurn honest may_fail (rows_of before.source.rows) table before))

@@ -1,5 +1,5 @@
 -- Where a walk by time stands.
-use Rattle.std.specs.Prelude.{◌≡◌, ◌≢◌, ◌≤ℤ◌, ◌⊎◌, ◌↔◌, ℕ, ℤ, pos, Bool, true, not, ◌&&◌, List, ◌∷◌, [], ◌++◌, Option, take, Contains, IsTrue}
+use Rattle.std.specs.Prelude.{◌≡◌, ◌≢◌, ◌≤ℤ◌, ◌⊎◌, ◌↔◌, ℕ, ℤ, pos, Bool, true, not, ◌&&◌, List, ◌∷◌, [], ◌++◌, Option, None, Some, take, Contains, IsTrue}
 use Rattle.gix_hash_id.specs.Id.{Id, id_of}
 use Rattle.gix_hash_id.specs.declared.object_id.ObjectId.{ObjectId}
 use Rattle.gix_traverse_commit.specs.Commits.{Commits, Reached}
@@ -9,6 +9,7 @@ use Rattle.gix_traverse_commit.specs.Sorting.{in_time}
 use Rattle.gix_traverse_commit.specs.declared.rows.Row.{Row}
 use Rattle.gix_traverse_commit.specs.declared.simple.sorting.CommitTimeOrder.{CommitTimeOrder}
 use Rattle.gix_traverse_commit.specs.declared.simple.sorting.CommitTimeOrder.TheVariants.{NewestFirst, OldestFirst}
+use Rattle.gix_traverse_commit.specs.declared.simple.sorting.Timing.{Timing}
 use Rattle.gix_traverse_commit.specs.declared.simple.waiting.Turn.{Turn}
 
 -- one more waits, where that is so
@@ -29,6 +30,32 @@ turn_of g x = record { time = (g x).time; id = x }
 -- the time that a commit counts with: its own, and 0 where its lookup failed
 abbrev pub CountsAs : Type 0 → Commits ObjectId → ObjectId → ℤ → Type 0
 CountsAs may_fail g x time = (time ≡ (g x).time) ⊎ ((time ≡ pos 0) × may_fail)
+
+-- it waits with the time that it counts with, unless the cutoff keeps it out
+abbrev pub WaitsAsCounted : Type 0 → Option ℤ → Commits ObjectId → List Turn → ObjectId → Type 0
+WaitsAsCounted may_fail since g turns x =
+    (time : ℤ) × CountsAs may_fail g x time
+    × (in_time since time ≡ true → Contains turns (record { time = time; id = x }))
+
+-- each of these commits waits now, unless the cutoff keeps it out, beside all that waited, and no other
+pub record LetsWait (may_fail : Type 0) (since : Option ℤ) (g : Commits ObjectId)
+    (S : ObjectId → Type 0) (old new : List Turn) : Type 0 where
+  pub stay : (t : Turn) → Contains old t → Contains new t
+  pub join : (x : ObjectId) → S x → WaitsAsCounted may_fail since g new x
+  pub only : (t : Turn) → Contains new t → Contains old t
+      ⊎ (S t.id × CountsAs may_fail g t.id t.time × (in_time since t.time ≡ true))
+
+-- by time these commits wait now, and in breadth order none
+abbrev pub LetsWaitIn : Option Timing → Type 0 → Commits ObjectId → (ObjectId → Type 0)
+    → List Turn → List Turn → Type 0
+LetsWaitIn None may_fail g S old new = new ≡ old
+LetsWaitIn (Some timing) may_fail g S old new = LetsWait may_fail timing.since g S old new
+
+-- by time the commit's turn came, and the others wait on; in breadth order none waits
+abbrev pub TakesTurn : Option Timing → List Turn → ObjectId → List Turn → Type 0
+TakesTurn None old id others = others ≡ old
+TakesTurn (Some timing) old id others =
+    (turn : Turn) × (turn.id ≡ id) × IsTaken timing.order old turn others
 
 -- the commit waits
 abbrev pub Waits : List Turn → ObjectId → Type 0

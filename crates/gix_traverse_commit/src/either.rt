@@ -64,7 +64,8 @@ pub(crate) fn seconds(reader: CommitRefIter<'_>) -> Result<i64, decode::Error>
 }
 
 /// The commit of this id: by its row where the rows have it, else by its object, whose content stands in the buffer then. It is
-/// `NotFound` where neither stands, `ObjectKind` where the object is no commit, and `Find` where the lookup gave up.
+/// `NotFound` where neither stands, `ObjectKind` where the object is no commit, and `Find` where the lookup gave up: each only
+/// where the rows don't have it.
 pub fn find<'buf, 'cache, F: Find>(
     cache: Option<&'cache Graph>,
     objects: &F,
@@ -75,6 +76,7 @@ pub fn find<'buf, 'cache, F: Find>(
         → IfOk result (IsFound (rows_of (option_copied cache.entry)) (F.table objects.now) id.now) }
     ensures refused { IfErr result (KindFault (F.is_honest objects.now) (F.may_fail objects.now)
         (F.table objects.now) (id_of id.now) kinds.Commit) }
+    ensures rowless { IfErr result (λ _. ¬ Holds (rows_of (option_copied cache.entry)) id.now) }
 {
     match row_in(cache, id) {
         Some(row) => Ok(Either::CachedCommit(row)),

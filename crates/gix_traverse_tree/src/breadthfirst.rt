@@ -1,6 +1,6 @@
 //! Walks in breadth order.
 
-ghost use Rattle.std.specs.Prelude.{◌≡◌, ◌↔◌, ◌<◌, ◌≤◌, ◌++◌, ◌∷◌, [], ℕ, List, Option, Some, IfOk, IfErr, IfSome, OnOk, length, true, map};
+ghost use Rattle.std.specs.Prelude.{◌≡◌, ◌↔◌, ◌<◌, ◌≤◌, ◌++◌, ◌∷◌, [], ℕ, List, Option, Some, IfOk, IfErr, IfSome, IsOk, OnOk, length, true, map};
 ghost use Rattle.std.specs.declared.ops.ControlFlow.TheVariants.{Continue, Break};
 ghost use Rattle.gix_hash_id.specs.Id.{Id, id_of};
 ghost use Rattle.gix_object_entries.specs.Entry.{item_of};
@@ -38,15 +38,22 @@ pub struct State {
 
 impl State {
     /// A state for a first walk. It takes no memory.
-    pub fn new(alloc: Global) -> State {
+    pub fn new(alloc: Global) -> State
+        ensures nodes { result.nodes.items ≡ [] }
+        ensures content { result.content.items ≡ [] }
+    {
         State {
             nodes: Vec::new(alloc),
             content: Vec::new(alloc),
         }
     }
 
-    /// A state that serves as well.
-    pub fn try_clone(&self) -> Result<State, AllocError> {
+    /// A state that serves as well: one for a first walk.
+    pub fn try_clone(&self) -> Result<State, AllocError>
+        ensures nodes { IfOk result (λ state. state.nodes.items ≡ []) }
+        ensures content { IfOk result (λ state. state.content.items ≡ []) }
+        ensures whole { IsOk result }
+    {
         Ok(State::new(*self.nodes.allocator()))
     }
 }

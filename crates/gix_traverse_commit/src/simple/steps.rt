@@ -1,6 +1,6 @@
 //! The steps of a walk: it begins, takes the commit whose turn it is, and meets its parents.
 
-ghost use Rattle.std.specs.Prelude.{◌≡◌, ◌↔◌, ◌≤◌, ◌+◌, List, Contains, [], ◌∷◌, ◌++◌, length, IfOk, IfErr, IfSome, IfNone, IsNone, IsOk, OnOk, None, true, false};
+ghost use Rattle.std.specs.Prelude.{◌≡◌, ◌↔◌, ◌≤◌, ◌+◌, List, Contains, [], ◌∷◌, ◌++◌, length, IfOk, IfErr, IfSome, IfNone, IsNone, IsOk, IsSome, OnOk, None, true, false};
 ghost use Rattle.gix_hash_id.specs.Id.{Id, id_of};
 ghost use Rattle.gix_hash_id.specs.declared.object_id.ObjectId.{ObjectId};
 ghost use Rattle.gix_traverse_commit.specs.Commits.{Commits, asked_parents};
@@ -10,8 +10,9 @@ ghost use Rattle.gix_traverse_commit.specs.Known.{turns_of};
 ghost use Rattle.gix_traverse_commit.specs.Meeting.{Asks, CountsOne, CountsTimes, CountsTips, IsFresh, accepted, unmet};
 ghost use Rattle.gix_traverse_commit.specs.Order.{IsListOf};
 ghost use Rattle.gix_traverse_commit.specs.Rows.{AllHeld, Holds};
-ghost use Rattle.gix_traverse_commit.specs.Simply.{Answers, Asked, CountsBeginning, CountsFault, CountsUpTo, HasAhead, IsMade, IsNew, IsPaintedFor, IsUnderWay, IsAtTurn, IsOver, IsKnown, IsInfo, IsTurn, IsSure, IsContentOf, IsUnmet, InRows, Meets, Stands, StopsFetch, TipFault, SimpleFault, GainsNone, content_of, times_queued};
+ghost use Rattle.gix_traverse_commit.specs.Simply.{Answers, Asked, CountsBeginning, CountsFault, CountsUpTo, HasAhead, IsMade, IsNew, IsPaintedFor, IsUnderWay, IsAtTurn, IsOver, IsKnown, IsInfo, IsMetWith, IsTurn, IsSure, IsContentOf, IsUnmet, IsWanted, InRows, Meets, Stands, StopsFetch, TipFault, SimpleFault, GainsNone, content_of, times_queued, timing};
 ghost use Rattle.gix_traverse_commit.specs.Sorting.{IsByTime, timing_of};
+ghost use Rattle.gix_traverse_commit.specs.Timely.{LetsWaitIn, TakesTurn};
 ghost use Rattle.gix_traverse_commit.specs.Told.{AreTold, rows_of};
 ghost use Rattle.gix_traverse_commit.specs.declared.parents.Parents.TheVariants.{All as AllParents};
 ghost use Rattle.gix_traverse_commit.specs.declared.simple.faults.Error.TheVariants.{Memory};
@@ -121,6 +122,12 @@ impl<F: Find + Drop, P: Accept + Drop> Simple<F, P> {
             → (ids : List Id) (a : Asked) → IsSure (F.may_fail self.old.source.objects) a
             → IsPaintedFor P.accepts g a self.old
             → OnOk result (IsUnderWay P.accepts ids g a [] self.new) }
+        ensures awaits { OnOk result (F.is_honest self.old.source.objects → (g : Commits ObjectId)
+            → AreTold (rows_of self.old.source.rows) (F.table self.old.source.objects) g
+            → LetsWaitIn (timing_of self.old.parents self.old.sorting)
+            (F.may_fail self.old.source.objects) g
+            (IsFresh self.old.known.nodes self.old.tips.items)
+            (turns_of self.old.known) (turns_of self.new.known)) }
         ensures left { OnOk result (GainsNone self.old self.new) }
         ensures rowed { InRows self.old → OnOk result (InRows self.new
             × (self.new.source.lookups ≡ self.old.source.lookups)) }
@@ -160,6 +167,11 @@ impl<F: Find + Drop, P: Accept + Drop> Simple<F, P> {
             → AreTold (rows_of self.old.source.rows) (F.table self.old.source.objects) g
             → (ids : List Id) (a : Asked) → IsSure (F.may_fail self.old.source.objects) a
             → IsMade P.accepts a self.old → OnOk result (IsUnderWay P.accepts ids g a [] self.new) }
+        ensures awaits { OnOk result ((a : Asked) → IsMade P.accepts a self.old
+            → F.is_honest self.old.source.objects → (g : Commits ObjectId)
+            → AreTold (rows_of self.old.source.rows) (F.table self.old.source.objects) g
+            → LetsWaitIn (timing a) (F.may_fail self.old.source.objects) g (IsWanted g a) []
+            (turns_of self.new.known)) }
         ensures left { OnOk result (GainsNone self.old self.new) }
         ensures content { OnOk result (content_of self.new ≡ content_of self.old) }
         ensures rowed { OnOk result (InRows self.old → InRows self.new
@@ -196,6 +208,11 @@ impl<F: Find + Drop, P: Accept + Drop> Simple<F, P> {
             → IsSure (F.may_fail self.old.source.objects) a
             → Stands P.accepts ids g a listed self.old
             → OnOk result (IsUnderWay P.accepts ids g a listed self.new) }
+        ensures awaits { OnOk result ((a : Asked) → IsMade P.accepts a self.old
+            → F.is_honest self.old.source.objects → (g : Commits ObjectId)
+            → AreTold (rows_of self.old.source.rows) (F.table self.old.source.objects) g
+            → LetsWaitIn (timing a) (F.may_fail self.old.source.objects) g (IsWanted g a) []
+            (turns_of self.new.known)) }
         ensures left { OnOk result (GainsNone self.old self.new) }
         ensures same { self.old.begun ≡ true → OnOk result (self.new ≡ self.old) }
         ensures begun { self.old.begun ≡ true → IsOk result }
@@ -251,6 +268,10 @@ impl<F: Find + Drop, P: Accept + Drop> Simple<F, P> {
         ensures turn { IfSome result (λ id. (ids : List Id) (g : Commits ObjectId) (a : Asked)
             (listed : List ObjectId) → IsUnderWay P.accepts ids g a listed self.old
             → IsAtTurn P.accepts ids g a listed id self.new × IsTurn g a listed id) }
+        ensures waiting { IfSome result (λ id. TakesTurn (timing_of self.old.parents
+            self.old.sorting) (turns_of self.old.known) id (turns_of self.new.known)) }
+        ensures none_waits { IfNone result (IsSome (timing_of self.old.parents self.old.sorting)
+            → turns_of self.old.known ≡ []) }
         ensures less { IfSome result (λ id. (x : Id) → times_queued self.old x
             ≡ times_in (id ∷ []) x + times_queued self.new x) }
         ensures end { IfNone result ((ids : List Id) (g : Commits ObjectId) (a : Asked)
@@ -282,6 +303,11 @@ impl<F: Find + Drop, P: Accept + Drop> Simple<F, P> {
             → IsKnown (rows_of self.old.source.rows) ids id
             → IsAtTurn P.accepts ids g a listed id self.old
             → IsUnderWay P.accepts ids g a (listed ++ id ∷ []) self.new) }
+        ensures awaits { OnOk result (F.is_honest self.old.source.objects → (g : Commits ObjectId)
+            → AreTold (rows_of self.old.source.rows) (F.table self.old.source.objects) g
+            → LetsWaitIn (timing_of self.old.parents self.old.sorting)
+            (F.may_fail self.old.source.objects) g (IsMetWith P.accepts self.old parents.now)
+            (turns_of self.old.known) (turns_of self.new.known)) }
         ensures left { OnOk result (GainsNone self.old self.new) }
         ensures rowed { InRows self.old → AllHeld (rows_of self.old.source.rows) parents.now
             → OnOk result (InRows self.new × (self.new.source.lookups ≡ self.old.source.lookups)) }
@@ -330,6 +356,12 @@ impl<F: Find + Drop, P: Accept + Drop> Simple<F, P> {
             → IsAtTurn P.accepts (F.ids self.old.source.objects) g a listed id self.old
             → IsUnderWay P.accepts (F.ids self.old.source.objects) g a (listed ++ id ∷ [])
             self.new) }
+        ensures awaits { F.is_honest self.old.source.objects → (g : Commits ObjectId)
+            → AreTold (rows_of self.old.source.rows) (F.table self.old.source.objects) g
+            → IfOk result (λ info. LetsWaitIn (timing_of self.old.parents self.old.sorting)
+            (F.may_fail self.old.source.objects) g
+            (IsMetWith P.accepts self.old info.parent_ids.items)
+            (turns_of self.old.known) (turns_of self.new.known)) }
         ensures left { OnOk result (GainsNone self.old self.new) }
         ensures content { OnOk result (IsContentOf (F.is_honest self.old.source.objects)
             (rows_of self.old.source.rows) (F.table self.old.source.objects) id

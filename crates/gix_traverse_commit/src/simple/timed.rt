@@ -14,7 +14,7 @@ ghost use Rattle.gix_traverse_commit.specs.Order.{At, IsListOf, IsOpen};
 ghost use Rattle.gix_traverse_commit.specs.Rows.{AllHeld, Holds};
 ghost use Rattle.gix_traverse_commit.specs.Simply.{IsReadBefore, IsUnmet, TipFault};
 ghost use Rattle.gix_traverse_commit.specs.Sorting.{in_time};
-ghost use Rattle.gix_traverse_commit.specs.Timely.{AllRowed, CountsAs, IsMetSoFar, Joins, keep_since, turn_of};
+ghost use Rattle.gix_traverse_commit.specs.Timely.{AllRowed, CountsAs, IsMetSoFar, Joins, LetsWait, keep_since, turn_of};
 ghost use Rattle.gix_traverse_commit.specs.Told.{AreTold, rows_of};
 ghost use Rattle.gix_traverse_commit.specs.declared.simple.faults.Error.TheVariants.{Memory};
 
@@ -175,6 +175,10 @@ fn await_tip<F: Find>(
         → Joins (not (is_met known.old.nodes id) && (not
         (is_hidden known.old.nodes id) && in_time since
         (g id).time)) (turns_of known.old) (turn_of g id) (turns_of known.new)) }
+    ensures awaits { OnOk result (F.is_honest source.old.objects → (g : Commits ObjectId)
+        → AreTold (rows_of source.old.rows) (F.table source.old.objects) g
+        → LetsWait (F.may_fail source.old.objects) since g (Contains (fresh known.old.nodes id))
+        (turns_of known.old) (turns_of known.new)) }
     ensures left { OnOk result (NoneGains known.old.nodes
         (times_waiting (turns_of known.old)) known.new.nodes (times_waiting (turns_of known.new))) }
     ensures timed { OnOk result (CountsAll (rows_of source.old.rows) (fresh known.old.nodes id)
@@ -223,6 +227,10 @@ pub fn await_tips<F: Find>(
         → IsMetSoFar g (keep_since since g (is_hidden known.old.nodes) accepts)
         (is_met known.new.nodes)
         (Contains tips.now) [] (turns_of known.new)) }
+    ensures awaits { OnOk result (F.is_honest source.old.objects → (g : Commits ObjectId)
+        → AreTold (rows_of source.old.rows) (F.table source.old.objects) g
+        → LetsWait (F.may_fail source.old.objects) since g (IsFresh known.old.nodes tips.now)
+        (turns_of known.old) (turns_of known.new)) }
     ensures left { OnOk result (NoneGains known.old.nodes
         (times_waiting (turns_of known.old)) known.new.nodes (times_waiting (turns_of known.new))) }
     ensures timed { OnOk result ((timed : List ObjectId)
@@ -264,6 +272,11 @@ fn await_parent<F: Find, P: Accept>(
         → (g : Commits ObjectId) → AreTold (rows_of source.old.rows) (F.table source.old.objects) g
         → Joins (not (is_met known.old.nodes id) && keep_since since g (is_hidden known.old.nodes)
         (P.accepts predicate.old) id) (turns_of known.old) (turn_of g id) (turns_of known.new)) }
+    ensures awaits { OnOk result (F.is_honest source.old.objects → (g : Commits ObjectId)
+        → AreTold (rows_of source.old.rows) (F.table source.old.objects) g
+        → LetsWait (F.may_fail source.old.objects) since g
+        (Contains (accepted (P.accepts predicate.old) (fresh known.old.nodes id)))
+        (turns_of known.old) (turns_of known.new)) }
     ensures left { OnOk result (NoneGains known.old.nodes
         (times_waiting (turns_of known.old)) known.new.nodes (times_waiting (turns_of known.new))) }
     ensures asked { OnOk result (Asks P.goes
@@ -322,6 +335,11 @@ pub fn await_parents<F: Find, P: Accept>(
         (is_met known.new.nodes)
         (λ x. IsOpen along tips front x ⊎ Contains parents.now x) listed
         (turns_of known.new)) }
+    ensures awaits { OnOk result (F.is_honest source.old.objects → (g : Commits ObjectId)
+        → AreTold (rows_of source.old.rows) (F.table source.old.objects) g
+        → LetsWait (F.may_fail source.old.objects) since g
+        (λ x. IsFresh known.old.nodes parents.now x × (P.accepts predicate.old (id_of x) ≡ true))
+        (turns_of known.old) (turns_of known.new)) }
     ensures left { OnOk result (NoneGains known.old.nodes
         (times_waiting (turns_of known.old)) known.new.nodes (times_waiting (turns_of known.new))) }
     ensures asked { OnOk result ((met : List ObjectId)

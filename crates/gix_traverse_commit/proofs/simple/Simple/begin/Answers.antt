@@ -10,8 +10,8 @@ use Rattle.gix_traverse_commit.specs.Meeting.{CountsAll, CountsTimes, IsFresh}
 use Rattle.gix_traverse_commit.specs.Known.{turns_of}
 use Rattle.gix_traverse_commit.specs.Nodes.{is_hidden}
 use Rattle.gix_traverse_commit.specs.Sorting.{timing_of}
-use Rattle.gix_traverse_commit.specs.Simply.{IsAccepted, IsNew, IsSure, SimpleFault, hidden_error, times_queued, timing}
-use Rattle.gix_traverse_commit.specs.Timely.{AllRowed}
+use Rattle.gix_traverse_commit.specs.Simply.{IsAccepted, IsNew, IsSure, SimpleFault, hidden_error, times_queued, timing, IsWanted}
+use Rattle.gix_traverse_commit.specs.Timely.{AllRowed, LetsWaitIn}
 use Rattle.gix_traverse_commit.specs.Told.{AreTold, rows_of}
 use Rattle.gix_object_find.specs.Table.{Table}
 use Rattle.gix_traverse_commit.specs.declared.fetch.FetchError.{FetchError}
@@ -26,6 +26,7 @@ use Rattle.gix_traverse_commit.proofs.Meeting.{list_same}
 use Rattle.gix_traverse_commit.proofs.Pending.{is_false}
 use Rattle.gix_traverse_commit.proofs.Simply.{accepts_more}
 use Rattle.gix_traverse_commit.proofs.Times.{met_or_accepted}
+use Rattle.gix_traverse_commit.proofs.Awaiting.{waits_in}
 use Rattle.gix_traverse_commit.proofs.simple.Simple.begin.Goals as goal
 
 pub returns-clause-going : goal.returns-clause-going
@@ -139,3 +140,34 @@ returns-clause-left g c =
     gains_more c.args.self.now.known.nodes c.paint.new.known.nodes c.line_up.new.self.known.nodes (times_queued c.args.self.now) queued' (times_queued c.line_up.new.self)
     (gains_more c.args.self.now.known.nodes c.gather.new.self.known.nodes c.paint.new.known.nodes (times_queued c.args.self.now) queued queued' c.in_ok-gather.ensures.left painted)
     c.in_ok-line_up.ensures.left
+
+pub returns-clause-awaits : goal.returns-clause-awaits
+returns-clause-awaits g c = λ a m honest0 commits told0.
+    let still = c.gather.ensures.source in
+    let w : IsNew g.P.Accept.accepts a c.gather.new.self = c.in_ok-gather.ensures.made a m in
+    let honest = subst (λ s. g.F.Lookup.is_honest s.objects) (sym still) honest0 in
+    let told = subst (λ s. AreTold (rows_of s.rows) (g.F.Lookup.table s.objects) commits) (sym still) told0 in
+    let honest' = subst (λ (o : g.row.F.Denot). g.F.Lookup.is_honest o) (sym c.paint.ensures.objects) honest in
+    let told' = subst (λ (o : g.row.F.Denot). AreTold (rows_of c.paint.new.source.rows) (g.F.Lookup.table o) commits) (sym c.paint.ensures.objects) (subst (λ (r : Option (List Row)). AreTold (rows_of r) (g.F.Lookup.table c.gather.new.self.source.objects) commits) (sym c.paint.ensures.rows) told) in
+    let hidden : c.as_slice.result.now ≡ a.hidden = c.as_slice.ensures.value ∙ w.hidden in
+    let painted = subst (λ (hs : List ObjectId). Paints commits hs c.paint.new.known.nodes) hidden (c.in_default.ensures.painted w.asked.unpainted honest commits told) in
+    let order : timing_of c.gather.new.self.parents c.gather.new.self.sorting ≡ timing a = timing_same a c.gather.new.self.parents c.gather.new.self.sorting w.parents w.sorting in
+    let may_fail = g.F.Lookup.may_fail c.args.self.now.source.objects in
+    let before = turns_of c.paint.new.known in
+    let after = turns_of c.line_up.new.self.known in
+    let same : c.paint.new.source.objects ≡ c.args.self.now.source.objects = c.paint.ensures.objects ∙ ap (λ s. s.objects) still in
+    let step = subst (λ (o : g.row.F.Denot). LetsWaitIn (timing_of c.gather.new.self.parents c.gather.new.self.sorting) (g.F.Lookup.may_fail o) commits (IsFresh c.paint.new.known.nodes c.gather.new.self.tips.items) before after) same (c.in_ok-line_up.ensures.awaits honest' commits told') in
+    let timed = subst (λ (t : Option Timing). LetsWaitIn t may_fail commits (IsFresh c.paint.new.known.nodes c.gather.new.self.tips.items) before after) order step in
+    let empty = subst (λ (ts : List Turn). LetsWaitIn (timing a) may_fail commits (IsFresh c.paint.new.known.nodes c.gather.new.self.tips.items) ts after) (c.in_default.ensures.turns ∙ w.none_waits) timed in
+    waits_in (timing a) may_fail commits (IsFresh c.paint.new.known.nodes c.gather.new.self.tips.items) (IsWanted commits a) [] after
+    (λ x (k, m, h). (
+      subst (λ (ts : List ObjectId). Contains ts x) w.tips k,
+      w.asked.accepted x (subst (λ (ts : List ObjectId). Contains ts x) w.tips k) (sym (c.in_default.ensures.met x) ∙ m),
+      (λ r. let t = (painted x).1 r in let z : ⊥ = cc in z),
+    ))
+    (λ x (k, y, out). (
+      subst (λ (ts : List ObjectId). Contains ts x) (sym w.tips) k,
+      c.in_default.ensures.met x ∙ met_or_accepted a.accepts c.gather.new.self.known.nodes x (w.asked.refused x) y,
+      is_false (is_hidden c.paint.new.known.nodes x) (λ t. out ((painted x).0 t)),
+    ))
+    empty

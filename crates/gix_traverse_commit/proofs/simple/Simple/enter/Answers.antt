@@ -7,9 +7,9 @@ use Rattle.gix_traverse_commit.specs.Commits.{asked_parents}
 use Rattle.gix_traverse_commit.specs.Meeting.{CountsTimes, IsFresh, accepted}
 use Rattle.gix_traverse_commit.specs.Order.{IsListOf}
 use Rattle.gix_traverse_commit.specs.Rows.{AllHeld}
-use Rattle.gix_traverse_commit.specs.Simply.{IsKnown, IsSure, IsTime}
+use Rattle.gix_traverse_commit.specs.Simply.{IsKnown, IsSure, IsTime, IsMetWith}
 use Rattle.gix_traverse_commit.specs.Sorting.{timing_of}
-use Rattle.gix_traverse_commit.specs.Timely.{AllRowed}
+use Rattle.gix_traverse_commit.specs.Timely.{AllRowed, LetsWaitIn}
 use Rattle.gix_traverse_commit.specs.Known.{turns_of}
 use Rattle.gix_traverse_commit.specs.Told.{AreTold, rows_of}
 use Rattle.gix_traverse_commit.specs.declared.parents.Parents.{Parents}
@@ -87,3 +87,13 @@ returns-clause-content g c =
       },
       c.kind-self.ensures,
     )
+
+pub returns-clause-awaits : goal.returns-clause-awaits
+returns-clause-awaits g c = λ honest commits told.
+    let honest' = subst (λ (o : g.row.F.Denot). g.F.Lookup.is_honest o) (sym c.fetch.ensures.objects) honest in
+    let told' = subst (λ (o : g.row.F.Denot). AreTold (rows_of c.fetch.new.self.rows) (g.F.Lookup.table o) commits) (sym c.fetch.ensures.objects) (subst (λ (r : Option (List Row)). AreTold (rows_of r) (g.F.Lookup.table c.args.self.now.source.objects) commits) (sym c.fetch.ensures.rows) told) in
+    let order = timing_of c.args.self.now.parents c.args.self.now.sorting in
+    let turns = turns_of c.args.self.now.known in
+    let turns' = turns_of c.meet_all.new.self.known in
+    let step = subst (λ (o : g.row.F.Denot). LetsWaitIn order (g.F.Lookup.may_fail o) commits (IsMetWith g.P.Accept.accepts c.args.self.now c.as_slice.result.now) turns turns') c.fetch.ensures.objects (c.in_ok-meet_all.ensures.awaits honest' commits told') in
+    subst (λ (ps : List ObjectId). LetsWaitIn order (g.F.Lookup.may_fail c.args.self.now.source.objects) commits (IsMetWith g.P.Accept.accepts c.args.self.now ps) turns turns') c.as_slice.ensures step

@@ -1,9 +1,8 @@
 use Rattle.std.proofs.Common.{rules, ◌+◌, ◌≡◌, sym, ◌∙◌, refl, subst, inl, inr, List, [], Option, Some, None, Bool, true, false}
-use Rattle.std.specs.Prelude.{Contains, not, ◌&&◌}
+use Rattle.std.specs.Prelude.{Contains, not, ◌&&◌, IsSome}
 use Rattle.gix_hash_id.specs.Id.{id_of}
 use Rattle.gix_hash_id.specs.declared.object_id.ObjectId.{ObjectId}
 use Rattle.gix_traverse_commit.specs.Commits.{asked_parents}
-use Rattle.std.specs.Prelude.{IsSome}
 use Rattle.gix_traverse_commit.specs.Meeting.{CountsTimes, IsFresh}
 use Rattle.gix_traverse_commit.specs.Order.{IsListOf}
 use Rattle.gix_traverse_commit.specs.Known.{turns_of}
@@ -11,7 +10,7 @@ use Rattle.gix_traverse_commit.specs.Nodes.{is_hidden, is_met}
 use Rattle.gix_traverse_commit.specs.Rows.{AllHeld}
 use Rattle.gix_traverse_commit.specs.Simply.{keep_of, times_queued, timing}
 use Rattle.gix_traverse_commit.specs.Sorting.{in_time, timing_of}
-use Rattle.gix_traverse_commit.specs.Timely.{AllRowed, IsMetSoFar, keep_since}
+use Rattle.gix_traverse_commit.specs.Timely.{AllRowed, IsMetSoFar, keep_since, LetsWaitIn}
 use Rattle.gix_traverse_commit.specs.Told.{rows_of}
 use Rattle.gix_traverse_commit.specs.declared.rows.Row.{Row}
 use Rattle.gix_traverse_commit.specs.declared.simple.waiting.Turn.{Turn}
@@ -122,3 +121,15 @@ returns-in_default-clause-left g c = subst (λ (ts : List Turn). NoneGains c.arg
 pub returns-clause-left : goal.returns-clause-left
 returns-clause-left g c = subst (λ (zs : List ObjectId). NoneGains c.args.self.now.known.nodes (times_queued c.args.self.now) c.await_tips.new.known.nodes (λ id. times_in zs id + times_waiting (turns_of c.await_tips.new.known) id)) (sym c.in_ok-await_tips.ensures.queue)
     (gains_behind c.args.self.now.known.nodes c.await_tips.new.known.nodes (times_waiting (turns_of c.args.self.now.known)) (times_waiting (turns_of c.await_tips.new.known)) (times_in c.args.self.now.known.queue) c.in_ok-await_tips.ensures.left)
+
+pub returns-in_default-clause-awaits : goal.returns-in_default-clause-awaits
+returns-in_default-clause-awaits g c = λ honest commits told.
+    let none : timing_of c.args.self.now.parents c.args.self.now.sorting ≡ None = search rules in
+    subst (λ (t : Option Timing). LetsWaitIn t (g.F.Lookup.may_fail c.args.self.now.source.objects) commits (IsFresh c.args.self.now.known.nodes c.args.self.now.tips.items) (turns_of c.args.self.now.known) (turns_of c.queue_tips.new.known)) (sym none) c.in_ok-queue_tips.ensures.turns
+
+pub returns-clause-awaits : goal.returns-clause-awaits
+returns-clause-awaits g c = λ honest commits told.
+    let is : timing_of c.args.self.now.parents c.args.self.now.sorting ≡ Some c.in-Some.timing = sym c.time_order.ensures ∙ c.in-Some.is in
+    let may_fail = g.F.Lookup.may_fail c.args.self.now.source.objects in
+    let waits = subst (λ (ts : List ObjectId). LetsWaitIn (Some c.in-Some.timing) may_fail commits (IsFresh c.args.self.now.known.nodes ts) (turns_of c.args.self.now.known) (turns_of c.await_tips.new.known)) c.as_slice-2.ensures.value (c.in_ok-await_tips.ensures.awaits honest commits told) in
+    subst (λ (t : Option Timing). LetsWaitIn t may_fail commits (IsFresh c.args.self.now.known.nodes c.args.self.now.tips.items) (turns_of c.args.self.now.known) (turns_of c.await_tips.new.known)) (sym is) waits

@@ -7,9 +7,9 @@ use Rattle.gix_traverse_commit.specs.Meeting.{CountsTimes, accepted}
 use Rattle.gix_traverse_commit.specs.Known.{turns_of}
 use Rattle.gix_traverse_commit.specs.Nodes.{is_hidden, is_met}
 use Rattle.gix_traverse_commit.specs.Rows.{AllHeld}
-use Rattle.gix_traverse_commit.specs.Simply.{IsKnown, keep_of, times_queued}
+use Rattle.gix_traverse_commit.specs.Simply.{IsKnown, keep_of, times_queued, IsMetWith}
 use Rattle.gix_traverse_commit.specs.Sorting.{in_time, timing_of}
-use Rattle.gix_traverse_commit.specs.Timely.{AllRowed, IsMetSoFar, keep_since}
+use Rattle.gix_traverse_commit.specs.Timely.{AllRowed, IsMetSoFar, keep_since, LetsWaitIn}
 use Rattle.gix_traverse_commit.specs.Told.{rows_of}
 use Rattle.gix_traverse_commit.specs.declared.rows.Row.{Row}
 use Rattle.gix_traverse_commit.specs.declared.simple.waiting.Turn.{Turn}
@@ -113,3 +113,13 @@ returns-in_default-clause-left g c = subst (λ (ts : List Turn). NoneGains c.arg
 pub returns-clause-left : goal.returns-clause-left
 returns-clause-left g c = subst (λ (zs : List ObjectId). NoneGains c.args.self.now.known.nodes (times_queued c.args.self.now) c.await_parents.new.known.nodes (λ id. times_in zs id + times_waiting (turns_of c.await_parents.new.known) id)) (sym c.in_ok-await_parents.ensures.queue)
     (gains_behind c.args.self.now.known.nodes c.await_parents.new.known.nodes (times_waiting (turns_of c.args.self.now.known)) (times_waiting (turns_of c.await_parents.new.known)) (times_in c.args.self.now.known.queue) c.in_ok-await_parents.ensures.left)
+
+pub returns-in_default-clause-awaits : goal.returns-in_default-clause-awaits
+returns-in_default-clause-awaits g c = λ honest commits told.
+    let none : timing_of c.args.self.now.parents c.args.self.now.sorting ≡ None = search rules in
+    subst (λ (t : Option Timing). LetsWaitIn t (g.F.Lookup.may_fail c.args.self.now.source.objects) commits (IsMetWith g.P.Accept.accepts c.args.self.now c.args.parents.now) (turns_of c.args.self.now.known) (turns_of c.meet_parents.new.known)) (sym none) c.in_ok-meet_parents.ensures.turns
+
+pub returns-clause-awaits : goal.returns-clause-awaits
+returns-clause-awaits g c = λ honest commits told.
+    let is : timing_of c.args.self.now.parents c.args.self.now.sorting ≡ Some c.in-Some.timing = sym c.time_order.ensures ∙ c.in-Some.is in
+    subst (λ (t : Option Timing). LetsWaitIn t (g.F.Lookup.may_fail c.args.self.now.source.objects) commits (IsMetWith g.P.Accept.accepts c.args.self.now c.args.parents.now) (turns_of c.args.self.now.known) (turns_of c.await_parents.new.known)) (sym is) (c.in_ok-await_parents.ensures.awaits honest commits told)

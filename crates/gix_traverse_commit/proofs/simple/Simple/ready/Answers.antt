@@ -34,3 +34,9 @@ returns-then-self-clause-counted g c = λ a made. elim made [
 
 pub returns-then-self-clause-left : goal.returns-then-self-clause-left
 returns-then-self-clause-left g c = gains_none c.args.self.now.known.nodes (times_queued c.args.self.now)
+
+pub returns-then-self-clause-awaits : goal.returns-then-self-clause-awaits
+returns-then-self-clause-awaits g c = λ a made. elim made [
+  | inl m ↦ (let h = m.begun in let f = c.if-self.true in let z : ⊥ = cc in absurd z)
+  | inr m ↦ (let h = m.begun in let f = c.if-self.true in let z : ⊥ = cc in absurd z)
+]

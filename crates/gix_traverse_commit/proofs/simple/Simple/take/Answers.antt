@@ -1,11 +1,11 @@
-use Rattle.std.proofs.Common.{ap, arith, rules, ◌≡◌, sym, ◌∙◌, refl, subst, inl, inr, List, [], ◌∷◌, ◌++◌, length, Some, None}
+use Rattle.std.proofs.Common.{ap, arith, rules, ◌≡◌, sym, ◌∙◌, refl, subst, inl, inr, List, [], ◌∷◌, ◌++◌, length, Some, None, Option, true, false}
 use Rattle.gix_hash_id.specs.Id.{Id}
 use Rattle.gix_hash_id.specs.declared.object_id.ObjectId.{ObjectId}
 use Rattle.gix_traverse_commit.specs.Commits.{Commits, asked_parents}
 use Rattle.gix_traverse_commit.specs.Nodes.{Node, is_hidden, is_met}
 use Rattle.gix_traverse_commit.specs.Simply.{AcceptsAs, Answers, Asked, IsUnderWay, keep_of}
 use Rattle.gix_traverse_commit.specs.Sorting.{timing_of}
-use Rattle.gix_traverse_commit.specs.Timely.{AllRowed, IsMetSoFar, IsTaken, keep_since}
+use Rattle.gix_traverse_commit.specs.Timely.{AllRowed, IsMetSoFar, IsTaken, keep_since, TakesTurn}
 use Rattle.gix_traverse_commit.specs.Keeping.{Kept}
 use Rattle.gix_traverse_commit.specs.Order.{IsOpen}
 use Rattle.gix_traverse_commit.specs.Rows.{AllHeld}
@@ -20,6 +20,7 @@ use Rattle.gix_traverse_commit.proofs.Chosen.{taken_chosen, taken_met}
 use Rattle.gix_traverse_commit.proofs.Keeping.{kept_pop}
 use Rattle.gix_traverse_commit.proofs.Simply.{held_first, kept_breadth, kept_turn}
 use Rattle.gix_traverse_commit.proofs.Timely.{taken_some}
+use Rattle.std.specs.Prelude.{IsSome}
 use Rattle.gix_traverse_commit.proofs.simple.Simple.take.Goals as goal
 
 pub returns-in_default-clause-turn : goal.returns-in_default-clause-turn
@@ -128,3 +129,24 @@ returns-clause-less g c = λ x.
     let a = taken_less c.in-Some.timing.order (turns_of c.args.self.now.known) c.in_ok-turn.turn (turns_of c.take_turn.new.self) c.in_ok-turn.ensures.taken x in
     let b = ap (λ (zs : List ObjectId). times_in zs x) c.take_turn.ensures.queue in
     omega (arith, a, b)
+
+pub returns-in_default-clause-waiting : goal.returns-in_default-clause-waiting
+returns-in_default-clause-waiting g c =
+    let none : timing_of c.args.self.now.parents c.args.self.now.sorting ≡ None = search rules in
+    subst (λ (t : Option Timing). TakesTurn t (turns_of c.args.self.now.known) c.in_ok-id.id (turns_of c.pop.new.self)) (sym none) c.pop.ensures.turns
+
+pub returns-clause-waiting : goal.returns-clause-waiting
+returns-clause-waiting g c =
+    let is : timing_of c.args.self.now.parents c.args.self.now.sorting ≡ Some c.in-Some.timing = sym c.time_order.ensures ∙ c.in-Some.is in
+    subst (λ (t : Option Timing). TakesTurn t (turns_of c.args.self.now.known) c.in_ok-turn.turn.id (turns_of c.take_turn.new.self)) (sym is) (c.in_ok-turn.turn, refl, c.in_ok-turn.ensures.taken)
+
+pub returns-in_err-id-clause-none_waits : goal.returns-in_err-id-clause-none_waits
+returns-in_err-id-clause-none_waits g c =
+    let none : timing_of c.args.self.now.parents c.args.self.now.sorting ≡ None = search rules in
+    let out : IsSome (timing_of c.args.self.now.parents c.args.self.now.sorting) → turns_of c.args.self.now.known ≡ [] = (λ some. absurd (let s : false ≡ true = subst (λ (t : Option Timing). IsSome t) none some in let z : ⊥ = cc in z)) in
+    rw c.from_residual.ensures out
+
+pub returns-in_err-turn-clause-none_waits : goal.returns-in_err-turn-clause-none_waits
+returns-in_err-turn-clause-none_waits g c =
+    let out : IsSome (timing_of c.args.self.now.parents c.args.self.now.sorting) → turns_of c.args.self.now.known ≡ [] = (λ some. c.in_err-turn.ensures.none) in
+    rw c.from_residual-in_err-turn.ensures out

@@ -3,8 +3,8 @@ use Rattle.gix_hash_id.specs.Id.{id_of}
 use Rattle.gix_hash_id.specs.declared.object_id.ObjectId.{ObjectId}
 use Rattle.std.specs.List.{sum_by}
 use Rattle.gix_traverse_commit.specs.Ending.{may_come}
-use Rattle.gix_traverse_commit.specs.Meeting.{CountsOne}
-use Rattle.gix_traverse_commit.specs.Simply.{CountsBeginning, CountsFault, CountsUpTo, IsAtTurn, IsContentOf, IsInfo, IsOver, IsKnown, IsSure, IsTurn, IsUnderWay, StopsFetch, is_over, known_ids, left_of, times_queued}
+use Rattle.gix_traverse_commit.specs.Meeting.{CountsOne, IsFresh}
+use Rattle.gix_traverse_commit.specs.Simply.{CountsBeginning, IsWanted, timing, CountsFault, CountsUpTo, IsAtTurn, IsContentOf, IsInfo, IsOver, IsKnown, IsSure, IsTurn, IsUnderWay, StopsFetch, is_over, known_ids, left_of, times_queued, ComesInTurn, FailsInTurn, IsMetWith}
 use Rattle.gix_traverse_commit.specs.Rows.{Holds}
 use Rattle.gix_traverse_commit.specs.Sorting.{timing_of}
 use Rattle.gix_traverse_commit.specs.Known.{turns_of}
@@ -13,10 +13,16 @@ use Rattle.gix_traverse_commit.specs.declared.parents.Parents.{Parents}
 use Rattle.gix_traverse_commit.specs.declared.rows.Row.{Row}
 use Rattle.gix_traverse_commit.specs.declared.simple.sorting.Sorting.{Sorting}
 use Rattle.gix_traverse_commit.proofs.ByTime.{at_fewer, at_order, timing_same}
+use Rattle.gix_traverse_commit.proofs.Awaiting.{none_awaited}
 use Rattle.gix_traverse_commit.proofs.Counting.{meets_moved}
 use Rattle.gix_traverse_commit.proofs.Ending.{fewer_left, left_falls, none_left, over_from, over_test}
 use Rattle.gix_traverse_commit.proofs.Rest.{made_order}
 use Rattle.gix_traverse_commit.proofs.Simply.{fault_more, fetch_fault}
+use Rattle.std.specs.Prelude.{IsSome}
+use Rattle.gix_traverse_commit.specs.Commits.{Commits}
+use Rattle.gix_traverse_commit.specs.Nodes.{Node}
+use Rattle.gix_traverse_commit.specs.Timely.{LetsWaitIn, TakesTurn}
+use Rattle.gix_traverse_commit.specs.declared.simple.sorting.Timing.{Timing}
 use Rattle.gix_traverse_commit.proofs.simple.SimpleIterator.next.Goals as goal
 
 no_way : false ≡ true → ⊥
@@ -47,6 +53,10 @@ returns-in-Err-clause-steps g c = record {
   first = λ a m. tt;
   first_end = λ a m. tt;
   falls = tt;
+  in_turn = λ b honest commits told. tt;
+  in_turn_end = λ b by_time. tt;
+  tips_end = λ a m honest commits told. tt;
+  in_turn_fault = λ b. absurd (no_way (c.in-Err.ensures.begun b));
 }
 
 pub returns-in_default-take-clause-steps : goal.returns-in_default-take-clause-steps
@@ -76,6 +86,13 @@ returns-in_default-take-clause-steps g c =
       first = λ a m. tt;
       first_end = λ a m. subst (λ (n : ℕ). CountsBeginning (g.F.Lookup.is_honest c.args.self.now.source.objects) (rows_of c.args.self.now.source.rows) (g.F.Lookup.table c.args.self.now.source.objects) a c.args.self.now.source.lookups n) (sym lookups) (c.in_default.ensures.counted a m);
       falls = tt;
+      in_turn = λ b honest commits told. tt;
+      in_turn_end = λ b by_time. subst (λ walk. IsSome (timing_of walk.parents walk.sorting) → turns_of walk.known ≡ []) (c.in_default.ensures.same b) c.in_default-take.ensures.none_waits by_time;
+      tips_end = (λ a m honest commits told.
+          let order = made_order g.P.Accept.accepts a c.args.self.now m in
+          let same = timing_same a c.ready.new.self.parents c.ready.new.self.sorting (c.in_default.ensures.order.0 ∙ order.0) (c.in_default.ensures.order.1 ∙ order.1) in
+          none_awaited (timing a) (g.F.Lookup.may_fail c.args.self.now.source.objects) commits (IsWanted commits a) (turns_of c.ready.new.self.known) (λ some. c.in_default-take.ensures.none_waits (subst (λ (t : Option Timing). IsSome t) (sym same) some)) (c.in_default.ensures.awaits a m honest commits told));
+      in_turn_fault = λ b. tt;
     }
 
 pub returns-in-Ok-clause-steps : goal.returns-in-Ok-clause-steps
@@ -86,6 +103,23 @@ returns-in-Ok-clause-steps g c =
     let objects : c.take.new.self.source.objects ≡ c.args.self.now.source.objects = ap (λ s. s.objects) c.take.ensures.source ∙ c.ready.ensures.objects in
     let same_rows : c.take.new.self.source.rows ≡ c.args.self.now.source.rows = ap (λ s. s.rows) c.take.ensures.source ∙ c.ready.ensures.rows in
     let in_order : timing_of c.take.new.self.parents c.take.new.self.sorting ≡ timing_of c.ready.new.self.parents c.ready.new.self.sorting = ap (λ (p : Parents). timing_of p c.take.new.self.sorting) c.take.ensures.order.0 ∙ ap (λ (s : Sorting). timing_of c.ready.new.self.parents s) c.take.ensures.order.1 in
+    let may_fail = g.F.Lookup.may_fail c.args.self.now.source.objects in
+    let order = timing_of c.ready.new.self.parents c.ready.new.self.sorting in
+    let comes : g.F.Lookup.is_honest c.args.self.now.source.objects → (commits : Commits ObjectId) → AreTold rows (g.F.Lookup.table c.args.self.now.source.objects) commits → ComesInTurn g.P.Accept.accepts may_fail commits c.ready.new.self c.in-Ok.info c.enter.new.self = (λ honest commits told.
+    let honest' = subst (λ (o : g.row.F.Denot). g.F.Lookup.is_honest o) (sym objects) honest in
+    let told' = subst (λ (o : g.row.F.Denot). AreTold (rows_of c.take.new.self.source.rows) (g.F.Lookup.table o) commits) (sym objects) (subst (λ (r : Option (List Row)). AreTold (rows_of r) (g.F.Lookup.table c.args.self.now.source.objects) commits) (sym same_rows) told) in
+    let ps : List ObjectId = c.in-Ok.info.parent_ids.items in
+    let turns = turns_of c.take.new.self.known in
+    let turns' = turns_of c.enter.new.self.known in
+    let p' = c.take.new.self.predicate in
+    let here = subst (λ (o : g.row.F.Denot). LetsWaitIn (timing_of c.take.new.self.parents c.take.new.self.sorting) (g.F.Lookup.may_fail o) commits (IsMetWith g.P.Accept.accepts c.take.new.self ps) turns turns') objects (c.in-Ok.ensures.awaits honest' commits told') in
+    let timed = subst (λ (t : Option Timing). LetsWaitIn t may_fail commits (IsMetWith g.P.Accept.accepts c.take.new.self ps) turns turns') in_order here in
+    let nodes = subst (λ (ns : List Node). LetsWaitIn order may_fail commits (λ x. IsFresh ns ps x × (g.P.Accept.accepts p' (id_of x) ≡ true)) turns turns') c.take.ensures.nodes timed in
+    record {
+      others = turns;
+      taken = subst (λ (x : ObjectId). TakesTurn order (turns_of c.ready.new.self.known) x turns) (sym c.in-Ok.ensures.id) c.in-Some.ensures.waiting;
+      parents = subst (λ (p : g.row.P.Denot). LetsWaitIn order may_fail commits (λ x. IsFresh c.ready.new.self.known.nodes ps x × (g.P.Accept.accepts p (id_of x) ≡ true)) turns turns') c.take.ensures.predicate nodes;
+    }) in
     let known : IsKnown rows ids id = subst (λ (o : g.row.F.Denot). IsKnown rows (g.F.Lookup.ids o) id) objects (subst (λ (r : Option (List Row)). IsKnown (rows_of r) (g.F.Lookup.ids c.take.new.self.source.objects) id) same_rows c.in-Ok.ensures.known) in
     record {
       objects = c.enter.ensures.objects ∙ objects;
@@ -158,8 +192,15 @@ returns-in-Ok-clause-steps g c =
             more = subst (λ (x : ObjectId). CountsUpTo rows x more c.ready.new.self.source.lookups c.enter.new.self.source.lookups) (sym c.in-Ok.ensures.id)
                 (subst (λ (k : ℕ). CountsUpTo rows id more k c.enter.new.self.source.lookups) f
                 (subst (λ (r : Option (List Row)). CountsUpTo (rows_of r) id more c.take.new.self.source.lookups c.enter.new.self.source.lookups) same_rows c.in-Ok.ensures.counted));
+            order = timing_same a c.ready.new.self.parents c.ready.new.self.sorting (c.in_default.ensures.order.0 ∙ order.0) (c.in_default.ensures.order.1 ∙ order.1);
+            tips_wait = λ honest commits told. c.in_default.ensures.awaits a m honest commits told;
+            in_turn = comes;
           });
       first_end = λ a m. tt;
+      in_turn = λ b honest commits told. subst (λ walk. ComesInTurn g.P.Accept.accepts (g.F.Lookup.may_fail c.args.self.now.source.objects) commits walk c.in-Ok.info c.enter.new.self) (c.in_default.ensures.same b) (comes honest commits told);
+      in_turn_end = λ b by_time. tt;
+      tips_end = λ a m honest commits told. tt;
+      in_turn_fault = λ b. tt;
       falls = (
           let now = ap rows_of (c.enter.ensures.rows ∙ same_rows) in
           let old = c.args.self.now in
@@ -213,6 +254,15 @@ returns-in-Err-enter-clause-steps g c =
       first = λ a m. tt;
       first_end = λ a m. tt;
       falls = tt;
+      in_turn = λ b honest commits told. tt;
+      in_turn_end = λ b by_time. tt;
+      tips_end = λ a m honest commits told. tt;
+      in_turn_fault = (λ b. subst (λ walk. FailsInTurn (g.F.Lookup.is_honest c.args.self.now.source.objects) (g.F.Lookup.may_fail c.args.self.now.source.objects) (rows_of c.args.self.now.source.rows) (g.F.Lookup.table c.args.self.now.source.objects) walk error) (c.in_default.ensures.same b) (record {
+        id = id;
+        others = turns_of c.take.new.self.known;
+        taken = c.in-Some.ensures.waiting;
+        cause = fault;
+      }));
     }
 
 pub returns-in-Ok-clause-goes : goal.returns-in-Ok-clause-goes

@@ -1,15 +1,18 @@
-use Rattle.std.proofs.Common.{List, ap, arith, rules, ◌≡◌, refl, true, false}
-use Rattle.std.specs.Prelude.{not, ◌&&◌}
+use Rattle.std.proofs.Common.{List, ap, arith, rules, ◌≡◌, refl, true, false, sym, subst}
+use Rattle.std.specs.Prelude.{not, ◌&&◌, Contains}
 use Rattle.gix_hash_id.specs.Id.{id_of}
 use Rattle.gix_traverse_commit.specs.Known.{turns_of}
 use Rattle.gix_traverse_commit.specs.Nodes.{is_hidden, is_met}
 use Rattle.gix_traverse_commit.specs.Sorting.{in_time}
-use Rattle.gix_traverse_commit.specs.Timely.{keep_since, turn_of}
+use Rattle.gix_traverse_commit.specs.Timely.{keep_since, turn_of, LetsWait}
 use Rattle.gix_traverse_commit.specs.Ending.{times_waiting}
 use Rattle.gix_traverse_commit.specs.declared.simple.waiting.Turn.{Turn}
 use Rattle.gix_traverse_commit.proofs.Ending.{gains_met, gains_none, gains_same}
 use Rattle.gix_traverse_commit.proofs.Keeping.{met_itself, met_more}
 use Rattle.gix_traverse_commit.proofs.Timely.{all_pass, joins_same}
+use Rattle.gix_hash_id.specs.declared.object_id.ObjectId.{ObjectId}
+use Rattle.gix_traverse_commit.specs.Meeting.{accepted, fresh}
+use Rattle.gix_traverse_commit.proofs.Awaiting.{fresh_accepted, hidden_out, met_out, refused_out, waits_none, waits_one}
 use Rattle.gix_traverse_commit.proofs.simple.timed.await_parent.Goals as goal
 
 pub returns-then-accept-clause-waits : goal.returns-then-accept-clause-waits
@@ -38,3 +41,41 @@ returns-then-accept-clause-left g c =
 pub returns-clause-left : goal.returns-clause-left
 returns-clause-left g c = gains_same c.args.known.now.nodes c.mark_met.new.known.nodes (times_waiting (turns_of c.args.known.now)) (times_waiting (turns_of c.mark_met.new.known))
     (λ x h. met_more (is_met c.args.known.now.nodes) (is_met c.mark_met.new.known.nodes) c.args.id x c.in_ok-mark_met.ensures.met h) (λ id. let e = ap (λ (ts : List Turn). times_waiting ts id) c.in_ok-mark_met.ensures.turns in omega (arith, e))
+
+pub returns-then-marks-clause-awaits : goal.returns-then-marks-clause-awaits
+returns-then-marks-clause-awaits g c = λ honest commits told.
+    let nodes = c.args.known.now.nodes in
+    let may_fail = g.F.Lookup.may_fail c.args.source.now.objects in
+    let turns = turns_of c.args.known.now in
+    let h : is_hidden nodes c.args.id ≡ true = search rules in
+    subst (λ (xs : List ObjectId). LetsWait may_fail c.args.since commits (Contains xs) turns turns) (sym (hidden_out (g.P.Accept.accepts c.args.predicate.now) (is_met nodes c.args.id) (is_hidden nodes c.args.id) c.args.id h)) (waits_none may_fail c.args.since commits turns)
+
+pub returns-then-marks-2-clause-awaits : goal.returns-then-marks-2-clause-awaits
+returns-then-marks-2-clause-awaits g c = λ honest commits told.
+    let nodes = c.args.known.now.nodes in
+    let may_fail = g.F.Lookup.may_fail c.args.source.now.objects in
+    let turns = turns_of c.args.known.now in
+    let m : is_met nodes c.args.id ≡ true = search rules in
+    subst (λ (xs : List ObjectId). LetsWait may_fail c.args.since commits (Contains xs) turns turns) (sym (met_out (g.P.Accept.accepts c.args.predicate.now) (is_met nodes c.args.id) (is_hidden nodes c.args.id) c.args.id m)) (waits_none may_fail c.args.since commits turns)
+
+pub returns-then-accept-clause-awaits : goal.returns-then-accept-clause-awaits
+returns-then-accept-clause-awaits g c = λ honest commits told.
+    let accepts = g.P.Accept.accepts c.args.predicate.now in
+    let nodes = c.args.known.now.nodes in
+    let may_fail = g.F.Lookup.may_fail c.args.source.now.objects in
+    let turns = turns_of c.args.known.now in
+    let m : is_met nodes c.args.id ≡ false = search rules in
+    let h : is_hidden nodes c.args.id ≡ false = search rules in
+    let a : accepts (id_of c.args.id) ≡ true = search rules in
+    let (time, counts, joins) = c.in_ok-wait.ensures.counted_as honest commits told in
+    subst (λ (xs : List ObjectId). LetsWait may_fail c.args.since commits (Contains xs) turns (turns_of c.wait.new.known)) (sym (fresh_accepted accepts (is_met nodes c.args.id) (is_hidden nodes c.args.id) c.args.id m h a)) (waits_one may_fail c.args.since commits c.args.id time turns (turns_of c.wait.new.known) counts joins)
+
+pub returns-clause-awaits : goal.returns-clause-awaits
+returns-clause-awaits g c = λ honest commits told.
+    let accepts = g.P.Accept.accepts c.args.predicate.now in
+    let nodes = c.args.known.now.nodes in
+    let may_fail = g.F.Lookup.may_fail c.args.source.now.objects in
+    let turns = turns_of c.args.known.now in
+    let a : accepts (id_of c.args.id) ≡ false = search rules in
+    let still = subst (λ (xs : List ObjectId). LetsWait may_fail c.args.since commits (Contains xs) turns turns) (sym (refused_out accepts (is_met nodes c.args.id) (is_hidden nodes c.args.id) c.args.id a)) (waits_none may_fail c.args.since commits turns) in
+    subst (λ (ts : List Turn). LetsWait may_fail c.args.since commits (Contains (accepted accepts (fresh nodes c.args.id))) turns ts) (sym c.in_ok-mark_met.ensures.turns) still

@@ -1,4 +1,4 @@
-use Rattle.std.proofs.Common.{◌++◌, ◌∷◌, cond, ◌≡◌, ◌∙◌, sym, ap, refl, subst, ◌⊎◌, inl, inr, List, [], take, get_or, Option, Bool}
+use Rattle.std.proofs.Common.{◌++◌, ◌∷◌, cond, ◌≡◌, ◌∙◌, sym, ap, refl, subst, ◌⊎◌, inl, inr, List, [], take, get_or, Option, Bool, arith, true}
 use Rattle.std.specs.Prelude.{Contains, not, ◌&&◌}
 use Rattle.std.proofs.lemmas.Option.{slice_get-get_or}
 use Rattle.gix_hash_id.specs.Id.{Id, id_of}
@@ -8,7 +8,7 @@ use Rattle.gix_traverse_commit.specs.Known.{turns_of}
 use Rattle.gix_traverse_commit.specs.Nodes.{is_hidden, is_met}
 use Rattle.gix_traverse_commit.specs.Rows.{Holds}
 use Rattle.gix_traverse_commit.specs.Sorting.{in_time}
-use Rattle.gix_traverse_commit.specs.Timely.{AllRowed, IsMetSoFar, keep_since, turn_of}
+use Rattle.gix_traverse_commit.specs.Timely.{AllRowed, IsMetSoFar, keep_since, turn_of, LetsWait}
 use Rattle.gix_traverse_commit.specs.Told.{AreTold, rows_of}
 use Rattle.gix_traverse_commit.specs.declared.rows.Row.{Row}
 use Rattle.gix_traverse_commit.proofs.Chosen.{take_all}
@@ -17,11 +17,11 @@ use Rattle.gix_traverse_commit.proofs.Ending.{gains_more, gains_none}
 use Rattle.gix_traverse_commit.proofs.Keeping.{stays_met, unmet_before}
 use Rattle.gix_traverse_commit.proofs.Lists.{contains_from_at}
 use Rattle.gix_traverse_commit.proofs.Timely.{hides_out, in_nil, joins_same, met_renamed, parent_joins, step_parent}
-use Rattle.std.proofs.Common.{arith}
-use Rattle.gix_traverse_commit.specs.Order.{IsOpen}
-use Rattle.gix_traverse_commit.specs.Meeting.{CountsAll, accepted}
-use Rattle.gix_traverse_commit.specs.Order.{IsListOf}
+use Rattle.gix_traverse_commit.specs.Order.{IsOpen, IsListOf}
+use Rattle.gix_traverse_commit.specs.Meeting.{CountsAll, accepted, IsFresh}
 use Rattle.gix_traverse_commit.proofs.Meeting.{Fresh, asks_more, counts_accepted, meets_none, meets_step, parent_met, parent_or_met}
+use Rattle.gix_traverse_commit.specs.Commits.{Commits}
+use Rattle.gix_traverse_commit.proofs.Awaiting.{accepted_more, of_accepted, to_accepted, waits_none, waits_same}
 use Rattle.gix_traverse_commit.proofs.simple.timed.await_parents.Goals as goal
 
 pub parents-init : goal.parents-init
@@ -38,7 +38,7 @@ parents-init g c = record {
   left = gains_none c.args.known.now.nodes (times_waiting (turns_of c.args.known.now));
   rowed = λ all before. before;
   walked = λ honest sure h told accepts along tips front listed which w. met_renamed h (keep_since c.args.since h (is_hidden c.args.known.now.nodes) accepts) listed (is_met c.args.known.now.nodes) (IsOpen along tips front) (λ x. IsOpen along tips front x ⊎ Contains (take 0 c.args.parents.now) x) (turns_of c.args.known.now) w (λ x. ((λ o. inl o), (λ d. elim d [ inl o ↦ o | inr c ↦ absurd (in_nil x c) ])));
-  once = ([], refl, refl, meets_none (is_met c.args.known.now.nodes) (is_hidden c.args.known.now.nodes));
+  once = ([], refl, refl, (λ honest h told. waits_none (g.F.Lookup.may_fail c.args.source.now.objects) c.args.since h (turns_of c.args.known.now)), meets_none (is_met c.args.known.now.nodes) (is_hidden c.args.known.now.nodes));
 }
 
 pub parents-preserved : goal.parents-preserved
@@ -72,7 +72,7 @@ parents-preserved g c =
           let j = joins_same (not met && (not (is_hidden c.parents.known.nodes id) && (g.P.Accept.accepts c.parents.predicate (id_of id) && time))) (not met && keep id) (turns_of c.parents.known) (turn_of h id) (turn_of h id) (turns_of c.await_parent.new.known) so refl (c.in_ok-await_parent.ensures.waits honest' sure' h told') in
           step_parent h keep (is_met c.parents.known.nodes) (is_met c.await_parent.new.known.nodes) (is_hidden c.parents.known.nodes id) ids c.parents.parent-index (turns_of c.parents.known) (turns_of c.await_parent.new.known) id here j c.in_ok-await_parent.ensures.met
           (λ e. hides_out (is_hidden c.args.known.now.nodes id) (accepts (id_of id) && time) (sym (inv.hidden id) ∙ e)) (IsOpen along tips front) listed (inv.walked honest sure h told accepts along tips front listed which w));
-      once = (let (xs, asks, counts, w) = inv.once in
+      once = (let (xs, asks, counts, waits, w) = inv.once in
           let has = is_met c.parents.known.nodes in
           let has' = is_met c.await_parent.new.known.nodes in
           let hidden = is_hidden c.parents.known.nodes id in
@@ -83,6 +83,13 @@ parents-preserved g c =
             xs ++ more,
             asks_more g.P.Accept.goes xs more c.args.predicate.now c.parents.predicate c.await_parent.new.predicate asks c.in_ok-await_parent.ensures.asked,
             counts_accepted (rows_of c.args.source.now.rows) (g.P.Accept.accepts c.args.predicate.now) xs more c.args.source.now.lookups c.parents.source.lookups c.await_parent.new.source.lookups counts same,
+            (λ honest h told.
+                let honest' = subst (λ (o : g.row.F.Denot). g.F.Lookup.is_honest o) (sym inv.objects) honest in
+                let told' = subst (λ (o : g.row.F.Denot). AreTold (rows_of c.parents.source.rows) (g.F.Lookup.table o) h) (sym inv.objects) (subst (λ (r : Option (List Row)). AreTold (rows_of r) (g.F.Lookup.table c.args.source.now.objects) h) (sym inv.rows) told) in
+                let may_fail = g.F.Lookup.may_fail c.args.source.now.objects in
+                let step = subst (λ (o : g.row.F.Denot). LetsWait (g.F.Lookup.may_fail o) c.args.since h (Contains (accepted (g.P.Accept.accepts c.parents.predicate) more)) (turns_of c.parents.known) (turns_of c.await_parent.new.known)) inv.objects (c.in_ok-await_parent.ensures.awaits honest' h told') in
+                let step' = subst (λ (p : Id → Bool). LetsWait may_fail c.args.since h (Contains (accepted p more)) (turns_of c.parents.known) (turns_of c.await_parent.new.known)) inv.accepts step in
+                accepted_more may_fail c.args.since h (g.P.Accept.accepts c.args.predicate.now) xs more (turns_of c.args.known.now) (turns_of c.parents.known) (turns_of c.await_parent.new.known) (waits honest h told) step'),
             meets_step (is_met c.args.known.now.nodes) (is_hidden c.args.known.now.nodes) has has' hidden ids xs c.parents.parent-index id here w (inv.hidden id)
                 (λ x h. stays_met has has' hidden id x now h) (parent_or_met has has' hidden id now) (parent_met has has' hidden id now),
           ));
@@ -98,8 +105,20 @@ returns-clause-grown g c = c.parents.invariant.grown
 
 pub returns-clause-asked : goal.returns-clause-asked
 returns-clause-asked g c =
-    let (xs, asks, counts, w) = c.parents.invariant.once in
+    let (xs, asks, counts, waits, w) = c.parents.invariant.once in
     (xs, subst (λ (ps : List ObjectId). IsListOf (Fresh (is_met c.args.known.now.nodes) (is_hidden c.args.known.now.nodes) ps) xs) (take_all c.args.parents.now c.parents.parent-index c.parents-test.false) w.list, asks, counts)
 
 pub returns-clause-left : goal.returns-clause-left
 returns-clause-left g c = c.parents.invariant.left
+
+pub returns-clause-awaits : goal.returns-clause-awaits
+returns-clause-awaits g c = λ honest h told.
+    let (xs, asks, counts, waits, w) = c.parents.invariant.once in
+    let accepts = g.P.Accept.accepts c.args.predicate.now in
+    let has = is_met c.args.known.now.nodes in
+    let hides = is_hidden c.args.known.now.nodes in
+    let all = take_all c.args.parents.now c.parents.parent-index c.parents-test.false in
+    waits_same (g.F.Lookup.may_fail c.args.source.now.objects) c.args.since h (Contains (accepted accepts xs)) (λ x. IsFresh c.args.known.now.nodes c.args.parents.now x × (accepts (id_of x) ≡ true)) (turns_of c.args.known.now) (turns_of c.parents.known)
+    (λ x k. let a = of_accepted accepts xs x k in (subst (λ (ps : List ObjectId). Fresh has hides ps x) all ((w.list.each x).0 a.0), a.1))
+    (λ x k. to_accepted accepts xs x ((w.list.each x).1 (subst (λ (ps : List ObjectId). Fresh has hides ps x) (sym all) k.0)) k.1)
+    (waits honest h told)

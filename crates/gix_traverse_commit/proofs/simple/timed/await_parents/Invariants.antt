@@ -9,7 +9,7 @@ use Rattle.gix_traverse_commit.specs.Known.{turns_of}
 use Rattle.gix_traverse_commit.specs.Nodes.{is_hidden, is_met}
 use Rattle.gix_traverse_commit.specs.Order.{IsOpen}
 use Rattle.gix_traverse_commit.specs.Rows.{AllHeld}
-use Rattle.gix_traverse_commit.specs.Timely.{AllRowed, IsMetSoFar, keep_since}
+use Rattle.gix_traverse_commit.specs.Timely.{AllRowed, IsMetSoFar, LetsWait, keep_since}
 use Rattle.gix_traverse_commit.specs.Told.{AreTold, rows_of}
 use Rattle.gix_traverse_commit.proofs.Meeting.{MeetsOnce}
 use Rattle.gix_traverse_commit.proofs.simple.timed.await_parents.Given as goal
@@ -34,5 +34,7 @@ invariant-parents g l = record {
       → IsMetSoFar h (keep_since l.since h (is_hidden l.fn.known.nodes) accepts) (is_met l.known.nodes) (λ x. IsOpen along tips front x ⊎ Contains (take l.parent-index l.parents) x) listed (turns_of l.known);
   once : (xs : List ObjectId) × Asks g.P.Accept.goes xs l.fn.predicate l.predicate
       × CountsAll (rows_of l.fn.source.rows) (accepted (g.P.Accept.accepts l.fn.predicate) xs) l.fn.source.lookups l.source.lookups
+      × (g.F.Lookup.is_honest l.fn.source.objects → (h : Commits ObjectId) → AreTold (rows_of l.fn.source.rows) (g.F.Lookup.table l.fn.source.objects) h
+      → LetsWait (g.F.Lookup.may_fail l.fn.source.objects) l.since h (Contains (accepted (g.P.Accept.accepts l.fn.predicate) xs)) (turns_of l.fn.known) (turns_of l.known))
       × MeetsOnce (is_met l.fn.known.nodes) (is_hidden l.fn.known.nodes) (is_met l.known.nodes) (take l.parent-index l.parents) xs;
 }

@@ -1,14 +1,17 @@
-use Rattle.std.proofs.Common.{List, ap, arith, rules, ◌≡◌, refl, false}
-use Rattle.std.specs.Prelude.{not, ◌&&◌}
+use Rattle.std.proofs.Common.{List, ap, arith, rules, ◌≡◌, refl, false, true, sym, subst}
+use Rattle.std.specs.Prelude.{not, ◌&&◌, Contains}
 use Rattle.gix_traverse_commit.specs.Known.{turns_of}
 use Rattle.gix_traverse_commit.specs.Nodes.{is_hidden, is_met}
 use Rattle.gix_traverse_commit.specs.Sorting.{in_time}
-use Rattle.gix_traverse_commit.specs.Timely.{turn_of}
+use Rattle.gix_traverse_commit.specs.Timely.{turn_of, LetsWait}
 use Rattle.gix_traverse_commit.specs.Ending.{times_waiting}
 use Rattle.gix_traverse_commit.specs.declared.simple.waiting.Turn.{Turn}
 use Rattle.gix_traverse_commit.proofs.Ending.{gains_met, gains_none, gains_same}
 use Rattle.gix_traverse_commit.proofs.Keeping.{met_itself, met_more}
 use Rattle.gix_traverse_commit.proofs.Timely.{both_pass, joins_same}
+use Rattle.gix_hash_id.specs.declared.object_id.ObjectId.{ObjectId}
+use Rattle.gix_traverse_commit.specs.Meeting.{fresh}
+use Rattle.gix_traverse_commit.proofs.Awaiting.{fresh_alone, hidden_none, met_none, waits_none, waits_one}
 use Rattle.gix_traverse_commit.proofs.simple.timed.await_tip.Goals as goal
 
 pub returns-then-not-marks-clause-waits : goal.returns-then-not-marks-clause-waits
@@ -32,3 +35,30 @@ returns-then-not-marks-clause-left g c =
 pub returns-clause-left : goal.returns-clause-left
 returns-clause-left g c = gains_same c.args.known.now.nodes c.mark_met.new.known.nodes (times_waiting (turns_of c.args.known.now)) (times_waiting (turns_of c.mark_met.new.known))
     (λ x h. met_more (is_met c.args.known.now.nodes) (is_met c.mark_met.new.known.nodes) c.args.id x c.in_ok-mark_met.ensures.met h) (λ id. let e = ap (λ (ts : List Turn). times_waiting ts id) c.in_ok-mark_met.ensures.turns in omega (arith, e))
+
+pub returns-then-marks-clause-awaits : goal.returns-then-marks-clause-awaits
+returns-then-marks-clause-awaits g c = λ honest commits told.
+    let nodes = c.args.known.now.nodes in
+    let may_fail = g.F.Lookup.may_fail c.args.source.now.objects in
+    let turns = turns_of c.args.known.now in
+    let m : is_met nodes c.args.id ≡ true = search rules in
+    subst (λ (xs : List ObjectId). LetsWait may_fail c.args.since commits (Contains xs) turns turns) (sym (met_none (is_met nodes c.args.id) (is_hidden nodes c.args.id) c.args.id m)) (waits_none may_fail c.args.since commits turns)
+
+pub returns-then-not-marks-clause-awaits : goal.returns-then-not-marks-clause-awaits
+returns-then-not-marks-clause-awaits g c = λ honest commits told.
+    let nodes = c.args.known.now.nodes in
+    let may_fail = g.F.Lookup.may_fail c.args.source.now.objects in
+    let turns = turns_of c.args.known.now in
+    let m : is_met nodes c.args.id ≡ false = search rules in
+    let h : is_hidden nodes c.args.id ≡ false = search rules in
+    let (time, counts, joins) = c.in_ok-wait.ensures.counted_as honest commits told in
+    subst (λ (xs : List ObjectId). LetsWait may_fail c.args.since commits (Contains xs) turns (turns_of c.wait.new.known)) (sym (fresh_alone (is_met nodes c.args.id) (is_hidden nodes c.args.id) c.args.id m h)) (waits_one may_fail c.args.since commits c.args.id time turns (turns_of c.wait.new.known) counts joins)
+
+pub returns-clause-awaits : goal.returns-clause-awaits
+returns-clause-awaits g c = λ honest commits told.
+    let nodes = c.args.known.now.nodes in
+    let may_fail = g.F.Lookup.may_fail c.args.source.now.objects in
+    let turns = turns_of c.args.known.now in
+    let h : is_hidden nodes c.args.id ≡ true = search rules in
+    let still = subst (λ (xs : List ObjectId). LetsWait may_fail c.args.since commits (Contains xs) turns turns) (sym (hidden_none (is_met nodes c.args.id) (is_hidden nodes c.args.id) c.args.id h)) (waits_none may_fail c.args.since commits turns) in
+    subst (λ (ts : List Turn). LetsWait may_fail c.args.since commits (Contains (fresh nodes c.args.id)) turns ts) (sym c.in_ok-mark_met.ensures.turns) still

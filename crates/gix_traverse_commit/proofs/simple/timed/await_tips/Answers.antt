@@ -8,19 +8,20 @@ use Rattle.gix_traverse_commit.specs.Known.{turns_of}
 use Rattle.gix_traverse_commit.specs.Nodes.{is_hidden, is_met}
 use Rattle.gix_traverse_commit.specs.Rows.{Holds}
 use Rattle.gix_traverse_commit.specs.Sorting.{in_time}
-use Rattle.gix_traverse_commit.specs.Timely.{AllRowed, IsMetSoFar, keep_since, turn_of}
+use Rattle.gix_traverse_commit.specs.Timely.{AllRowed, IsMetSoFar, keep_since, turn_of, LetsWait}
 use Rattle.gix_traverse_commit.specs.Told.{AreTold, rows_of}
 use Rattle.gix_traverse_commit.specs.declared.rows.Row.{Row}
 use Rattle.gix_traverse_commit.proofs.Chosen.{take_all}
 use Rattle.gix_traverse_commit.specs.Ending.{times_waiting}
 use Rattle.gix_traverse_commit.proofs.Ending.{gains_more, gains_none}
-use Rattle.gix_traverse_commit.proofs.Keeping.{met_more, unmet_before}
+use Rattle.gix_traverse_commit.proofs.Keeping.{met_more, unmet_before, met_itself}
 use Rattle.gix_traverse_commit.proofs.Lists.{contains_from_at}
 use Rattle.gix_traverse_commit.proofs.Timely.{in_nil, joins_same, met_renamed, next_tip, tip_joins}
-use Rattle.gix_traverse_commit.specs.Meeting.{CountsAll}
+use Rattle.gix_traverse_commit.specs.Meeting.{CountsAll, IsFresh}
 use Rattle.gix_traverse_commit.specs.Order.{IsListOf}
-use Rattle.gix_traverse_commit.proofs.Keeping.{met_itself}
 use Rattle.gix_traverse_commit.proofs.Meeting.{Fresh, counts_more, meets_none, meets_step, tip_or_met}
+use Rattle.gix_traverse_commit.specs.Commits.{Commits}
+use Rattle.gix_traverse_commit.proofs.Awaiting.{waits_more, waits_none, waits_same}
 use Rattle.gix_traverse_commit.proofs.simple.timed.await_tips.Goals as goal
 
 pub tips-init : goal.tips-init
@@ -36,7 +37,7 @@ tips-init g c = record {
   left = gains_none c.args.known.now.nodes (times_waiting (turns_of c.args.known.now));
   rowed = λ all before. before;
   walked = λ honest sure h told accepts which w. met_renamed h (keep_since c.args.since h (is_hidden c.args.known.now.nodes) accepts) [] (is_met c.args.known.now.nodes) (λ _. ⊥) (Contains (take 0 c.args.tips.now)) (turns_of c.args.known.now) w (λ x. ((λ z. absurd z), (λ d. in_nil x d)));
-  timed = ([], refl, meets_none (is_met c.args.known.now.nodes) (is_hidden c.args.known.now.nodes));
+  timed = ([], refl, (λ honest h told. waits_none (g.F.Lookup.may_fail c.args.source.now.objects) c.args.since h (turns_of c.args.known.now)), meets_none (is_met c.args.known.now.nodes) (is_hidden c.args.known.now.nodes));
 }
 
 pub tips-preserved : goal.tips-preserved
@@ -68,7 +69,7 @@ tips-preserved g c =
           (λ f. which id (contains_from_at ids c.tips.tip-index id here) (unmet_before (is_met c.args.known.now.nodes) (is_met c.tips.known.nodes) id (inv.grown id) f)) in
           let j = joins_same (not met && (not (is_hidden c.tips.known.nodes id) && time)) (not met && keep id) (turns_of c.tips.known) (turn_of h id) (turn_of h id) (turns_of c.await_tip.new.known) so refl (c.in_ok-await_tip.ensures.waits honest' sure' h told') in
           next_tip h keep (is_met c.tips.known.nodes) (is_met c.await_tip.new.known.nodes) ids c.tips.tip-index (turns_of c.tips.known) (turns_of c.await_tip.new.known) id here j c.in_ok-await_tip.ensures.met (inv.walked honest sure h told accepts which w));
-      timed = (let (xs, counts, w) = inv.timed in
+      timed = (let (xs, counts, waits, w) = inv.timed in
           let has = is_met c.tips.known.nodes in
           let has' = is_met c.await_tip.new.known.nodes in
           let hidden = is_hidden c.tips.known.nodes id in
@@ -77,6 +78,11 @@ tips-preserved g c =
           let one = subst (λ (o : Option (List Row)). CountsAll (rows_of o) more c.tips.source.lookups c.await_tip.new.source.lookups) inv.rows c.in_ok-await_tip.ensures.timed in (
             xs ++ more,
             counts_more (rows_of c.args.source.now.rows) xs more c.args.source.now.lookups c.tips.source.lookups c.await_tip.new.source.lookups counts one,
+            (λ honest h told.
+                let honest' = subst (λ (o : g.row.F.Denot). g.F.Lookup.is_honest o) (sym inv.objects) honest in
+                let told' = subst (λ (o : g.row.F.Denot). AreTold (rows_of c.tips.source.rows) (g.F.Lookup.table o) h) (sym inv.objects) (subst (λ (r : Option (List Row)). AreTold (rows_of r) (g.F.Lookup.table c.args.source.now.objects) h) (sym inv.rows) told) in
+                let step = subst (λ (o : g.row.F.Denot). LetsWait (g.F.Lookup.may_fail o) c.args.since h (Contains more) (turns_of c.tips.known) (turns_of c.await_tip.new.known)) inv.objects (c.in_ok-await_tip.ensures.awaits honest' h told') in
+                waits_more (g.F.Lookup.may_fail c.args.source.now.objects) c.args.since h xs more (turns_of c.args.known.now) (turns_of c.tips.known) (turns_of c.await_tip.new.known) (waits honest h told) step),
             meets_step (is_met c.args.known.now.nodes) (is_hidden c.args.known.now.nodes) has has' hidden ids xs c.tips.tip-index id here w (inv.hidden id)
                 (λ x h. met_more has has' id x now h) (tip_or_met has has' id now) (λ _. met_itself has has' id now),
           ));
@@ -92,8 +98,19 @@ returns-clause-grown g c = c.tips.invariant.grown
 
 pub returns-clause-timed : goal.returns-clause-timed
 returns-clause-timed g c =
-    let (xs, counts, w) = c.tips.invariant.timed in
+    let (xs, counts, waits, w) = c.tips.invariant.timed in
     (xs, subst (λ (ts : List ObjectId). IsListOf (Fresh (is_met c.args.known.now.nodes) (is_hidden c.args.known.now.nodes) ts) xs) (take_all c.args.tips.now c.tips.tip-index c.tips-test.false) w.list, counts)
 
 pub returns-clause-left : goal.returns-clause-left
 returns-clause-left g c = c.tips.invariant.left
+
+pub returns-clause-awaits : goal.returns-clause-awaits
+returns-clause-awaits g c = λ honest h told.
+    let (xs, counts, waits, w) = c.tips.invariant.timed in
+    let has = is_met c.args.known.now.nodes in
+    let hides = is_hidden c.args.known.now.nodes in
+    let all = take_all c.args.tips.now c.tips.tip-index c.tips-test.false in
+    waits_same (g.F.Lookup.may_fail c.args.source.now.objects) c.args.since h (Contains xs) (IsFresh c.args.known.now.nodes c.args.tips.now) (turns_of c.args.known.now) (turns_of c.tips.known)
+    (λ x k. subst (λ (ts : List ObjectId). Fresh has hides ts x) all ((w.list.each x).0 k))
+    (λ x k. (w.list.each x).1 (subst (λ (ts : List ObjectId). Fresh has hides ts x) (sym all) k))
+    (waits honest h told)

@@ -8,7 +8,7 @@ use Rattle.gix_traverse_commit.specs.Meeting.{CountsAll}
 use Rattle.gix_traverse_commit.specs.Known.{turns_of}
 use Rattle.gix_traverse_commit.specs.Nodes.{is_hidden, is_met}
 use Rattle.gix_traverse_commit.specs.Rows.{AllHeld}
-use Rattle.gix_traverse_commit.specs.Timely.{AllRowed, IsMetSoFar, keep_since}
+use Rattle.gix_traverse_commit.specs.Timely.{AllRowed, IsMetSoFar, LetsWait, keep_since}
 use Rattle.gix_traverse_commit.specs.Told.{AreTold, rows_of}
 use Rattle.gix_traverse_commit.proofs.Meeting.{MeetsOnce}
 use Rattle.gix_traverse_commit.proofs.simple.timed.await_tips.Given as goal
@@ -29,5 +29,8 @@ invariant-tips g l = record {
       → (accepts : Id → Bool) → ((x : ObjectId) → Contains l.tips x → is_met l.fn.known.nodes x ≡ false → accepts (id_of x) ≡ true)
       → IsMetSoFar h (keep_since l.since h (is_hidden l.fn.known.nodes) accepts) (is_met l.fn.known.nodes) (λ _. ⊥) [] (turns_of l.fn.known)
       → IsMetSoFar h (keep_since l.since h (is_hidden l.fn.known.nodes) accepts) (is_met l.known.nodes) (Contains (take l.tip-index l.tips)) [] (turns_of l.known);
-  timed : (xs : List ObjectId) × CountsAll (rows_of l.fn.source.rows) xs l.fn.source.lookups l.source.lookups × MeetsOnce (is_met l.fn.known.nodes) (is_hidden l.fn.known.nodes) (is_met l.known.nodes) (take l.tip-index l.tips) xs;
+  timed : (xs : List ObjectId) × CountsAll (rows_of l.fn.source.rows) xs l.fn.source.lookups l.source.lookups
+      × (g.F.Lookup.is_honest l.fn.source.objects → (h : Commits ObjectId) → AreTold (rows_of l.fn.source.rows) (g.F.Lookup.table l.fn.source.objects) h
+      → LetsWait (g.F.Lookup.may_fail l.fn.source.objects) l.since h (Contains xs) (turns_of l.fn.known) (turns_of l.known))
+      × MeetsOnce (is_met l.fn.known.nodes) (is_hidden l.fn.known.nodes) (is_met l.known.nodes) (take l.tip-index l.tips) xs;
 }
