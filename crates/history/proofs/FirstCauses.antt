@@ -17,8 +17,7 @@ use Rattle.history_model.specs.Offered.{IsOffered}
 use Rattle.history_model.specs.declared.Cause.{Cause}
 use Rattle.history_model.specs.declared.Cause.TheVariants.{BadPath, IsFolder, NoSuchPath, BadActor, BadTime, BadMessage, TooLarge}
 use Rattle.history_model.proofs.OfferedCauses.{first_offered_cause}
-use Rattle.history.specs.CommitCauses.{first_among, name_causes, form_causes, is_long, HasTimes}
-use Rattle.history.specs.declared.causes.Times.{Times}
+use Rattle.history.specs.CommitCauses.{first_among, name_causes, form_causes, is_long}
 use Rattle.history.proofs.FieldLemmas.{beyond, either_false}
 
 -- ---- lists in two parts
@@ -106,18 +105,18 @@ module _ (r : Repository) (order : CommitCommand) where
       or_true true = refl
       or_true false = refl
 
--- ---- what the times tell of the rest
+-- ---- what no cause of the form tells of the rest
 
-module _ (r : Repository) (order : CommitCommand) (times : Times) (h : HasTimes r order times) where
+module _ (r : Repository) (order : CommitCommand) (formed : first_among form_causes r (Commit order) ≡ None) where
   pub good_paths : list_any is_bad_path (paths_in (Commit order)) ≡ false
-  good_paths = (none_of _ _ _ h.formed).0
+  good_paths = (none_of _ _ _ formed).0
 
   abbrev Holds : Cause → Bool
   Holds cause = holds cause r (Commit order)
 
   behind_paths : find Holds (BadActor ∷ BadTime ∷ BadMessage ∷ []) ≡ None
   behind_paths = (find_none Holds NoSuchPath (BadActor ∷ BadTime ∷ BadMessage ∷ []) (find_none Holds IsFolder (NoSuchPath ∷ BadActor ∷ BadTime ∷ BadMessage ∷ [])
-      (find_none Holds BadPath (IsFolder ∷ NoSuchPath ∷ BadActor ∷ BadTime ∷ BadMessage ∷ []) h.formed).1).1).1
+      (find_none Holds BadPath (IsFolder ∷ NoSuchPath ∷ BadActor ∷ BadTime ∷ BadMessage ∷ []) formed).1).1).1
 
   pub good_actors : (is_bad_actor order.author ≡ false) × (is_bad_actor order.committer ≡ false)
   good_actors =

@@ -1,12 +1,12 @@
 -- What a commit is to store, and how its name is to move, read from its command.
 use Rattle.std.proofs.Common.{◌≡◌, ◌⊎◌, inl, inr, ◌<◌, ◌≤◌, refl, sym, ◌∙◌, ap, subst, Bool, true, false, cond, ◌||◌, ◌&&◌, List, [], ◌∷◌, ◌++◌, map, length}
-use Rattle.std.specs.Prelude.{Contains, IsSome, IsTrue, option_and_then, Option, Some, None, option_map, unwrap_or, Result, Ok, Err}
+use Rattle.std.specs.Prelude.{Contains, MatchOption, IsSome, IsTrue, option_and_then, Option, Some, None, option_map, unwrap_or, Result, Ok, Err}
 use Rattle.std.specs.List.{AllByRecursion, list_all, list_any, flat_map}
 use Rattle.std.proofs.lemmas.List.{map-append}
 use Rattle.std.proofs.lemmas.List.Folds.{list_any-append}
 use Rattle.history_model.specs.Bytes.{Bytes}
 use Rattle.history_model.specs.FileMap.{FileMap, folders_of, some_refused}
-use Rattle.history_model.specs.Objects.{Value, StoredBytes, StoredFolder, StoredCommit, digest, folder_id, object_text, content_of, commit_content, root, tree_text}
+use Rattle.history_model.specs.Objects.{CommitValue, Value, StoredBytes, StoredFolder, StoredCommit, folder_id, content_of, commit_content, root, tree_text}
 use Rattle.history_model.specs.Objects.{id_of as value_id}
 use Rattle.gix_hash_id.specs.Id.{Id, null_id, id_of}
 use Rattle.history_model.specs.Repository as plain
@@ -28,8 +28,8 @@ use Rattle.history_model.specs.declared.Cause.TheVariants.{BadPath, IsFolder, To
 use Rattle.history_model.specs.declared.Fault.{Fault}
 use Rattle.history_model.specs.declared.Fault.TheVariants.{Memory, File, IdTaken}
 use Rattle.gix_hash_id.specs.declared.kind.Kind.{Kind}
-use Rattle.gix_object_lines.specs.declared.kind.Kind.TheVariants as kinds
 use Rattle.history_model.proofs.IdLemmas.{digest_is_id}
+use Rattle.history_model.proofs.OfferedReads.{parents_are_commits}
 use Rattle.history_model.proofs.PassedStops.{commits_store_whole}
 use Rattle.history_model.proofs.TreePlaces.{values_have_ids}
 use Rattle.history_model.proofs.WholeLists.{In, in_left, in_right, in_either, in_map, of_map}
@@ -47,20 +47,21 @@ use Rattle.history_store.specs.declared.log_entry.LogEntry.{LogEntry}
 use Rattle.history_word.specs.Commands.{AreEdits}
 use Rattle.history_word.specs.declared.command.Edit.{Edit}
 use Rattle.history.specs.Acts.{IsReadingFault}
-use Rattle.history.specs.CommitCauses.{first_among, name_causes, path_causes, is_long, IsToldBy, Tests, HasTimes}
+use Rattle.history.specs.CommitCauses.{first_among, form_causes, name_causes, path_causes, is_long, IsToldBy, Tests}
 use Rattle.history.specs.Bases.{IsBase}
 use Rattle.history.specs.Files.{EditsFiles, kept_edit}
 use Rattle.history.specs.declared.base.Base.{Base}
-use Rattle.history.specs.Plans.{AddsTrees, IsMade, IsMove, IsPlan, Plans}
-use Rattle.history.specs.declared.causes.Times.{Times}
+use Rattle.history.specs.Plans.{Commits, GivesObjects, HasActors, IfItFits, IsMadeOf, IsMove, IsNotAdded, IsPlan, IsUnplanned, MakesCommit, Plans, Says}
+use Rattle.history.specs.declared.planning.Actors.{Actors}
+use Rattle.history.specs.declared.planning.Below.{Below}
 use Rattle.history.specs.declared.planning.Plan.{Plan}
 use Rattle.history.specs.declared.stopped.Stopped.{Stopped}
 use Rattle.history.specs.declared.stopped.Stopped.TheVariants.{Refused}
 use Rattle.history.specs.declared.stopped.Stopped.TheVariants as why
 use Rattle.history.proofs.Edits.{edits_alike, edits_same, objects_joined}
 use Rattle.history.proofs.FieldLemmas.{within, beyond}
-use Rattle.history.proofs.FirstCauses.{passed, here, refused_by_form, refused_by_name, refused_by_size, good_paths}
-use Rattle.history.proofs.NewFolders.{contents, null_taken, some_long}
+use Rattle.history.proofs.FirstCauses.{passed, here, refused_by_form, refused_by_name, refused_by_size}
+use Rattle.history.proofs.NewFolders.{contents, new_folders, none_long, null_taken, some_long, trees_put}
 use Rattle.history.proofs.Shapes.{refused_alike}
 use Rattle.history.proofs.Storing.{bytes_put}
 
@@ -94,20 +95,72 @@ reading_planned MayFail r order Memory h = h
 reading_planned MayFail r order File h = h
 reading_planned MayFail r order IdTaken h = absurd h
 
-pub refusal_planned : (MayFail : Type 0) (r : plain.Repository) (order : CommitCommand) (cause : Cause) (ends : Result Plan Stopped) → ends ≡ Err (Refused cause) → first_cause r (Commit order) ≡ Some cause → Plans MayFail r order ends
-refusal_planned MayFail r order cause ends is_end is = subst (Plans MayFail r order) (sym is_end) is
-
 both : (a b : Bool) → IsTrue a → IsTrue b → IsTrue (a && b)
 both a b p q = λ i. p i && q i
 
 -- stored commits have ids of the kind
-commits_have_ids : (r : plain.Repository) → IsWholeStore r → (ids : List Id) → AllByRecursion (HoldsCommit r) ids → IsTrue (list_all (is_id r.kind) ids)
+pub commits_have_ids : (r : plain.Repository) → IsWholeStore r → (ids : List Id) → AllByRecursion (HoldsCommit r) ids → IsTrue (list_all (is_id r.kind) ids)
 commits_have_ids r store [] hold = refl
 commits_have_ids r store (id ∷ ids) hold = both (is_id r.kind id) (list_all (is_id r.kind) ids) (of_value (get r.objects id) refl hold.0) (commits_have_ids r store ids hold.1)
   where
     of_value : (o : Option Value) → get r.objects id ≡ o → IsSome (option_and_then as_commit o) → IsTrue (is_id r.kind id)
     of_value None e h = absurd cc
     of_value (Some value) e h = values_have_ids r.kind r.objects store.own_ids id value e
+
+-- the commit with these parts is the one that says this value
+pub commit_is : (kind : Kind) (tree : ObjectId) (parents : List ObjectId) (actors : Actors) (message : Bytes) (value : CommitValue) → Says kind tree parents actors message value
+    → (commit : OwnCommit) → commit.tree ≡ tree → commit.parents.items ≡ parents → own_actor commit.author ≡ actor_of actors.author → own_actor commit.committer ≡ actor_of actors.committer
+    → commit.message ≡ message → (IsTrue (has_ids_of kind commit) → IsPlainCommit kind commit) → IsCommitOf kind commit value
+commit_is kind tree parents actors message value said commit same_tree same_parents author committer text plain =
+    let tree_told = ap id_of same_tree ∙ said.tree_is in
+    let parents_told = ap (map id_of) same_parents ∙ said.parents_are in
+    let has = both (is_id kind (id_of commit.tree)) (list_all (is_id kind) (map id_of commit.parents.items))
+    (ap (is_id kind) tree_told ∙ digest_is_id kind (tree_text (root kind value.files))) (ap (list_all (is_id kind)) parents_told ∙ said.parents_have) in
+    record { plain = plain has; tree = tree_told; parents = parents_told; author = author ∙ said.author_is; committer = committer ∙ said.committer_is; message = text ∙ said.message_is }
+
+-- so the parts of a command's commit say what it says
+pub commit_said : (r : plain.Repository) (order : CommitCommand) → IsWholeStore r → (base : Base) → IsBase r order base → (root : ObjectId) → id_of root ≡ folder_id r.kind (new_commit r order).files
+    → (actors : Actors) → HasActors r order actors → (message : Bytes) → message ≡ order.message → Says r.kind root base.parents.items actors message (new_commit r order)
+commit_said r order store base on root root_is actors are message same = record {
+  tree_is = root_is;
+  parents_are = on.parents;
+  parents_have = commits_have_ids r store (parents_of r order) (parents_are_commits r order store);
+  author_is = are.author;
+  committer_is = are.committer;
+  message_is = same;
+}
+
+-- what is told of it by the store's kind is told by the repository's
+pub commit_told : (kind : Kind) (r : plain.Repository) (order : CommitCommand) → kind ≡ r.kind → (base : Base) (root : ObjectId) (actors : Actors) (message : Bytes) (result : Result NewObject Stopped)
+    → (Says kind root base.parents.items actors message (new_commit r order) → MakesCommit kind (new_commit r order) result)
+    → Says r.kind root base.parents.items actors message (new_commit r order) → MakesCommit r.kind (new_commit r order) result
+commit_told kind r order same base root actors message result told said =
+    subst (λ (k : Kind). Says k root base.parents.items actors message (new_commit r order) → MakesCommit k (new_commit r order) result) same told said
+
+-- where the object isn't made, nothing is to move
+pub not_made : (r : plain.Repository) (order : CommitCommand) (stopped : Stopped) → MakesCommit r.kind (new_commit r order) (Err stopped) → Commits r order (Err stopped)
+not_made r order (Refused cause) h = h
+not_made r order (why.Fault Memory) h = h
+not_made r order (why.Fault File) h = h
+not_made r order (why.Fault IdTaken) h = h
+
+-- its name moves to it
+module _ (r : plain.Repository) (order : CommitCommand) where
+  before_told : (parent : Option ObjectId) (null : ObjectId) → id_of (unwrap_or parent null) ≡ unwrap_or (option_map id_of parent) (id_of null)
+  before_told None null = refl
+  before_told (Some id) null = refl
+
+  pub before_is : (parent : Option ObjectId) (null : ObjectId) → option_map id_of parent ≡ id_at r (branch_or_name r order.name) → id_of null ≡ null_id r.kind
+      → id_of (unwrap_or parent null) ≡ unwrap_or (id_at r (branch_or_name r order.name)) (null_id r.kind)
+  before_is parent null at is_null =
+      before_told parent null ∙ (λ i. unwrap_or (at i) (is_null i))
+
+  pub entry_is : (entry : LogEntry) (commit : NewObject) → id_of entry.before ≡ unwrap_or (id_at r (branch_or_name r order.name)) (null_id r.kind)
+      → IsMadeOf r.kind (new_commit r order) commit → entry.after ≡ commit.id → actor_of entry.actor ≡ read_actor order.committer → entry.message.items ≡ title order.message
+      → entry_of entry ≡ move_entry r (branch_or_name r order.name) (value_id r.kind (StoredCommit (new_commit r order))) (read_actor order.committer) (title order.message)
+  entry_is entry commit before made at actor message =
+      let after_is = ap id_of at ∙ made.id in
+      λ i. record { before = before i; after = after_is i; actor = actor i; message = message i }
 
 module _ (r : plain.Repository) (order : CommitCommand) (o : IsOffered r) (w : HasWholeNames r) (offered : is_spoken (Commit order) ≡ true) where
   pub base_planned : (MayFail : Type 0) (result : Result Base Stopped) (ends : Result Plan Stopped) (stopped : Stopped) → result ≡ Err stopped → ends ≡ Err stopped
@@ -151,11 +204,12 @@ module _ (r : plain.Repository) (order : CommitCommand) (o : IsOffered r) (w : H
         accepted (Some edited) h = h.accepted
         accepted None h = h.accepted
 
-  module _ (times : Times) (h : HasTimes r order times) (none : first_among name_causes r (Commit order) ≡ None) where
+  module _ (formed : first_among form_causes r (Commit order) ≡ None) (short : list_any is_long (contents_in (Commit order)) ≡ false)
+      (none : first_among name_causes r (Commit order) ≡ None) where
     sizes : is_too_large r (Commit order) ≡ (list_any is_long (contents r (new_commit r order).files) || (is_long (commit_content r.kind (new_commit r order)) || false))
     sizes =
         ap (λ those. list_any is_long (contents_in (Commit order) ++ those)) (stored_contents r order)
-        ∙ sizes_told (contents_in (Commit order)) (contents r (new_commit r order).files) (commit_content r.kind (new_commit r order)) h.contents
+        ∙ sizes_told (contents_in (Commit order)) (contents r (new_commit r order).files) (commit_content r.kind (new_commit r order)) short
 
     or_true : (a : Bool) → (a || true) ≡ true
     or_true true = refl
@@ -163,88 +217,112 @@ module _ (r : plain.Repository) (order : CommitCommand) (o : IsOffered r) (w : H
 
     pub folders_refused : list_any is_long (contents r (new_commit r order).files) ≡ true → first_cause r (Commit order) ≡ Some TooLarge
     folders_refused large =
-        refused_by_size r order o w offered none h.formed
+        refused_by_size r order o w offered none formed
         ∙ here (is_too_large r (Commit order)) TooLarge None (sizes ∙ ap (λ b. b || (is_long (commit_content r.kind (new_commit r order)) || false)) large)
 
-    -- the trees are too large, or a fault was met
+    -- the trees are too large, or no memory was left
     pub trees_planned : (MayFail : Type 0) → IsSound r → (folders : List FileMap) (trees : List EditedTree) → AreNewFolders r (new_commit r order).files folders → AreTreesOf r.kind folders trees
-        → (old new : List NewObject) (stopped : Stopped) → AddsTrees old trees new (Err stopped) → Plans MayFail r order (Err stopped)
-    trees_planned MayFail sound folders trees fresh are old new (Refused cause) told =
+        → (stopped : Stopped) → IsNotAdded trees stopped → IsUnplanned MayFail r order stopped
+    trees_planned MayFail sound folders trees fresh are (Refused cause) told =
         subst (λ (cause : Cause). first_cause r (Commit order) ≡ Some cause) (sym told.0) (folders_refused (some_long r sound (new_commit r order).files folders trees fresh are told.1))
-    trees_planned MayFail sound folders trees fresh are old new (why.Fault Memory) told = tt
-    trees_planned MayFail sound folders trees fresh are old new (why.Fault File) told = absurd told
-    trees_planned MayFail sound folders trees fresh are old new (why.Fault IdTaken) told = absurd told
-
-    pub commit_refused : max_content < length (commit_content r.kind (new_commit r order)) → first_cause r (Commit order) ≡ Some TooLarge
-    commit_refused large =
-        refused_by_size r order o w offered none h.formed
-        ∙ here (is_too_large r (Commit order)) TooLarge None (sizes ∙ ap (λ b. list_any is_long (contents r (new_commit r order).files) || (b || false)) (beyond max_content _ large) ∙ or_true _)
-
-    pub none_refused : list_any is_long (contents r (new_commit r order).files) ≡ false → length (commit_content r.kind (new_commit r order)) ≤ max_content → first_cause r (Commit order) ≡ None
-    none_refused folders_fit commit_fits =
-        refused_by_size r order o w offered none h.formed
-        ∙ passed (is_too_large r (Commit order)) TooLarge None None (sizes ∙ (λ i. folders_fit i || (within max_content (length (commit_content r.kind (new_commit r order))) commit_fits i || false))) refl
+    trees_planned MayFail sound folders trees fresh are (why.Fault Memory) told = tt
+    trees_planned MayFail sound folders trees fresh are (why.Fault File) told = absurd told
+    trees_planned MayFail sound folders trees fresh are (why.Fault IdTaken) told = absurd told
 
     -- no cause holds but that something may be too large
     pub may_take : takes_id r (Commit order) ≡ true → MayTake r (Commit order)
-    may_take taken = (by_size (is_too_large r (Commit order)) (refused_by_size r order o w offered none h.formed), taken)
+    may_take taken = (by_size (is_too_large r (Commit order)) (refused_by_size r order o w offered none formed), taken)
       where
         by_size : (b : Bool) → first_cause r (Commit order) ≡ cond b (Some TooLarge) None → (first_cause r (Commit order) ≡ None) ⊎ (first_cause r (Commit order) ≡ Some TooLarge)
         by_size true e = inr e
         by_size false e = inl e
 
     -- where what is put or a tree has the null id
-    pub null_planned : (MayFail : Type 0) (edits : List Edit) → AreEdits edits order.edits → (ids : List Id) → ids ≡ parents_of r order
-        → EditsFiles MayFail r ids (map kept_edit edits) (Ok None) → Plans MayFail r order (Err (why.Fault IdTaken))
-    null_planned MayFail edits are ids same null =
-        may_take (null_taken r order (subst (λ made. HaveNull r.kind (first_files r (parents_of r order)) made) (edits_same r edits order.edits are (good_paths r order times h) h.contents)
-        (subst (λ (ids : List Id). HaveNull r.kind (first_files r ids) (map kept_edit edits)) same null)))
+    pub null_planned : HaveNull r.kind (first_files r (parents_of r order)) (edits_of r order) → MayTake r (Commit order)
+    null_planned null = may_take (null_taken r order null)
 
-    -- the trees of what the edits make
-    pub edited_so : (MayFail : Type 0) (edits : List Edit) → AreEdits edits order.edits → (ids : List Id) → ids ≡ parents_of r order
-        → (edited : EditedFiles) → EditsFiles MayFail r ids (map kept_edit edits) (Ok (Some edited))
-        → AreEdited r.kind (first_files r (parents_of r order)) (edits_of r order) edited
-    edited_so MayFail edits are ids same edited h' =
-        subst (λ made. AreEdited r.kind (first_files r (parents_of r order)) made edited) (edits_same r edits order.edits are (good_paths r order times h) h.contents)
-        (subst (λ (ids : List Id). AreEdited r.kind (first_files r ids) (map kept_edit edits) edited) same h')
+    -- the objects of what is put and of the new folders, each within the limit, and the id of their root
+    pub record IsBelow (below : Below) : Type 0 where
+      pub folders : List FileMap
+      pub new : AreNewFolders r (new_commit r order).files folders
+      pub put : AreObjectsOf r.kind (flat_map put_bytes (edits_of r order) ++ map StoredFolder folders) below.objects.items
+      pub root_is : id_of below.root ≡ folder_id r.kind (new_commit r order).files
+      pub fit : list_any is_long (contents r (new_commit r order).files) ≡ false
 
-  -- ---- the commit and its move
+    abbrev pub AreMeant : Option EditedFiles → Type 0
+    AreMeant edited = MatchOption edited (HaveNull r.kind (first_files r (parents_of r order)) (edits_of r order)) (AreEdited r.kind (first_files r (parents_of r order)) (edits_of r order))
 
-  before_told : (parent : Option ObjectId) (null : ObjectId) → id_of (unwrap_or parent null) ≡ unwrap_or (option_map id_of parent) (id_of null)
-  before_told None null = refl
-  before_told (Some id) null = refl
+    error_is : {T : Type 0} (a b : Stopped) → ◌≡◌ {A = Result T Stopped} (Err a) (Err b) → a ≡ b
+    error_is a b e = cc
 
-  pub before_is : (parent : Option ObjectId) (null : ObjectId) → option_map id_of parent ≡ id_at r (branch_or_name r order.name) → id_of null ≡ null_id r.kind
-      → id_of (unwrap_or parent null) ≡ unwrap_or (id_at r (branch_or_name r order.name)) (null_id r.kind)
-  before_is parent null at is_null =
-      before_told parent null ∙ (λ i. unwrap_or (at i) (is_null i))
+    folders_new : IsSound r → (edited : EditedFiles) (so : AreEdited r.kind (first_files r (parents_of r order)) (edits_of r order) edited)
+        → AreNewFolders r (new_commit r order).files (so.trees.below ++ (new_commit r order).files ∷ [])
+    folders_new sound edited so =
+        new_folders r sound.whole.store (parents_of r order) (parents_are_commits r order sound.whole.store) (new_commit r order).files edited.trees.items so.trees
 
-  pub commit_is : IsWholeStore r → AllByRecursion (HoldsCommit r) (parents_of r order) → (commit : OwnCommit) → id_of commit.tree ≡ folder_id r.kind (new_commit r order).files
-      → map id_of commit.parents.items ≡ parents_of r order → own_actor commit.author ≡ read_actor order.author → own_actor commit.committer ≡ read_actor order.committer → commit.message ≡ order.message
-      → (IsTrue (has_ids_of r.kind commit) → IsPlainCommit r.kind commit) → IsCommitOf r.kind commit (new_commit r order)
-  commit_is store hold commit tree parents author committer message plain =
-      let files = (new_commit r order).files in
-      let has = both (is_id r.kind (id_of commit.tree)) (list_all (is_id r.kind) (map id_of commit.parents.items))
-      (ap (is_id r.kind) tree ∙ digest_is_id r.kind (tree_text (root r.kind files))) (ap (list_all (is_id r.kind)) parents ∙ commits_have_ids r store (parents_of r order) hold) in
-      record { plain = plain has; tree = tree; parents = parents; author = author; committer = committer; message = message }
+    pub below_planned : (MayFail : Type 0) → IsSound r → (edited : Option EditedFiles) → AreMeant edited → (blobs : List NewObject) (stopped : Stopped)
+        → MatchOption edited (◌≡◌ {A = Result Below Stopped} (Err stopped) (Err (why.Fault IdTaken))) (λ edited. GivesObjects blobs edited (Err stopped)) → IsUnplanned MayFail r order stopped
+    below_planned MayFail sound None null blobs stopped is = subst (IsUnplanned MayFail r order) (sym (error_is stopped (why.Fault IdTaken) is)) (null_planned null)
+    below_planned MayFail sound (Some edited) so blobs stopped told =
+        trees_planned MayFail sound (so.trees.below ++ (new_commit r order).files ∷ []) edited.trees.items (folders_new sound edited so) so.trees.trees_are stopped told
 
-  pub entry_is : (entry : LogEntry) (kind : Kind) (commit : NewObject) → kind ≡ r.kind → id_of entry.before ≡ unwrap_or (id_at r (branch_or_name r order.name)) (null_id r.kind)
-      → IsMade kind kinds.Commit (commit_content r.kind (new_commit r order)) commit → entry.after ≡ commit.id → actor_of entry.actor ≡ read_actor order.committer → entry.message.items ≡ title order.message
-      → entry_of entry ≡ move_entry r (branch_or_name r order.name) (value_id r.kind (StoredCommit (new_commit r order))) (read_actor order.committer) (title order.message)
-  entry_is entry kind commit same before made at actor message =
-      let after_is = ap id_of at ∙ made.id ∙ ap (λ k. digest k (object_text kinds.Commit (commit_content r.kind (new_commit r order)))) same in
-      λ i. record { before = before i; after = after_is i; actor = actor i; message = message i }
+    pub below_told : IsSound r → (edited : Option EditedFiles) → AreMeant edited → (blobs : List NewObject) → AreObjectsOf r.kind (flat_map put_bytes (edits_of r order)) blobs → (below : Below)
+        → MatchOption edited (◌≡◌ {A = Result Below Stopped} (Ok below) (Err (why.Fault IdTaken))) (λ edited. GivesObjects blobs edited (Ok below)) → IsBelow below
+    below_told sound None null blobs are below is = absurd (cc is)
+    below_told sound (Some edited) so blobs are below told =
+        let folders = so.trees.below ++ (new_commit r order).files ∷ [] in
+        let new = folders_new sound edited so in
+        record {
+          folders = folders;
+          new = new;
+          put = trees_put r.kind (flat_map put_bytes (edits_of r order)) folders blobs below.objects.items edited.trees.items are so.trees.trees_are told.1.1;
+          root_is = ap id_of told.0 ∙ so.root;
+          fit = none_long r sound (new_commit r order).files folders edited.trees.items new so.trees.trees_are told.1.0;
+        }
+
+    pub commit_refused : max_content < length (commit_content r.kind (new_commit r order)) → first_cause r (Commit order) ≡ Some TooLarge
+    commit_refused large =
+        refused_by_size r order o w offered none formed
+        ∙ here (is_too_large r (Commit order)) TooLarge None (sizes ∙ ap (λ b. list_any is_long (contents r (new_commit r order).files) || (b || false)) (beyond max_content _ large) ∙ or_true _)
+
+    -- the commit is too large, or no memory was left
+    pub commit_planned : (MayFail : Type 0) (T : Type 0) (IsMeant : T → Type 0) (stopped : Stopped) → IfItFits (commit_content r.kind (new_commit r order)) IsMeant (Err stopped)
+        → IsUnplanned MayFail r order stopped
+    commit_planned MayFail T IsMeant (Refused cause) told =
+        subst (λ (cause : Cause). first_cause r (Commit order) ≡ Some cause) (sym told.0) (commit_refused told.1)
+    commit_planned MayFail T IsMeant (why.Fault Memory) told = tt
+    commit_planned MayFail T IsMeant (why.Fault File) told = absurd told
+    commit_planned MayFail T IsMeant (why.Fault IdTaken) told = absurd told
+
+    pub none_refused : list_any is_long (contents r (new_commit r order).files) ≡ false → length (commit_content r.kind (new_commit r order)) ≤ max_content → first_cause r (Commit order) ≡ None
+    none_refused folders_fit commit_fits =
+        refused_by_size r order o w offered none formed
+        ∙ passed (is_too_large r (Commit order)) TooLarge None None (sizes ∙ (λ i. folders_fit i || (within max_content (length (commit_content r.kind (new_commit r order))) commit_fits i || false))) refl
+
+  -- what the edits come to, where no content is over its limit
+  pub edits_meant : (MayFail : Type 0) (edits : List Edit) → AreEdits edits order.edits → list_any is_bad_path (paths_in (Commit order)) ≡ false
+      → list_any is_long (contents_in (Commit order)) ≡ false → (ids : List Id) → ids ≡ parents_of r order
+      → (edited : Option EditedFiles) → EditsFiles MayFail r ids (map kept_edit edits) (Ok edited)
+      → MatchOption edited (HaveNull r.kind (first_files r (parents_of r order)) (edits_of r order)) (AreEdited r.kind (first_files r (parents_of r order)) (edits_of r order))
+  edits_meant MayFail edits are good short ids same edited h =
+      by_case edited (subst (λ made. EditsFiles MayFail r (parents_of r order) made (Ok edited)) (edits_same r edits order.edits are good short)
+      (subst (λ (ids : List Id). EditsFiles MayFail r ids (map kept_edit edits) (Ok edited)) same h))
+    where
+      by_case : (edited : Option EditedFiles) → EditsFiles MayFail r (parents_of r order) (edits_of r order) (Ok edited)
+          → MatchOption edited (HaveNull r.kind (first_files r (parents_of r order)) (edits_of r order)) (AreEdited r.kind (first_files r (parents_of r order)) (edits_of r order))
+      by_case None h = h
+      by_case (Some edited) h = h
 
   -- ---- the objects
 
-  pub objects_are : (kind : Kind) (folders : List FileMap) (some objects : List NewObject) (commit : NewObject) → kind ≡ r.kind
+  pub objects_are : (folders : List FileMap) (some objects : List NewObject) (commit : NewObject)
       → AreObjectsOf r.kind (flat_map put_bytes (edits_of r order) ++ map StoredFolder folders) some
-      → IsMade kind kinds.Commit (commit_content r.kind (new_commit r order)) commit
+      → IsMadeOf r.kind (new_commit r order) commit
       → objects ≡ some ++ commit ∷ [] → AreObjectsOf r.kind (commit_puts r order folders) objects
-  objects_are kind folders some objects commit same are made is =
+  objects_are folders some objects commit are made is =
       subst (AreObjectsOf r.kind (commit_puts r order folders)) (sym is)
       (objects_joined r.kind (flat_map put_bytes (edits_of r order) ++ map StoredFolder folders) (StoredCommit (new_commit r order) ∷ []) some (commit ∷ []) are
-      (record { id = made.id ∙ ap (λ k. digest k (object_text kinds.Commit (commit_content r.kind (new_commit r order)))) same; kind = made.kind_is; content = made.content_is }, tt))
+      (record { id = made.id; kind = made.kind_is; content = made.content_is }, tt))
 
   -- the values are those that the command stores, but for folders whose text is stored
   abbrev blobs : List Value

@@ -1,5 +1,5 @@
 -- What the tests of a command's edits and actors tell of the causes.
-use Rattle.std.proofs.Common.{◌≡◌, ℕ, zero, suc, ◌<◌, Bool, true, false, not, ◌||◌, List, [], ◌∷◌, length, refl, sym, ◌∙◌, ap, arith, Option, Some, None, Err}
+use Rattle.std.proofs.Common.{◌≡◌, ℕ, zero, suc, ◌<◌, Bool, true, false, not, ◌||◌, List, [], ◌∷◌, length, refl, sym, ◌∙◌, ap, arith, Option, Some, None, MatchOption, Err}
 use Rattle.std.specs.Bool.{MatchBool}
 use Rattle.std.specs.List.{list_any, flat_map, AllWithin, HoldsAt}
 use Rattle.std.proofs.lemmas.List.Folds.{list_any-append}
@@ -107,3 +107,7 @@ time_good line time h = ap (λ b. not b || not (is_offset line.offset)) h.good_s
 pub absent : {A E : Type 0} (o : Option A) (given error : E) → Err given ≡ ok_or o error → (given ≡ error) × (o ≡ None)
 absent None given error e = (cc, refl)
 absent (Some x) given error e = cc
+
+-- and so there is none, where the value is there
+pub never_absent : {A E : Type 0} (P : A → Type 0) (found : Option A) (given error : E) → Err given ≡ ok_or found error → MatchOption found ⊥ P → ⊥
+never_absent P found given error is there = rw (absent found given error is).1 at there

@@ -1,12 +1,17 @@
 -- What the clauses on one command take for granted.
-use Rattle.std.specs.Prelude.{IsTrue}
+use Rattle.std.specs.Prelude.{◌≡◌, List, None, map, IsTrue}
+use Rattle.gix_hash_id.specs.Id.{id_of}
+use Rattle.gix_hash_id.specs.declared.object_id.ObjectId.{ObjectId}
 use Rattle.gix_ref_file.specs.History.{History}
 use Rattle.history_model.specs.Commands as orders
 use Rattle.history_model.specs.Repository as plain
+use Rattle.history_model.specs.Meaning.{parents_of}
 use Rattle.history_model.specs.Stage.{is_spoken}
-use Rattle.history_word.specs.Commands.{IsCommit, IsReading}
+use Rattle.history_word.specs.Commands.{AreEdits, IsCommit, IsReading}
 use Rattle.history_word.specs.declared.command.CommitCommand.{CommitCommand}
+use Rattle.history_word.specs.declared.command.Edit.{Edit}
 use Rattle.history_word.specs.declared.reader.Reading.{Reading}
+use Rattle.history.specs.CommitCauses.{first_among, name_causes}
 use Rattle.history.specs.Stands.{Serves}
 use Rattle.history.specs.declared.repository.Repository.{Repository}
 
@@ -25,3 +30,13 @@ pub record AskedCommit {F : Type 0} (IsHonest : F → Type 0) (history : F → H
   pub serves : Serves IsHonest history repository r
   pub reads : IsCommit command order
   pub offered : IsTrue (is_spoken (orders.Commit order))
+
+-- A repository is asked for the files of a commit with these edits on these parents, where none of the causes of its name holds.
+pub record AskedFiles {F : Type 0} (IsHonest : F → Type 0) (history : F → History)
+    (repository : Repository F) (parents : List ObjectId) (edits : List Edit)
+    (r : plain.Repository) (order : orders.CommitCommand) : Type 0 where
+  pub serves : Serves IsHonest history repository r
+  pub offered : IsTrue (is_spoken (orders.Commit order))
+  pub unrefused : first_among name_causes r (orders.Commit order) ≡ None
+  pub parents_are : map id_of parents ≡ parents_of r order
+  pub edits_are : AreEdits edits order.edits

@@ -15,7 +15,7 @@ use Rattle.history_model.specs.declared.Cause.TheVariants as cause
 use Rattle.history_model.specs.declared.Fault.TheVariants as fault
 use Rattle.history_files.specs.Editing.{AreEdited, HaveNull, Names}
 use Rattle.history_files.specs.declared.edits.Change.{Change}
-use Rattle.history_files.specs.declared.edits.Edit.{Edit as FileEdit}
+use Rattle.history_files.specs.declared.edits.Edit as files
 use Rattle.history_files.specs.declared.edits.EditError.{EditError}
 use Rattle.history_files.specs.declared.edits.EditError.TheVariants as refused
 use Rattle.history_files.specs.declared.trees.EditedFiles.{EditedFiles}
@@ -50,7 +50,7 @@ pub record AreReadAs (kind : Kind) (changes : Changes) (made : List model.Edit) 
   pub blobs_are : AreObjectsOf kind (flat_map put_bytes made) changes.blobs.items
 
 -- where an edit is made, and what it does
-abbrev pub edit_parts : FileEdit → Bytes × Change
+abbrev pub edit_parts : files.Edit → Bytes × Change
 edit_parts edit = (edit.path.now, edit.change)
 
 abbrev pub change_parts : PathChange → Bytes × Change

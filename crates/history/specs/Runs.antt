@@ -84,7 +84,8 @@ pub record EndsHere (Reads Writes : Bytes → Type 0)
   pub new : plain.Repository
   pub reads : Reads read
   pub writes : Writes written
-  pub ends : EndsRun AtEnd LastReading CallFailed old commands replies read written result failed new
+  pub ends : EndsRun AtEnd LastReading CallFailed old commands replies read written result failed
+      new
   pub traced : IsTraced commands replies new
   pub stands : failed ≡ false → StandsNow new
   pub recovers : failed ≡ true → RecoversNow new

@@ -20,7 +20,7 @@ use gix_hash::{Kind, ObjectId};
 use gix_ref_file::Files;
 use history_files::{Change, EditError, EditedFiles, edit_files};
 use history_model::{Cause, Fault};
-use history_store::{NewObject, ObjectKind};
+use history_store::NewObject;
 use history_word::Edit;
 use std::alloc::{AllocError, Global};
 
@@ -45,7 +45,7 @@ fn read_edit(kind: Kind, edit: Edit) -> (PathChange, Option<NewObject>)
 {
     match edit {
         Edit::Put(put) => {
-            let blob = NewObject::new(kind, ObjectKind::Blob, into_kept(put.content));
+            let blob = NewObject::new(kind, gix_object::Kind::Blob, into_kept(put.content));
             let change = Change::Put {
                 kind: put.kind,
                 id: blob.id,

@@ -25,13 +25,13 @@ mod words;
 
 /// How a store of objects answers: what stands under an id.
 pub mod lookups {
-    pub use gix_object::{Data, Exists, Find, FindHeader, Header, Lookup, find};
+    pub use gix_object::{Data, Exists, Find, FindHeader, Header, Kind, Lookup, find};
 }
 
 pub use gix_hash::{Kind, ObjectId, oid};
 pub use history_model::{Cause, End, Fault};
 pub use history_store::{
-    CreateError, IdIter, Object, ObjectKind, Objects, ObjectsRefusal, OpenError, PutError, create,
+    CreateError, IdIter, Object, Objects, ObjectsRefusal, OpenError, PutError, create,
 };
 pub use history_word::{Broken, Bytes, Collected, Sink, Source, Stream};
 pub use open::OpenRefusal;

@@ -1,16 +1,29 @@
 //! What a `commit` is to store, and how its name is to move.
 
-ghost use Rattle.std.specs.Prelude.{◌≡◌, ◌≤◌, ◌<◌, ◌++◌, OnOk, MatchResult, map, length};
+ghost use Rattle.std.specs.Prelude.{◌≡◌, ◌≤◌, ◌<◌, ◌++◌, None, Err, OnOk, MatchOption, MatchResult, map, length};
 ghost use Rattle.std.specs.List.{list_any};
+ghost use Rattle.gix_hash_id.specs.Id.{id_of};
 ghost use Rattle.history_model.specs.Forms.{max_content};
+ghost use Rattle.history_model.specs.CommandParts.{contents_in};
+ghost use Rattle.history_model.specs.Commands.{Commit};
+ghost use Rattle.history_model.specs.Meaning.{new_commit};
+ghost use Rattle.history_model.specs.Objects.{CommitValue, folder_id};
 ghost use Rattle.history_model.specs.Repository as plain;
 ghost use Rattle.history_model.specs.Commands as orders;
 ghost use Rattle.history_model.specs.declared.Cause.TheVariants.{TooLarge};
+ghost use Rattle.history_model.specs.declared.Fault.TheVariants.{IdTaken};
 ghost use Rattle.history_store.specs.Face.{kind_of_objects};
-ghost use Rattle.history.specs.Asked.{AskedCommit};
-ghost use Rattle.history.specs.Plans.{AddsTrees, IsMade, Plans, is_long_tree, object_parts, tree_parts};
+ghost use Rattle.history_word.specs.Commands.{IsActor};
+ghost use Rattle.history_word.specs.Fields.{Keeps};
+ghost use Rattle.history.specs.Asked.{AskedCommit, AskedFiles};
+ghost use Rattle.history.specs.Bases.{IsBase};
+ghost use Rattle.history.specs.CommitCauses.{first_among, is_long, path_causes};
+ghost use Rattle.history.specs.Plans.{AreActors, AreAdded, AreNewFiles, Commits, GivesObjects, HasActors, IsMade, IsNotAdded, IsUnplanned, MakesCommit, Plans, Says, is_long_tree, object_parts, tree_parts};
+ghost use Rattle.history.specs.Stands.{Serves};
+ghost use Rattle.history.specs.declared.stopped.Stopped.TheVariants as why;
 
 use crate::actors::actor_at;
+use crate::base::Base;
 use crate::causes::{have_long_content, read_times, test_paths, title};
 use crate::editing::read_edits;
 use crate::fields::into_kept;
@@ -18,11 +31,11 @@ use crate::repository::Repository;
 use crate::stopped::Stopped;
 use gix_hash::ObjectId;
 use gix_ref_file::Files;
-use history_files::EditedTree;
+use history_files::{EditedFiles, EditedTree};
 use history_model::limits::MAX_CONTENT;
 use history_model::{Cause, Fault};
-use history_store::{Actor, LogEntry, NewObject, ObjectKind, commit_bytes, plain_commit};
-use history_word::CommitCommand;
+use history_store::{Actor, LogEntry, NewObject, commit_bytes, plain_commit};
+use history_word::{ActorLine, CommitCommand, Edit, Field};
 use std::alloc::{AllocError, Global};
 
 /// What a commit is to store, and how its name is to move.
@@ -40,6 +53,36 @@ pub(crate) struct Moves {
     pub(crate) entry: LogEntry,
 }
 
+/// Who wrote a commit, and who made it.
+#[derive(Drop)]
+struct Actors {
+    author: Actor,
+    committer: Actor,
+}
+
+/// What a commit's edits come to: the object of each content that they put, the trees of what they make (`None` where one would have the
+/// null id), and whether a content is over its limit.
+#[derive(Drop)]
+struct NewFiles {
+    blobs: Vec<NewObject>,
+    edited: Option<EditedFiles>,
+    has_long_content: bool,
+}
+
+/// The objects that are stored before a commit's own, and the id of its root.
+#[derive(Drop)]
+struct Below {
+    root: ObjectId,
+    objects: Vec<NewObject>,
+}
+
+/// A commit's own object, and how its name moves to it.
+#[derive(Drop)]
+struct Committed {
+    object: NewObject,
+    moves: Moves,
+}
+
 /// Whether a tree is over the limit.
 fn has_long(trees: &[EditedTree]) -> bool
     ensures { result ≡ list_any is_long_tree trees.now }
@@ -55,7 +98,7 @@ fn add_all(objects: &mut Vec<NewObject>, trees: Vec<EditedTree>) -> Result<(), A
     for tree in trees {
         objects.push(NewObject {
             id: tree.id,
-            kind: ObjectKind::Tree,
+            kind: gix_object::Kind::Tree,
             content: tree.content,
         })?;
     }
@@ -64,12 +107,49 @@ fn add_all(objects: &mut Vec<NewObject>, trees: Vec<EditedTree>) -> Result<(), A
 
 /// Adds the objects of trees, where each is within the limit.
 fn add_trees(objects: &mut Vec<NewObject>, trees: Vec<EditedTree>) -> Result<(), Stopped>
-    ensures { AddsTrees objects.old.items trees.items objects.new.items result }
+    ensures { MatchResult result (λ _. AreAdded objects.old.items trees.items objects.new.items)
+        (IsNotAdded trees.items) }
 {
     if has_long(&trees) {
         return Err(Stopped::Refused(Cause::TooLarge));
     }
     Ok(add_all(objects, trees)?)
+}
+
+impl NewFiles {
+    /// The objects of the contents and of the trees, where each tree is within the limit and none has the null id.
+    fn into_objects(self) -> Result<Below, Stopped>
+        ensures { MatchOption self.edited (result ≡ Err (why.Fault IdTaken))
+            (λ edited. GivesObjects self.blobs.items edited result) }
+    {
+        let edited = self.edited.ok_or(Fault::IdTaken)?;
+        let mut objects = self.blobs;
+        add_trees(&mut objects, edited.trees)?;
+        Ok(Below {
+            root: edited.root,
+            objects,
+        })
+    }
+}
+
+/// The actors of a commit's lines, where no cause holds that the command tells by itself behind its paths.
+fn read_actors(
+    author: ActorLine,
+    committer: ActorLine,
+    message: &Field,
+    has_long_content: bool,
+) -> Result<Actors, Cause>
+    ensures { (r : plain.Repository) (order : orders.CommitCommand)
+        → IsActor author order.author → IsActor committer order.committer
+        → Keeps max_content message.now order.message
+        → has_long_content ≡ list_any is_long (contents_in (Commit order))
+        → first_among path_causes r (Commit order) ≡ None
+        → AreActors r order result }
+{
+    let times = read_times(&author, &committer, message, has_long_content)?;
+    let author = actor_at(author, times.author).ok_or(Cause::BadActor)?;
+    let committer = actor_at(committer, times.committer).ok_or(Cause::BadActor)?;
+    Ok(Actors { author, committer })
 }
 
 /// The move of a name from one id to another, of which its log tells with this actor and message.
@@ -99,7 +179,7 @@ fn moves_to(
 
 impl<F: Files> Repository<F> {
     /// An object of this content, where that is within the limit.
-    fn new_object(&self, kind: ObjectKind, content: Vec<u8>) -> Result<NewObject, Cause>
+    fn new_object(&self, kind: gix_object::Kind, content: Vec<u8>) -> Result<NewObject, Cause>
         ensures { MatchResult result
             (λ made. IsMade (kind_of_objects self.now.objects) kind content.items made
             × (length content.items ≤ max_content))
@@ -111,6 +191,77 @@ impl<F: Files> Repository<F> {
         Ok(NewObject::new(self.objects.kind(), kind, content))
     }
 
+    /// The object of the commit that says this, where its content is within the limit.
+    fn commit_object(
+        &self,
+        alloc: Global,
+        tree: ObjectId,
+        parents: Vec<ObjectId>,
+        actors: Actors,
+        message: Vec<u8>,
+    ) -> Result<NewObject, Stopped>
+        ensures { (value : CommitValue)
+            → Says (kind_of_objects self.now.objects) tree parents.items actors message.items value
+            → MakesCommit (kind_of_objects self.now.objects) value result }
+    {
+        let commit = plain_commit(
+            alloc,
+            tree,
+            parents,
+            actors.author,
+            actors.committer,
+            message,
+        );
+        // Its ids are of the kind of the store, so it can be spelled.
+        let content = commit_bytes(alloc, &commit)?.ok_or(Fault::File)?;
+        Ok(self.new_object(gix_object::Kind::Commit, content)?)
+    }
+
+    /// The object of a commit with this root and message on its base, and how its name moves to it.
+    fn committed(
+        &self,
+        alloc: Global,
+        base: Base,
+        root: ObjectId,
+        actors: Actors,
+        message: Vec<u8>,
+    ) -> Result<Committed, Stopped>
+        ensures { (r : plain.Repository) (order : orders.CommitCommand)
+            → Serves F.is_honest F.history self.now r → IsBase r order base
+            → id_of root ≡ folder_id r.kind (new_commit r order).files
+            → HasActors r order actors → message.items ≡ order.message
+            → Commits r order result }
+    {
+        let title = Vec::from_slice(alloc, title(&message))?;
+        let log_actor = actors.committer.try_clone()?;
+        let object = self.commit_object(alloc, root, base.parents, actors, message)?;
+        let before = base.held.unwrap_or(ObjectId::null(self.objects.kind()));
+        let moves = moves_to(base.name, before, object.id, log_actor, title);
+        Ok(Committed { object, moves })
+    }
+
+    /// What edits put, and what they make of the first parent's files, where no cause holds that their paths tell.
+    fn new_files(
+        &self,
+        alloc: Global,
+        parents: &[ObjectId],
+        edits: Vec<Edit>,
+    ) -> Result<NewFiles, Stopped>
+        ensures { (r : plain.Repository) (order : orders.CommitCommand)
+            → AskedFiles F.is_honest F.history self.now parents.now edits.items r order
+            → MatchResult result (AreNewFiles r order) (IsUnplanned F.reading_may_fail r order) }
+    {
+        test_paths(&edits)?;
+        let has_long_content = have_long_content(&edits);
+        let changes = read_edits(alloc, self.objects.kind(), edits)?;
+        let edited = self.edited(alloc, parents, &changes.made)?;
+        Ok(NewFiles {
+            blobs: changes.blobs,
+            edited,
+            has_long_content,
+        })
+    }
+
     /// Tests every cause, and makes all that is to be stored. It changes nothing.
     pub(crate) fn plan(&self, alloc: Global, command: CommitCommand) -> Result<Plan, Stopped>
         ensures { (r : plain.Repository) (order : orders.CommitCommand)
@@ -118,32 +269,21 @@ impl<F: Files> Repository<F> {
             → Plans F.reading_may_fail r order result }
     {
         let base = self.base(alloc, &command)?;
-        test_paths(&command.edits)?;
-        let is_long = have_long_content(&command.edits);
-        let changes = read_edits(alloc, self.objects.kind(), command.edits)?;
-        let edited = self.edited(alloc, &base.parents, &changes.made)?;
-        let times = read_times(
-            &command.author,
-            &command.committer,
+        let files = self.new_files(alloc, &base.parents, command.edits)?;
+        let actors = read_actors(
+            command.author,
+            command.committer,
             &command.message,
-            is_long,
+            files.has_long_content,
         )?;
-        let edited = edited.ok_or(Fault::IdTaken)?;
-        let mut objects = changes.blobs;
-        add_trees(&mut objects, edited.trees)?;
-
-        let author = actor_at(command.author, times.author).ok_or(Cause::BadActor)?;
-        let committer = actor_at(command.committer, times.committer).ok_or(Cause::BadActor)?;
+        let below = files.into_objects()?;
         let message = into_kept(command.message);
-        let title = Vec::from_slice(alloc, title(&message))?;
-        let log_actor = committer.try_clone()?;
-        let commit = plain_commit(alloc, edited.root, base.parents, author, committer, message);
-        // Its ids are of the kind of the store, so it can be spelled.
-        let content = commit_bytes(alloc, &commit)?.ok_or(Fault::File)?;
-        let commit = self.new_object(ObjectKind::Commit, content)?;
-        let before = base.held.unwrap_or(ObjectId::null(self.objects.kind()));
-        let moves = moves_to(base.name, before, commit.id, log_actor, title);
-        objects.push(commit)?;
-        Ok(Plan { objects, moves })
+        let committed = self.committed(alloc, base, below.root, actors, message)?;
+        let mut objects = below.objects;
+        objects.push(committed.object)?;
+        Ok(Plan {
+            objects,
+            moves: committed.moves,
+        })
     }
 }

@@ -22,7 +22,7 @@ use gix_object::lines::{Actor, write_time};
 use gix_ref_file::Files;
 use history_files::Found;
 use history_model::{Cause, FileKind};
-use history_store::{ObjectKind, hex_digits};
+use history_store::hex_digits;
 use history_word::{Field, Show};
 use std::alloc::{AllocError, Global};
 
@@ -167,7 +167,7 @@ impl<F: Files> Repository<F> {
             → Gives F.reading_may_fail (λ text. text.items
             ≡ reply_text (ShowsContent (shown_content kind id.now bytes))) result }
     {
-        let content = self.content(alloc, ObjectKind::Blob, id)?;
+        let content = self.content(alloc, gix_object::Kind::Blob, id)?;
         Ok(content_text(alloc, kind, id, &content)?)
     }
 

@@ -16,7 +16,7 @@ use gix_object::Commit;
 use gix_ref_file::Files;
 use history_files::{File, Found, entry_at, files};
 use history_model::Fault;
-use history_store::{ObjectKind, parse_commit};
+use history_store::parse_commit;
 use std::alloc::Global;
 
 // In a whole repository each id that is read names an object of its kind, so only a failed call leads to `fault File`.
@@ -29,7 +29,7 @@ impl<F: Files> Repository<F> {
     pub(crate) fn content(
         &self,
         alloc: Global,
-        kind: ObjectKind,
+        kind: gix_object::Kind,
         id: &ObjectId,
     ) -> Result<Vec<u8>, Stopped>
         ensures { (r : plain.Repository) (value : Value) → Stands F.is_honest F.history self.now r
@@ -49,7 +49,7 @@ impl<F: Files> Repository<F> {
             → get r.objects (id_of id.now) ≡ Some (StoredCommit value)
             → Gives F.reading_may_fail (λ commit. IsCommitOf r.kind commit value) result }
     {
-        let content = self.content(alloc, ObjectKind::Commit, id)?;
+        let content = self.content(alloc, gix_object::Kind::Commit, id)?;
         Ok(parse_commit(alloc, self.objects.kind(), &content)?.ok_or(Fault::File)?)
     }
 
