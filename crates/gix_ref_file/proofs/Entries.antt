@@ -1,6 +1,6 @@
 -- The entries of a map against the tree that they stand for.
 use Rattle.std.proofs.Common.{◌≡◌, ℕ, Bool, true, false, cond, not, ◌&&◌, ◌||◌, T, map, filter_map, List, [], ◌∷◌, Option, Some, None, Vec, refl, sym, ◌∙◌, ap, subst}
-use Rattle.std.specs.Prelude.{option_map, option_copied, is_some, IsSome}
+use Rattle.std.specs.Prelude.{option_map, option_copied, is_some, IsSome, IfSome}
 use Rattle.std.specs.Borrow.{Bor}
 use Rattle.std.specs.Ordering.{is_eq, is_lt, eq_by_cmp, match_ordering}
 use Rattle.std.specs.declared.alloc.Global.{Global}
@@ -111,6 +111,15 @@ module _ (es fs : List (Key × Entry)) (path : List ℕ) (is : fs ≡ remove_ent
 pub option_map-copied : (o : Option (Bor Entry)) → option_map (λ entry. node_of entry.now) o ≡ option_map node_of (option_copied o)
 option_map-copied None = refl
 option_map-copied (Some entry) = refl
+
+-- what is taken out, with its path
+pub option_map-second : (o : Option (Key × Entry)) → option_map (λ e. node_of e.1) o ≡ option_map node_of (option_map (λ e. e.1) o)
+option_map-second None = refl
+option_map-second (Some e) = refl
+
+pub key_taken : (path : List ℕ) (o : Option (Key × Entry)) → IfSome o (λ e. path_cmp path e.0.items ≡ Equal) → IfSome o (λ e. e.0.items ≡ path)
+key_taken path None same = tt
+key_taken path (Some e) same = sym (one_path path e.0.items (ap is_eq same))
 
 pub tree_of_none : (es : List (Key × Entry)) → es ≡ [] → tree_of es ≡ empty
 tree_of_none es none = ap tree_of none ∙ same_tree _ _ (λ q. get-from_sorted path_cmp [] q tt ∙ sym (get-empty path_cmp q))

@@ -5,7 +5,7 @@ use Rattle.std.specs.Cmp.{eq_by_cmp_equiv}
 use Rattle.std.specs.Cmp.Lexicographic.{nat_list_cmp_total}
 use Rattle.std.specs.FinMap.{insert, remove, get}
 use Rattle.std.proofs.lemmas.List.{take_at}
-use Rattle.gix_ref_file.specs.Tree.{Tree, Node, file, folder, same_path, node_at, bytes_of, bytes_at}
+use Rattle.gix_ref_file.specs.Tree.{Tree, Node, file, folder, same_path, node_at, bytes_of, bytes_at, is_path, is_folder}
 use Rattle.gix_ref_file.specs.Changes.{may_hold_file, is_file_at}
 use Rattle.gix_ref_file.proofs.Trees.{same_tree, one_path, get_inserted, get-inserted, get-removed}
 use Rattle.gix_ref_file.specs.Nodes.{with_node}
@@ -68,6 +68,19 @@ file_there (Some folder) there = cc
 pub node_at_file : (t : Tree) (p : List ℕ) → IsTrue (is_file_at t p) → node_at t p ≡ get t p
 node_at_file t [] there = cc
 node_at_file t (b ∷ p) there = refl
+
+pub file_stands : (t : Tree) (p : List ℕ) → IsTrue (is_file_at t p) → IsSome (get t p)
+file_stands t [] there = cc
+file_stands t (b ∷ p) there = some_of_file (get t (b ∷ p)) there
+
+-- ---- a folder that is there, and isn't the root
+some_of_folder : (o : Option Node) → IsTrue (is_folder o) → IsSome o
+some_of_folder None there = cc
+some_of_folder (Some n) there = refl
+
+pub folder_stands : (t : Tree) (p : List ℕ) → IsTrue (is_path p) → IsTrue (is_folder (node_at t p)) → IsSome (get t p)
+folder_stands t [] is_one there = cc
+folder_stands t (b ∷ p) is_one there = some_of_folder (get t (b ∷ p)) there
 
 -- ---- an append, by way of an empty file
 pub append_done : (t t1 t2 : Tree) (p stored new : List ℕ) (empty : Node) → Some (file stored) ≡ get t p → (IsSome (get t p) → t1 ≡ insert t p empty) → (IsSome (get t1 p) → t2 ≡ insert t1 p (file new)) → t2 ≡ insert t p (file new)

@@ -4,7 +4,8 @@ use Rattle.std.specs.Prelude.{IsTrue, IsFalse, IsSome, is_some, is_none, unwrap_
 use Rattle.std.specs.List.{list_any, AllByRecursion}
 use Rattle.std.specs.FinMap.{insert, remove, get, keys, contains_key-keys}
 use Rattle.gix_ref_file.specs.declared.files.FileError.{FileError}
-use Rattle.gix_ref_file.specs.Tree.{Tree, Node, file, folder, same_path, is_path, parent, node_at, bytes_of, bytes_at, is_folder, IsRooted}
+use Rattle.gix_ref_file.specs.declared.files.Place.TheVariants as place
+use Rattle.gix_ref_file.specs.Tree.{Tree, Node, file, folder, same_path, is_path, parent, node_at, place_of, bytes_of, bytes_at, is_folder, IsRooted}
 use Rattle.gix_ref_file.specs.Changes.{Change, to_create, to_write, to_append, to_rename, to_remove_file, to_make_folder, to_remove_folder, may_hold_file, is_file_at, is_empty_at, allows, after, cut, MayLeave}
 use Rattle.gix_ref_file.specs.History.{History, trees, Adds, Makes}
 use Rattle.gix_ref_file.proofs.Trees.{one_path, same_path_itself, get-inserted, get-removed, no_folder, room_after_remove, folders_stay}
@@ -64,6 +65,19 @@ not_same t p q is isnt = by_case (same_path q p) refl
     by_case : (same : Bool) → same_path q p ≡ same → IsFalse (same_path q p)
     by_case false apart = apart
     by_case true same = absurd (cc (sym is ∙ ap (λ x. is_folder (node_at t x)) (one_path q p same), isnt))
+
+-- where a file stands, one may
+pub file_room : (t : Tree) (p : List ℕ) (len : ℕ) → IsRooted t → place_of (node_at t p) ≡ place.File len → IsTrue (may_hold_file t p)
+file_room t [] len rooted is = absurd (cc is)
+file_room t (b ∷ p) len rooted is =
+    let found = a_file (get t (b ∷ p)) is in
+    let stands = rooted (b ∷ p) found.0 in
+    λ i. stands.0 i && stands.1 i && not (found.1 i)
+  where
+    a_file : (o : Option Node) → place_of o ≡ place.File len → IsSome o × IsFalse (is_folder o)
+    a_file None is = absurd (cc is)
+    a_file (Some (file bytes)) is = (refl, refl)
+    a_file (Some folder) is = absurd (cc is)
 
 pub rooted_remove_file : (t : Tree) (p : List ℕ) → IsRooted t → IsTrue (is_file_at t p) → IsRooted (remove t p)
 rooted_remove_file t p rooted is_file q there =

@@ -58,10 +58,15 @@ impl MemoryFiles {
         is_path(path) && self.place(parent(path)) == Place::Folder
     }
 
+    // Where a file stands in a tree that is rooted, its path is one, in a folder.
     fn may_hold_file(&self, path: &[u8]) -> bool
-        ensures { result ≡ may_hold_file self.now.nodes path.now }
+        ensures { IsRooted self.now.nodes → result ≡ may_hold_file self.now.nodes path.now }
     {
-        self.is_in_folder(path) && self.place(path) != Place::Folder
+        match self.place(path) {
+            Place::File(_) => true,
+            Place::Folder => false,
+            Place::Absent => self.is_in_folder(path),
+        }
     }
 
     fn file(&self, path: &[u8]) -> Option<&Vec<u8>>
@@ -126,7 +131,7 @@ impl Files for MemoryFiles {
         if self.place(path) != Place::Absent {
             return Ok(false);
         }
-        if !self.may_hold_file(path) {
+        if !self.is_in_folder(path) {
             return Err(FileError::Failed);
         }
         self.put(alloc, path, Entry::File(Vec::new(alloc)))?;
@@ -142,12 +147,12 @@ impl Files for MemoryFiles {
     }
 
     fn append(&mut self, alloc: Global, path: &[u8], bytes: &[u8]) -> Result<(), FileError> {
-        if !self.is_in_folder(path) {
-            return Err(FileError::Failed);
-        }
         match self.place(path) {
             Place::File(_) => Ok(self.lengthen(alloc, path, bytes)?),
             Place::Absent => {
+                if !self.is_in_folder(path) {
+                    return Err(FileError::Failed);
+                }
                 let entry = Entry::File(bytes.to_vec(alloc)?);
                 Ok(self.put(alloc, path, entry)?)
             }
@@ -169,11 +174,11 @@ impl Files for MemoryFiles {
         if self.file(path).is_none() {
             return Err(FileError::Failed);
         }
-        Ok(self.take(alloc, path)?)
+        Ok(self.take(path)?)
     }
 
     fn make_folder(&mut self, alloc: Global, path: &[u8]) -> Result<(), FileError> {
-        if self.place(path) != Place::Absent || !self.may_hold_file(path) {
+        if self.place(path) != Place::Absent || !self.is_in_folder(path) {
             return Err(FileError::Failed);
         }
         Ok(self.put(alloc, path, Entry::Folder)?)
@@ -186,7 +191,7 @@ impl Files for MemoryFiles {
         {
             return Err(FileError::Failed);
         }
-        Ok(self.take(alloc, path)?)
+        Ok(self.take(path)?)
     }
 
     ghost rooted = { λ files honest. honest };

@@ -1,5 +1,5 @@
 //! A map from paths to what stands there.
-ghost use Rattle.std.specs.Prelude.{◌≡◌, ◌++◌, [], length, map as list_map, filter_map, option_map, unwrap_or, Some, IsSome, IsFalse, IfOk, OnOk, OnErr, IfNone};
+ghost use Rattle.std.specs.Prelude.{◌≡◌, ◌++◌, [], length, map as list_map, filter_map, option_map, unwrap_or, Some, IsSome, IsFalse, IfOk, OnOk, OnErr, IfSome, IfNone};
 ghost use Rattle.std.specs.List.{list_any};
 ghost use Rattle.std.specs.FinMap as map;
 ghost use Rattle.gix_ref_file.specs.Tree.{file, bytes_of, same_path, parent, name_in};
@@ -81,11 +81,14 @@ impl Nodes {
         Ok(self.entries.insert(path, entry)?)
     }
 
-    pub fn remove(&mut self, path: &[u8]) -> Option<Entry>
-        ensures before { option_map node_of result ≡ map.get self.old path.now }
+    /// Takes out what stands at a path, and answers it with its path.
+    pub fn remove(&mut self, path: &[u8]) -> Option<(Vec<u8>, Entry)>
+        ensures path { IfSome result (λ taken. taken.0.items ≡ path.now) }
+        ensures before { option_map (λ taken. node_of taken.1) result
+            ≡ map.get self.old path.now }
         ensures removed { self.new ≡ map.remove self.old path.now }
     {
-        self.entries.remove(path)
+        self.entries.remove_entry(path)
     }
 
     /// Puts an entry in the place of the one that stands there, and answers that one.
@@ -99,16 +102,17 @@ impl Nodes {
         Some(mem::replace(slot, entry))
     }
 
-    /// Moves what stands at one path to another, and answers what stood there.
+    /// Moves what stands at one path to another, and answers the old path and what stood at the new one.
     pub fn rename(
         &mut self,
         alloc: Global,
         from: &[u8],
         to: &[u8],
-    ) -> Result<Option<Entry>, AllocError>
+    ) -> Result<(Vec<u8>, Option<Entry>), AllocError>
         requires there { IsSome (map.get self.old from.now) }
         requires apart { IsFalse (same_path from.now to.now) }
-        ensures before { IfOk result (λ before. option_map node_of before
+        ensures path { IfOk result (λ moved. moved.0.items ≡ from.now) }
+        ensures before { IfOk result (λ moved. option_map node_of moved.1
             ≡ map.get self.old to.now) }
         ensures ok { OnOk result (self.new
             ≡ with_node (map.remove self.old from.now) to.now (map.get self.old from.now)) }
@@ -116,11 +120,11 @@ impl Nodes {
     {
         // With this place made nothing fails any more.
         let before = self.insert(to.to_vec(alloc)?, Entry::Folder)?;
-        let Some(moved) = self.remove(from) else {
+        let Some((old_path, moved)) = self.remove(from) else {
             unreachable!()
         };
         let _ = self.replace(to, moved);
-        Ok(before)
+        Ok((old_path, before))
     }
 
     /// Puts bytes behind those of a file, and answers how many stood there.

@@ -1,8 +1,8 @@
 //! The changes of a tree in memory, each with a record of how to undo it. All room is made before anything changes.
-ghost use Rattle.std.specs.Prelude.{◌≡◌, OnOk, OnErr, IsTrue, IsFalse};
+ghost use Rattle.std.specs.Prelude.{◌≡◌, IsSome, OnOk, OnErr, IsTrue, IsFalse};
 ghost use Rattle.std.specs.FinMap as map;
 ghost use Rattle.gix_ref_file.specs.Tree.{same_path};
-ghost use Rattle.gix_ref_file.specs.Changes.{may_hold_file, is_file_at, after, to_rename, to_append};
+ghost use Rattle.gix_ref_file.specs.Changes.{is_file_at, after, to_rename, to_append};
 ghost use Rattle.gix_ref_file.specs.History.{Steps};
 ghost use Rattle.gix_ref_file.specs.Nodes.{node_of};
 ghost use Rattle.gix_ref_file.specs.Past.{history_of};
@@ -48,32 +48,34 @@ impl MemoryFiles {
     }
 
     // Takes away what stands at a path.
-    pub fn take(&mut self, alloc: Global, path: &[u8]) -> Result<(), AllocError>
+    pub fn take(&mut self, path: &[u8]) -> Result<(), AllocError>
+        requires { IsSome (map.get self.old.nodes path.now) }
         ensures ok { OnOk result (Steps (history_of self.old) (history_of self.new)
             (map.remove self.old.nodes path.now)) }
         ensures err { OnErr result (history_of self.new ≡ history_of self.old) }
     {
         self.past.reserve(1)?;
-        let kept = path.to_vec(alloc)?;
-        let before = self.nodes.remove(path);
-        self.past
-            .push_reserved(Undo::Restore { path: kept, before });
+        let Some((path, entry)) = self.nodes.remove(path) else {
+            unreachable!()
+        };
+        self.past.push_reserved(Undo::Restore {
+            path,
+            before: Some(entry),
+        });
         Ok(())
     }
 
     // Gives a file another path.
     pub fn move_file(&mut self, alloc: Global, from: &[u8], to: &[u8]) -> Result<(), AllocError>
         requires there { IsTrue (is_file_at self.old.nodes from.now) }
-        requires path { IsTrue (may_hold_file self.old.nodes to.now) }
         requires apart { IsFalse (same_path from.now to.now) }
         ensures ok { OnOk result (Steps (history_of self.old) (history_of self.new)
             (after (to_rename from.now to.now) self.old.nodes)) }
         ensures err { OnErr result (history_of self.new ≡ history_of self.old) }
     {
         self.past.reserve(1)?;
-        let old_path = from.to_vec(alloc)?;
         let new_path = to.to_vec(alloc)?;
-        let replaced = self.nodes.rename(alloc, from, to)?;
+        let (old_path, replaced) = self.nodes.rename(alloc, from, to)?;
         self.past.push_reserved(Undo::Return {
             from: old_path,
             to: new_path,

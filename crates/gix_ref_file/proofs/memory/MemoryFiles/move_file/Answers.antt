@@ -12,13 +12,12 @@ returns-clause-ok c =
     let t = c.args.self.now.nodes in
     let from = c.args.from.now in
     let to = c.args.to.now in
-    let old_path : c.in_ok-old_path.old_path.items ≡ from = search rules in
     let new_path : c.in_ok-new_path.new_path.items ≡ to = search rules in
     let is_file = sym (node_at_file t from c.requires.there) ∙ file_there (node_at t from) c.requires.there in
-    let done = c.in_ok-replaced.ensures.ok ∙ ap (with_node (map.remove t from) to) is_file in
+    let done = c.in_ok-old_path.ensures.ok ∙ ap (with_node (map.remove t from) to) is_file in
     let new = map.insert (map.remove t from) to (file (bytes_at t from)) in
-    let undo = Return c.in_ok-old_path.old_path c.in_ok-new_path.new_path c.in_ok-replaced.replaced in
+    let undo = Return c.in_ok-old_path.old_path c.in_ok-new_path.new_path c.in_ok-old_path.replaced in
     steps _ _ _ _ undo _ done
     (c.push_reserved.ensures.items ∙ ap (λ us. us ++ undo ∷ []) c.reserve.ensures.items)
-    ((λ i. with_node (with_node new (new_path i) (c.in_ok-replaced.ensures.before i)) (old_path i) (map.get new (new_path i)))
+    ((λ i. with_node (with_node new (new_path i) (c.in_ok-old_path.ensures.before i)) (c.in_ok-old_path.ensures.path i) (map.get new (new_path i)))
     ∙ rename_undone t new from to c.requires.apart c.requires.there refl)

@@ -4,7 +4,14 @@ use Rattle.gix_ref_file.specs.Changes.{is_empty_at}
 use Rattle.gix_ref_file.proofs.Rooted.{rooted_made}
 use Rattle.gix_ref_file.proofs.Histories.{makes}
 use Rattle.gix_ref_file.proofs.Places.{folder_place}
+use Rattle.gix_ref_file.proofs.Moved.{folder_stands}
 use Rattle.gix_ref_file.proofs.memory.MemoryFilesFiles.remove_empty_folder.Goals as goal
+
+pub take-requires : goal.take-requires
+take-requires c =
+    let is_one : is_path c.args.path.now ≡ true = search rules in
+    let folder : is_folder (node_at c.args.self.now.nodes c.args.path.now) ≡ true = search rules in
+    folder_stands _ _ is_one folder
 
 pub returns-clause-change : goal.returns-clause-change
 returns-clause-change c honest =
