@@ -1,14 +1,14 @@
 -- The names in a folder ascend.
-use Rattle.std.proofs.Common.{◌≡◌, ℕ, zero, suc, ◌-◌, ◌<◌, Bool, true, false, cond, ◌&&◌, ◌||◌, T, List, [], ◌∷◌, ◌++◌, length, drop, map, filter_map, Some, None, refl, sym, ◌∙◌, ap, subst, arith}
-use Rattle.std.specs.Prelude.{IsTrue, IsFalse, IsSome, ⊤, is_some, nat_le}
-use Rattle.std.specs.List.{AllByRecursion, suffix_len, after_last, cons_option, list_any, list_all, slice_split, onto_first}
+use Rattle.std.proofs.Common.{◌≡◌, ℕ, zero, suc, ◌-◌, ◌<◌, Bool, true, false, cond, ◌&&◌, ◌||◌, T, List, [], ◌∷◌, ◌++◌, length, drop, map, filter_map, Some, None, refl, sym, ◌∙◌, ap, arith}
+use Rattle.std.specs.Prelude.{IsTrue, IsFalse, ⊤, nat_le}
+use Rattle.std.specs.List.{AllByRecursion, suffix_len, after_last, cons_option, list_any}
 use Rattle.std.specs.Ordering.{is_lt}
 use Rattle.std.specs.declared.cmp.Ordering.TheVariants.{Less}
-use Rattle.std.specs.FinMap.{keys, entries, entries_sorted, get, contains_key-keys}
+use Rattle.std.specs.FinMap.{keys, entries, entries_sorted, contains_key-keys}
 use Rattle.std.specs.FinMap.Entries.{below_all, is_sorted}
 use Rattle.std.proofs.Math.ListN.{get_or}
 use Rattle.std.proofs.lemmas.List.{length-take-le}
-use Rattle.gix_ref_file.specs.Tree.{Tree, Node, path_cmp, same_path, is_slash, is_path, is_component, parent, name_in, names_at, node_at, is_folder, IsRooted, IsAscending}
+use Rattle.gix_ref_file.specs.Tree.{Tree, Node, path_cmp, same_path, is_slash, is_path, parent, name_in, names_at, node_at, is_folder, IsRooted, IsAscending}
 use Rattle.gix_ref_file.proofs.Trees.{one_path, same_path_itself}
 use Rattle.gix_ref_file.proofs.Entries.{both_of, from_lt}
 use Rattle.gix_ref_file.proofs.Below.{inside, slash_before, path_in_folder, cmp_behind}

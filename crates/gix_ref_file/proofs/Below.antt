@@ -1,6 +1,5 @@
 -- The paths of a folder: they come together, between `folder/` and `folder0`.
-use Rattle.std.proofs.Common.{◌≡◌, ◌≢◌, ◌⊎◌, inl, inr, ⊎_elim, ℕ, zero, suc, ◌+◌, ◌-◌, ◌<◌, ◌≤◌, Bool, true, false, cond, not, ◌&&◌, T, List, [], ◌∷◌, ◌++◌, length, take, drop, map, filter_map, Option, Some, None, refl, sym, ◌∙◌, ap, subst, arith, length-append, append_assoc, reverse}
-use Rattle.std.specs.Prelude.{IsTrue, IsFalse, nat_lt, ◌==◌}
+use Rattle.std.proofs.Common.{◌≡◌, ◌≢◌, ◌⊎◌, inl, inr, ⊎_elim, ℕ, suc, ◌+◌, ◌-◌, ◌<◌, ◌≤◌, Bool, true, false, cond, not, ◌&&◌, T, List, [], ◌∷◌, ◌++◌, length, take, drop, filter_map, Option, Some, None, refl, sym, ◌∙◌, ap, subst, arith, length-append, append_assoc, reverse}
 use Rattle.std.proofs.lemmas.Map.Views.{any-filter_same}
 use Rattle.std.specs.List.{list_any, suffix_len, prefix_len, filter, after_last, cons_option}
 use Rattle.std.specs.Ordering.{nat_cmp, is_eq, is_lt, is_le, is_gt, ordering_then, ordering_reverse}
@@ -23,8 +22,7 @@ use Rattle.std.specs.Cmp.Lexicographic.{nat_list_cmp_total}
 use Rattle.std.proofs.Math.ListN.{get_or}
 use Rattle.std.proofs.Math.Seq.{split_at}
 use Rattle.std.proofs.lemmas.List.{get_or-reverse, reverse-append, length-reverse, length-take-le}
-use Rattle.std.proofs.lemmas.List.Sums.{prefix_len_stops, prefix_len-le-length}
-use Rattle.std.proofs.lemmas.List.Folds.{prefix_len-append}
+use Rattle.std.proofs.lemmas.List.Sums.{prefix_len_stops}
 use Rattle.gix_ref_file.specs.Tree.{path_cmp, same_path, is_slash, parent, name_in}
 use Rattle.gix_ref_file.proofs.Trees.{one_path, same_path_itself}
 

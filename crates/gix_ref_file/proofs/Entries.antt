@@ -2,18 +2,18 @@
 use Rattle.std.proofs.Common.{◌≡◌, ℕ, Bool, true, false, cond, not, ◌&&◌, ◌||◌, T, map, filter_map, List, [], ◌∷◌, Option, Some, None, Vec, refl, sym, ◌∙◌, ap, subst}
 use Rattle.std.specs.Prelude.{option_map, option_copied, is_some, IsSome, IfSome}
 use Rattle.std.specs.Borrow.{Bor}
-use Rattle.std.specs.Ordering.{is_eq, is_lt, eq_by_cmp, match_ordering}
+use Rattle.std.specs.Ordering.{is_eq, is_lt, match_ordering}
 use Rattle.std.specs.declared.alloc.Global.{Global}
 use Rattle.std.specs.declared.cmp.Ordering.{Ordering}
 use Rattle.std.specs.declared.cmp.Ordering.TheVariants.{Less, Equal, Greater}
 use Rattle.std.specs.Cmp.{eq_by_cmp_equiv}
 use Rattle.std.specs.Cmp.Lexicographic.{nat_list_cmp_total}
-use Rattle.std.specs.FinMap.{entries, keys, insert, remove, get, same_entries_map, entries-from_sorted, entries-insert, get-from_sorted, get-remove, get-empty, empty, from_sorted, find, put, is_sorted}
-use Rattle.std.specs.FinMap.Entries.{by_order, where_key, below_all, is_sorted-put, is_sorted-where_key, find-where_key, find_tied}
+use Rattle.std.specs.FinMap.{keys, insert, remove, get, same_entries_map, entries-from_sorted, entries-insert, get-from_sorted, get-remove, get-empty, empty, find, put, is_sorted}
+use Rattle.std.specs.FinMap.Entries.{by_order, where_key, below_all, is_sorted-put, is_sorted-where_key, find-where_key}
 use Rattle.std.specs.List.{list_any, cons_option}
 use Rattle.std.specs.Map.{keys_of, lookup, remove_entry, set_value}
 use Rattle.std.specs.BTreeMap.{insert_entry}
-use Rattle.gix_ref_file.specs.Tree.{Tree, Node, path_cmp, same_path}
+use Rattle.gix_ref_file.specs.Tree.{Node, path_cmp, same_path}
 use Rattle.gix_ref_file.proofs.Trees.{same_tree, one_path}
 use Rattle.gix_ref_file.specs.declared.nodes.Entry.{Entry}
 use Rattle.gix_ref_file.specs.Nodes.{node_of, nodes_of, tree_of, IsInOrder}

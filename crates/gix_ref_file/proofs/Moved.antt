@@ -1,12 +1,12 @@
 -- The steps of a rename and of an append.
 use Rattle.std.proofs.Common.{◌≡◌, ℕ, Bool, true, false, cond, List, [], ◌∷◌, ◌++◌, length, take, Option, Some, None, refl, sym, ◌∙◌, ap}
-use Rattle.std.specs.Prelude.{IsSome, IsTrue, IsFalse, is_some, unwrap_or}
+use Rattle.std.specs.Prelude.{IsSome, IsTrue, is_some, unwrap_or}
 use Rattle.std.specs.Cmp.{eq_by_cmp_equiv}
 use Rattle.std.specs.Cmp.Lexicographic.{nat_list_cmp_total}
 use Rattle.std.specs.FinMap.{insert, remove, get}
 use Rattle.std.proofs.lemmas.List.{take_at}
 use Rattle.gix_ref_file.specs.Tree.{Tree, Node, file, folder, same_path, node_at, bytes_of, bytes_at, is_path, is_folder}
-use Rattle.gix_ref_file.specs.Changes.{may_hold_file, is_file_at}
+use Rattle.gix_ref_file.specs.Changes.{is_file_at}
 use Rattle.gix_ref_file.proofs.Trees.{same_tree, one_path, get_inserted, get-inserted, get-removed}
 use Rattle.gix_ref_file.specs.Nodes.{with_node}
 use Rattle.gix_ref_file.proofs.Undone.{get-with_node}

@@ -1,10 +1,8 @@
 -- What a change leaves, and what is read after it.
-use Rattle.std.proofs.Common.{◌≡◌, Bool, true, false, cond, ◌||◌, ◌&&◌, List, [], ◌∷◌, ◌++◌, ℕ, Option, Some, None, refl, sym, ◌∙◌, ap}
+use Rattle.std.proofs.Common.{◌≡◌, Bool, true, false, cond, ◌||◌, List, [], ◌∷◌, ◌++◌, ℕ, Some, None, refl, ◌∙◌, ap}
 use Rattle.std.specs.Prelude.{IsTrue, IsFalse, is_some, unwrap_or}
 use Rattle.std.specs.List.{list_any}
 use Rattle.std.specs.FinMap.{insert, remove, get}
-use Rattle.std.specs.Cmp.{eq_by_cmp_equiv}
-use Rattle.std.specs.Cmp.Lexicographic.{nat_list_cmp_total}
 use Rattle.gix_ref_file.specs.Tree.{Tree, Node, file, folder, same_path, node_at, bytes_of, bytes_at}
 use Rattle.gix_ref_file.specs.Changes.{Change, to_create, to_write, to_append, to_rename, to_remove_file, to_make_folder, to_remove_folder, allows, after, paths_of, is_file_at, may_hold_file}
 use Rattle.gix_ref_file.proofs.Trees.{get_inserted, get-inserted, get-removed, bytes_at_inserted, same_path_itself}

@@ -1,8 +1,8 @@
 -- What the tests of the code say.
-use Rattle.std.proofs.Common.{◌≡◌, Bool, true, false, Option, Some, None, refl}
-use Rattle.std.specs.Prelude.{is_none, is_some, option_map}
+use Rattle.std.proofs.Common.{◌≡◌, true, false, Option, Some, None, refl}
+use Rattle.std.specs.Prelude.{is_none, is_some}
 use Rattle.gix_ref_file.specs.Tree.{Node, file, folder, place_of, is_folder}
-use Rattle.gix_ref_file.specs.declared.files.Place.TheVariants.{Absent, File, Folder}
+use Rattle.gix_ref_file.specs.declared.files.Place.TheVariants.{Folder}
 
 pub none_some : (o : Option Node) → true ≡ is_none o → is_some o ≡ false
 none_some None none = refl

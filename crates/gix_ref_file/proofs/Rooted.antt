@@ -1,6 +1,6 @@
 -- Trees in which each path stands in a folder, and how changes keep this.
-use Rattle.std.proofs.Common.{◌≡◌, ◌≢◌, ◌⊎◌, inl, inr, ⊎_elim, ℕ, Bool, true, false, cond, not, ◌&&◌, ◌||◌, List, [], ◌∷◌, ◌++◌, Option, Some, None, take, refl, sym, ◌∙◌, ap, subst}
-use Rattle.std.specs.Prelude.{IsTrue, IsFalse, IsSome, is_some, is_none, unwrap_or, Result, Ok, Err}
+use Rattle.std.proofs.Common.{◌≡◌, ◌⊎◌, inl, inr, ⊎_elim, ℕ, Bool, true, false, cond, not, ◌&&◌, ◌||◌, List, [], ◌∷◌, ◌++◌, Option, Some, None, take, refl, sym, ◌∙◌, ap, subst}
+use Rattle.std.specs.Prelude.{IsTrue, IsFalse, IsSome, is_some, Result}
 use Rattle.std.specs.List.{list_any, AllByRecursion}
 use Rattle.std.specs.FinMap.{insert, remove, get, keys, contains_key-keys}
 use Rattle.gix_ref_file.specs.declared.files.FileError.{FileError}
@@ -8,7 +8,7 @@ use Rattle.gix_ref_file.specs.declared.files.Place.TheVariants as place
 use Rattle.gix_ref_file.specs.Tree.{Tree, Node, file, folder, same_path, is_path, parent, node_at, place_of, bytes_of, bytes_at, is_folder, IsRooted}
 use Rattle.gix_ref_file.specs.Changes.{Change, to_create, to_write, to_append, to_rename, to_remove_file, to_make_folder, to_remove_folder, may_hold_file, is_file_at, is_empty_at, allows, after, cut, MayLeave}
 use Rattle.gix_ref_file.specs.History.{History, trees, Adds, Makes}
-use Rattle.gix_ref_file.proofs.Trees.{one_path, same_path_itself, get-inserted, get-removed, no_folder, room_after_remove, folders_stay}
+use Rattle.gix_ref_file.proofs.Trees.{one_path, get-inserted, get-removed, no_folder, room_after_remove}
 
 pub both : (a b : Bool) → IsTrue (a && b) → IsTrue a × IsTrue b
 both true b h = (refl, h)

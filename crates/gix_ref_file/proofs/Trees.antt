@@ -1,13 +1,13 @@
 -- Laws of trees.
-use Rattle.std.proofs.Common.{◌≡◌, ◌≢◌, inl, inr, ⊎_elim, ℕ, Bool, true, false, cond, not, ◌&&◌, List, [], ◌∷◌, refl, sym, ◌∙◌, ap, subst}
+use Rattle.std.proofs.Common.{◌≡◌, ℕ, Bool, true, false, cond, not, ◌&&◌, List, [], ◌∷◌, refl, sym, ◌∙◌, ap}
 use Rattle.std.specs.Prelude.{IsTrue, IsFalse, Option, None, Some, unwrap_or}
 use Rattle.std.specs.Ordering.{is_eq}
 use Rattle.std.specs.declared.cmp.Ordering.{Ordering}
 use Rattle.std.specs.declared.cmp.Ordering.TheVariants.{Less, Equal, Greater}
-use Rattle.std.specs.Cmp.{IsTotalOrder, eq_by_cmp_equiv}
+use Rattle.std.specs.Cmp.{eq_by_cmp_equiv}
 use Rattle.std.specs.Cmp.Lexicographic.{nat_list_cmp_total}
-use Rattle.std.specs.FinMap.{IsAntisymmetric, slice_cmp-IsAntisymmetric, nat_cmp-IsAntisymmetric, get, insert, remove, get-insert, get-remove, same_map}
-use Rattle.gix_ref_file.specs.Tree.{Tree, Node, file, folder, path_cmp, same_path, is_path, bytes_of, is_folder, node_at, parent, bytes_at}
+use Rattle.std.specs.FinMap.{slice_cmp-IsAntisymmetric, nat_cmp-IsAntisymmetric, get, insert, remove, get-insert, get-remove, same_map}
+use Rattle.gix_ref_file.specs.Tree.{Tree, Node, file, same_path, is_path, bytes_of, is_folder, node_at, parent, bytes_at}
 use Rattle.gix_ref_file.specs.Changes.{may_hold_file}
 
 pub same_tree : (s t : Tree) → ((q : List ℕ) → get s q ≡ get t q) → s ≡ t

@@ -1,10 +1,9 @@
 -- To undo a change gives the tree before it.
-use Rattle.std.proofs.Common.{◌≡◌, inl, inr, ℕ, Bool, true, false, cond, List, [], ◌∷◌, ◌++◌, take, Option, Some, None, refl, sym, ◌∙◌, ap}
-use Rattle.std.specs.Prelude.{option_map}
+use Rattle.std.proofs.Common.{◌≡◌, ℕ, Bool, true, false, cond, List, [], ◌∷◌, ◌++◌, Option, Some, None, refl, sym, ◌∙◌, ap}
 use Rattle.std.specs.FinMap.{insert, remove, get}
 use Rattle.gix_ref_file.specs.Tree.{Tree, Node, same_path}
 use Rattle.gix_ref_file.specs.History.{History, Steps}
-use Rattle.gix_ref_file.proofs.Trees.{same_tree, one_path, same_path_itself, get-inserted, get-removed}
+use Rattle.gix_ref_file.proofs.Trees.{same_tree, one_path, get-inserted, get-removed}
 use Rattle.gix_ref_file.specs.declared.memory.record.Undo.{Undo}
 use Rattle.gix_ref_file.specs.Nodes.{with_node}
 use Rattle.gix_ref_file.specs.Past.{undone, undone_all, trees_before}

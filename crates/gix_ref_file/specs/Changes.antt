@@ -1,8 +1,8 @@
 -- The changes of a tree, and what each leaves.
-use Rattle.std.specs.Prelude.{◌≡◌, ◌⊎◌, ℕ, Bool, ◌&&◌, ◌||◌, not, List, [], ◌∷◌, ◌++◌, take, Option, Some, None, is_some, is_none, if◌then◌else◌, IsTrue}
+use Rattle.std.specs.Prelude.{◌≡◌, ◌⊎◌, ℕ, Bool, ◌&&◌, ◌||◌, not, List, [], ◌∷◌, ◌++◌, take, is_some, is_none, if◌then◌else◌, IsTrue}
 use Rattle.std.specs.List.{list_any}
 use Rattle.std.specs.FinMap.{insert, remove, keys}
-use Rattle.gix_ref_file.specs.Tree.{Tree, Node, file, folder, is_path, same_path, parent, node_at, bytes_of, bytes_at, is_folder}
+use Rattle.gix_ref_file.specs.Tree.{Tree, file, folder, is_path, same_path, parent, node_at, bytes_of, bytes_at, is_folder}
 
 -- a change, with the paths that it names and the bytes that it brings
 pub data Change : Type 0 where

@@ -1,5 +1,5 @@
 -- What the entries of a map stand for.
-use Rattle.std.specs.Prelude.{◌≡◌, ℕ, T, List, [], ◌∷◌, map, Option, Some, None, Vec, refl}
+use Rattle.std.specs.Prelude.{◌≡◌, ℕ, T, List, [], ◌∷◌, Option, Some, None, Vec, refl}
 use Rattle.std.specs.Coded.{Coded, code_by, coded_ℕ, coded_list, coded_option}
 use Rattle.std.specs.FinMap as finite
 use Rattle.std.specs.FinMap.{from_sorted, is_sorted, insert, remove}

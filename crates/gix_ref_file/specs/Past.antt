@@ -1,7 +1,7 @@
 -- The trees that stood before, told by undoing the changes.
-use Rattle.std.specs.Prelude.{ℕ, List, [], ◌∷◌, take, Option, Some, None, option_map}
-use Rattle.std.specs.FinMap.{empty, insert, remove, get}
-use Rattle.gix_ref_file.specs.Tree.{Tree, Node, file, bytes_at}
+use Rattle.std.specs.Prelude.{List, [], ◌∷◌, take, option_map}
+use Rattle.std.specs.FinMap.{empty, insert, get}
+use Rattle.gix_ref_file.specs.Tree.{Tree, file, bytes_at}
 use Rattle.gix_ref_file.specs.History.{History}
 use Rattle.gix_ref_file.specs.Nodes.{node_of, with_node}
 use Rattle.gix_ref_file.specs.declared.memory.MemoryFiles.{MemoryFiles}

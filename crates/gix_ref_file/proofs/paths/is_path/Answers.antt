@@ -1,10 +1,10 @@
-use Rattle.std.proofs.Common.{◌≡◌, ◌∙◌, sym, ◌<◌, ◌≤◌, ap, true, length, ◌&&◌, rules, tests, arith}
-use Rattle.std.specs.Prelude.{nat_le, nat_lt, ◌==◌}
+use Rattle.std.proofs.Common.{◌≡◌, ◌∙◌, sym, ap, true, length, ◌&&◌, rules, tests, arith}
+use Rattle.std.specs.Prelude.{nat_le, ◌==◌}
 use Rattle.std.specs.List.{list_all, slice_split}
 use Rattle.std.proofs.lemmas.Bool.Decides.{nat_tests}
 use Rattle.std.proofs.lemmas.Iterator.Search.{all_from_yields_List}
 use Rattle.std.proofs.lemmas.Iterator.Splits.{YieldsList-from_slice_split}
-use Rattle.gix_ref_file.specs.Tree.{is_slash, is_component, is_path}
+use Rattle.gix_ref_file.specs.Tree.{is_slash, is_component}
 use Rattle.gix_ref_file.proofs.paths.is_path.Goals as goal
 
 pub returns-then-path-le-MAX_PATH : goal.returns-then-path-le-MAX_PATH

@@ -1,7 +1,6 @@
-use Rattle.std.proofs.Common.{◌∙◌, ◌++◌, ◌∷◌, ap, suc, take, drop, length, arith}
+use Rattle.std.proofs.Common.{◌∙◌, ◌++◌, ◌∷◌, ap, suc, take, drop, arith}
 use Rattle.std.proofs.Math.Seq.{split_at}
 use Rattle.std.proofs.lemmas.List.{length-take-le}
-use Rattle.gix_ref_file.proofs.Below.{cmp_behind}
 use Rattle.gix_ref_file.proofs.ranges.behind.Goals as goal
 
 pub returns-in_ok-with_byte-in-Some : goal.returns-in_ok-with_byte-in-Some

@@ -1,4 +1,4 @@
-use Rattle.std.proofs.Common.{◌≡◌, ◌∙◌, ap, refl, sym, Bool, true, false, ◌&&◌, not, ℕ, List, [], ◌++◌, rules}
+use Rattle.std.proofs.Common.{◌≡◌, ◌∙◌, ap, refl, sym, true, false, ◌&&◌, not, ℕ, List, [], ◌++◌, rules}
 use Rattle.std.specs.Prelude.{Option, None, Some, unwrap_or}
 use Rattle.std.specs.FinMap.{insert}
 use Rattle.gix_ref_file.specs.Tree.{Tree, Node, file, folder, node_at, place_of, bytes_of, is_path, is_folder, parent}

@@ -1,4 +1,4 @@
-use Rattle.std.proofs.Common.{◌≡◌, ◌∙◌, ap, sym, true, ◌&&◌, rules}
+use Rattle.std.proofs.Common.{◌≡◌, ◌∙◌, ap, true, ◌&&◌, rules}
 use Rattle.std.specs.Prelude.{is_none}
 use Rattle.gix_ref_file.specs.Tree.{node_at}
 use Rattle.gix_ref_file.specs.Changes.{may_hold_file}

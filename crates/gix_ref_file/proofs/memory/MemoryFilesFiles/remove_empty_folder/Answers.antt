@@ -3,7 +3,6 @@ use Rattle.gix_ref_file.specs.Tree.{is_path, node_at, is_folder}
 use Rattle.gix_ref_file.specs.Changes.{is_empty_at}
 use Rattle.gix_ref_file.proofs.Rooted.{rooted_made}
 use Rattle.gix_ref_file.proofs.Histories.{makes}
-use Rattle.gix_ref_file.proofs.Places.{folder_place}
 use Rattle.gix_ref_file.proofs.Moved.{folder_stands}
 use Rattle.gix_ref_file.proofs.memory.MemoryFilesFiles.remove_empty_folder.Goals as goal
 

@@ -1,4 +1,4 @@
-use Rattle.std.proofs.Common.{◌≡◌, ap, true, rules}
+use Rattle.std.proofs.Common.{◌≡◌, true, rules}
 use Rattle.gix_ref_file.specs.Changes.{is_file_at}
 use Rattle.gix_ref_file.proofs.Rooted.{rooted_made}
 use Rattle.gix_ref_file.proofs.Histories.{makes}

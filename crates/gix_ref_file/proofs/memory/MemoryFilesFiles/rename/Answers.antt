@@ -1,4 +1,4 @@
-use Rattle.std.proofs.Common.{◌≡◌, ◌∙◌, ◌&&◌, true, rules}
+use Rattle.std.proofs.Common.{◌≡◌, ◌&&◌, true, rules}
 use Rattle.gix_ref_file.specs.Tree.{same_path}
 use Rattle.gix_ref_file.specs.Changes.{may_hold_file, is_file_at}
 use Rattle.gix_ref_file.proofs.Rooted.{rooted_made}

@@ -1,4 +1,4 @@
-use Rattle.std.proofs.Common.{◌≡◌, ◌∙◌, ◌++◌, ◌<◌, ◌∷◌, [], sym, ap, length, map, filter_map, Some, None, refl, subst, rules, tests}
+use Rattle.std.proofs.Common.{◌≡◌, ◌∙◌, ◌++◌, ◌∷◌, [], sym, ap, filter_map, subst, rules, tests}
 use Rattle.std.proofs.lemmas.List.{append-nil, map-append}
 use Rattle.std.specs.Prelude.{Vec}
 use Rattle.std.specs.declared.alloc.Global.{Global}
@@ -7,9 +7,9 @@ use Rattle.gix_ref_file.specs.Below.{IsBehind}
 use Rattle.std.specs.Prelude.{map as list_map}
 use Rattle.std.specs.FinMap as finite
 use Rattle.std.specs.List.{filter}
-use Rattle.gix_ref_file.specs.Tree.{name_in, same_path, parent, is_slash}
-use Rattle.gix_ref_file.proofs.Entries.{Key, key_cmp, keys-tree_of, filter_map-entries}
-use Rattle.gix_ref_file.proofs.Below.{Pair, name_here, is_within, forward_first, names_between, listing_step, run_is, less_left, name_listed, name_passed}
+use Rattle.gix_ref_file.specs.Tree.{name_in, is_slash}
+use Rattle.gix_ref_file.proofs.Entries.{Key, keys-tree_of, filter_map-entries}
+use Rattle.gix_ref_file.proofs.Below.{name_here, is_within, forward_first, names_between, listing_step, run_is, less_left, name_listed, name_passed}
 use Rattle.gix_ref_file.proofs.nodes.Nodes.names.Goals.{then-eq+in_ok-to_vec+in_ok-push, else-eq}
 use Rattle.gix_ref_file.proofs.nodes.Nodes.names.Goals as goal
 

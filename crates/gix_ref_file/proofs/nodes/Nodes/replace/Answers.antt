@@ -1,8 +1,6 @@
-use Rattle.std.proofs.Common.{◌≡◌, ◌∙◌, sym, ap}
+use Rattle.std.proofs.Common.{◌∙◌, sym, ap}
 use Rattle.std.specs.Prelude.{option_map, Some, is_some}
 use Rattle.std.specs.FinMap as map
-use Rattle.std.specs.FinMap.{put}
-use Rattle.gix_ref_file.specs.Tree.{path_cmp}
 use Rattle.gix_ref_file.specs.Nodes.{node_of, nodes_of}
 use Rattle.gix_ref_file.proofs.Entries.{get_node, find_node, nodes_of-set_value, is_some_found, put_in_order, tree_put}
 use Rattle.gix_ref_file.proofs.nodes.Nodes.replace.Goals as goal
