@@ -1,7 +1,8 @@
 -- The entries of a map against the tree that they stand for.
 use Rattle.std.proofs.Common.{◌≡◌, ℕ, Bool, true, false, cond, not, ◌&&◌, ◌||◌, T, map, filter_map, List, [], ◌∷◌, Option, Some, None, Vec, refl, sym, ◌∙◌, ap, subst}
 use Rattle.std.specs.Prelude.{option_map, option_copied, is_some, IsSome, IfSome}
-use Rattle.std.specs.Borrow.{Bor}
+use Rattle.std.specs.Borrow.{Bor, MutBor}
+use Rattle.std.specs.Option.{option_copied_mut}
 use Rattle.std.specs.Ordering.{is_eq, is_lt, match_ordering}
 use Rattle.std.specs.declared.alloc.Global.{Global}
 use Rattle.std.specs.declared.cmp.Ordering.{Ordering}
@@ -167,6 +168,28 @@ nodes_of-set_value (e ∷ es) path entry order there = by_case (path_cmp path e.
 
 pub is_some_found : (o : Option Entry) (entry : Entry) (f : Option Node) → o ≡ Some entry → option_map node_of o ≡ f → IsSome f
 is_some_found o entry f is found = ap is_some (sym found ∙ ap (option_map node_of) is)
+
+-- a write at a path where nothing is found writes nothing
+set_value_missing : (es : List (Key × Entry)) (path : List ℕ) (entry : Entry) → lookup (is_path_of path) es ≡ None → set_value (is_path_of path) es entry ≡ es
+set_value_missing [] path entry none = refl
+set_value_missing (e ∷ es) path entry none = by_case (is_path_of path e.0) (set_value_missing es path entry) none
+  where
+    by_case : (b : Bool) → (lookup (is_path_of path) es ≡ None → set_value (is_path_of path) es entry ≡ es)
+        → cond b (Some e.1) (lookup (is_path_of path) es) ≡ None → cond b ((e.0, entry) ∷ es) (e ∷ set_value (is_path_of path) es entry) ≡ e ∷ es
+    by_case true rest none = absurd (cc none)
+    by_case false rest none = ap (λ l. e ∷ l) (rest none)
+
+pub set_in_order : (es fs : List (Key × Entry)) (path : List ℕ) (entry : Entry) → fs ≡ set_value (is_path_of path) es entry → IsInOrder es → IsInOrder fs
+set_in_order es fs path entry is order = by_case (lookup (is_path_of path) es) refl
+  where
+    by_case : (o : Option Entry) → lookup (is_path_of path) es ≡ o → IsInOrder fs
+    by_case None none = subst IsInOrder (sym (is ∙ set_value_missing es path entry none)) order
+    by_case (Some found) at =
+        put_in_order es fs path entry (ap nodes_of is ∙ nodes_of-set_value es path entry order (is_some_found _ found _ at (find_node es path))) order
+
+pub found_lent : (o : Option (MutBor Entry)) (l : Option Entry) (f : Option Node) → IsSome o → option_copied_mut o ≡ l → option_map node_of l ≡ f → IsSome f
+found_lent None l f there copied found = absurd (cc there)
+found_lent (Some r) l f there copied found = is_some_found l r.now f (sym copied) found
 
 -- ---- the keys
 keys_of-nodes_of : (es : List (Key × Entry)) → map (λ n. n.0) (nodes_of es) ≡ map (λ k. k.items) (keys_of es)

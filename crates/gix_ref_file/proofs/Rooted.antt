@@ -4,8 +4,7 @@ use Rattle.std.specs.Prelude.{IsTrue, IsFalse, IsSome, is_some, Result}
 use Rattle.std.specs.List.{list_any, AllByRecursion}
 use Rattle.std.specs.FinMap.{insert, remove, get, keys, contains_key-keys}
 use Rattle.gix_ref_file.specs.declared.files.FileError.{FileError}
-use Rattle.gix_ref_file.specs.declared.files.Place.TheVariants as place
-use Rattle.gix_ref_file.specs.Tree.{Tree, Node, file, folder, same_path, is_path, parent, node_at, place_of, bytes_of, bytes_at, is_folder, IsRooted}
+use Rattle.gix_ref_file.specs.Tree.{Tree, Node, file, folder, same_path, is_path, parent, node_at, bytes_of, bytes_at, is_folder, IsRooted}
 use Rattle.gix_ref_file.specs.Changes.{Change, to_create, to_write, to_append, to_rename, to_remove_file, to_make_folder, to_remove_folder, may_hold_file, is_file_at, is_empty_at, allows, after, cut, MayLeave}
 use Rattle.gix_ref_file.specs.History.{History, trees, Adds, Makes}
 use Rattle.gix_ref_file.proofs.Trees.{one_path, get-inserted, get-removed, no_folder, room_after_remove}
@@ -67,17 +66,24 @@ not_same t p q is isnt = by_case (same_path q p) refl
     by_case true same = absurd (cc (sym is ∙ ap (λ x. is_folder (node_at t x)) (one_path q p same), isnt))
 
 -- where a file stands, one may
-pub file_room : (t : Tree) (p : List ℕ) (len : ℕ) → IsRooted t → place_of (node_at t p) ≡ place.File len → IsTrue (may_hold_file t p)
-file_room t [] len rooted is = absurd (cc is)
-file_room t (b ∷ p) len rooted is =
-    let found = a_file (get t (b ∷ p)) is in
-    let stands = rooted (b ∷ p) found.0 in
-    λ i. stands.0 i && stands.1 i && not (found.1 i)
+pub file_room : (t : Tree) (p : List ℕ) → IsRooted t → IsTrue (is_file_at t p) → IsTrue (may_hold_file t p)
+file_room t [] rooted is_file = absurd (cc is_file)
+file_room t (b ∷ p) rooted is_file =
+    let stands = rooted (b ∷ p) (stands_at (get t (b ∷ p)) is_file) in
+    λ i. stands.0 i && stands.1 i && not (file_no_folder (get t (b ∷ p)) is_file i)
   where
-    a_file : (o : Option Node) → place_of o ≡ place.File len → IsSome o × IsFalse (is_folder o)
-    a_file None is = absurd (cc is)
-    a_file (Some (file bytes)) is = (refl, refl)
-    a_file (Some folder) is = absurd (cc is)
+    stands_at : (o : Option Node) → IsTrue (is_some (bytes_of o)) → IsSome o
+    stands_at None h = absurd (cc h)
+    stands_at (Some n) h = refl
+
+-- the root isn't among the paths that stand
+pub bytes_stand : (t : Tree) (p : List ℕ) → IsRooted t → bytes_of (get t p) ≡ bytes_of (node_at t p)
+bytes_stand t [] rooted = by_case (get t []) refl
+  where
+    by_case : (o : Option Node) → get t [] ≡ o → bytes_of o ≡ None
+    by_case None none = refl
+    by_case (Some n) is = absurd (cc (rooted [] (ap is_some is)).0)
+bytes_stand t (b ∷ p) rooted = refl
 
 pub rooted_remove_file : (t : Tree) (p : List ℕ) → IsRooted t → IsTrue (is_file_at t p) → IsRooted (remove t p)
 rooted_remove_file t p rooted is_file q there =

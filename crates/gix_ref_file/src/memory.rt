@@ -147,17 +147,14 @@ impl Files for MemoryFiles {
     }
 
     fn append(&mut self, alloc: Global, path: &[u8], bytes: &[u8]) -> Result<(), FileError> {
-        match self.place(path) {
-            Place::File(_) => Ok(self.lengthen(alloc, path, bytes)?),
-            Place::Absent => {
-                if !self.is_in_folder(path) {
-                    return Err(FileError::Failed);
-                }
-                let entry = Entry::File(bytes.to_vec(alloc)?);
-                Ok(self.put(alloc, path, entry)?)
-            }
-            Place::Folder => Err(FileError::Failed),
+        if self.lengthen(alloc, path, bytes)? {
+            return Ok(());
         }
+        if !self.may_hold_file(path) {
+            return Err(FileError::Failed);
+        }
+        let entry = Entry::File(bytes.to_vec(alloc)?);
+        Ok(self.put(alloc, path, entry)?)
     }
 
     fn rename(&mut self, alloc: Global, from: &[u8], to: &[u8]) -> Result<(), FileError> {

@@ -1,5 +1,5 @@
 //! A map from paths to what stands there.
-ghost use Rattle.std.specs.Prelude.{◌≡◌, ◌++◌, [], length, map as list_map, filter_map, option_map, unwrap_or, Some, IsSome, IsFalse, IfOk, OnOk, OnErr, IfSome, IfNone};
+ghost use Rattle.std.specs.Prelude.{◌≡◌, ◌++◌, [], length, map as list_map, filter_map, option_map, unwrap_or, Some, is_some, IsSome, IsFalse, IfOk, OnOk, OnErr, IfSome, IfNone};
 ghost use Rattle.std.specs.List.{list_any};
 ghost use Rattle.std.specs.FinMap as map;
 ghost use Rattle.gix_ref_file.specs.Tree.{file, bytes_of, same_path, parent, name_in};
@@ -20,8 +20,14 @@ pub enum Entry {
 }
 
 impl Entry {
-    // Puts bytes behind those of a file, and answers how many stood there.
-    fn append(&mut self, bytes: &[u8]) -> Result<usize, AllocError>
+    pub fn is_file(&self) -> bool
+        ensures { result ≡ is_some (bytes_of (Some (node_of self.now))) }
+    {
+        matches!(self, Entry::File(_))
+    }
+
+    /// Puts bytes behind those of a file, and answers how many stood there.
+    pub fn append(&mut self, bytes: &[u8]) -> Result<usize, AllocError>
         requires { IsSome (bytes_of (Some (node_of self.old))) }
         ensures before { IfOk result (λ len.
             len ≡ length (unwrap_or (bytes_of (Some (node_of self.old))) [])) }
@@ -57,6 +63,11 @@ impl Model for Nodes {
 }
 
 impl Nodes {
+    ghost use Rattle.std.specs.Option.{option_copied_mut};
+    ghost use Rattle.std.specs.Borrow.{LendsIf, sem};
+    ghost use Rattle.gix_ref_file.specs.contracts.nodes.Nodes as nodes_type;
+    ghost use Rattle.gix_ref_file.specs.contracts.nodes.Entry as entry_type;
+
     pub fn new(alloc: Global) -> Self
         ensures { result ≡ map.empty }
     {
@@ -69,6 +80,16 @@ impl Nodes {
         ensures { option_map (λ entry. node_of entry.now) result ≡ map.get self.now path.now }
     {
         self.entries.get(path)
+    }
+
+    /// The entry at a path, to be changed.
+    pub fn get_mut(&mut self, path: &[u8]) -> Option<&mut Entry>
+        ensures* writes_back { sem 𝓛 (LendsIf nodes_type.the_row entry_type.the_row self.entry result
+            (λ entry. map.insert self.old path.now (node_of entry)) self.old) }
+        ensures value { option_map node_of (option_copied_mut result)
+            ≡ map.get self.old path.now }
+    {
+        self.entries.get_mut(path)
     }
 
     /// Puts an entry in, and answers the one that stood there.
@@ -125,22 +146,6 @@ impl Nodes {
         };
         let _ = self.replace(to, moved);
         Ok((old_path, before))
-    }
-
-    /// Puts bytes behind those of a file, and answers how many stood there.
-    pub fn append(&mut self, path: &[u8], bytes: &[u8]) -> Result<usize, AllocError>
-        requires { IsSome (bytes_of (map.get self.old path.now)) }
-        ensures before { IfOk result (λ len.
-            len ≡ length (unwrap_or (bytes_of (map.get self.old path.now)) [])) }
-        ensures ok { OnOk result (self.new
-            ≡ map.insert self.old path.now
-            (file (unwrap_or (bytes_of (map.get self.old path.now)) [] ++ bytes.now))) }
-        ensures err { OnErr result (self.new ≡ self.old) }
-    {
-        let Some(entry) = self.entries.get_mut(path) else {
-            unreachable!()
-        };
-        entry.append(bytes)
     }
 
     /// Whether something stands right in a folder.

@@ -1,7 +1,7 @@
 //! The changes of a tree in memory, each with a record of how to undo it. All room is made before anything changes.
-ghost use Rattle.std.specs.Prelude.{◌≡◌, IsSome, OnOk, OnErr, IsTrue, IsFalse};
+ghost use Rattle.std.specs.Prelude.{◌≡◌, IsSome, IfOk, OnOk, OnErr, IsTrue, IsFalse};
 ghost use Rattle.std.specs.FinMap as map;
-ghost use Rattle.gix_ref_file.specs.Tree.{same_path};
+ghost use Rattle.gix_ref_file.specs.Tree.{same_path, IsRooted};
 ghost use Rattle.gix_ref_file.specs.Changes.{is_file_at, after, to_rename, to_append};
 ghost use Rattle.gix_ref_file.specs.History.{Steps};
 ghost use Rattle.gix_ref_file.specs.Nodes.{node_of};
@@ -84,17 +84,28 @@ impl MemoryFiles {
         Ok(())
     }
 
-    // Puts bytes behind those of a file.
-    pub fn lengthen(&mut self, alloc: Global, path: &[u8], bytes: &[u8]) -> Result<(), AllocError>
-        requires { IsTrue (is_file_at self.old.nodes path.now) }
-        ensures ok { OnOk result (Steps (history_of self.old) (history_of self.new)
+    // Puts bytes behind those of a file, and answers whether one stands there.
+    pub fn lengthen(&mut self, alloc: Global, path: &[u8], bytes: &[u8]) -> Result<bool, AllocError>
+        ensures found { IsRooted self.old.nodes
+            → IfOk result (λ found. found ≡ is_file_at self.old.nodes path.now) }
+        ensures longer { IsRooted self.old.nodes
+            → IfOk result (λ found. IsTrue found
+            → Steps (history_of self.old) (history_of self.new)
             (after (to_append path.now bytes.now) self.old.nodes)) }
+        ensures none { IfOk result (λ found. IsFalse found
+            → history_of self.new ≡ history_of self.old) }
         ensures err { OnErr result (history_of self.new ≡ history_of self.old) }
     {
+        let Some(entry) = self.nodes.get_mut(path) else {
+            return Ok(false);
+        };
+        if !entry.is_file() {
+            return Ok(false);
+        }
         self.past.reserve(1)?;
         let kept = path.to_vec(alloc)?;
-        let len = self.nodes.append(path, bytes)?;
+        let len = entry.append(bytes)?;
         self.past.push_reserved(Undo::Shorten { path: kept, len });
-        Ok(())
+        Ok(true)
     }
 }

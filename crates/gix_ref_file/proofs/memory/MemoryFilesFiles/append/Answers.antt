@@ -1,43 +1,40 @@
-use Rattle.std.proofs.Common.{◌≡◌, ◌∙◌, ap, refl, sym, true, false, ◌&&◌, not, ℕ, List, [], ◌++◌, rules}
-use Rattle.std.specs.Prelude.{Option, None, Some, unwrap_or}
+use Rattle.std.proofs.Common.{◌≡◌, ◌∙◌, ap, refl, sym, subst, true, false, List, ℕ, [], ◌++◌, rules}
+use Rattle.std.specs.Prelude.{Option, None, Some, is_some, unwrap_or, IsTrue}
 use Rattle.std.specs.FinMap.{insert}
-use Rattle.gix_ref_file.specs.Tree.{Tree, Node, file, folder, node_at, place_of, bytes_of, is_path, is_folder, parent}
+use Rattle.gix_ref_file.specs.Tree.{file, node_at, bytes_of, IsRooted}
 use Rattle.gix_ref_file.specs.Changes.{may_hold_file}
-use Rattle.gix_ref_file.specs.declared.files.Place.TheVariants as place
+use Rattle.gix_ref_file.specs.History.{Steps}
+use Rattle.gix_ref_file.specs.Past.{history_of}
 use Rattle.gix_ref_file.proofs.Rooted.{rooted_made, file_room}
 use Rattle.gix_ref_file.proofs.Histories.{makes, steps_to}
 use Rattle.gix_ref_file.proofs.memory.MemoryFilesFiles.append.Goals as goal
 
-may_of : (t : Tree) (path : List ℕ) → (is_path path && is_folder (node_at t (parent path))) ≡ true → is_folder (node_at t path) ≡ false → may_hold_file t path ≡ true
-may_of t path inside none = ap (λ b. b && not (is_folder (node_at t path))) inside ∙ ap not none
+none_of : (o : Option (List ℕ)) → is_some o ≡ false → o ≡ None
+none_of None isnt = refl
+none_of (Some bytes) isnt = absurd (cc isnt)
 
--- where nothing stands, no folder does
-no_folder_at_none : (o : Option Node) → place_of o ≡ place.Absent → is_folder o ≡ false
-no_folder_at_none None is = refl
-no_folder_at_none (Some (file bytes)) is = refl
-no_folder_at_none (Some folder) is = absurd (cc is)
+pub returns-then-branch-clause-change : goal.returns-then-branch-clause-change
+returns-then-branch-clause-change c honest =
+    let found : c.in_ok-lengthen.field-0 ≡ true = search rules in
+    let there = sym (c.in_ok-lengthen.ensures.found honest) ∙ found in
+    makes _ _ _ _ (file_room _ _ honest there) (c.in_ok-lengthen.ensures.longer honest found)
 
-no_bytes : (o : Option Node) → place_of o ≡ place.Absent → bytes_of o ≡ None
-no_bytes None is = refl
-no_bytes (Some (file bytes)) is = absurd (cc is)
-no_bytes (Some folder) is = refl
+pub returns-clause-change : goal.returns-clause-change
+returns-clause-change c honest =
+    let t = c.args.self.now.nodes in
+    let path = c.args.path.now in
+    let missing : c.in_ok-lengthen.field-0 ≡ false = search rules in
+    let absent = none_of (bytes_of (node_at t path)) (sym (c.in_ok-lengthen.ensures.found honest) ∙ missing) in
+    let same = c.in_ok-lengthen.ensures.none missing in
+    let nodes = ap (λ h. h.tree) same in
+    let told : c.may_hold_file.result ≡ true = search rules in
+    let may = subst (λ u. IsTrue (may_hold_file u path)) nodes (sym (c.may_hold_file.ensures (subst IsRooted (sym nodes) honest)) ∙ told) in
+    let copied : c.in_ok-to_vec.field-0.items ≡ c.args.bytes.now = search rules in
+    let put = subst (λ h. Steps h (history_of c.put.new.self) (insert h.tree path (file c.in_ok-to_vec.field-0.items))) same c.in_ok-put.ensures.ok in
+    makes _ _ _ _ may (steps_to _ _ _ _ put (ap (λ bs. insert t path (file bs)) (copied ∙ ap (λ o. unwrap_or o [] ++ c.args.bytes.now) (sym absent))))
 
-pub returns-in_ok-lengthen-in-File-clause-change : goal.returns-in_ok-lengthen-in-File-clause-change
-returns-in_ok-lengthen-in-File-clause-change c honest =
-    let may = file_room c.args.self.now.nodes c.args.path.now _ honest (sym c.place.ensures ∙ c.in-File.is) in
-    makes _ _ _ _ may c.in_ok-lengthen-in-File.ensures.ok
+pub returns-then-branch-clause-honest : goal.returns-then-branch-clause-honest
+returns-then-branch-clause-honest c honest = rooted_made _ _ _ _ (returns-then-branch-clause-change c honest) honest
 
-pub returns-in_ok-put-in-Absent-clause-change : goal.returns-in_ok-put-in-Absent-clause-change
-returns-in_ok-put-in-Absent-clause-change c honest =
-    let inside : (is_path c.args.path.now && is_folder (node_at c.args.self.now.nodes (parent c.args.path.now))) ≡ true = search rules in
-    let absent = sym c.place.ensures ∙ c.in-Absent.is in
-    let may = may_of c.args.self.now.nodes c.args.path.now inside (no_folder_at_none _ absent) in
-    let copied : c.in_ok-to_vec-in-Absent.field-0.items ≡ c.args.bytes.now = search rules in
-    makes _ _ _ _ may (steps_to _ _ _ _ c.in_ok-put-in-Absent.ensures.ok
-    (ap (λ bs. insert c.args.self.now.nodes c.args.path.now (file bs)) (copied ∙ ap (λ o. unwrap_or o [] ++ c.args.bytes.now) (sym (no_bytes _ absent)))))
-
-pub returns-in_ok-lengthen-in-File-clause-honest : goal.returns-in_ok-lengthen-in-File-clause-honest
-returns-in_ok-lengthen-in-File-clause-honest c honest = rooted_made _ _ _ _ (returns-in_ok-lengthen-in-File-clause-change c honest) honest
-
-pub returns-in_ok-put-in-Absent-clause-honest : goal.returns-in_ok-put-in-Absent-clause-honest
-returns-in_ok-put-in-Absent-clause-honest c honest = rooted_made _ _ _ _ (returns-in_ok-put-in-Absent-clause-change c honest) honest
+pub returns-clause-honest : goal.returns-clause-honest
+returns-clause-honest c honest = rooted_made _ _ _ _ (returns-clause-change c honest) honest
