@@ -6,7 +6,7 @@ mod fuse;
 pub mod laws;
 mod memory;
 mod nodes;
-mod paths;
+pub mod paths;
 mod ranges;
 
 pub use files::{FileError, Files, Place};

@@ -16,7 +16,8 @@ pub fn is_path(path: &[u8]) -> bool
             .all(|part| is_component(part))
 }
 
-fn is_component(part: &[u8]) -> bool
+/// Whether these bytes are a component of a path: at least one, not `.` or `..`, and no zero byte among them.
+pub fn is_component(part: &[u8]) -> bool
     ensures { result ≡ is_component part.now }
 {
     !part.is_empty() && part != b".".as_slice() && part != b"..".as_slice() && !part.contains(&0)
