@@ -16,11 +16,12 @@ use Rattle.gix_object_lines.specs.declared.encode.Error.TheVariants.{NewlineInHe
 use Rattle.gix_object_lines.specs.declared.write.Error.TheVariants.{Header}
 use Rattle.gix_object_lines.specs.TimeTest.{tells_time}
 use Rattle.gix_object_lines.proofs.TimeTests.{tells_time-Decides}
-use Rattle.gix_object_commit_lines.specs.Commit.{Person, Field, Parts, IsField, IsEncodingFirst, SpellsCommit}
+use Rattle.gix_object_commit_lines.specs.Commit.{Field, Parts, IsField, IsEncodingFirst, SpellsCommit}
 use Rattle.gix_object_commit.specs.Writable.{IsPlainPerson, IsWritable}
 use Rattle.gix_object_commit.specs.Writing.{holds, is_id_like, is_plain, is_person, is_folded, is_empty, is_word, is_field, is_encoding_first, encoding_cause, unspellable_unless, refused_unless, tree_piece, parent_piece, person_piece, encoding_piece, field_piece, message_piece, commit_refusal}
 use Rattle.gix_object_lines.specs.Pieces.{Piece, first_refused, refused_or}
 use Rattle.gix_object_lines.proofs.HexDigits.{is_id_of_hex}
+use Rattle.gix_object_lines.specs.Person.{Person}
 use Rattle.gix_object_commit.proofs.OwnTexts.{folded_is}
 
 -- ---- a piece that is accepted, before others

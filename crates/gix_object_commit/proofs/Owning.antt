@@ -1,26 +1,18 @@
--- Lists of owned parts, which grow in step with the lists of borrowed ones, and ids' digits that spell none.
+-- Lists of owned parts, which grow in step with the lists of borrowed ones.
 use Rattle.std.proofs.Common.{◌≡◌, ◌∙◌, ap, sym, subst, ℕ, ◌<◌, ◌+◌, zero, suc, inl, inr, List, [], ◌∷◌, ◌++◌, length, map, take, get_or, arith}
-use Rattle.std.specs.Prelude.{◌⊎◌, Any}
+use Rattle.std.specs.Prelude.{◌⊎◌, Any, IsTrue}
 use Rattle.std.specs.List.{AllZip}
 use Rattle.std.proofs.lemmas.List.{map-append, length-map, get_or-map}
 use Rattle.std.proofs.Math.Seq.{take-suc}
-use Rattle.hex.specs.Hex.{hex_digit_value}
-use Rattle.gix_hash_id.specs.Views.{IsFaultOf}
 use Rattle.gix_hash_id.specs.Id.{id_of}
 use Rattle.gix_hash_id.specs.declared.object_id.ObjectId.{ObjectId}
-use Rattle.gix_hash_id.specs.declared.object_id.decode.Error as hex
-use Rattle.gix_hash_id.proofs.Reading.{refused_whole}
-use Rattle.gix_hash_id.proofs.ReadBack.{all_values}
 use Rattle.gix_object_lines.specs.Actor.{TellsTime}
+use Rattle.gix_object_lines.specs.HexLine.{is_id}
 use Rattle.gix_object_lines.specs.declared.decode.Error.{Error}
 use Rattle.gix_object_lines.specs.declared.decode.Error.TheVariants.{HexDigits, InvalidTime, Memory}
+use Rattle.gix_object_lines.proofs.HexDigits.{spells_none}
 use Rattle.gix_object_commit_lines.specs.Commit.{Parts}
 use Rattle.gix_object_commit.specs.Owned.{IsOwnId, SpellsNoId, OwningFault}
-
-pub spells_no_id : (digits text : List ℕ) (fault : hex.Error) → text ≡ digits → IsFaultOf hex_digit_value text fault → SpellsNoId digits
-spells_no_id digits text fault same refused = λ id is.
-    let here = subst (λ t. IsFaultOf hex_digit_value t fault) same refused in
-    all_values hex_digit_value digits id.digits is.spelled (refused_whole hex_digit_value digits id.kind fault is.whole here)
 
 -- what holds of the borrowed part at a place holds of one of them
 pub any_at : {X Y : Type 0} (P : Y → Type 0) (f : X → Y) (xs : List X) (i : ℕ) (d : X) → i < length xs → P (f (get_or xs i d)) → Any P (map f xs)
@@ -57,6 +49,9 @@ told_ids : (texts : List (List ℕ)) (ids : List ObjectId) → AllZip IsOwnId te
 told_ids [] ids all = λ none. absurd (let below = none.2 in omega arith)
 told_ids (text ∷ texts) [] all = absurd all
 told_ids (text ∷ texts) (id ∷ ids) all = λ none. at_place text id texts all.0 (told_ids texts ids all.1) none.0 none.1 none.2 none.3 none.4
+
+pub owning_tree : (parts : Parts) (error : Error) → error ≡ HexDigits → ¬ IsTrue (is_id parts.tree) → OwningFault parts error
+owning_tree parts error digits none = subst (OwningFault parts) (sym digits) (inl (spells_none parts.tree none))
 
 module _ (parts : Parts) (tree : ObjectId) (is : IsOwnId parts.tree tree) (error : Error) where
   pub owning_memory : error ≡ Memory → OwningFault parts error

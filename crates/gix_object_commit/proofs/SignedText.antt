@@ -8,8 +8,9 @@ use Rattle.gix_hash_id.specs.declared.kind.Kind.{Kind}
 use Rattle.gix_hash_id.specs.declared.kind.Kind.TheVariants.{Sha1, Sha256}
 use Rattle.gix_object_lines.specs.Bytes.{without_last_feed}
 use Rattle.gix_object_lines.specs.HexLine.{hex_line}
-use Rattle.gix_object_commit_lines.specs.Commit.{commit_text, field_text, line, actor_line, encoding_text}
-use Rattle.gix_object_commit.specs.OwnedText.{own_digits, own_person, own_field, own_parts, own_parts_with}
+use Rattle.gix_object_lines.specs.Person.{actor_line, own_person}
+use Rattle.gix_object_commit_lines.specs.Commit.{commit_text, field_text, line, encoding_text}
+use Rattle.gix_object_commit.specs.OwnedText.{own_digits, own_field, own_parts, own_parts_with}
 use Rattle.gix_object_commit_lines.specs.Signature.{signature_name}
 use Rattle.gix_object_commit.specs.Signing.{IsSignedBy, IsWithHeaders, is_signature, unsigned, unsigned_text, signature_header}
 use Rattle.gix_object_commit.specs.declared.commit.owned.Commit.{Commit}

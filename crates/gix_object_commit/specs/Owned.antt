@@ -5,23 +5,16 @@ use Rattle.gix_hash_id.specs.Id.{Id, id_of}
 use Rattle.gix_hash_id.specs.Views.{IsHexOfId}
 use Rattle.gix_hash_id.specs.declared.object_id.ObjectId.{ObjectId}
 use Rattle.gix_object_lines.specs.Actor.{TellsTime}
-use Rattle.gix_object_lines.specs.Time.{SpellsTime}
 use Rattle.gix_object_lines.specs.declared.decode.Error.{Error}
 use Rattle.gix_object_lines.specs.declared.decode.Error.TheVariants.{FieldName, HexDigits, LineEnd, InvalidActor, InvalidTime, Memory}
-use Rattle.gix_object_lines.specs.declared.lines.actor.Actor.{Actor}
-use Rattle.gix_object_commit_lines.specs.Commit.{Person, Field, Parts, folded, unfolded}
+use Rattle.gix_object_lines.specs.Person.{IsActorOf}
+use Rattle.gix_object_commit_lines.specs.Commit.{Field, Parts, folded, unfolded}
 use Rattle.gix_object_commit.specs.declared.commit.owned.Commit.{Commit}
 use Rattle.gix_object_commit_lines.specs.declared.header.ExtraHeader.{ExtraHeader}
 
 -- the id that the digits spell
 abbrev pub IsOwnId : List ℕ → ObjectId → Type 0
 IsOwnId digits id = IsHexOfId digits (id_of id)
-
--- the same name and email, and the time that the text tells
-pub record IsActorOf (person : Person) (actor : Actor) : Type 0 where
-  pub name : actor.name ≡ person.name
-  pub email : actor.email ≡ person.email
-  pub time : SpellsTime person.time actor.time
 
 -- the same name, and the value whose folded text stands in the commit
 pub record IsHeaderOf (field : Field) (header : ExtraHeader) : Type 0 where

@@ -3,12 +3,12 @@ use Rattle.std.specs.Prelude.{ℕ, ℤ, Bool, ◌==◌, ◌&&◌, nat_lt, ◌%�
 use Rattle.gix_hash_id.specs.Id.{id_of}
 use Rattle.gix_hash_id.specs.Spelling.{hex_text}
 use Rattle.gix_hash_id.specs.declared.object_id.ObjectId.{ObjectId}
-use Rattle.gix_object_lines.specs.Time.{time_text}
 use Rattle.gix_object_lines.specs.Writes.{Refusal}
 use Rattle.gix_object_lines.specs.declared.lines.actor.Actor.{Actor}
-use Rattle.gix_object_commit_lines.specs.Commit.{Person, Field, Parts, line, actor_line, folded}
+use Rattle.gix_object_commit_lines.specs.Commit.{Field, Parts, line, folded}
 use Rattle.gix_object_commit.specs.Writing.{is_plain, refused_unless, encoding_piece, id_pieces, encoding_pieces, header_pieces, message_pieces}
 use Rattle.gix_object_lines.specs.Pieces.{Piece, first_refused}
+use Rattle.gix_object_lines.specs.Person.{own_person, actor_line}
 use Rattle.gix_object_commit.specs.declared.commit.owned.Commit.{Commit}
 use Rattle.gix_object_commit_lines.specs.declared.header.ExtraHeader.{ExtraHeader}
 
@@ -17,9 +17,6 @@ use Rattle.gix_object_commit_lines.specs.declared.header.ExtraHeader.{ExtraHeade
 -- in lower case
 abbrev pub own_digits : ObjectId → List ℕ
 own_digits id = hex_text (id_of id).digits
-
-abbrev pub own_person : Actor → Person
-own_person actor = record { name = actor.name; email = actor.email; time = time_text actor.time }
 
 abbrev pub own_field : ExtraHeader → Field
 own_field header = record { name = header.name; value = folded header.value }

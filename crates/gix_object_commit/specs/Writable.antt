@@ -2,7 +2,8 @@
 -- "encoding" names one).
 use Rattle.std.specs.Prelude.{◌≢◌, [], Some}
 use Rattle.gix_object_lines.specs.Actor.{IsPlain}
-use Rattle.gix_object_commit_lines.specs.Commit.{Person, Parts}
+use Rattle.gix_object_lines.specs.Person.{Person}
+use Rattle.gix_object_commit_lines.specs.Commit.{Parts}
 
 pub record IsPlainPerson (person : Person) : Type 0 where
   pub name : IsPlain person.name

@@ -4,11 +4,12 @@ use Rattle.std.proofs.lemmas.Grind.{flat_map-append}
 use Rattle.std.proofs.lemmas.List.Elements.{All-nil, All-cons, All-append}
 use Rattle.std.specs.Prelude.{◌⊎◌, codes, flat_map, All, IfSome}
 use Rattle.gix_object_lines.specs.Actor.{IsUncut, IsUntimed}
-use Rattle.gix_object_lines.specs.Bytes.{BeginsWith, Lacks}
+use Rattle.gix_object_lines.specs.Bytes.{IsBeginningOf, Lacks}
 use Rattle.gix_object_lines.specs.HexLine.{hex_line, IsHex, HexLineFault}
 use Rattle.gix_object_lines.specs.declared.decode.Error.{Error}
 use Rattle.gix_object_lines.specs.declared.decode.Error.TheVariants.{InvalidActor, InvalidTime, Memory}
-use Rattle.gix_object_commit_lines.specs.Commit.{Person, Field, line, actor_line, encoding_text, field_text, IsPerson, IsField}
+use Rattle.gix_object_lines.specs.Person.{Person, actor_line}
+use Rattle.gix_object_commit_lines.specs.Commit.{Field, line, encoding_text, field_text, IsPerson, IsField}
 use Rattle.gix_object_commit_lines.specs.Faults.{PersonFault, HeaderFault, IsBehindTree, IsBehindParents, IsPersonLine, IsBehindAuthor, IsBehindCommitter, IsBehindEncoding, ParentFault, HeadersFault, HasTwoParents, HasHeader, ForParents, ForHeaders, CommitFault, InParents, InHeaders, NoMemory}
 use Rattle.gix_object_commit_lines.specs.Reading.{IsUnspaced}
 
@@ -23,7 +24,7 @@ joined text done x after =
     ∙ ap (λ t. t ++ after) (ap (λ t. flat_map text done ++ t) (sym (append-nil (text x))) ∙ sym (flat_map-append text done (x ∷ [])))
 
 -- behind the parents that were read
-pub next_parent : (n : ℕ) (input : List ℕ) (parents : List (List ℕ)) (rest : List ℕ) (error : Error) → All (IsHex n) parents → input ≡ flat_map (hex_line (codes "parent")) parents ++ rest → BeginsWith (codes "parent ") rest
+pub next_parent : (n : ℕ) (input : List ℕ) (parents : List (List ℕ)) (rest : List ℕ) (error : Error) → All (IsHex n) parents → input ≡ flat_map (hex_line (codes "parent")) parents ++ rest → IsBeginningOf (codes "parent ") rest
     → HexLineFault (codes "parent") n rest error → ParentFault n input error
 next_parent n input parents rest error hex spelled begins fault = record { rest = rest; before = record { parents = parents; hex = hex; spelled = spelled }; begins = begins; fault = fault }
 
@@ -68,7 +69,7 @@ module _ (n count : ℕ) (input : List ℕ) (same : count ≡ n) where
   behind_tree digits rest read = record { digits = digits; hex = subst (λ m. IsHex m digits) same read.1; spelled = read.0 }
 
   pub behind_parents : (after : List ℕ) (parents : List (List ℕ)) (rest : List ℕ) → IsBehindTree n input after
-      → (after ≡ flat_map (hex_line (codes "parent")) parents ++ rest) × All (IsHex count) parents × ¬ BeginsWith (codes "parent ") rest → IsBehindParents n input rest
+      → (after ≡ flat_map (hex_line (codes "parent")) parents ++ rest) × All (IsHex count) parents × ¬ IsBeginningOf (codes "parent ") rest → IsBehindParents n input rest
   behind_parents after parents rest tree read =
       record { after_tree = after; tree = tree; parents = record { parents = parents; hex = subst (λ m. All (IsHex m) parents) same read.1; spelled = read.0 }; no_more = read.2 }
 
@@ -87,7 +88,7 @@ module _ (n : ℕ) (input : List ℕ) where
   behind_committer after person rest author read = record { after_author = after; author = author; committer = person_line (codes "committer") after person rest read }
 
   pub behind_encoding : (after : List ℕ) (encoding : Option (List ℕ)) (rest : List ℕ) → IsBehindCommitter n input after
-      → (after ≡ encoding_text encoding ++ rest) × IfSome encoding (Lacks 10) × (encoding ≡ None → ¬ BeginsWith (codes "encoding ") after) → IsBehindEncoding n input rest
+      → (after ≡ encoding_text encoding ++ rest) × IfSome encoding (Lacks 10) × (encoding ≡ None → ¬ IsBeginningOf (codes "encoding ") after) → IsBehindEncoding n input rest
   behind_encoding after encoding rest committer read = record { after_committer = after; committer = committer; encoding = encoding; in_line = read.1; spelled = read.0; untold = read.2 }
 
   pub headers_fault : (after : List ℕ) (error : Error) → IsBehindEncoding n input after → HeadersFault after error ⊎ ((error ≡ Memory) × HasHeader after) → CommitFault n input error

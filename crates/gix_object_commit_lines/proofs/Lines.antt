@@ -10,7 +10,8 @@ use Rattle.gix_object_lines.specs.declared.lines.time.Time.{Time}
 use Rattle.gix_object_lines.proofs.Cuts.{cut_once, lacks_head}
 use Rattle.gix_object_lines.proofs.CutLemmas.{lacks_cons, lacks_both}
 use Rattle.gix_object_lines.proofs.TimeLemmas.{seconds_lack}
-use Rattle.gix_object_commit_lines.specs.Commit.{Person, Field, line, actor_line, field_text, IsPerson, IsField}
+use Rattle.gix_object_lines.specs.Person.{Person, actor_line}
+use Rattle.gix_object_commit_lines.specs.Commit.{Field, line, field_text, IsPerson, IsField}
 use Rattle.gix_object_commit_lines.specs.Reading.{IsUnspaced}
 use Rattle.gix_object_commit_lines.proofs.Progress.{all_head}
 

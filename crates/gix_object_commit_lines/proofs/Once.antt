@@ -2,12 +2,13 @@
 use Rattle.std.proofs.Common.{◌≡◌, ◌∙◌, ap, refl, sym, subst, ℕ, Option, None, Some, List, [], ◌∷◌, ◌++◌, length, take, drop, append_assoc}
 use Rattle.std.specs.Prelude.{codes, flat_map, All, IfSome}
 use Rattle.std.proofs.Math.Seq.{take-append_seam, drop-append_seam}
-use Rattle.gix_object_lines.specs.Bytes.{BeginsWith, Lacks}
+use Rattle.gix_object_lines.specs.Bytes.{IsBeginningOf, Lacks}
 use Rattle.gix_object_lines.specs.Actor.{IsCut}
 use Rattle.gix_object_lines.specs.HexLine.{hex_line, IsHex}
 use Rattle.gix_object_lines.proofs.Cuts.{cut_once}
 use Rattle.gix_object_lines.proofs.ActorLemmas.{one_cut}
-use Rattle.gix_object_commit_lines.specs.Commit.{Person, Field, Parts, line, actor_line, encoding_text, field_text, IsPerson, IsField, SpellsCommit}
+use Rattle.gix_object_lines.specs.Person.{Person, actor_line}
+use Rattle.gix_object_commit_lines.specs.Commit.{Field, Parts, line, encoding_text, field_text, IsPerson, IsField, SpellsCommit}
 use Rattle.gix_object_commit_lines.specs.Reading.{IsUnspaced}
 use Rattle.gix_object_commit_lines.proofs.Folds.{folded_once}
 use Rattle.gix_object_commit_lines.proofs.Lines.{line_shape, hex_shape, behind_same, actor_lacks, person_same, field_same, BeginsMessage, field_no_message, fields_unspaced}
@@ -62,7 +63,7 @@ field_once f g r s ff fg m n e =
     let values = folded_once f.value r g.value s ff.value_folded fg.value_folded m n names.1 in
     (field_same f g names.0 values.0, values.1)
 
-pub encoding_once : (a b : Option (List ℕ)) (r s : List ℕ) → IfSome a (Lacks 10) → IfSome b (Lacks 10) → (a ≡ None → ¬ BeginsWith (codes "encoding ") r) → (b ≡ None → ¬ BeginsWith (codes "encoding ") s)
+pub encoding_once : (a b : Option (List ℕ)) (r s : List ℕ) → IfSome a (Lacks 10) → IfSome b (Lacks 10) → (a ≡ None → ¬ IsBeginningOf (codes "encoding ") r) → (b ≡ None → ¬ IsBeginningOf (codes "encoding ") s)
     → encoding_text a ++ r ≡ encoding_text b ++ s → (a ≡ b) × (r ≡ s)
 encoding_once None None r s la lb na nb e = (refl, e)
 encoding_once None (Some b) r s la lb na nb e = absurd (na refl (b ++ 10 ∷ s, e ∙ line_shape (codes "encoding") b s))
@@ -78,7 +79,7 @@ encoding_once (Some a) (Some b) r s la lb na nb e =
 pub spells_once : (n : ℕ) (input : List ℕ) (a b : Parts) → SpellsCommit n input a → SpellsCommit n input b → a ≡ b
 spells_once n input a b s t =
     let tree = hex_once (codes "tree") a.tree b.tree (after_tree a) (after_tree b) (s.tree.0 ∙ sym t.tree.0) (sym s.spelled ∙ t.spelled) in
-    let parents = run_once (hex_line (codes "parent")) (IsHex n) (λ end. ¬ BeginsWith (codes "parent ") end) (λ _. Unit {0}) (λ xs end fits ends. tt)
+    let parents = run_once (hex_line (codes "parent")) (IsHex n) (λ end. ¬ IsBeginningOf (codes "parent ") end) (λ _. Unit {0}) (λ xs end fits ends. tt)
     (λ x y r q fx fy m k e. hex_once (codes "parent") x y r q (fx.0 ∙ sym fy.0) e)
     (λ x r end fits ends e. ends ((x ++ 10 ∷ []) ++ r, e))
     a.parents b.parents (after_parents a) (after_parents b) s.parents t.parents (no_parent a) (no_parent b) tree.1 in

@@ -3,8 +3,9 @@ use Rattle.std.proofs.Common.{◌≡◌, ◌∙◌, ap, refl, sym, ℕ, List, []
 use Rattle.std.specs.Prelude.{codes, flat_map, All}
 use Rattle.gix_object_lines.specs.HexLine.{hex_line}
 use Rattle.gix_object_lines.proofs.Cuts.{cut_once}
-use Rattle.gix_object_commit_lines.specs.Commit.{Field, Parts, line, actor_line, encoding_text, field_text, commit_text, IsField, IsEncodingFirst}
-use Rattle.gix_object_lines.specs.Bytes.{BeginsWith}
+use Rattle.gix_object_commit_lines.specs.Commit.{Field, Parts, line, encoding_text, field_text, commit_text, IsField, IsEncodingFirst}
+use Rattle.gix_object_lines.specs.Bytes.{IsBeginningOf}
+use Rattle.gix_object_lines.specs.Person.{actor_line}
 use Rattle.gix_object_commit_lines.proofs.Lines.{line_shape}
 use Rattle.gix_object_commit_lines.proofs.Progress.{all_head}
 
@@ -24,11 +25,11 @@ abbrev pub after_tree : Parts → List ℕ
 after_tree parts = flat_map (hex_line (codes "parent")) parts.parents ++ after_parents parts
 
 -- no parent stands where the author does
-pub no_parent : (parts : Parts) → BeginsWith (codes "parent ") (after_parents parts) → ⊥
+pub no_parent : (parts : Parts) → IsBeginningOf (codes "parent ") (after_parents parts) → ⊥
 no_parent parts begins = let heads : ◌≡◌ {A = ℕ} 97 112 = cc (begins.1) in omega arith
 
 -- where the encoding isn't told, no line for it stands
-pub no_encoding : (headers : List Field) (message : List ℕ) → All IsField headers → ¬ IsEncodingFirst headers → BeginsWith (codes "encoding ") (flat_map field_text headers ++ 10 ∷ message) → ⊥
+pub no_encoding : (headers : List Field) (message : List ℕ) → All IsField headers → ¬ IsEncodingFirst headers → IsBeginningOf (codes "encoding ") (flat_map field_text headers ++ 10 ∷ message) → ⊥
 no_encoding [] message fits none begins = let heads : ◌≡◌ {A = ℕ} 10 101 = cc (begins.1) in omega arith
 no_encoding (field ∷ headers) message fits none begins =
     let rest = flat_map field_text headers ++ 10 ∷ message in
@@ -37,7 +38,7 @@ no_encoding (field ∷ headers) message fits none begins =
     none (sym (cut_once 32 (codes "encoding") begins.0 field.name (field.value ++ 10 ∷ rest) refl (all_head IsField field headers fits).name_one_word whole).0)
 
 -- a first header of the encoding's name begins as a line for it
-pub first_begins : (headers : List Field) (end : List ℕ) → IsEncodingFirst headers → BeginsWith (codes "encoding ") (flat_map field_text headers ++ end)
+pub first_begins : (headers : List Field) (end : List ℕ) → IsEncodingFirst headers → IsBeginningOf (codes "encoding ") (flat_map field_text headers ++ end)
 first_begins [] end named = absurd named
 first_begins (field ∷ headers) end named =
     let rest = flat_map field_text headers ++ end in

@@ -6,12 +6,7 @@ use Rattle.std.specs.Prelude.{ℕ, Bool, false, ◌≡◌, ◌≢◌, ◌==◌, 
 use Rattle.gix_object_lines.specs.Bytes.{Lacks}
 use Rattle.gix_object_lines.specs.HexLine.{hex_line, IsHex}
 use Rattle.gix_object_lines.specs.Actor.{SpellsActor}
-
--- who, and when as a text
-pub record Person : Type 0 where
-  pub name : List ℕ
-  pub email : List ℕ
-  pub time : List ℕ
+use Rattle.gix_object_lines.specs.Person.{Person, actor_line}
 
 -- a further header, its value as it stands in the commit
 pub record Field : Type 0 where
@@ -29,9 +24,6 @@ pub record Parts : Type 0 where
   pub message : List ℕ
 
 -- ---- how each part is spelled
-
-abbrev pub actor_line : Person → List ℕ
-actor_line person = person.name ++ codes " <" ++ person.email ++ codes "> " ++ person.time
 
 -- a word, a space, a text and a line feed
 abbrev pub line : List ℕ → List ℕ → List ℕ

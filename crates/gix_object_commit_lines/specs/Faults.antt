@@ -1,11 +1,12 @@
 -- Why bytes are no commit: the first of its parts that they lack.
 use Rattle.std.specs.Prelude.{ℕ, ◌≡◌, ◌≢◌, ◌<◌, ◌⊎◌, List, length, [], ◌∷◌, ◌++◌, codes, flat_map, Option, None, All, IfSome}
 use Rattle.gix_object_lines.specs.Actor.{IsUncut, IsUntimed}
-use Rattle.gix_object_lines.specs.Bytes.{BeginsWith, Lacks}
+use Rattle.gix_object_lines.specs.Bytes.{IsBeginningOf, Lacks}
 use Rattle.gix_object_lines.specs.HexLine.{hex_line, IsHex, HexLineFault}
 use Rattle.gix_object_lines.specs.declared.decode.Error.{Error}
 use Rattle.gix_object_lines.specs.declared.decode.Error.TheVariants.{FieldName, HexDigits, LineEnd, InvalidActor, InvalidTime, Memory}
-use Rattle.gix_object_commit_lines.specs.Commit.{Person, Field, line, actor_line, encoding_text, field_text, IsPerson, IsField, IsFolded}
+use Rattle.gix_object_lines.specs.Person.{Person, actor_line}
+use Rattle.gix_object_commit_lines.specs.Commit.{Field, line, encoding_text, field_text, IsPerson, IsField, IsFolded}
 use Rattle.gix_object_commit_lines.specs.Reading.{IsUnspaced}
 
 -- ---- why a part doesn't begin the input
@@ -62,7 +63,7 @@ pub record IsBehindParents (hex_len : ℕ) (input rest : List ℕ) : Type 0 wher
   pub after_tree : List ℕ
   pub tree : IsBehindTree hex_len input after_tree
   pub parents : AreParents hex_len after_tree rest
-  pub no_more : ¬ BeginsWith (codes "parent ") rest
+  pub no_more : ¬ IsBeginningOf (codes "parent ") rest
 
 pub record IsPersonLine (word input rest : List ℕ) : Type 0 where
   pub person : Person
@@ -85,7 +86,7 @@ pub record IsBehindEncoding (hex_len : ℕ) (input rest : List ℕ) : Type 0 whe
   pub encoding : Option (List ℕ)
   pub in_line : IfSome encoding (Lacks 10)
   pub spelled : after_committer ≡ encoding_text encoding ++ rest
-  pub untold : encoding ≡ None → ¬ BeginsWith (codes "encoding ") after_committer
+  pub untold : encoding ≡ None → ¬ IsBeginningOf (codes "encoding ") after_committer
 
 -- some headers, and perhaps more; no line goes on with the last of them
 pub record AreHeaders (input rest : List ℕ) : Type 0 where
@@ -119,7 +120,7 @@ pub data TakesMemory (hex_len : ℕ) (input : List ℕ) : Type 0 where
 pub record ParentFault (hex_len : ℕ) (input : List ℕ) (error : Error) : Type 0 where
   pub rest : List ℕ
   pub before : AreParents hex_len input rest
-  pub begins : BeginsWith (codes "parent ") rest
+  pub begins : IsBeginningOf (codes "parent ") rest
   pub fault : HexLineFault (codes "parent") hex_len rest error
 
 -- behind some headers stand neither another nor the empty line

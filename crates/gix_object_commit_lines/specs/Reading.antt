@@ -1,7 +1,7 @@
 -- What a part of a commit is told from.
 use Rattle.std.specs.Prelude.{ℕ, List, ◌∷◌, []}
-use Rattle.gix_object_lines.specs.Bytes.{BeginsWith}
+use Rattle.gix_object_lines.specs.Bytes.{IsBeginningOf}
 
 -- no space begins the text, so it goes on with no line before it
 abbrev pub IsUnspaced : List ℕ → Type 0
-IsUnspaced text = ¬ BeginsWith (32 ∷ []) text
+IsUnspaced text = ¬ IsBeginningOf (32 ∷ []) text

@@ -3,7 +3,7 @@
 ghost use Rattle.std.specs.Prelude.{ℕ, List, Option, None, ◌≡◌, ◌++◌, IfOk, IfErr, IfSome, IsOkAnd, codes};
 ghost use Rattle.std.specs.Option.{option_map};
 ghost use Rattle.bstr.specs.BStr.{bstr_bytes};
-ghost use Rattle.gix_object_lines.specs.Bytes.{BeginsWith, Lacks};
+ghost use Rattle.gix_object_lines.specs.Bytes.{IsBeginningOf, Lacks};
 ghost use Rattle.gix_object_commit_lines.specs.Commit.{encoding_text};
 ghost use Rattle.gix_object_commit_lines.specs.Faults.{EncodingFault};
 
@@ -16,9 +16,9 @@ pub fn read_encoding(input: &[u8]) -> Result<(Option<BStr<'_>>, &[u8]), Error>
     ensures read { IfOk result
         (λ read. (input.now ≡ encoding_text (option_map bstr_bytes read.0) ++ read.1.now)
         × IfSome (option_map bstr_bytes read.0) (Lacks 10)
-        × (option_map bstr_bytes read.0 ≡ None → ¬ BeginsWith (codes "encoding ") input.now)) }
+        × (option_map bstr_bytes read.0 ≡ None → ¬ IsBeginningOf (codes "encoding ") input.now)) }
     ensures every { (encoding : Option (List ℕ)) (rest : List ℕ) → IfSome encoding (Lacks 10)
-        → (encoding ≡ None → ¬ BeginsWith (codes "encoding ") rest)
+        → (encoding ≡ None → ¬ IsBeginningOf (codes "encoding ") rest)
         → input.now ≡ encoding_text encoding ++ rest
         → IsOkAnd result (λ read. (option_map bstr_bytes read.0 ≡ encoding) × (read.1.now ≡ rest)) }
     ensures refused { IfErr result (λ error. EncodingFault input.now error) }

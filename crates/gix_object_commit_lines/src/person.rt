@@ -1,9 +1,9 @@
 //! Lines for those who made and committed a change.
 
 ghost use Rattle.std.specs.Prelude.{ℕ, List, ◌≡◌, ◌++◌, IfOk, IfErr, IsOkAnd};
-ghost use Rattle.gix_object_commit_lines.specs.Commit.{Person, line, actor_line, IsPerson};
+ghost use Rattle.gix_object_lines.specs.Person.{Person, actor_line, person_of};
+ghost use Rattle.gix_object_commit_lines.specs.Commit.{line, IsPerson};
 ghost use Rattle.gix_object_commit_lines.specs.Faults.{PersonFault};
-ghost use Rattle.gix_object_commit_lines.specs.Views.{person_of};
 
 use gix_object_lines::cut::{split_once, strip_word};
 use gix_object_lines::decode::Error;

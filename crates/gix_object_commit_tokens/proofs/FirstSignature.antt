@@ -13,10 +13,11 @@ use Rattle.gix_object_lines.specs.HexLine.{hex_line}
 use Rattle.gix_object_lines.specs.declared.lines.actor.ActorRef.{ActorRef}
 use Rattle.gix_object_lines.specs.declared.decode.Error.{Error}
 use Rattle.gix_object_lines.specs.declared.decode.Error.TheVariants.{FieldName}
+use Rattle.gix_object_lines.specs.Person.{actor_line}
 use Rattle.gix_object_commit_tokens.specs.declared.ref_iter.Stage.{Stage}
 use Rattle.gix_object_commit_tokens.specs.declared.ref_iter.Token.{Token}
 use Rattle.gix_object_commit_tokens.specs.declared.ref_iter.Token.TheVariants as token
-use Rattle.gix_object_commit_lines.specs.Commit.{Field, line, actor_line, field_text}
+use Rattle.gix_object_commit_lines.specs.Commit.{Field, line, field_text}
 use Rattle.gix_object_commit_lines.specs.Headers.{is_named}
 use Rattle.gix_object_commit_tokens.specs.ReadingOn.{Reads, Tells, TellsFirst, TellsNone}
 use Rattle.gix_object_commit_lines.specs.Signature.{signature_name}

@@ -10,11 +10,12 @@ use Rattle.gix_object_lines.specs.HexLine.{hex_line, IsHex}
 use Rattle.gix_object_lines.proofs.Cuts.{cut_once}
 use Rattle.gix_object_commit_tokens.specs.declared.ref_iter.Stage.{Stage}
 use Rattle.gix_object_commit_tokens.specs.declared.ref_iter.Stage.TheVariants as at
-use Rattle.gix_object_commit_lines.specs.Commit.{Person, Field, Parts, line, actor_line, encoding_text, field_text, IsPerson, IsField, IsEncodingFirst}
+use Rattle.gix_object_commit_lines.specs.Commit.{Field, Parts, line, encoding_text, field_text, IsPerson, IsField, IsEncodingFirst}
 use Rattle.gix_object_commit_lines.specs.Reading.{IsUnspaced}
 use Rattle.gix_object_commit_tokens.specs.Tokens.{Part, Tree, Parent, Author, Committer, Encoding, Header, Message, IsIdLine, IsPartAt, stage_after}
 use Rattle.gix_object_commit_tokens.specs.Whole.{IsCommit, is_message}
 use Rattle.gix_object_lines.proofs.HexDigits.{id_of_hex}
+use Rattle.gix_object_lines.specs.Person.{Person, actor_line}
 use Rattle.gix_object_commit_lines.proofs.Lines.{line_shape, field_no_message, fields_unspaced}
 use Rattle.gix_object_commit_lines.proofs.Once.{hex_once, person_once, field_once, encoding_once}
 use Rattle.gix_object_commit_lines.proofs.Progress.{all_head, all_tail}

@@ -7,11 +7,11 @@ use Rattle.gix_hash_id.specs.declared.kind.Kind.{Kind}
 use Rattle.gix_hash_id.specs.declared.object_id.ObjectId.{ObjectId}
 use Rattle.gix_object_lines.specs.declared.lines.actor.ActorRef.{ActorRef}
 use Rattle.gix_object_lines.specs.declared.decode.Error.{Error}
+use Rattle.gix_object_lines.specs.Person.{actor_line}
 use Rattle.gix_object_commit_tokens.specs.declared.ref_iter.Stage.{Stage}
 use Rattle.gix_object_commit_tokens.specs.declared.ref_iter.Stage.TheVariants as at
 use Rattle.gix_object_commit_tokens.specs.declared.ref_iter.Token.{Token}
 use Rattle.gix_object_commit_tokens.specs.declared.ref_iter.Token.TheVariants as token
-use Rattle.gix_object_commit_lines.specs.Commit.{actor_line}
 use Rattle.gix_object_commit_tokens.specs.Tokens.{Part, Tree, Parent, Author, Committer, Encoding, Header, Message, IsPartAt, Place, IsNext, LacksPart, GivesToken, part_of, stage_after}
 use Rattle.gix_object_commit_tokens.specs.ReadingOn.{Reads, Tells, TellsNoMore, GivesTold, parent_told, actor_told}
 use Rattle.gix_object_commit_lines.proofs.Lines.{line_shape, hex_shape, field_shorter}

@@ -8,8 +8,9 @@ use Rattle.gix_hash_id.proofs.LawLemmas.{one_reading}
 use Rattle.gix_object_lines.proofs.Cuts.{cut_once}
 use Rattle.gix_object_commit_tokens.specs.declared.ref_iter.Stage.{Stage}
 use Rattle.gix_object_commit_tokens.specs.declared.ref_iter.Stage.TheVariants as at
-use Rattle.gix_object_commit_lines.specs.Commit.{Person, line, actor_line, IsPerson}
-use Rattle.gix_object_lines.specs.Bytes.{BeginsWith}
+use Rattle.gix_object_commit_lines.specs.Commit.{line, IsPerson}
+use Rattle.gix_object_lines.specs.Bytes.{IsBeginningOf}
+use Rattle.gix_object_lines.specs.Person.{Person, actor_line}
 use Rattle.gix_object_commit_tokens.specs.Tokens.{Part, Tree, Parent, Author, Committer, Encoding, Header, Message, IsIdLine, IsPartAt, Place, IsNext, stage_after}
 use Rattle.gix_object_commit_lines.proofs.Lines.{line_shape, hex_shape, behind_same, field_no_message}
 use Rattle.gix_object_commit_lines.proofs.Once.{hex_once, person_once, field_once}
@@ -26,7 +27,7 @@ id_once kind word input a b r s x y =
     let same = hex_once word x.digits y.digits r s (x.hex.0 ∙ sym y.hex.0) (sym x.spelled ∙ y.spelled) in
     (one_id x.digits a b x.id_spelled (subst (λ digits. IsHexOfId digits b) (sym same.0) y.id_spelled), same.1)
 
-begins_parent : (kind : Kind) (input : List ℕ) (id : Id) (rest : List ℕ) → IsIdLine kind (codes "parent") input id rest → BeginsWith (codes "parent ") input
+begins_parent : (kind : Kind) (input : List ℕ) (id : Id) (rest : List ℕ) → IsIdLine kind (codes "parent") input id rest → IsBeginningOf (codes "parent ") input
 begins_parent kind input id rest is = (is.digits ++ 10 ∷ rest, is.spelled ∙ hex_shape (codes "parent") is.digits rest)
 
 module _ (kind : Kind) (input : List ℕ) where
@@ -96,7 +97,7 @@ module _ (kind : Kind) (input : List ℕ) where
   one_header (Committer person) b r s x y = absurd (let e : at.Headers ≡ at.Committer = x.0 in cc)
   one_header (Encoding name) b r s x y = absurd (let e : at.Headers ≡ at.Encoding = x.0 in cc)
 
-  begins_encoding : (name rest : List ℕ) → input ≡ line (codes "encoding") name ++ rest → BeginsWith (codes "encoding ") input
+  begins_encoding : (name rest : List ℕ) → input ≡ line (codes "encoding") name ++ rest → IsBeginningOf (codes "encoding ") input
   begins_encoding name rest is = (name ++ 10 ∷ rest, is ∙ line_shape (codes "encoding") name rest)
 
   one_first : (a b : Part) (r s : List ℕ) → FirstHeader kind input a r → FirstHeader kind input b s → IsSame a r b s

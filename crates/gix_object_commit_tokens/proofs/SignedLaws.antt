@@ -9,13 +9,14 @@ use Rattle.gix_object_lines.specs.Bytes.{Lacks}
 use Rattle.gix_object_lines.specs.HexLine.{hex_line, IsHex}
 use Rattle.gix_object_commit_tokens.specs.declared.ref_iter.Stage.{Stage}
 use Rattle.gix_object_commit_tokens.specs.declared.ref_iter.Stage.TheVariants as at
-use Rattle.gix_object_commit_lines.specs.Commit.{Field, Parts, line, actor_line, encoding_text, field_text, commit_text, IsField, IsEncodingFirst, SpellsCommit}
+use Rattle.gix_object_commit_lines.specs.Commit.{Field, Parts, line, encoding_text, field_text, commit_text, IsField, IsEncodingFirst, SpellsCommit}
 use Rattle.gix_object_commit_lines.specs.Headers.{is_named}
 use Rattle.gix_object_commit_tokens.specs.ReadingOn.{Tells}
 use Rattle.gix_object_commit_lines.specs.Signature.{signature_name}
 use Rattle.gix_object_commit_tokens.specs.SignedCommit.{Cut, FindsSignature, signature_told, with_headers}
 use Rattle.gix_object_commit_tokens.specs.Tokens.{Tree, Parent, Author, Committer, Encoding, Header, Message, Place, start, IsNext}
 use Rattle.gix_object_lines.proofs.HexDigits.{id_of_hex}
+use Rattle.gix_object_lines.specs.Person.{actor_line}
 use Rattle.gix_object_commit_lines.proofs.Lines.{fields_unspaced}
 use Rattle.gix_object_commit_lines.proofs.Progress.{all_head, all_tail}
 use Rattle.gix_object_commit_tokens.proofs.Readings.{tells_start, tells_on, tells_one}

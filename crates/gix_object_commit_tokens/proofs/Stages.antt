@@ -3,7 +3,7 @@ use Rattle.std.proofs.Common.{◌≡◌, ◌∙◌, ap, refl, sym, ℕ, List, []
 use Rattle.std.specs.Prelude.{codes}
 use Rattle.gix_hash_id.specs.declared.kind.Kind.{Kind}
 use Rattle.gix_hash_id.specs.Id.{Id}
-use Rattle.gix_object_lines.specs.Bytes.{BeginsWith, Lacks}
+use Rattle.gix_object_lines.specs.Bytes.{IsBeginningOf, Lacks}
 use Rattle.gix_object_lines.proofs.Cuts.{cut_once}
 use Rattle.gix_object_commit_tokens.specs.declared.ref_iter.Stage.TheVariants as at
 use Rattle.gix_object_commit_lines.specs.Commit.{line}
@@ -21,7 +21,7 @@ module _ (kind : Kind) (input : List ℕ) where
   at_tree (Message message) rest h = absurd (elim h.0 [ inl e ↦ (let f : at.Tree ≡ at.Encoding = e in cc) | inr e ↦ (let f : at.Tree ≡ at.Headers = e in cc) ])
 
   -- a parent, where the input begins as one
-  pub at_parent : (part : Part) (rest : List ℕ) → IsPartAt kind at.Parents input part rest → BeginsWith (codes "parent ") input → (id : Id) × (part ≡ Parent id) × IsIdLine kind (codes "parent") input id rest
+  pub at_parent : (part : Part) (rest : List ℕ) → IsPartAt kind at.Parents input part rest → IsBeginningOf (codes "parent ") input → (id : Id) × (part ≡ Parent id) × IsIdLine kind (codes "parent") input id rest
   at_parent (Tree id) rest h begins = absurd (let e : at.Parents ≡ at.Tree = h.0 in cc)
   at_parent (Parent id) rest h begins = (id, refl, h.1)
   at_parent (Author person) rest h begins = absurd (let heads : ◌≡◌ {A = ℕ} 97 112 = cc (h.2, begins.1) in omega arith)
@@ -41,7 +41,7 @@ module _ (kind : Kind) (input : List ℕ) where
   at_message (Message text) rest message h is = (let same : 10 ∷ text ≡ 10 ∷ message = sym h.1 ∙ is in cc, h.2)
 
   -- a header may stand first where it isn't named as the encoding
-  pub first_from : (part : Part) (rest : List ℕ) → ¬ BeginsWith (codes "encoding ") input → IsPartAt kind at.Headers input part rest → IsPartAt kind at.Encoding input part rest
+  pub first_from : (part : Part) (rest : List ℕ) → ¬ IsBeginningOf (codes "encoding ") input → IsPartAt kind at.Headers input part rest → IsPartAt kind at.Encoding input part rest
   first_from (Tree id) rest none h = absurd (let e : at.Headers ≡ at.Tree = h.0 in cc)
   first_from (Parent id) rest none h = absurd (let e : at.Headers ≡ at.Parents = h.0 in cc)
   first_from (Author person) rest none h = absurd (let e : at.Headers ≡ at.Parents = h.0 in cc)
@@ -50,7 +50,7 @@ module _ (kind : Kind) (input : List ℕ) where
   first_from (Header field) rest none h = (inr (refl, λ named. none (field.value ++ 10 ∷ rest, h.3 ∙ line_shape field.name field.value rest ∙ ap (λ n. n ++ 32 ∷ (field.value ++ 10 ∷ rest)) named)), h.1, h.2, h.3)
   first_from (Message message) rest none h = (inl refl, h.1, h.2)
 
-  pub first_to : (part : Part) (rest : List ℕ) → ¬ BeginsWith (codes "encoding ") input → IsPartAt kind at.Encoding input part rest → IsPartAt kind at.Headers input part rest
+  pub first_to : (part : Part) (rest : List ℕ) → ¬ IsBeginningOf (codes "encoding ") input → IsPartAt kind at.Encoding input part rest → IsPartAt kind at.Headers input part rest
   first_to (Tree id) rest none h = absurd (let e : at.Encoding ≡ at.Tree = h.0 in cc)
   first_to (Parent id) rest none h = absurd (let e : at.Encoding ≡ at.Parents = h.0 in cc)
   first_to (Author person) rest none h = absurd (let e : at.Encoding ≡ at.Parents = h.0 in cc)
@@ -60,7 +60,7 @@ module _ (kind : Kind) (input : List ℕ) where
   first_to (Message message) rest none h = (inr refl, h.1, h.2)
 
   -- the encoding, where its line begins the input
-  pub at_encoding : (part : Part) (rest : List ℕ) → IsPartAt kind at.Encoding input part rest → BeginsWith (codes "encoding ") input → (name : List ℕ) × (part ≡ Encoding name) × Lacks 10 name × (input ≡ line (codes "encoding") name ++ rest)
+  pub at_encoding : (part : Part) (rest : List ℕ) → IsPartAt kind at.Encoding input part rest → IsBeginningOf (codes "encoding ") input → (name : List ℕ) × (part ≡ Encoding name) × Lacks 10 name × (input ≡ line (codes "encoding") name ++ rest)
   at_encoding (Tree id) rest h begins = absurd (let e : at.Encoding ≡ at.Tree = h.0 in cc)
   at_encoding (Parent id) rest h begins = absurd (let e : at.Encoding ≡ at.Parents = h.0 in cc)
   at_encoding (Author person) rest h begins = absurd (let e : at.Encoding ≡ at.Parents = h.0 in cc)
@@ -72,7 +72,7 @@ module _ (kind : Kind) (input : List ℕ) where
 -- at the place of the encoding: an encoding, or what may stand there without one
 pub data FirstHeader (kind : Kind) (input : List ℕ) (part : Part) (rest : List ℕ) : Type 0 where
   Told : (name : List ℕ) → part ≡ Encoding name → Lacks 10 name → input ≡ line (codes "encoding") name ++ rest → FirstHeader kind input part rest
-  Untold : ¬ BeginsWith (codes "encoding ") input → IsPartAt kind at.Headers input part rest → FirstHeader kind input part rest
+  Untold : ¬ IsBeginningOf (codes "encoding ") input → IsPartAt kind at.Headers input part rest → FirstHeader kind input part rest
 
 pub first_header : (kind : Kind) (input : List ℕ) (part : Part) (rest : List ℕ) → IsPartAt kind at.Encoding input part rest → FirstHeader kind input part rest
 first_header kind input (Tree id) rest h = absurd (let e : at.Encoding ≡ at.Tree = h.0 in cc)
@@ -81,13 +81,13 @@ first_header kind input (Author person) rest h = absurd (let e : at.Encoding ≡
 first_header kind input (Committer person) rest h = absurd (let e : at.Encoding ≡ at.Committer = h.0 in cc)
 first_header kind input (Encoding name) rest h = Told name refl h.1 h.2
 first_header kind input (Header field) rest h =
-    let none = λ (begins : BeginsWith (codes "encoding ") input). no_part (at_encoding kind input (Header field) rest h begins) in
+    let none = λ (begins : IsBeginningOf (codes "encoding ") input). no_part (at_encoding kind input (Header field) rest h begins) in
     Untold none (first_to kind input (Header field) rest none h)
   where
     no_part : (name : List ℕ) × (Header field ≡ Encoding name) × Lacks 10 name × (input ≡ line (codes "encoding") name ++ rest) → ⊥
     no_part found = let clash : Header field ≡ Encoding found.0 = found.1 in cc
 first_header kind input (Message message) rest h =
-    let none = λ (begins : BeginsWith (codes "encoding ") input). no_message (at_encoding kind input (Message message) rest h begins) in
+    let none = λ (begins : IsBeginningOf (codes "encoding ") input). no_message (at_encoding kind input (Message message) rest h begins) in
     Untold none (first_to kind input (Message message) rest none h)
   where
     no_message : (name : List ℕ) × (Message message ≡ Encoding name) × Lacks 10 name × (input ≡ line (codes "encoding") name ++ rest) → ⊥

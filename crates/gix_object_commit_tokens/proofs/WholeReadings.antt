@@ -2,8 +2,9 @@
 use Rattle.std.proofs.Common.{◌≡◌, ◌∙◌, ap, refl, sym, subst, ℕ, zero, suc, ◌<◌, Bool, true, false, List, [], ◌∷◌, ◌++◌, length, length-append, arith}
 use Rattle.std.specs.Prelude.{codes}
 use Rattle.gix_hash_id.specs.declared.kind.Kind.{Kind}
+use Rattle.gix_object_lines.specs.Person.{actor_line}
 use Rattle.gix_object_commit_tokens.specs.declared.ref_iter.Stage.{Stage}
-use Rattle.gix_object_commit_lines.specs.Commit.{line, actor_line}
+use Rattle.gix_object_commit_lines.specs.Commit.{line}
 use Rattle.gix_object_commit_tokens.specs.ReadingOn.{Reads}
 use Rattle.gix_object_commit_tokens.specs.Tokens.{Part, Tree, Parent, Author, Committer, Encoding, Header, Message, IsPartAt, Place, start, stage_after}
 use Rattle.gix_object_commit_tokens.specs.Whole.{IsCommit, ReadsToMessage, is_message}

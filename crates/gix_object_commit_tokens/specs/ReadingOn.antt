@@ -4,11 +4,11 @@ use Rattle.gix_hash_id.specs.Id.{Id}
 use Rattle.gix_hash_id.specs.declared.object_id.ObjectId.{ObjectId}
 use Rattle.gix_object_lines.specs.declared.decode.Error.{Error}
 use Rattle.gix_object_lines.specs.declared.decode.Error.TheVariants.{FieldName}
+use Rattle.gix_object_lines.specs.Person.{Person}
 use Rattle.gix_object_commit_tokens.specs.declared.ref_iter.Token.{Token}
 use Rattle.gix_object_commit_tokens.specs.declared.ref_iter.Token.TheVariants as token
 use Rattle.gix_object_commit_tokens.specs.declared.ref_iter.reading_on.ParentIds.{ParentIds}
 use Rattle.gix_object_commit_tokens.specs.declared.ref_iter.reading_on.Signatures.{Signatures}
-use Rattle.gix_object_commit_lines.specs.Commit.{Person}
 use Rattle.gix_object_commit_tokens.specs.Tokens.{Part, Parent, Author, Committer, Message, Place, place_of, IsNext, GivesToken}
 
 -- from here the reader gives these parts, one behind the other, and then stands there

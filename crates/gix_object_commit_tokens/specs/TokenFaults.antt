@@ -7,13 +7,14 @@ use Rattle.gix_object_lines.specs.declared.decode.Error.{Error}
 use Rattle.gix_object_commit_tokens.specs.declared.ref_iter.Stage.{Stage}
 use Rattle.gix_object_commit_tokens.specs.declared.ref_iter.Stage.TheVariants as at
 use Rattle.gix_object_commit_lines.specs.Faults.{PersonFault, EncodingFault, HeaderFault}
-use Rattle.gix_object_lines.specs.Bytes.{BeginsWith}
+use Rattle.gix_object_lines.specs.Bytes.{IsBeginningOf}
 
 -- a parent's line begins, and is none; or none begins, and the author's fails
 abbrev pub ParentOrAuthorFault : Kind → List ℕ → Error → Type 0
 ParentOrAuthorFault kind input error =
-    (BeginsWith (codes "parent ") input × HexLineFault (codes "parent") (hex_len kind) input error)
-    ⊎ ((¬ BeginsWith (codes "parent ") input) × PersonFault (codes "author") input error)
+    (IsBeginningOf (codes "parent ") input
+    × HexLineFault (codes "parent") (hex_len kind) input error)
+    ⊎ ((¬ IsBeginningOf (codes "parent ") input) × PersonFault (codes "author") input error)
 
 -- no empty line begins, and no header
 abbrev pub FurtherHeaderFault : List ℕ → Error → Type 0
@@ -24,7 +25,7 @@ FurtherHeaderFault input error =
 abbrev pub FirstHeaderFault : List ℕ → Error → Type 0
 FirstHeaderFault input error =
     EncodingFault input error
-    ⊎ ((¬ BeginsWith (codes "encoding ") input) × FurtherHeaderFault input error)
+    ⊎ ((¬ IsBeginningOf (codes "encoding ") input) × FurtherHeaderFault input error)
 
 abbrev pub IsFaultAt : Kind → Stage → List ℕ → Error → Type 0
 IsFaultAt kind at.Tree input error = HexLineFault (codes "tree") (hex_len kind) input error

@@ -8,15 +8,16 @@ use Rattle.bstr.specs.BStr.{bstr_bytes}
 use Rattle.gix_object_lines.specs.Bytes.{Lacks}
 use Rattle.gix_object_lines.specs.HexLine.{hex_line, IsHex}
 use Rattle.gix_object_lines.specs.declared.decode.Error.{Error}
+use Rattle.gix_object_lines.specs.Person.{Person, actor_line, person_of}
 use Rattle.gix_object_commit_tokens.specs.declared.ref_iter.Stage.{Stage}
 use Rattle.gix_object_commit_tokens.specs.declared.ref_iter.Stage.TheVariants as at
 use Rattle.gix_object_commit_tokens.specs.declared.ref_iter.Token.{Token}
 use Rattle.gix_object_commit_tokens.specs.declared.ref_iter.Token.TheVariants as token
 use Rattle.gix_object_commit_tokens.specs.declared.ref_iter.CommitRefIter.{CommitRefIter}
-use Rattle.gix_object_commit_lines.specs.Commit.{Person, Field, line, actor_line, field_text, IsPerson, IsField}
+use Rattle.gix_object_commit_lines.specs.Commit.{Field, line, field_text, IsPerson, IsField}
 use Rattle.gix_object_commit_lines.specs.Reading.{IsUnspaced}
 use Rattle.gix_object_commit_tokens.specs.TokenFaults.{IsFaultAt}
-use Rattle.gix_object_commit_lines.specs.Views.{person_of, field_of}
+use Rattle.gix_object_commit_lines.specs.Views.{field_of}
 
 -- a part of a commit
 pub data Part : Type 0 where

@@ -1,6 +1,7 @@
 pub mod Edits
 pub mod Filled
 pub mod Ladder
+pub mod LoneName
 pub mod Loaded
 pub mod Marked
 pub mod Kept

@@ -12,7 +12,8 @@ use Rattle.gix_hash_id.specs.Id.{Id, raw_bytes, bytes_from}
 use Rattle.gix_hash_id.specs.Packed.{bytes_from-digits_of}
 use Rattle.gix_hash_id.specs.Views.{IsBytesOf}
 use Rattle.gix_object_lines.proofs.Fronts.{front_then}
-use Rattle.gix_object_lines.specs.Writes.{Writes, AppendsFront, writable, cause_of}
+use Rattle.gix_hash_id.specs.Writes.{AppendsFewer}
+use Rattle.gix_object_lines.specs.Writes.{Writes, writable, cause_of}
 use Rattle.gix_object_lines.specs.declared.write.Error.{Error}
 use Rattle.gix_object_lines.specs.declared.write.Error.TheVariants.{Writer, Header, TagName, Filename}
 use Rattle.gix_object_lines.specs.declared.write.FilenameError.TheVariants.{NullbyteInFilename}
@@ -112,9 +113,8 @@ module _ (a b c : Option (List ℕ)) (done : List Item) (item : Item) (rest : Li
       → Writes {U = Unit {0}} b c (tree_text (item ∷ [])) (tree_refusal (item ∷ [])) (Err error)
       → Writes {U = Unit {0}} a c (tree_text (done ++ item ∷ rest)) (tree_refusal (done ++ item ∷ rest)) (Err error)
   stops_by true bad (Writer e) before written stopped =
-      let front = subst (λ r. AppendsFront b c (writable (tree_text (item ∷ [])) r)) (one_refused item bad) stopped in
-      let short = front.3 in
-      let len : length front.0 < 0 = short in
+      let front = subst (λ r. AppendsFewer b c (writable (tree_text (item ∷ [])) r)) (one_refused item bad) stopped in
+      let short : front.0 < 0 = front.1 in
       absurd (omega arith)
   stops_by true bad (Header e) before written stopped =
       let cause = subst (λ r. cause_of r ≡ Some (Header e)) (one_refused item bad) stopped.0 in absurd cc
@@ -130,7 +130,7 @@ module _ (a b c : Option (List ℕ)) (done : List Item) (item : Item) (rest : Li
       )
   stops_by false fine (Writer e) before written stopped =
       let all = done ++ item ∷ rest in
-      let front = subst (λ t. AppendsFront b c t) (ap (λ r. writable (tree_text (item ∷ [])) r) (one_fine item fine) ∙ one_text item) stopped in
+      let front = subst (λ t. AppendsFewer b c t) (ap (λ r. writable (tree_text (item ∷ [])) r) (one_fine item fine) ∙ one_text item) stopped in
       front_then a b c (tree_text done) (entry_text item) (tree_text (written_front rest)) (writable (tree_text all) (tree_refusal all))
       (writable_is all ∙ fine_first done item rest before fine) written front
   stops_by false fine (Header e) before written stopped =

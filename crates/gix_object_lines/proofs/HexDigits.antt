@@ -94,6 +94,10 @@ digits_are_hex (c ∷ text) (d ∷ digits) is =
 pub id_of_spelled : (text : List ℕ) (id : Id) → IsHexOfId text id → is_id text ≡ true
 id_of_spelled text id is = is_id_of_hex id.kind text (is.whole, digits_are_hex text id.digits is.spelled)
 
+-- what hasn't an id's digits spells none
+pub spells_none : (text : List ℕ) → ¬ (is_id text ≡ true) → (id : Id) → ¬ IsHexOfId text id
+spells_none text none id is = none (id_of_spelled text id is)
+
 -- ---- what is no digit doesn't stand in them
 
 hex_lacks : (byte : ℕ) (text : List ℕ) → is_ascii_hexdigit byte ≡ false → is_hex text ≡ true → Lacks byte text

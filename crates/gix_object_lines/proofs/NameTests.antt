@@ -8,11 +8,11 @@ use Rattle.std.proofs.lemmas.Bool.Decides.{Decides-eqb, Decides-ltb, Decides-lik
 use Rattle.std.proofs.lemmas.List.Folds.{Any-from_list_any, list_any-from_Any}
 use Rattle.std.proofs.lemmas.Map.Made.{is_member-Decides}
 use Rattle.std.proofs.lemmas.Slice.Eq.{bytes_eq-Decides, starts_is, ends_is}
-use Rattle.gix_object_lines.specs.Bytes.{BeginsWith}
+use Rattle.gix_object_lines.specs.Bytes.{IsBeginningOf}
 use Rattle.gix_object_lines.specs.PartialName.{EndsWith, Holds, IsBarred, IsPartialName}
 use Rattle.gix_object_lines.specs.NameTest.{begins, ends, holds, is_barred, is_partial_name}
 
-pub begins-Decides : (front name : List ℕ) → Decides (begins front name) (BeginsWith front name)
+pub begins-Decides : (front name : List ℕ) → Decides (begins front name) (IsBeginningOf front name)
 begins-Decides front name =
     let is = starts_is {E = λ (x : ℕ) (y : ℕ). x == y} Decides-eqb name front (begins front name) refl in
     (λ e. (drop (length front) name, is.0 e), λ h. is.1 h.0 h.1)
@@ -25,17 +25,17 @@ ends-Decides back name =
 holds-Decides : (part name : List ℕ) → Decides (holds part name) (Holds part name)
 holds-Decides part [] = Decides-like (begins part []) (λ h. ([], h)) only (begins-Decides part [])
   where
-    only : Holds part [] → BeginsWith part []
+    only : Holds part [] → IsBeginningOf part []
     only ([], h) = h
     only (x ∷ front, h) = let e = h.1 in absurd cc
 holds-Decides part (byte ∷ rest) =
     Decides-like (begins part (byte ∷ rest) || holds part rest) there here (Decides-or (begins part (byte ∷ rest)) (holds part rest) (begins-Decides part (byte ∷ rest)) (holds-Decides part rest))
   where
-    there : BeginsWith part (byte ∷ rest) ⊎ Holds part rest → Holds part (byte ∷ rest)
+    there : IsBeginningOf part (byte ∷ rest) ⊎ Holds part rest → Holds part (byte ∷ rest)
     there (inl h) = ([], h)
     there (inr h) = (byte ∷ h.0, (h.1.0, ap (λ t. byte ∷ t) h.1.1))
 
-    here : Holds part (byte ∷ rest) → BeginsWith part (byte ∷ rest) ⊎ Holds part rest
+    here : Holds part (byte ∷ rest) → IsBeginningOf part (byte ∷ rest) ⊎ Holds part rest
     here ([], h) = inl h
     here (x ∷ front, h) = let e = h.1 in let tails : rest ≡ front ++ (part ++ h.0) = cc in inr (front, (h.0, tails))
 

@@ -1,5 +1,5 @@
 -- A text spells one time, and what is written for a time spells it.
-use Rattle.std.proofs.Common.{◌≡◌, ◌∙◌, ap, refl, sym, subst, ℕ, ℤ, pos, negsuc, neg_ℤ, zero, suc, ◌+◌, ◌*◌, ◌/◌, ◌%◌, ◌<◌, ◌^◌, List, [], ◌∷◌, ◌++◌, length, get_or, append-nil, ◌-ℤ◌, arith}
+use Rattle.std.proofs.Common.{◌≡◌, ◌∙◌, ap, refl, sym, subst, ℕ, ℤ, pos, negsuc, neg_ℤ, zero, suc, ◌+◌, ◌-◌, ◌≤◌, ◌*◌, ◌/◌, ◌%◌, ◌<◌, ◌^◌, List, [], ◌∷◌, ◌++◌, length, get_or, append-nil, ◌-ℤ◌, arith}
 use Rattle.std.specs.Prelude.{FitsSigned, decimal}
 use Rattle.std.specs.Fmt.{signed_decimal}
 use Rattle.std.specs.Int.{w64, w32, IsInRange}
@@ -20,6 +20,13 @@ use Rattle.gix_object_lines.proofs.CutLemmas.{lacks_cons}
 pub digits_lack : (byte : ℕ) (digits : List ℕ) → ((d : ℕ) → IsInRange 48 57 d → d ≡ byte → ⊥) → AllDigits 10 digits → Lacks byte digits
 digits_lack byte [] none all = refl
 digits_lack byte (d ∷ digits) none all = lacks_cons byte d digits (none d (digit_from_value d all.0)) (digits_lack byte digits none all.1)
+
+-- two digits spell the number that they are read as
+pub two_spelled : (tens ones : ℕ) → 48 ≤ tens → tens ≤ 57 → 48 ≤ ones → ones ≤ 57 → tens ∷ ones ∷ [] ≡ two_digits (10 * (tens - 48) + (ones - 48))
+two_spelled tens ones a b c d =
+    let high : tens ≡ 48 + (10 * (tens - 48) + (ones - 48)) / 10 = omega arith in
+    let low : ones ≡ 48 + (10 * (tens - 48) + (ones - 48)) % 10 = omega arith in
+    ap (λ t. t ∷ ones ∷ []) high ∙ ap (λ o. (48 + (10 * (tens - 48) + (ones - 48)) / 10) ∷ o ∷ []) low
 
 -- ---- a text spells one time
 

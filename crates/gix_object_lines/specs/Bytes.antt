@@ -1,13 +1,15 @@
 -- Byte strings.
-use Rattle.std.specs.Prelude.{ℕ, nat_eq, ◌≡◌, ◌-◌, List, [], ◌∷◌, ◌++◌, ◌==◌, IsFalse, length, take, if◌then◌else◌}
+use Rattle.std.specs.Prelude.{ℕ, Bool, nat_eq, bytes_eq, ◌-◌, List, [], ◌∷◌, ◌==◌, IsFalse, length, take, if◌then◌else◌}
 use Rattle.std.specs.List.{list_any, ends_with}
+pub use Rattle.gix_hash_prefix.specs.Beginnings.{IsBeginningOf}
 
 -- the byte doesn't stand in the text
 abbrev pub Lacks : ℕ → List ℕ → Type 0
 Lacks byte text = IsFalse (list_any (λ other. other == byte) text)
 
-abbrev pub BeginsWith : List ℕ → List ℕ → Type 0
-BeginsWith front text = (rest : List ℕ) × (text ≡ front ++ rest)
+-- the text is one of these
+abbrev pub is_among : List (List ℕ) → List ℕ → Bool
+is_among texts text = list_any (λ other. bytes_eq other text) texts
 
 -- the text without the line feed that ends it, where one does
 abbrev pub without_last_feed : List ℕ → List ℕ

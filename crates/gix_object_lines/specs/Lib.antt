@@ -1,4 +1,5 @@
 pub mod Bytes
+pub mod Counts
 pub mod Kind
 pub mod Decimal
 pub mod Header
@@ -9,6 +10,7 @@ pub mod Time
 pub mod Clock
 pub mod TimeTest
 pub mod Actor
+pub mod Person
 pub mod LineWrites
 pub mod PartialName
 pub mod NameTest

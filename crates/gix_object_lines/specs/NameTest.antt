@@ -1,15 +1,15 @@
 -- The rules of names as tests, which compute. The contracts of `lines::is_partial_name` and `lines::is_full_name` say that
 -- the tests are the rules in `PartialName` and `FullName`.
-use Rattle.std.specs.Prelude.{ℕ, Bool, not, ◌&&◌, ◌||◌, ◌==◌, nat_eq, nat_lt, nat_le, List, [], ◌∷◌, codes, length, take, drop, ◌-◌}
-use Rattle.std.specs.List.{list_any, list_all}
+use Rattle.std.specs.Prelude.{ℕ, Bool, not, ◌&&◌, ◌||◌, ◌==◌, nat_eq, nat_lt, nat_le, List, [], ◌∷◌, codes}
+use Rattle.std.specs.List.{list_any, list_all, starts_with, ends_with}
 use Rattle.std.specs.Str.{bytes_eq}
 use Rattle.std.specs.Set.{is_member}
 
 abbrev pub begins : List ℕ → List ℕ → Bool
-begins front name = bytes_eq front (take (length front) name)
+begins front name = starts_with nat_eq name front
 
 abbrev pub ends : List ℕ → List ℕ → Bool
-ends back name = bytes_eq back (drop (length name - length back) name)
+ends back name = ends_with nat_eq name back
 
 abbrev pub holds : List ℕ → List ℕ → Bool
 holds part [] = begins part []

@@ -1,6 +1,6 @@
 -- Names of references, whole or not: the rules of git-check-ref-format but for its second, as under `--allow-onelevel`.
 use Rattle.std.specs.Prelude.{ℕ, ◌≡◌, ◌≢◌, ◌<◌, ◌⊎◌, List, [], ◌++◌, codes, Any, Contains}
-use Rattle.gix_object_lines.specs.Bytes.{BeginsWith}
+use Rattle.gix_object_lines.specs.Bytes.{IsBeginningOf}
 
 abbrev pub EndsWith : List ℕ → List ℕ → Type 0
 EndsWith back name = (rest : List ℕ) × (name ≡ rest ++ back)
@@ -15,7 +15,7 @@ IsBarred byte = (byte < 32) ⊎ ((byte ≡ 127) ⊎ Contains (codes " ~^:?*[\\")
 pub record IsPartialName (name : List ℕ) : Type 0 where
   pub some : name ≢ []
   -- rule 1: no component begins with a dot or ends with `.lock`
-  pub no_dot_first : ¬ BeginsWith (codes ".") name
+  pub no_dot_first : ¬ IsBeginningOf (codes ".") name
   pub no_dot_behind_slash : ¬ Holds (codes "/.") name
   pub no_lock_last : ¬ EndsWith (codes ".lock") name
   pub no_lock_before_slash : ¬ Holds (codes ".lock/") name
@@ -24,7 +24,7 @@ pub record IsPartialName (name : List ℕ) : Type 0 where
   -- rules 4, 5 and 10
   pub no_barred_byte : ¬ Any IsBarred name
   -- rule 6
-  pub no_slash_first : ¬ BeginsWith (codes "/") name
+  pub no_slash_first : ¬ IsBeginningOf (codes "/") name
   pub no_slash_last : ¬ EndsWith (codes "/") name
   pub no_two_slashes : ¬ Holds (codes "//") name
   -- rules 7, 8 and 9

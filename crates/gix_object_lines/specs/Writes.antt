@@ -1,15 +1,10 @@
 -- What writing a value leaves.
-use Rattle.std.specs.Prelude.{ℕ, ◌≡◌, ◌<◌, List, ◌++◌, length, Option, None, Some, Result, Ok, Err}
+use Rattle.std.specs.Prelude.{ℕ, ◌≡◌, List, Option, None, Some, Result, Ok, Err}
 use Rattle.std.specs.Option.{option_map}
 use Rattle.std.specs.Io.KnownBytes.{Appends}
+use Rattle.gix_hash_id.specs.Writes.{AppendsFewer}
 use Rattle.gix_object_lines.specs.declared.write.Error.{Error}
 use Rattle.gix_object_lines.specs.declared.write.Error.TheVariants.{Writer, Header, TagName, Filename}
-
--- a beginning of the bytes was written
-abbrev pub AppendsFront : Option (List ℕ) → Option (List ℕ) → List ℕ → Type 0
-AppendsFront old new bytes =
-    (front back : List ℕ) × (bytes ≡ front ++ back) × (length front < length bytes)
-    × Appends old new front
 
 -- a part of a value that the format never writes: the parts before it, and why it is refused
 pub record Refusal : Type 0 where
@@ -33,7 +28,7 @@ IsRefused old new text refusal cause =
 abbrev pub Writes : {U : Type 0} → Option (List ℕ) → Option (List ℕ) → List ℕ → Option Refusal
     → Result U Error → Type 0
 Writes old new text refusal (Ok _) = (cause_of refusal ≡ None) × Appends old new text
-Writes old new text refusal (Err (Writer error)) = AppendsFront old new (writable text refusal)
+Writes old new text refusal (Err (Writer error)) = AppendsFewer old new (writable text refusal)
 Writes old new text refusal (Err (Header error)) = IsRefused old new text refusal (Header error)
 Writes old new text refusal (Err (TagName error)) = IsRefused old new text refusal (TagName error)
 Writes old new text refusal (Err (Filename error)) = IsRefused old new text refusal (Filename error)

@@ -1,7 +1,7 @@
 //! Cuts of bytes at a byte, behind a front and before a back.
 
 ghost use Rattle.std.specs.Prelude.{ℕ, List, ◌≡◌, ◌≢◌, ◌++◌, ◌∷◌, ◌↔◌, IsTrue, MatchOption};
-ghost use Rattle.gix_object_lines.specs.Bytes.{BeginsWith, Lacks};
+ghost use Rattle.gix_object_lines.specs.Bytes.{IsBeginningOf, Lacks};
 
 use memchr::{memchr, memrchr};
 
@@ -57,7 +57,7 @@ pub fn lacks(bytes: &[u8], byte: u8) -> bool
 
 /// Whether the bytes begin with this front.
 pub fn starts_with(bytes: &[u8], front: &[u8]) -> bool
-    ensures { IsTrue result ↔ BeginsWith front.now bytes.now }
+    ensures { IsTrue result ↔ IsBeginningOf front.now bytes.now }
 {
     strip_prefix(bytes, front).is_some()
 }

@@ -2,15 +2,18 @@
 
 ghost use Rattle.std.specs.Prelude.{◌≡◌, ◌++◌, ◌∷◌, ℕ, List, IsTrue, IfOk, IfErr, IsOkAnd, OnOk, OnErr};
 ghost use Rattle.std.specs.Io.KnownBytes.{Appends};
+ghost use Rattle.bstr.specs.BStr.{bstr_bytes};
 ghost use Rattle.gix_hash_id.specs.Id.{id_of};
 ghost use Rattle.gix_hash_id.specs.Views.{IsHexOfId};
+ghost use Rattle.gix_hash_id.specs.Writes.{AppendsFewer};
 ghost use Rattle.gix_object_lines.specs.HexLine.{hex_line, is_hex, IsHex, HexLineFault};
 ghost use Rattle.gix_object_lines.specs.HexLine as test;
-ghost use Rattle.gix_object_lines.specs.Writes.{AppendsFront};
+ghost use Rattle.gix_object_lines.specs.declared.decode.Error.TheVariants.{HexDigits};
 
 use crate::cut::{strip_prefix, strip_word};
 use crate::decode::Error;
 use crate::write::write_bytes;
+use bstr::BStr;
 use gix_hash::ObjectId;
 use std::io;
 
@@ -64,13 +67,26 @@ pub fn id_of_digits(digits: &[u8]) -> ObjectId
     ObjectId::from_hex(digits).unwrap()
 }
 
+/// The id that the digits spell. It is `HexDigits` where they are no id's.
+pub fn own_id(digits: BStr<'_>) -> Result<ObjectId, Error>
+    ensures own { IfOk result (λ id. IsHexOfId (bstr_bytes digits.entry) (id_of id)) }
+    ensures tested { IfOk result (λ id. IsTrue (test.is_id (bstr_bytes digits.entry))) }
+    ensures refused { IfErr result
+        (λ error. (error ≡ HexDigits) × ¬ IsTrue (test.is_id (bstr_bytes digits.entry))) }
+{
+    match ObjectId::from_hex(digits.as_bytes()) {
+        Ok(id) => Ok(id),
+        Err(_) => Err(Error::HexDigits),
+    }
+}
+
 /// Writes a line: the word, a space, the digits as they are, and a line feed. Where the writer fails it has taken a
 /// beginning of the line.
 pub fn write_hex_line<W: io::Write>(word: &[u8], digits: &[u8], out: &mut W) -> io::Result<()>
     ensures ok { OnOk result
         (Appends (W.contents out.old) (W.contents out.new) (hex_line word.now digits.now)) }
     ensures err { OnErr result
-        (AppendsFront (W.contents out.old) (W.contents out.new) (hex_line word.now digits.now)) }
+        (AppendsFewer (W.contents out.old) (W.contents out.new) (hex_line word.now digits.now)) }
 {
     write_bytes(out, word)?;
     write_bytes(out, b" ")?;

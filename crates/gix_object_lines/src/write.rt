@@ -1,13 +1,13 @@
 //! Writing objects, and why it stops.
 
 ghost use Rattle.std.specs.Prelude.{◌≡◌, ◌+◌, ◌^◌, ◌≤◌, [], ◌∷◌, OnOk, OnErr, MatchOption, flat_map, length, option_map};
-ghost use Rattle.std.specs.Io.{WritesAtMost};
-ghost use Rattle.std.specs.Io.KnownBytes.{Appends, WriteAppends};
+ghost use Rattle.std.specs.Io.KnownBytes.{Appends};
+ghost use Rattle.gix_hash_id.specs.Writes.{AppendsFewer};
 ghost use Rattle.gix_object_lines.specs.Pieces.{WritesPieces};
-ghost use Rattle.gix_object_lines.specs.Writes.{AppendsFront};
 ghost use Rattle.gix_object_lines.specs.declared.write.Error.TheVariants.{Header};
 
 use crate::encode;
+pub use gix_hash_id::write::write_bytes;
 use std::io;
 
 /// Why a name is no tag's.
@@ -46,45 +46,11 @@ pub enum Error {
     Filename(FilenameError),
 }
 
-/// Writes all of the bytes. Where the writer fails it has taken a beginning of them. A write that a signal interrupted is
-/// tried again, and one that takes nothing is the error `WriteZero`.
-pub fn write_bytes<W: io::Write>(out: &mut W, bytes: &[u8]) -> io::Result<()>
-    ensures ok { OnOk result (Appends (W.contents out.old) (W.contents out.new) bytes.now) }
-    ensures err { OnErr result (AppendsFront (W.contents out.old) (W.contents out.new) bytes.now) }
-{
-    let mut count = 0;
-    'writes: while count < bytes.len() {
-        match write_some(out, &bytes[count..])? {
-            0 => return Err(io::Error::from(io::ErrorKind::WriteZero)),
-            written => count += written,
-        }
-    }
-    Ok(())
-}
-
-// One write, which is tried again where a signal interrupted it.
-fn write_some<W: io::Write>(out: &mut W, bytes: &[u8]) -> io::Result<usize>
-    ensures bound { WritesAtMost result bytes.now }
-    ensures bytes { WriteAppends (W.contents out.old) (W.contents out.new) result bytes.now }
-{
-    'tries: for _ in 0..u64::MAX {
-        match out.write(bytes) {
-            Ok(written) => return Ok(written),
-            Err(error) => {
-                if error.kind() != io::ErrorKind::Interrupted {
-                    return Err(error);
-                }
-            }
-        }
-    }
-    Err(io::Error::from(io::ErrorKind::Interrupted))
-}
-
 /// Writes the parts in order. Where the writer fails it has taken a beginning of them.
 pub fn write_parts<W: io::Write>(out: &mut W, parts: &[&[u8]]) -> io::Result<()>
     ensures ok { OnOk result (Appends (W.contents out.old) (W.contents out.new)
         (flat_map (λ part. part.now) parts.now)) }
-    ensures err { OnErr result (AppendsFront (W.contents out.old) (W.contents out.new)
+    ensures err { OnErr result (AppendsFewer (W.contents out.old) (W.contents out.new)
         (flat_map (λ part. part.now) parts.now)) }
 {
     for part in parts {

@@ -8,10 +8,11 @@ use Rattle.gix_hash_id.specs.declared.kind.Kind.TheVariants.{Sha1, Sha256}
 use Rattle.gix_object_lines.specs.HexLine.{IsHex, is_id}
 use Rattle.gix_object_lines.specs.Kind.{kind_word}
 use Rattle.gix_object_lines.proofs.TimeTests.{tells_time-Decides}
+use Rattle.gix_object_lines.specs.Person.{Person}
 use Rattle.gix_object_tag.specs.Format.{TellsWhen}
 use Rattle.gix_object_tag.specs.NameTest.{name_fault}
 use Rattle.gix_object_tag.specs.Pieces.{first_refusal}
-use Rattle.gix_object_tag.specs.Tag.{Tagger, Parts, SpellsTag}
+use Rattle.gix_object_tag.specs.Tag.{Parts, SpellsTag}
 use Rattle.gix_object_tag.specs.TagText.{head_text, name_line, name_refusal, is_marked_tagger, is_bad_tagger, unspellable_unless, tagger_piece, body_piece, tag_refusal}
 use Rattle.gix_object_tag.proofs.BodyTests.{is_whole_body-Decides}
 use Rattle.gix_object_tag.proofs.ReadFormat.{read_in_format}
@@ -24,7 +25,7 @@ pub target_is_id : (kind : hash.Kind) (target : List ℕ) → IsHex (hex_len kin
 target_is_id Sha1 target is = let len = (Decides-eqb (length target) 40).1 is.0 in λ i. (len i || length target == 64) && is.1 i
 target_is_id Sha256 target is = let len = either (length target == 40) (length target == 64) ((Decides-eqb (length target) 64).1 is.0) in λ i. len i && is.1 i
 
-tagger_is_good : (tagger : Option Tagger) → is_marked_tagger tagger ≡ false → TellsWhen tagger → is_bad_tagger tagger ≡ false
+tagger_is_good : (tagger : Option Person) → is_marked_tagger tagger ≡ false → TellsWhen tagger → is_bad_tagger tagger ≡ false
 tagger_is_good None plain tells = refl
 tagger_is_good (Some tagger) plain tells = let told = (tells_time-Decides tagger.time).1 tells in λ i. plain i || not (told i)
 

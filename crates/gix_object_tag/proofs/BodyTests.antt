@@ -3,13 +3,13 @@ use Rattle.std.proofs.Common.{◌≡◌, ◌∙◌, ap, refl, sym, subst, ℕ, �
 use Rattle.std.specs.Prelude.{◌==◌, ◌⊎◌, codes}
 use Rattle.std.specs.Bool.{Decides}
 use Rattle.std.proofs.lemmas.Bool.Decides.{Decides-eqb, Decides-like, Decides-not, Decides-and, Decides-or}
-use Rattle.gix_object_lines.specs.Bytes.{BeginsWith}
+use Rattle.gix_object_lines.specs.Bytes.{IsBeginningOf}
 use Rattle.gix_object_signature.specs.Armor.{BeginsArmor}
 use Rattle.gix_object_signature.specs.declared.format.Format.{Format}
 use Rattle.gix_object_signature.specs.declared.format.Format.TheVariants.{OpenPgp, X509, Ssh}
 use Rattle.gix_object_tag.specs.BodyTest.{begins_armor, has_later_armor, is_whole_body}
 use Rattle.gix_object_tag.specs.Format.{IsWholeBody}
-use Rattle.gix_object_tag.specs.NameTest.{begins}
+use Rattle.gix_object_lines.specs.NameTest.{begins}
 use Rattle.gix_object_tag.specs.Signature.{IsArmored, IsSigned, IsUnsigned}
 use Rattle.gix_object_lines.proofs.NameTests.{begins-Decides}
 
@@ -23,10 +23,10 @@ Later text = (before : List ℕ) × (rest : List ℕ) × (text ≡ before ++ 10 
 
 abbrev AnyArmor : List ℕ → Type 0
 AnyArmor text =
-    BeginsWith (codes "-----BEGIN PGP SIGNATURE-----") text
-    ⊎ (BeginsWith (codes "-----BEGIN PGP MESSAGE-----") text
-    ⊎ (BeginsWith (codes "-----BEGIN SIGNED MESSAGE-----") text
-    ⊎ BeginsWith (codes "-----BEGIN SSH SIGNATURE-----") text))
+    IsBeginningOf (codes "-----BEGIN PGP SIGNATURE-----") text
+    ⊎ (IsBeginningOf (codes "-----BEGIN PGP MESSAGE-----") text
+    ⊎ (IsBeginningOf (codes "-----BEGIN SIGNED MESSAGE-----") text
+    ⊎ IsBeginningOf (codes "-----BEGIN SSH SIGNATURE-----") text))
 
 armored-Decides : (text : List ℕ) → Decides (begins_armor text) (Armored text)
 armored-Decides text =

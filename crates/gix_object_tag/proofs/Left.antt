@@ -5,20 +5,20 @@ use Rattle.std.proofs.Math.Seq.{take-append_seam}
 use Rattle.std.proofs.lemmas.List.{append_cancel_left}
 use Rattle.gix_hash_id.specs.declared.kind.Kind as hash
 use Rattle.gix_object_lines.specs.declared.kind.Kind.{Kind}
-use Rattle.gix_object_tag.specs.Tag as tag
 use Rattle.gix_object_tag.specs.Tag.{SpellsTarget, SpellsKind, SpellsName, SpellsTagger, SpellsRest, Nothing}
 use Rattle.gix_object_tag.specs.Tokens.{Part, Target, TargetKind, Name, Tagger, Body, IsPartAt, stage_after, left_of}
 use Rattle.gix_object_tag.specs.Whole.{IsTag, tells_name}
 use Rattle.gix_object_tag.specs.declared.tag.ref_iter.Stage.{Stage}
 use Rattle.gix_object_tag.specs.declared.tag.ref_iter.Stage.TheVariants as at
 use Rattle.gix_object_lines.proofs.HexDigits.{id_of_hex}
+use Rattle.gix_object_lines.specs.Person.{Person}
 use Rattle.gix_object_tag.proofs.TagLemmas.{one_line}
 
 abbrev pub IsBody : List ℕ → Type 0
 IsBody input = (message : List ℕ) × (signature : Option (List ℕ)) × SpellsRest input message signature
 
 abbrev pub IsFromTagger : List ℕ → Type 0
-IsFromTagger input = (tagger : Option tag.Tagger) × (after : List ℕ) × SpellsTagger input tagger after × IsBody after
+IsFromTagger input = (tagger : Option Person) × (after : List ℕ) × SpellsTagger input tagger after × IsBody after
 
 abbrev pub IsFromName : List ℕ → Type 0
 IsFromName input = (name : List ℕ) × (after : List ℕ) × SpellsName input name after × IsFromTagger after
@@ -68,7 +68,7 @@ after_target kind input digits after digits' after' a b =
     let tails : 10 ∷ after ≡ 10 ∷ after' = append_cancel_left digits' (10 ∷ after) (10 ∷ after') (ap (λ d. d ++ 10 ∷ after) (sym same) ∙ whole) in
     cc
 
-after_tagger : (input : List ℕ) (tagger : Option tag.Tagger) (after : List ℕ) (tagger' : Option tag.Tagger) (after' : List ℕ) → SpellsTagger input tagger after → SpellsTagger input tagger' after' → after ≡ after'
+after_tagger : (input : List ℕ) (tagger : Option Person) (after : List ℕ) (tagger' : Option Person) (after' : List ℕ) → SpellsTagger input tagger after → SpellsTagger input tagger' after' → after ≡ after'
 after_tagger input None after None after' a b = sym a.0 ∙ b.0
 after_tagger input None after (Some t) after' a b = absurd (a.1 (b.text ++ 10 ∷ after', b.line.spelled))
 after_tagger input (Some t) after None after' a b = absurd (b.1 (a.text ++ 10 ∷ after, a.line.spelled))

@@ -5,7 +5,7 @@ use Rattle.gix_hash_id.specs.Views.{IsHexOfId}
 use Rattle.gix_hash_id.specs.declared.kind.Kind as hash
 use Rattle.gix_hash_id.proofs.LawLemmas.{one_reading}
 use Rattle.gix_object_lines.specs.declared.kind.Kind.{Kind}
-use Rattle.gix_object_tag.specs.Tag as tag
+use Rattle.gix_object_lines.specs.Person.{Person}
 use Rattle.gix_object_tag.specs.Tag.{SpellsTarget, SpellsKind, SpellsName, SpellsTagger, SpellsRest}
 use Rattle.gix_object_tag.specs.Tokens.{Part, Target, TargetKind, Name, Tagger, Body, IsPartAt}
 use Rattle.gix_object_tag.specs.declared.tag.ref_iter.Stage.TheVariants as at
@@ -36,7 +36,7 @@ module _ (kind : hash.Kind) (input rest : List ℕ) where
   at_name (Tagger tagger) h = absurd (let e : at.Name ≡ at.Tagger = h.0 in cc)
   at_name (Body message signature) h = absurd (let e : at.Name ≡ at.Body = h.0 in cc)
 
-  pub at_tagger : (part : Part) → IsPartAt kind at.Tagger input part rest → (tagger : Option tag.Tagger) × (part ≡ Tagger tagger) × SpellsTagger input tagger rest
+  pub at_tagger : (part : Part) → IsPartAt kind at.Tagger input part rest → (tagger : Option Person) × (part ≡ Tagger tagger) × SpellsTagger input tagger rest
   at_tagger (Target id) h = absurd (let e : at.Tagger ≡ at.Target = h.0 in cc)
   at_tagger (TargetKind target) h = absurd (let e : at.Tagger ≡ at.TargetKind = h.0 in cc)
   at_tagger (Name name) h = absurd (let e : at.Tagger ≡ at.Name = h.0 in cc)

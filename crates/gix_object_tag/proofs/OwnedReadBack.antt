@@ -10,7 +10,7 @@ use Rattle.gix_object_lines.specs.declared.lines.actor.Actor.{Actor}
 use Rattle.gix_object_lines.proofs.HexDigits.{digits_are_hex}
 use Rattle.gix_object_lines.proofs.TimeLemmas.{time_written}
 use Rattle.gix_object_tag.specs.Format.{TellsWhen}
-use Rattle.gix_object_tag.specs.OwnedText.{own_person, own_parts, is_bad_actor, is_bad_offset}
+use Rattle.gix_object_tag.specs.OwnedText.{own_tagger, own_parts, is_bad_actor, is_bad_offset}
 use Rattle.gix_object_tag.specs.Tag.{SpellsTag}
 use Rattle.gix_object_tag.specs.TagText.{is_marked, is_marked_tagger, tag_text, tag_refusal}
 use Rattle.gix_object_tag.specs.declared.tag.owned.Tag.{Tag}
@@ -21,11 +21,11 @@ use Rattle.gix_object_tag.proofs.ReadBack.{or_left, passes, written_spells}
 
 -- ---- taggers
 
-pub good_tagger : (tagger : Option Actor) → is_bad_actor tagger ≡ false → is_marked_tagger (own_person tagger) ≡ false
+pub good_tagger : (tagger : Option Actor) → is_bad_actor tagger ≡ false → is_marked_tagger (own_tagger tagger) ≡ false
 good_tagger None e = refl
 good_tagger (Some actor) e = (or_left (is_marked actor.name || is_marked actor.email) (is_bad_offset actor.time.offset) e).0
 
-tells_when : (tagger : Option Actor) → IfSome tagger (λ actor. FitsSigned w64 actor.time.seconds) → is_bad_actor tagger ≡ false → TellsWhen (own_person tagger)
+tells_when : (tagger : Option Actor) → IfSome tagger (λ actor. FitsSigned w64 actor.time.seconds) → is_bad_actor tagger ≡ false → TellsWhen (own_tagger tagger)
 tells_when None fits e = tt
 tells_when (Some actor) fits e =
     let both = or_left (is_marked actor.name || is_marked actor.email) (is_bad_offset actor.time.offset) e in

@@ -21,17 +21,19 @@ use Rattle.gix_object_lines.specs.declared.write.TagNameError.TheVariants.{Start
 use Rattle.gix_object_lines.proofs.CutLemmas.{lacks_both, lacks_cons}
 use Rattle.gix_object_lines.proofs.TimeLemmas.{seconds_lack}
 use Rattle.gix_object_tag.specs.Format.{TellsWhen, IsWholeBody, IsInFormat}
-use Rattle.gix_object_tag.specs.NameTest.{is_partial, begins, name_fault}
+use Rattle.gix_object_lines.specs.NameTest.{begins, is_partial_name}
+use Rattle.gix_object_tag.specs.NameTest.{name_fault}
 use Rattle.gix_object_tag.specs.Pieces.{first_refusal, first_of}
 use Rattle.gix_object_tag.specs.Signature.{IsArmored, IsSigned}
-use Rattle.gix_object_tag.specs.Tag.{Tagger, Parts, IsLine, SpellsTagger, SpellsRest, Body, SpellsTag}
-use Rattle.gix_object_tag.specs.TagText.{name_line, tagger_text, tagger_line, body_text, name_refusal, tagger_refusal, is_marked, is_marked_tagger, is_bad_tagger, unspellable_unless, tag_text, tag_refusal, pieces_of, head_piece, name_piece, tagger_piece, body_piece}
+use Rattle.gix_object_tag.specs.Tag.{Parts, IsLine, SpellsTagger, SpellsRest, Body, SpellsTag}
+use Rattle.gix_object_tag.specs.TagText.{name_line, tagger_line, body_text, name_refusal, tagger_refusal, is_marked, is_marked_tagger, is_bad_tagger, unspellable_unless, tag_text, tag_refusal, pieces_of, head_piece, name_piece, tagger_piece, body_piece, tagger_text}
 use Rattle.gix_object_lines.proofs.TimeTests.{tells_time-Decides}
 use Rattle.gix_object_lines.specs.TimeTest.{tells_time}
 use Rattle.gix_hash_id.specs.Kind.{hex_len}
 use Rattle.gix_object_tag.specs.BodyTest.{is_whole_body}
 use Rattle.gix_object_tag.proofs.BodyTests.{is_whole_body-Decides}
 use Rattle.gix_object_lines.proofs.NameTests.{is_partial_name-Decides}
+use Rattle.gix_object_lines.specs.Person.{Person}
 
 -- ---- what isn't refused
 
@@ -69,7 +71,7 @@ name_is name true dashed e = refl
 name_is name false dashed e = absurd cc
 
 pub partial_name : (name : List ℕ) → name_fault name ≡ None → IsPartialName name
-partial_name name e = (is_partial_name-Decides name).0 (name_is name (is_partial name) (begins (codes "-") name) e)
+partial_name name e = (is_partial_name-Decides name).0 (name_is name (is_partial_name name) (begins (codes "-") name) e)
 
 -- a test that passes nowhere
 none_pass : (p q : ℕ → Bool) (text : List ℕ) → ((x : ℕ) → q x ≡ true → p x ≡ true) → list_any p text ≡ false → list_any q text ≡ false
@@ -140,7 +142,7 @@ mark_lacks text time is = subst (Lacks 62) (sym is.spelled)
 pub shape : (a b c d e : List ℕ) → a ++ (b ++ (c ++ (d ++ e))) ≡ a ++ b ++ c ++ d ++ e
 shape a b c d e = simp append_assoc
 
-tagger_reads : (tagger : Option Tagger) (after : List ℕ) → is_marked_tagger tagger ≡ false → TellsWhen tagger → ((rest : List ℕ) → after ≡ codes "tagger " ++ rest → ⊥) → SpellsTagger (tagger_line tagger ++ after) tagger after
+tagger_reads : (tagger : Option Person) (after : List ℕ) → is_marked_tagger tagger ≡ false → TellsWhen tagger → ((rest : List ℕ) → after ≡ codes "tagger " ++ rest → ⊥) → SpellsTagger (tagger_line tagger ++ after) tagger after
 tagger_reads None after good tells other = (refl, λ h. other h.0 h.1)
 tagger_reads (Some tagger) after good tells other =
     let both = or_left (is_marked tagger.name) (is_marked tagger.email) good in
@@ -249,7 +251,7 @@ not_false : (b : Bool) → not b ≡ false → b ≡ true
 not_false true e = refl
 not_false false e = absurd cc
 
-good_tagger : (tagger : Option Tagger) → is_bad_tagger tagger ≡ false → (is_marked_tagger tagger ≡ false) × TellsWhen tagger
+good_tagger : (tagger : Option Person) → is_bad_tagger tagger ≡ false → (is_marked_tagger tagger ≡ false) × TellsWhen tagger
 good_tagger None e = (refl, tt)
 good_tagger (Some tagger) e =
     let both = or_left (is_marked tagger.name || is_marked tagger.email) (not (tells_time tagger.time)) e in

@@ -2,12 +2,13 @@
 use Rattle.std.proofs.Common.{◌≡◌, ◌∙◌, ap, refl, sym, subst, ℕ, ◌≤◌, List, [], ◌∷◌, ◌++◌, length, length-append, append_assoc, Option, Some, None, inl, inr, arith}
 use Rattle.std.specs.Prelude.{codes, ◌⊎◌}
 use Rattle.gix_hash_id.specs.declared.kind.Kind as hash
+use Rattle.gix_object_lines.specs.Person.{Person}
 use Rattle.gix_object_signature.specs.Armor.{BeginsArmor}
 use Rattle.gix_object_signature.specs.declared.format.Format.{Format}
 use Rattle.gix_object_signature.specs.declared.format.Format.TheVariants.{OpenPgp, X509, Ssh}
 use Rattle.gix_object_tag.specs.Format.{TellsWhen, IsWholeBody, IsInFormat}
 use Rattle.gix_object_tag.specs.Signature.{IsArmored, IsSigned, IsUnsigned}
-use Rattle.gix_object_tag.specs.Tag.{Tagger, Parts, SpellsTagger, SpellsRest, Nothing, Body, SpellsTag}
+use Rattle.gix_object_tag.specs.Tag.{Parts, SpellsTagger, SpellsRest, Nothing, Body, SpellsTag}
 
 -- ---- bodies
 
@@ -50,7 +51,7 @@ whole_body input message (Some signature) (Body body spelled (front, signed, end
 
 -- ---- taggers
 
-tells_when : (input : List ℕ) (tagger : Option Tagger) (after : List ℕ) → SpellsTagger input tagger after → TellsWhen tagger
+tells_when : (input : List ℕ) (tagger : Option Person) (after : List ℕ) → SpellsTagger input tagger after → TellsWhen tagger
 tells_when input None after is = tt
 tells_when input (Some tagger) after is = is.actor.time_told
 

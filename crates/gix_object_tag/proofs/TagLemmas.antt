@@ -8,9 +8,10 @@ use Rattle.std.specs.Prelude.{codes}
 use Rattle.gix_hash_id.specs.Kind.{hex_len}
 use Rattle.gix_hash_id.specs.declared.kind.Kind as hash
 use Rattle.gix_object_lines.specs.HexLine.{hex_line, IsHex}
-use Rattle.gix_object_tag.specs.Tag.{Parts, Tagger, IsLine, IsMessageOf, SpellsBody, SpellsTarget, SpellsTagger, SpellsRest, Nothing, Body, SpellsTag}
+use Rattle.gix_object_tag.specs.Tag.{Parts, IsLine, IsMessageOf, SpellsBody, SpellsTarget, SpellsTagger, SpellsRest, Nothing, Body, SpellsTag}
 use Rattle.gix_object_lines.specs.Kind.{kind_word}
 use Rattle.gix_object_lines.specs.declared.kind.Kind.{Kind}
+use Rattle.gix_object_lines.specs.Person.{Person}
 
 pub one_line : (word input value after value' after' : List ℕ) → IsLine word input value after → IsLine word input value' after' → (value ≡ value') × (after ≡ after')
 one_line word input value after value' after' a b =
@@ -52,7 +53,7 @@ pub target_named : (kind : hash.Kind) (input digits after text : List ℕ) (coun
 target_named kind input digits after text count same len spelled hex =
     subst (λ t. SpellsTarget kind input t after) same (record { spelled = spelled; hex = subst (λ n. IsHex n digits) len hex })
 
-pub same_parts : (parts : Parts) (target : List ℕ) (kind : Kind) (name : List ℕ) (tagger : Option Tagger) (message : List ℕ) (signature : Option (List ℕ))
+pub same_parts : (parts : Parts) (target : List ℕ) (kind : Kind) (name : List ℕ) (tagger : Option Person) (message : List ℕ) (signature : Option (List ℕ))
     → target ≡ parts.target → kind ≡ parts.target_kind → name ≡ parts.name → tagger ≡ parts.tagger → message ≡ parts.message → signature ≡ parts.signature
     → ◌≡◌ {A = Parts} (record { target = target; target_kind = kind; name = name; tagger = tagger; message = message; signature = signature }) parts
 same_parts parts target kind name tagger message signature a b c d e f =
@@ -71,7 +72,7 @@ line_ends back word input value after line h =
     ends_more back after input (word ++ (value ++ 10 ∷ []))
     (line.spelled ∙ ap (λ t. word ++ t) (sym (append_assoc value (10 ∷ []) after)) ∙ sym (append_assoc word (value ++ 10 ∷ []) after)) h
 
-tagger_ends : (back input : List ℕ) (tagger : Option Tagger) (after : List ℕ) → SpellsTagger input tagger after → Ends back after → Ends back input
+tagger_ends : (back input : List ℕ) (tagger : Option Person) (after : List ℕ) → SpellsTagger input tagger after → Ends back after → Ends back input
 tagger_ends back input None after is h = (h.0, is.0 ∙ h.1)
 tagger_ends back input (Some tagger) after is h = line_ends back (codes "tagger ") input is.text after is.line h
 

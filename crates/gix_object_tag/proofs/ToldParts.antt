@@ -4,7 +4,7 @@ use Rattle.std.specs.Prelude.{codes}
 use Rattle.gix_hash_id.specs.Id.{Id}
 use Rattle.gix_hash_id.specs.declared.kind.Kind as hash
 use Rattle.gix_object_lines.specs.declared.kind.Kind.{Kind}
-use Rattle.gix_object_tag.specs.Tag as tag
+use Rattle.gix_object_lines.specs.Person.{Person}
 use Rattle.gix_object_tag.specs.Tag.{Parts, SpellsKind, SpellsName, SpellsTagger, SpellsRest, Nothing, SpellsTag}
 use Rattle.gix_object_tag.specs.ReadingOn.{Reads}
 use Rattle.gix_object_tag.specs.Tokens.{Part, Target, TargetKind, Name, Tagger, Body, Place, IsPartAt, IsNext, stage_after, start}
@@ -46,7 +46,7 @@ told_body here there (part ∷ more) stood (next, next_is, reads) end =
 
 abbrev TaggerTold : List ℕ → List Part → Type 0
 TaggerTold input parts =
-    (tagger : Option tag.Tagger) × (message : List ℕ) × (signature : Option (List ℕ)) × (after : List ℕ)
+    (tagger : Option Person) × (message : List ℕ) × (signature : Option (List ℕ)) × (after : List ℕ)
     × SpellsTagger input tagger after × SpellsRest after message signature × TellsLast tagger message signature parts
 
 no_tagger : (input rest : List ℕ) → input ≡ [] → input ≡ codes "tagger " ++ rest → ⊥

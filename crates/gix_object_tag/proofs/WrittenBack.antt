@@ -4,7 +4,8 @@ use Rattle.std.specs.Prelude.{codes}
 use Rattle.gix_hash_id.specs.declared.kind.Kind as hash
 use Rattle.gix_object_lines.specs.HexLine.{hex_line}
 use Rattle.gix_object_lines.specs.Kind.{kind_word}
-use Rattle.gix_object_tag.specs.Tag.{Tagger, Parts, IsLine, SpellsTagger, SpellsRest, Nothing, Body, SpellsTag}
+use Rattle.gix_object_lines.specs.Person.{Person}
+use Rattle.gix_object_tag.specs.Tag.{Parts, IsLine, SpellsTagger, SpellsRest, Nothing, Body, SpellsTag}
 use Rattle.gix_object_tag.specs.TagText.{name_line, tagger_line, body_text, tag_text}
 use Rattle.gix_object_tag.proofs.ReadBack.{shape}
 
@@ -12,7 +13,7 @@ line_is : (word input value after : List ℕ) → IsLine word input value after 
 line_is word input value after line =
     line.spelled ∙ sym (append_assoc word (value ++ 10 ∷ []) after ∙ ap (λ t. word ++ t) (append_assoc value (10 ∷ []) after))
 
-tagger_is : (input : List ℕ) (tagger : Option Tagger) (after : List ℕ) → SpellsTagger input tagger after → input ≡ tagger_line tagger ++ after
+tagger_is : (input : List ℕ) (tagger : Option Person) (after : List ℕ) → SpellsTagger input tagger after → input ≡ tagger_line tagger ++ after
 tagger_is input None after is = is.0
 tagger_is input (Some tagger) after is =
     line_is (codes "tagger ") input is.text after is.line

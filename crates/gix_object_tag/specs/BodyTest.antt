@@ -1,7 +1,7 @@
 -- Whether a message and its signature are told again as they are written, as a test. `laws::body_test_is_the_rule` says that
 -- the test is `Format`'s `IsWholeBody`.
 use Rattle.std.specs.Prelude.{ℕ, Bool, false, not, ◌&&◌, ◌||◌, ◌==◌, List, [], ◌∷◌, codes, Option, None, Some}
-use Rattle.gix_object_tag.specs.NameTest.{begins}
+use Rattle.gix_object_lines.specs.NameTest.{begins}
 
 -- an armor begins the text
 abbrev pub begins_armor : List ℕ → Bool

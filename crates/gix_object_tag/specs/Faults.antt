@@ -9,7 +9,8 @@ use Rattle.gix_object_lines.specs.Kind.{IsNoKind}
 use Rattle.gix_object_lines.specs.declared.kind.Kind.{Kind}
 use Rattle.gix_object_lines.specs.declared.decode.Error.{Error}
 use Rattle.gix_object_lines.specs.declared.decode.Error.TheVariants.{FieldName, HexDigits, LineEnd, InvalidActor, InvalidTime, Memory}
-use Rattle.gix_object_tag.specs.Tag.{Tagger, IsLine, SpellsTarget, SpellsKind, SpellsName, SpellsTagger}
+use Rattle.gix_object_lines.specs.Person.{Person}
+use Rattle.gix_object_tag.specs.Tag.{IsLine, SpellsTarget, SpellsKind, SpellsName, SpellsTagger}
 
 abbrev pub LineFault : List ℕ → List ℕ → Error → Type 0
 LineFault word input FieldName = (rest : List ℕ) → input ≢ word ++ rest
@@ -62,6 +63,6 @@ pub data TagFault (kind : hash.Kind) (input : List ℕ) (error : Error) : Type 0
       → SpellsTarget kind input digits behind → SpellsKind behind target later
       → SpellsName later name after → TaggerFault after error → TagFault kind input error
   InRest : (digits behind : List ℕ) (target : Kind) (later name last : List ℕ)
-      (tagger : Option Tagger) (after : List ℕ) → SpellsTarget kind input digits behind
+      (tagger : Option Person) (after : List ℕ) → SpellsTarget kind input digits behind
       → SpellsKind behind target later → SpellsName later name last → SpellsTagger last tagger after
       → RestFault after error → TagFault kind input error

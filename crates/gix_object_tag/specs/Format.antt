@@ -4,10 +4,11 @@ use Rattle.gix_hash_id.specs.Kind.{hex_len}
 use Rattle.gix_hash_id.specs.declared.kind.Kind as hash
 use Rattle.gix_object_lines.specs.Actor.{TellsTime}
 use Rattle.gix_object_lines.specs.HexLine.{IsHex}
+use Rattle.gix_object_lines.specs.Person.{Person}
 use Rattle.gix_object_tag.specs.Signature.{IsSigned, IsUnsigned}
-use Rattle.gix_object_tag.specs.Tag.{Tagger, Parts}
+use Rattle.gix_object_tag.specs.Tag.{Parts}
 
-abbrev pub TellsWhen : Option Tagger → Type 0
+abbrev pub TellsWhen : Option Person → Type 0
 TellsWhen None = ⊤
 TellsWhen (Some tagger) = TellsTime tagger.time
 

@@ -2,21 +2,15 @@
 use Rattle.std.specs.Prelude.{ℕ, ◌≡◌, ⊤, List, Option, None, Some}
 use Rattle.gix_hash_id.specs.Id.{Id, id_of}
 use Rattle.gix_hash_id.specs.Views.{IsHexOfId}
-use Rattle.gix_object_lines.specs.Time.{SpellsTime}
 use Rattle.gix_object_lines.specs.declared.decode.Error.{Error}
 use Rattle.gix_object_lines.specs.declared.decode.Error.TheVariants.{FieldName, HexDigits, LineEnd, InvalidActor, InvalidTime, Memory}
 use Rattle.gix_object_lines.specs.declared.lines.actor.Actor.{Actor}
+use Rattle.gix_object_lines.specs.Person.{IsActorOf, Person}
 use Rattle.gix_object_tag.specs.Format.{TellsWhen}
-use Rattle.gix_object_tag.specs.Tag.{Tagger, Parts}
+use Rattle.gix_object_tag.specs.Tag.{Parts}
 use Rattle.gix_object_tag.specs.declared.tag.owned.Tag.{Tag}
 
--- the same name and email, and the time that the text tells
-pub record IsActorOf (tagger : Tagger) (actor : Actor) : Type 0 where
-  pub name : actor.name ≡ tagger.name
-  pub email : actor.email ≡ tagger.email
-  pub time : SpellsTime tagger.time actor.time
-
-abbrev pub IsOwnTagger : Option Tagger → Option Actor → Type 0
+abbrev pub IsOwnTagger : Option Person → Option Actor → Type 0
 IsOwnTagger None None = ⊤
 IsOwnTagger None (Some actor) = ⊥
 IsOwnTagger (Some tagger) None = ⊥
@@ -35,7 +29,7 @@ abbrev pub SpellsId : List ℕ → Type 0
 SpellsId digits = (id : Id) × IsHexOfId digits id
 
 -- the first that fails: the digits are no id's, or behind an id's the text tells no time; or no memory is left, where neither does
-abbrev pub OwningFault : List ℕ → Option Tagger → Error → Type 0
+abbrev pub OwningFault : List ℕ → Option Person → Error → Type 0
 OwningFault target tagger HexDigits = ¬ SpellsId target
 OwningFault target tagger InvalidTime = SpellsId target × ¬ TellsWhen tagger
 OwningFault target tagger Memory = SpellsId target × TellsWhen tagger

@@ -2,16 +2,15 @@
 use Rattle.std.specs.Prelude.{ℤ, Bool, false, not, ◌||◌, ◌==◌, nat_lt, ◌%◌, Option, None, Some, unsigned_abs}
 use Rattle.gix_hash_id.specs.Id.{id_of}
 use Rattle.gix_hash_id.specs.Spelling.{hex_text}
-use Rattle.gix_object_lines.specs.Time.{time_text}
 use Rattle.gix_object_lines.specs.declared.lines.actor.Actor.{Actor}
-use Rattle.gix_object_tag.specs.Tag.{Tagger, Parts}
+use Rattle.gix_object_lines.specs.Person.{own_person, Person}
+use Rattle.gix_object_tag.specs.Tag.{Parts}
 use Rattle.gix_object_tag.specs.TagText.{is_marked}
 use Rattle.gix_object_tag.specs.declared.tag.owned.Tag.{Tag}
 
-abbrev pub own_person : Option Actor → Option Tagger
-own_person None = None
-own_person (Some actor) =
-    Some (record { name = actor.name; email = actor.email; time = time_text actor.time })
+abbrev pub own_tagger : Option Actor → Option Person
+own_tagger None = None
+own_tagger (Some actor) = Some (own_person actor)
 
 -- the id's digits are written in lower case
 abbrev pub own_parts : Tag → Parts
@@ -19,7 +18,7 @@ own_parts tag = record {
   target = hex_text (id_of tag.target).digits;
   target_kind = tag.target_kind;
   name = tag.name;
-  tagger = own_person tag.tagger;
+  tagger = own_tagger tag.tagger;
   message = tag.message;
   signature = tag.pgp_signature;
 }

@@ -3,7 +3,7 @@ use Rattle.std.specs.Prelude.{◌≡◌, ◌⊎◌, List, [], ◌∷◌, filter_
 use Rattle.gix_hash_id.specs.declared.object_id.ObjectId.{ObjectId}
 use Rattle.gix_object_lines.specs.declared.decode.Error.{Error}
 use Rattle.gix_object_lines.specs.declared.decode.Error.TheVariants.{FieldName}
-use Rattle.gix_object_tag.specs.Tag as tag
+use Rattle.gix_object_lines.specs.Person.{Person}
 use Rattle.gix_object_tag.specs.Tokens.{Part, Tagger, Place, IsNext, GivesToken}
 use Rattle.gix_object_tag.specs.declared.tag.ref_iter.Stage.TheVariants as at
 use Rattle.gix_object_tag.specs.declared.tag.ref_iter.Token.{Token}
@@ -36,7 +36,7 @@ TellsNone told here error = (there : Place) × Tells told here [] there × IsSto
 
 -- ---- the tagger: a tag that ends behind its name has none
 
-abbrev pub tagger_told : Part → Option (Option tag.Tagger)
+abbrev pub tagger_told : Part → Option (Option Person)
 tagger_told (Tagger tagger) = Some tagger
 tagger_told _ = None
 
@@ -45,7 +45,7 @@ abbrev pub IsBehindName : Place → Type 0
 IsBehindName place = (place.stage ≡ at.Tagger) × (place.input ≡ [])
 
 -- the first tagger from here on is this one; or none is told up to the name, with which the input ends
-abbrev pub TellsTagger : Place → Option tag.Tagger → Type 0
+abbrev pub TellsTagger : Place → Option Person → Type 0
 TellsTagger here tagger =
     TellsFirst tagger_told here tagger
     ⊎ ((there : Place) × Tells tagger_told here [] there × IsBehindName there × (tagger ≡ None))

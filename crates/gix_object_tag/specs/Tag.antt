@@ -4,17 +4,12 @@ use Rattle.std.specs.Prelude.{ℕ, ◌≡◌, ◌≢◌, ◌⊎◌, List, [], �
 use Rattle.gix_hash_id.specs.Kind.{hex_len}
 use Rattle.gix_hash_id.specs.declared.kind.Kind as hash
 use Rattle.gix_object_lines.specs.Actor.{SpellsActor}
-use Rattle.gix_object_lines.specs.Bytes.{BeginsWith, Lacks}
+use Rattle.gix_object_lines.specs.Bytes.{IsBeginningOf, Lacks}
 use Rattle.gix_object_lines.specs.HexLine.{hex_line, IsHex}
 use Rattle.gix_object_lines.specs.Kind.{kind_word}
 use Rattle.gix_object_lines.specs.declared.kind.Kind.{Kind}
+use Rattle.gix_object_lines.specs.Person.{Person}
 use Rattle.gix_object_tag.specs.Signature.{IsSigned, IsUnsigned}
-
--- who made the tag, and when: the three texts of its line
-pub record Tagger : Type 0 where
-  pub name : List ℕ
-  pub email : List ℕ
-  pub time : List ℕ
 
 -- what a tag tells
 pub record Parts : Type 0 where
@@ -22,7 +17,7 @@ pub record Parts : Type 0 where
   pub target : List ℕ
   pub target_kind : Kind
   pub name : List ℕ
-  pub tagger : Option Tagger
+  pub tagger : Option Person
   pub message : List ℕ
   pub signature : Option (List ℕ)
 
@@ -45,14 +40,14 @@ pub record SpellsName (input name after : List ℕ) : Type 0 where
   pub line : IsLine (codes "tag ") input name after
   pub some : name ≢ []
 
-pub record SpellsTaggerLine (input : List ℕ) (tagger : Tagger) (after : List ℕ) : Type 0 where
+pub record SpellsTaggerLine (input : List ℕ) (tagger : Person) (after : List ℕ) : Type 0 where
   pub text : List ℕ
   pub line : IsLine (codes "tagger ") input text after
   pub actor : SpellsActor text tagger.name tagger.email tagger.time
 
 -- old tags have no tagger
-abbrev pub SpellsTagger : List ℕ → Option Tagger → List ℕ → Type 0
-SpellsTagger input None after = (input ≡ after) × ¬ BeginsWith (codes "tagger ") input
+abbrev pub SpellsTagger : List ℕ → Option Person → List ℕ → Type 0
+SpellsTagger input None after = (input ≡ after) × ¬ IsBeginningOf (codes "tagger ") input
 SpellsTagger input (Some tagger) after = SpellsTaggerLine input tagger after
 
 -- ---- the message

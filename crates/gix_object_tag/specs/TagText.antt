@@ -9,10 +9,11 @@ use Rattle.gix_object_lines.specs.Writes.{Refusal}
 use Rattle.gix_object_lines.specs.declared.encode.Error.TheVariants.{Unspellable}
 use Rattle.gix_object_lines.specs.declared.write.Error.TheVariants.{Header, TagName}
 use Rattle.gix_object_lines.specs.declared.write.TagNameError.{TagNameError}
+use Rattle.gix_object_lines.specs.Person.{Person}
 use Rattle.gix_object_tag.specs.BodyTest.{is_whole_body}
 use Rattle.gix_object_tag.specs.NameTest.{name_fault}
 use Rattle.gix_object_tag.specs.Pieces.{Piece, all_text, first_refusal}
-use Rattle.gix_object_tag.specs.Tag.{Tagger, Parts}
+use Rattle.gix_object_tag.specs.Tag.{Parts}
 
 -- the lines of the target and of its kind's word
 abbrev pub head_text : List ℕ → List ℕ → List ℕ
@@ -21,10 +22,10 @@ head_text target word = hex_line (codes "object") target ++ (codes "type " ++ (w
 abbrev pub name_line : List ℕ → List ℕ
 name_line name = codes "tag " ++ (name ++ 10 ∷ [])
 
-abbrev pub tagger_text : Tagger → List ℕ
+abbrev pub tagger_text : Person → List ℕ
 tagger_text tagger = tagger.name ++ (codes " <" ++ (tagger.email ++ (codes "> " ++ tagger.time)))
 
-abbrev pub tagger_line : Option Tagger → List ℕ
+abbrev pub tagger_line : Option Person → List ℕ
 tagger_line None = []
 tagger_line (Some tagger) = codes "tagger " ++ (tagger_text tagger ++ 10 ∷ [])
 
@@ -49,12 +50,12 @@ name_refusal fault = option_map (λ cause. record { before = []; cause = TagName
 abbrev pub is_marked : List ℕ → Bool
 is_marked part = list_any (λ byte. byte == 60 || byte == 62 || byte == 10) part
 
-abbrev pub is_marked_tagger : Option Tagger → Bool
+abbrev pub is_marked_tagger : Option Person → Bool
 is_marked_tagger None = false
 is_marked_tagger (Some tagger) = is_marked tagger.name || is_marked tagger.email
 
 -- such a name or email, or a text that tells no time
-abbrev pub is_bad_tagger : Option Tagger → Bool
+abbrev pub is_bad_tagger : Option Person → Bool
 is_bad_tagger None = false
 is_bad_tagger (Some tagger) = is_marked_tagger (Some tagger) || not (tells_time tagger.time)
 

@@ -6,7 +6,7 @@ use Rattle.gix_hash_id.specs.Views.{IsHexOfId}
 use Rattle.gix_hash_id.specs.declared.kind.Kind as hash
 use Rattle.gix_object_lines.specs.declared.decode.Error.{Error}
 use Rattle.gix_object_lines.specs.declared.kind.Kind.{Kind}
-use Rattle.gix_object_tag.specs.Tag as tag
+use Rattle.gix_object_lines.specs.Person.{Person}
 use Rattle.gix_object_tag.specs.Tag.{SpellsTarget, SpellsKind, SpellsName, SpellsTagger, SpellsRest}
 use Rattle.gix_object_tag.specs.TokenFaults.{IsFaultAt}
 use Rattle.gix_object_tag.specs.Views.{tagger_of, text_of}
@@ -21,7 +21,7 @@ pub data Part : Type 0 where
   Target : Id → Part
   TargetKind : Kind → Part
   Name : List ℕ → Part
-  Tagger : Option tag.Tagger → Part
+  Tagger : Option Person → Part
   Body : List ℕ → Option (List ℕ) → Part
 
 abbrev pub part_of : Token → Part

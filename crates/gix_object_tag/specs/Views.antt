@@ -4,19 +4,13 @@ use Rattle.std.specs.Option.{option_map}
 use Rattle.bstr.specs.BStr.{bstr_bytes}
 use Rattle.bstr.specs.declared.bstr.BStr.{BStr}
 use Rattle.gix_object_lines.specs.declared.lines.actor.ActorRef.{ActorRef}
+use Rattle.gix_object_lines.specs.Person.{person_of, Person}
 use Rattle.gix_object_tag.specs.declared.tag.TagRef.{TagRef}
-use Rattle.gix_object_tag.specs.Tag.{Tagger, Parts}
+use Rattle.gix_object_tag.specs.Tag.{Parts}
 
-abbrev pub tagger_of : Option ActorRef → Option Tagger
+abbrev pub tagger_of : Option ActorRef → Option Person
 tagger_of None = None
-tagger_of (Some actor) =
-    Some
-    (record {
-      name =
-          bstr_bytes actor.name;
-      email = bstr_bytes actor.email;
-      time = bstr_bytes actor.time;
-    })
+tagger_of (Some actor) = Some (person_of actor)
 
 abbrev pub text_of : Option BStr → Option (List ℕ)
 text_of text = option_map bstr_bytes text

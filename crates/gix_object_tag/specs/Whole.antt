@@ -4,7 +4,7 @@ use Rattle.std.specs.List.{list_any}
 use Rattle.gix_hash_id.specs.Id.{Id}
 use Rattle.gix_hash_id.specs.Views.{IsHexOfId}
 use Rattle.gix_hash_id.specs.declared.kind.Kind as hash
-use Rattle.gix_object_tag.specs.Tag as tag
+use Rattle.gix_object_lines.specs.Person.{Person}
 use Rattle.gix_object_tag.specs.Tag.{Parts, SpellsTag}
 use Rattle.gix_object_tag.specs.ReadingOn.{Reads}
 use Rattle.gix_object_tag.specs.Tokens.{Part, Target, TargetKind, Name, Tagger, Body, Place}
@@ -28,7 +28,7 @@ pub data TellsBody (message : List ℕ) (signature : Option (List ℕ))
   ABody : tokens ≡ Body message signature ∷ [] → TellsBody message signature tokens
 
 -- the tagger, and the body; neither token is given where nothing is left behind the name
-pub data TellsLast (tagger : Option tag.Tagger) (message : List ℕ) (signature : Option (List ℕ))
+pub data TellsLast (tagger : Option Person) (message : List ℕ) (signature : Option (List ℕ))
     (tokens : List Part) : Type 0 where
   NoTagger : tagger ≡ None → message ≡ [] → signature ≡ None → tokens ≡ []
       → TellsLast tagger message signature tokens

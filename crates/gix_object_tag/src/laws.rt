@@ -7,7 +7,7 @@ ghost use Rattle.gix_object_lines.specs.PartialName.{IsPartialName};
 ghost use Rattle.gix_object_lines.specs.Writes.{cause_of};
 ghost use Rattle.gix_object_tag.specs.BodyTest.{is_whole_body};
 ghost use Rattle.gix_object_tag.specs.Format.{IsInFormat, IsWholeBody};
-ghost use Rattle.gix_object_tag.specs.NameTest.{is_partial};
+ghost use Rattle.gix_object_lines.specs.NameTest.{is_partial_name as is_partial};
 ghost use Rattle.gix_object_tag.specs.Tag.{Parts, SpellsTag};
 ghost use Rattle.gix_object_tag.specs.TagText.{tag_text, tag_refusal, is_bad_tagger};
 ghost use Rattle.gix_object_tag.specs.ReadingOn.{Reads};

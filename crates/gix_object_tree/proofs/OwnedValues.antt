@@ -13,16 +13,16 @@ use Rattle.gix_object_lines.specs.Time.{SpellsTime, time_text}
 use Rattle.gix_object_lines.specs.declared.lines.actor.Actor.{Actor}
 use Rattle.gix_object_lines.specs.declared.lines.time.Time.{Time}
 use Rattle.gix_object_lines.proofs.TimeLemmas.{time_once}
+use Rattle.gix_object_lines.specs.Person.{Person, IsActorOf, own_person}
 use Rattle.gix_object_commit_lines.specs.Commit as commit
-use Rattle.gix_object_commit_lines.specs.Commit.{Person, Field, IsField, SpellsCommit, folded}
-use Rattle.gix_object_commit.specs.Owned.{IsOwnId, IsActorOf, IsHeaderOf, IsCommitOf}
-use Rattle.gix_object_commit.specs.OwnedText.{own_digits, own_person, own_field, own_parts}
+use Rattle.gix_object_commit_lines.specs.Commit.{Field, IsField, SpellsCommit, folded}
+use Rattle.gix_object_commit.specs.Owned.{IsOwnId, IsHeaderOf, IsCommitOf}
+use Rattle.gix_object_commit.specs.OwnedText.{own_digits, own_field, own_parts}
 use Rattle.gix_object_commit.specs.declared.commit.owned.Commit as owned_commit
 use Rattle.gix_object_commit_lines.specs.declared.header.ExtraHeader.{ExtraHeader}
 use Rattle.gix_object_tag.specs.Owned.{IsOwnTagger, IsTagOf}
-use Rattle.gix_object_tag.specs.OwnedText.{own_person as own_tagger, own_parts as own_tag_parts}
+use Rattle.gix_object_tag.specs.OwnedText.{own_tagger, own_parts as own_tag_parts}
 use Rattle.gix_object_tag.specs.Tag as tag
-use Rattle.gix_object_tag.specs.Tag.{Tagger}
 use Rattle.gix_object_tag.specs.declared.tag.owned.Tag as owned_tag
 use Rattle.gix_object_tree.specs.Format.{IsTimeText, HasOwnTexts, HasOwnTagTexts, IsKeptWhole}
 use Rattle.gix_object_tree.specs.Object.{Value, Blob, Tree, Commit, Tag, SpellsValue}
@@ -55,7 +55,7 @@ same_person person actor is kept =
     let time = same_time person.time actor.time is.time kept in
     λ i. record { name = is.name i; email = is.email i; time = time i }
 
-same_tagger : (tagger : Option Tagger) (actor : Option Actor) → IsOwnTagger tagger actor → IfSome tagger (λ tagger. IsTimeText tagger.time) → own_tagger actor ≡ tagger
+same_tagger : (tagger : Option Person) (actor : Option Actor) → IsOwnTagger tagger actor → IfSome tagger (λ tagger. IsTimeText tagger.time) → own_tagger actor ≡ tagger
 same_tagger None None is kept = refl
 same_tagger None (Some actor) is kept = absurd is
 same_tagger (Some tagger) None is kept = absurd is

@@ -2,6 +2,7 @@ pub mod Ascending
 pub mod Below
 pub mod Entries
 pub mod Histories
+pub mod Listings
 pub mod Moved
 pub mod Others
 pub mod Places

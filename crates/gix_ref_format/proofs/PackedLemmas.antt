@@ -5,6 +5,7 @@ use Rattle.std.specs.List.{slice_split}
 use Rattle.gix_hash_id.specs.Id.{Id}
 use Rattle.gix_hash_id.specs.Kind.{hex_len}
 use Rattle.gix_hash_id.specs.declared.kind.Kind.{Kind}
+use Rattle.gix_object_lines.specs.Bytes.{is_among}
 use Rattle.gix_object_lines.specs.NameTest.{begins, is_full_name}
 use Rattle.gix_ref_format.specs.declared.packed.Peeled.{Peeled}
 use Rattle.gix_ref_format.specs.declared.packed.Header.{Header}
@@ -12,12 +13,12 @@ use Rattle.std.proofs.lemmas.List.{length-drop}
 use Rattle.std.proofs.Math.Seq.{take-length}
 use Rattle.gix_ref_format.specs.Ids.{id_from_hex}
 use Rattle.gix_ref_format.specs.Lines.{lines}
-use Rattle.gix_ref_format.specs.Packed.{Record, Item, Good, without_peel, record_text, record_line, peel_line, header_of, header_by, peeled_by, has_word, items, item_of, next_number, HasPeel}
+use Rattle.gix_ref_format.specs.Packed.{Record, Item, Good, without_peel, record_text, record_line, peel_line, header_of, header_by, peeled_by, items, item_of, next_number, HasPeel}
 
 abbrev words_in : List ℕ → List (List ℕ)
 words_in text = slice_split (λ byte. byte == 32) (drop 17 text)
 
-pub header_is : (text : List ℕ) (p : Peeled) (s : Bool) → begins (codes "# pack-refs with:") text ≡ true → p ≡ peeled_by (words_in text) → s ≡ has_word (words_in text) (codes "sorted")
+pub header_is : (text : List ℕ) (p : Peeled) (s : Bool) → begins (codes "# pack-refs with:") text ≡ true → p ≡ peeled_by (words_in text) → s ≡ is_among (words_in text) (codes "sorted")
     → Some (record { peeled = p; sorted = s }) ≡ header_of text
 header_is text p s front is_p is_s =
     ap (λ q. Some (record { peeled = q; sorted = s })) is_p ∙ ap (λ q. Some (record { peeled = peeled_by (words_in text); sorted = q })) is_s

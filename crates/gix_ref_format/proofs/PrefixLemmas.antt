@@ -9,7 +9,7 @@ use Rattle.std.specs.Cmp.{nat_cmp_is}
 use Rattle.std.specs.Cmp.Lexicographic.{slice_cmp}
 use Rattle.std.proofs.lemmas.Cmp.{ranked, nat_list_cmp_total}
 use Rattle.std.proofs.lemmas.List.{get_or-drop, length-drop}
-use Rattle.gix_object_lines.specs.Bytes.{BeginsWith}
+use Rattle.gix_object_lines.specs.Bytes.{IsBeginningOf}
 use Rattle.gix_object_lines.specs.NameTest.{begins}
 use Rattle.gix_object_lines.proofs.NameTests.{begins-Decides}
 use Rattle.gix_ref_format.specs.Packed.{Record}
@@ -29,13 +29,13 @@ not_before [] (x ∷ rest) = refl
 not_before (x ∷ front) rest = ap (λ o. is_lt (ordering_then o (slice_cmp nat_cmp (front ++ rest) front))) (itself x) ∙ not_before front rest
 
 -- what stands between the front and a name that begins with it begins with it
-between : (front name rest : List ℕ) → is_lt (slice_cmp nat_cmp name front) ≡ false → is_lt (slice_cmp nat_cmp (front ++ rest) name) ≡ false → BeginsWith front name
+between : (front name rest : List ℕ) → is_lt (slice_cmp nat_cmp name front) ≡ false → is_lt (slice_cmp nat_cmp (front ++ rest) name) ≡ false → IsBeginningOf front name
 between [] name rest low high = (name, refl)
 between (x ∷ front) [] rest low high = cc
 between (x ∷ front) (y ∷ name) rest low high = by_order (nat_cmp y x) refl (nat_cmp x y) refl (λ low' high'. between front name rest low' high')
   where
     by_order : (o : Ordering) → nat_cmp y x ≡ o → (p : Ordering) → nat_cmp x y ≡ p
-        → (is_lt (slice_cmp nat_cmp name front) ≡ false → is_lt (slice_cmp nat_cmp (front ++ rest) name) ≡ false → BeginsWith front name) → BeginsWith (x ∷ front) (y ∷ name)
+        → (is_lt (slice_cmp nat_cmp name front) ≡ false → is_lt (slice_cmp nat_cmp (front ++ rest) name) ≡ false → IsBeginningOf front name) → IsBeginningOf (x ∷ front) (y ∷ name)
     by_order Less is p other again = absurd (clash (sym (ap (λ q. is_lt (ordering_then q (slice_cmp nat_cmp name front))) is) ∙ low))
       where
         clash : true ≡ false → ⊥

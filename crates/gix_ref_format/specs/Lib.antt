@@ -10,7 +10,6 @@ pub mod LogLine
 pub mod LogCuts
 pub mod LogViews
 pub mod LogOwned
-pub mod LogNumbers
 pub mod LogForward
 pub mod LogFound
 pub mod LogPlace

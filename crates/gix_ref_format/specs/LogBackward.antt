@@ -2,9 +2,9 @@
 use Rattle.std.specs.Prelude.{ℕ, ◌≡◌, ◌<◌, ◌≤◌, ⊤, Bool, true, if◌then◌else◌, List, [], ◌∷◌, length, take, reverse, Option, None, Some, Result, Ok, Err}
 use Rattle.std.specs.Bool.{MatchBool}
 use Rattle.std.specs.List.{slice_split}
+use Rattle.gix_object_lines.specs.Counts.{one_more}
 use Rattle.gix_ref_file.specs.declared.files.FileError.TheVariants as file
 use Rattle.gix_ref_format.specs.LogLine.{LineParts, SpellsLine, IsNoLine, is_feed}
-use Rattle.gix_ref_format.specs.LogNumbers.{one_more}
 use Rattle.gix_ref_format.specs.LogOwned.{IsLineOf}
 use Rattle.gix_ref_format.specs.LogPlace.{IsWindow}
 use Rattle.gix_ref_format.specs.declared.log.line.Line.{Line}

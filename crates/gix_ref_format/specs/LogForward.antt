@@ -2,13 +2,13 @@
 use Rattle.std.specs.Prelude.{ℕ, ◌≡◌, List, [], ◌∷◌, Option, None, Some, Result, Ok, Err}
 use Rattle.std.specs.List.{slice_split}
 use Rattle.std.specs.Option.{option_map}
+use Rattle.gix_object_lines.specs.Counts.{one_more}
 use Rattle.gix_ref_format.specs.LogLine.{SpellsLine, IsNoLine, is_feed}
 use Rattle.gix_ref_format.specs.LogViews.{parts_of}
 use Rattle.gix_ref_format.specs.declared.log.line.LineRef.{LineRef}
 use Rattle.gix_ref_format.specs.declared.log.iter.lines.Forward.{Forward}
 use Rattle.gix_ref_format.specs.declared.log.iter.decode.Error.{Error}
 use Rattle.gix_ref_format.specs.declared.log.iter.decode.LineNumber.TheVariants.{FromStart}
-use Rattle.gix_ref_format.specs.LogNumbers.{one_more}
 
 -- the lines that are left, the next first, and how many were given
 pub record Lines : Type 0 where

@@ -8,7 +8,7 @@ use Rattle.gix_object_lines.specs.Actor.{IsSpellable, TellsTime, actor_text}
 use Rattle.gix_object_lines.specs.Bytes.{Lacks}
 use Rattle.gix_object_lines.specs.HexLine.{is_id}
 use Rattle.gix_object_lines.specs.Time.{SpellsTime, time_text}
-use Rattle.gix_object_lines.specs.Writes.{AppendsFront}
+use Rattle.gix_hash_id.specs.Writes.{AppendsFewer}
 use Rattle.gix_object_lines.specs.declared.decode.Error.{Error as DecodeError}
 use Rattle.gix_object_lines.specs.declared.decode.Error.TheVariants as decode
 use Rattle.gix_ref_format.specs.LogLine.{LineParts, SpellsLine, IsNoLine, line_text}
@@ -43,7 +43,7 @@ abbrev pub WritesLogLine : {U : Type 0} → Option (List ℕ) → Option (List �
     → Result U Error → Type 0
 WritesLogLine old new line (Ok _) = IsWritable line × Appends old new (written_text line ++ 10 ∷ [])
 WritesLogLine old new line (Err (Writer error)) =
-    IsWritable line × AppendsFront old new (written_text line ++ 10 ∷ [])
+    IsWritable line × AppendsFewer old new (written_text line ++ 10 ∷ [])
 WritesLogLine old new line (Err MessageWithNewlines) = (¬ Lacks 10 line.message) × Keeps old new
 WritesLogLine old new line (Err Unspellable) =
     (¬ IsSpellable line.signature.name line.signature.email line.signature.time)

@@ -1,11 +1,12 @@
 -- The file `packed-refs` (git-pack-refs(1); gitrepository-layout, "packed-refs"): lines `<hex> <name>`, each followed or not by a
 -- line `^<hex>`, the peeled id of the tag. A first line that begins with `#` is a header.
-use Rattle.std.specs.Prelude.{ℕ, ◌≡◌, ◌+◌, ◌==◌, min, Bool, true, false, ◌&&◌, is_some, List, [], ◌∷◌, ◌++◌, map, length, take, drop, codes, if◌then◌else◌, Option, Some, None, option_map, option_and_then, Result, Ok, Err, bytes_eq, IsTrue, IsFalse}
-use Rattle.std.specs.List.{list_any, slice_split, ends_with}
+use Rattle.std.specs.Prelude.{ℕ, ◌≡◌, ◌+◌, ◌==◌, min, Bool, true, false, ◌&&◌, is_some, List, [], ◌∷◌, ◌++◌, map, length, take, drop, codes, if◌then◌else◌, Option, Some, None, option_map, option_and_then, Result, Ok, Err, IsTrue, IsFalse}
+use Rattle.std.specs.List.{slice_split, ends_with}
 use Rattle.bstr.specs.BStr.{bstr_bytes}
 use Rattle.gix_hash_id.specs.Id.{Id, id_of}
 use Rattle.gix_hash_id.specs.Kind.{hex_len}
 use Rattle.gix_hash_id.specs.declared.kind.Kind.{Kind}
+use Rattle.gix_object_lines.specs.Bytes.{is_among}
 use Rattle.gix_object_lines.specs.NameTest.{begins, is_full_name}
 use Rattle.gix_ref_name.specs.Names.{name_of}
 use Rattle.gix_ref_format.specs.Ids.{id_from_hex}
@@ -19,17 +20,14 @@ use Rattle.gix_ref_format.specs.declared.packed.iter.Error.TheVariants as faults
 
 -- ---- the header
 
-abbrev pub has_word : List (List ℕ) → List ℕ → Bool
-has_word words word = list_any (λ other. bytes_eq other word) words
-
 abbrev pub peeled_by : List (List ℕ) → Peeled
 peeled_by words =
-    if has_word words (codes "fully-peeled") then Fully
-    else if has_word words (codes "peeled") then Partial
+    if is_among words (codes "fully-peeled") then Fully
+    else if is_among words (codes "peeled") then Partial
     else Unspecified
 
 abbrev pub header_by : List (List ℕ) → Header
-header_by words = record { peeled = peeled_by words; sorted = has_word words (codes "sorted") }
+header_by words = record { peeled = peeled_by words; sorted = is_among words (codes "sorted") }
 
 -- words behind `# pack-refs with:`, parted by spaces
 abbrev pub header_of : List ℕ → Option Header

@@ -4,7 +4,7 @@ use Rattle.std.specs.Prelude.{codes, MatchOption}
 use Rattle.std.proofs.lemmas.Bool.{false≢true}
 use Rattle.bstr.specs.BStr.{bstr_bytes}
 use Rattle.bstr.specs.declared.bstr.BStr.{BStr}
-use Rattle.gix_object_lines.specs.Bytes.{BeginsWith, Lacks}
+use Rattle.gix_object_lines.specs.Bytes.{IsBeginningOf, Lacks}
 use Rattle.gix_object_lines.specs.NameTest.{is_capitals}
 use Rattle.gix_object_lines.proofs.Cuts.{cut_once}
 use Rattle.gix_ref_name.specs.Categories.{Tells, HasNoCategory, IsOfWorktree}
@@ -19,10 +19,10 @@ short_of name rest worktree short other short' is cut lacks tells =
     let rests : other ++ 47 ∷ short' ≡ rest = cc in
     (cut_once 47 other short' worktree short tells.1 lacks (rests ∙ cut)).1
 
-pub linked_none : (name rest worktree short : List ℕ) → name ≡ codes "worktrees/" ++ rest → rest ≡ worktree ++ 47 ∷ short → Lacks 47 worktree → (BeginsWith (codes "refs/") short → ⊥) → is_capitals short ≡ false → LinkedNone name
+pub linked_none : (name rest worktree short : List ℕ) → name ≡ codes "worktrees/" ++ rest → rest ≡ worktree ++ 47 ∷ short → Lacks 47 worktree → (IsBeginningOf (codes "refs/") short → ⊥) → is_capitals short ≡ false → LinkedNone name
 linked_none name rest worktree short is cut lacks no_refs no_capitals = record {
   pseudo = λ w short' tells. false≢true (sym no_capitals ∙ ap is_capitals (sym (short_of name rest worktree short (bstr_bytes w) short' is cut lacks tells.0)) ∙ tells.1);
-  refs = λ w short' tells. no_refs (subst (λ (t : List ℕ). BeginsWith (codes "refs/") t) (short_of name rest worktree short (bstr_bytes w) short' is cut lacks tells.0) tells.1);
+  refs = λ w short' tells. no_refs (subst (λ (t : List ℕ). IsBeginningOf (codes "refs/") t) (short_of name rest worktree short (bstr_bytes w) short' is cut lacks tells.0) tells.1);
 }
 
 pub category_none : (name : List ℕ) (r : Option (Category × BStr)) → SharedNone name → PrivateNone name → is_capitals name ≡ false → MainNone name

@@ -1,7 +1,7 @@
 -- Categories of full names, by their beginnings (gitrepository-layout, "refs"; git-worktree, "Refs").
 use Rattle.std.specs.Prelude.{ℕ, ◌≡◌, ◌⊎◌, Bool, true, false, List, [], ◌∷◌, ◌++◌, codes, IsTrue}
 use Rattle.bstr.specs.BStr.{bstr_bytes}
-use Rattle.gix_object_lines.specs.Bytes.{BeginsWith, Lacks}
+use Rattle.gix_object_lines.specs.Bytes.{IsBeginningOf, Lacks}
 use Rattle.gix_object_lines.specs.NameTest.{is_capitals}
 use Rattle.gix_ref_name.specs.Fronts.{with_front, without_front}
 use Rattle.gix_ref_name.specs.declared.category.Category.{Category}
@@ -9,7 +9,7 @@ use Rattle.gix_ref_name.specs.declared.category.Category.TheVariants.{Tag, Local
 
 -- the name stands below `refs/`, in the folder of this word, and the short name keeps the word
 abbrev pub IsBelow : List ℕ → List ℕ → List ℕ → Type 0
-IsBelow word name short = (name ≡ codes "refs/" ++ short) × BeginsWith word short
+IsBelow word name short = (name ≡ codes "refs/" ++ short) × IsBeginningOf word short
 
 -- a name that another worktree's front stands before: the front, and what stands behind it
 abbrev pub IsOfWorktree : List ℕ → List ℕ → List ℕ → Type 0
@@ -29,11 +29,11 @@ Tells name PseudoRef short = (name ≡ short) × IsTrue (is_capitals short)
 Tells name MainPseudoRef short =
     (name ≡ codes "main-worktree/" ++ short) × IsTrue (is_capitals short)
 Tells name MainRef short =
-    (name ≡ codes "main-worktree/" ++ short) × BeginsWith (codes "refs/") short
+    (name ≡ codes "main-worktree/" ++ short) × IsBeginningOf (codes "refs/") short
 Tells name (LinkedPseudoRef worktree) short =
     IsOfWorktree (bstr_bytes worktree) name short × IsTrue (is_capitals short)
 Tells name (LinkedRef worktree) short =
-    IsOfWorktree (bstr_bytes worktree) name short × BeginsWith (codes "refs/") short
+    IsOfWorktree (bstr_bytes worktree) name short × IsBeginningOf (codes "refs/") short
 
 abbrev pub HasNoCategory : List ℕ → Type 0
 HasNoCategory name = (category : Category) (short : List ℕ) → ¬ Tells name category short

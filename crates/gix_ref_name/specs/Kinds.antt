@@ -1,6 +1,6 @@
 -- Which categories a name doesn't have.
 use Rattle.std.specs.Prelude.{ℕ, List, codes}
-use Rattle.gix_object_lines.specs.Bytes.{BeginsWith}
+use Rattle.gix_object_lines.specs.Bytes.{IsBeginningOf}
 use Rattle.bstr.specs.declared.bstr.BStr.{BStr}
 use Rattle.gix_ref_name.specs.Categories.{Tells}
 use Rattle.gix_ref_name.specs.declared.category.Category.{Category}
@@ -33,17 +33,17 @@ pub record LinkedNone (name : List ℕ) : Type 0 where
 
 -- none of the four words begins the text
 pub record NoWord (text : List ℕ) : Type 0 where
-  pub note : ¬ BeginsWith (codes "notes/") text
-  pub bisect : ¬ BeginsWith (codes "bisect/") text
-  pub rewritten : ¬ BeginsWith (codes "rewritten/") text
-  pub worktree : ¬ BeginsWith (codes "worktree/") text
+  pub note : ¬ IsBeginningOf (codes "notes/") text
+  pub bisect : ¬ IsBeginningOf (codes "bisect/") text
+  pub rewritten : ¬ IsBeginningOf (codes "rewritten/") text
+  pub worktree : ¬ IsBeginningOf (codes "worktree/") text
 
 -- the category's word begins the text
 abbrev pub HasWord : Category → List ℕ → Type 0
-HasWord Note text = BeginsWith (codes "notes/") text
-HasWord Bisect text = BeginsWith (codes "bisect/") text
-HasWord Rewritten text = BeginsWith (codes "rewritten/") text
-HasWord WorktreePrivate text = BeginsWith (codes "worktree/") text
+HasWord Note text = IsBeginningOf (codes "notes/") text
+HasWord Bisect text = IsBeginningOf (codes "bisect/") text
+HasWord Rewritten text = IsBeginningOf (codes "rewritten/") text
+HasWord WorktreePrivate text = IsBeginningOf (codes "worktree/") text
 HasWord Tag text = ⊥
 HasWord LocalBranch text = ⊥
 HasWord RemoteBranch text = ⊥

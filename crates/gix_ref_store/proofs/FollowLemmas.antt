@@ -4,11 +4,12 @@ use Rattle.std.specs.Prelude.{Result, Ok, Err, MatchResult, if◌then◌else◌}
 use Rattle.gix_hash_id.specs.Id.{Id}
 use Rattle.gix_hash_id.specs.declared.object_id.ObjectId.{ObjectId}
 use Rattle.gix_ref_file.specs.Tree.{Tree}
+use Rattle.gix_object_lines.specs.Bytes.{is_among}
 use Rattle.gix_ref_name.specs.Targets.{ToName}
 use Rattle.gix_ref_store.specs.Places.{Base}
 use Rattle.gix_ref_store.specs.Readings.{Reading, Stands, Absent, Faulty}
 use Rattle.gix_ref_store.specs.Finds.{OnExisting, reading_of}
-use Rattle.gix_ref_store.specs.Follows.{Followed, Cycles, TooDeep, is_among, follow, EndsBy, ReadFault, FollowFault, IsGiven, CantOpen}
+use Rattle.gix_ref_store.specs.Follows.{Followed, Cycles, TooDeep, follow, EndsBy, ReadFault, FollowFault, IsGiven, CantOpen}
 use Rattle.gix_ref_store.specs.declared.reference.Reference.{Reference}
 use Rattle.gix_ref_store.specs.declared.store.file.find.Error.TheVariants as find
 use Rattle.gix_ref_store.specs.declared.store.file.find.ExistingError.{ExistingError}

@@ -3,10 +3,10 @@ use Rattle.std.proofs.Common.{◌≡◌, ◌⊎◌, inl, inr, ℕ, Bool, true, f
 use Rattle.std.specs.Prelude.{IsTrue, IsSome, codes, drop, bytes_eq, Result, Ok, Err, OnOk}
 use Rattle.gix_object_lines.specs.NameTest.{begins, ends, is_capitals}
 use Rattle.gix_object_lines.proofs.NameTests.{begins-Decides}
-use Rattle.gix_ref_file.specs.Tree.{Tree}
+use Rattle.gix_ref_file.specs.Tree.{Tree, under}
 use Rattle.gix_ref_file.specs.Changes.{is_file_at}
 use Rattle.gix_ref_format.specs.Lookup.{is_own, behind_slash}
-use Rattle.gix_ref_store.specs.Places.{Base, place, place_in, under, main_home, linked_home, shared_home}
+use Rattle.gix_ref_store.specs.Places.{Base, place, place_in, main_home, linked_home, shared_home}
 use Rattle.gix_ref_store.specs.Listings.{is_pseudo}
 use Rattle.gix_ref_store.specs.Walks.{has, Keeps, Gathers, GathersBelow, GathersPlaces, GathersRecords}
 use Rattle.gix_ref_store.proofs.WalkSteps.{HasFront}

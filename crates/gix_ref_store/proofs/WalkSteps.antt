@@ -1,5 +1,5 @@
 -- What one name of a folder adds to a walk below it.
-use Rattle.std.proofs.Common.{◌≡◌, ◌⊎◌, inl, inr, ℕ, zero, suc, Vec, ◌+◌, ◌<◌, ◌≤◌, Bool, true, false, ◌&&◌, List, [], ◌∷◌, ◌++◌, length, map, Option, Some, None, refl, sym, ◌∙◌, ap, subst, arith, length-append, append_assoc}
+use Rattle.std.proofs.Common.{◌≡◌, ◌⊎◌, inl, inr, ℕ, Vec, ◌+◌, ◌<◌, ◌≤◌, Bool, true, false, ◌&&◌, List, [], ◌∷◌, ◌++◌, length, map, Option, Some, None, refl, sym, ◌∙◌, ap, subst, arith, length-append, append_assoc}
 use Rattle.std.specs.Prelude.{IsTrue, IsSome, is_some, nat_le, nat_lt, codes}
 use Rattle.std.specs.List.{list_all, slice_split, after_last}
 use Rattle.std.specs.declared.alloc.Global.{Global}
@@ -10,13 +10,13 @@ use Rattle.std.proofs.Math.ListN.{get_or}
 use Rattle.gix_object_lines.specs.NameTest.{begins, ends, is_full_name, is_capital, is_capitals}
 use Rattle.gix_ref_file.specs.declared.files.Place.{Place}
 use Rattle.gix_ref_file.specs.declared.files.Place.TheVariants as places
-use Rattle.gix_ref_file.specs.Tree.{Tree, Node, file, folder, is_slash, is_component, is_path, parent, node_at, place_of, is_folder, bytes_of, names_at, IsRooted}
+use Rattle.gix_ref_file.specs.Tree.{Tree, Node, file, folder, is_slash, is_component, is_path, parent, node_at, place_of, is_folder, bytes_of, names_at, IsRooted, under}
 use Rattle.gix_ref_file.specs.Changes.{is_file_at}
 use Rattle.gix_ref_file.proofs.Below.{path_in_folder}
-use Rattle.gix_ref_store.specs.Places.{under}
+use Rattle.gix_ref_file.proofs.Listings.{listed_stands, item_is, map_length}
 use Rattle.gix_ref_store.specs.Listings.{is_pseudo}
 use Rattle.gix_ref_store.specs.Walks.{has, Keeps, HasFile, Gathers, GathersBelow}
-use Rattle.gix_ref_store.proofs.Descents.{IsAtOrBelow, on_way, is_found, listed_stands, folder_below}
+use Rattle.gix_ref_store.proofs.Descents.{IsAtOrBelow, on_way, is_found, folder_below}
 
 -- ---- beginnings
 pub split : (front path r s : List ℕ) → front ++ r ≡ path ++ s → ((t : List ℕ) × (path ≡ front ++ t)) ⊎ ((t : List ℕ) × (front ≡ path ++ t))
@@ -155,15 +155,6 @@ module _ (tree : Tree) (rooted : IsRooted tree) (base : List ℕ) (lead asked : 
   with_absent is name (inr (rest, at)) it = absurd (cc (sym is ∙ below name rest at it))
 
 -- ---- a folder's names
-pub item_is : (xs : List (Vec ℕ Global)) (i : ℕ) (v : Vec ℕ Global) → i < length xs → v ≡ get_or xs i v → get_or (map (λ (name : Vec ℕ Global). name.items) xs) i [] ≡ v.items
-item_is [] i v below is = absurd (omega (arith, below))
-item_is (x ∷ xs) zero v below is = ap (λ (w : Vec ℕ Global). w.items) (sym is)
-item_is (x ∷ xs) (suc i) v below is = item_is xs i v (omega (arith, below)) is
-
-pub map_length : (xs : List (Vec ℕ Global)) → length (map (λ (name : Vec ℕ Global). name.items) xs) ≡ length xs
-map_length [] = refl
-map_length (x ∷ xs) = ap suc (map_length xs)
-
 -- the path of a name that the folder lists
 pub record IsStep (base within place path : List ℕ) (listed : List (List ℕ)) (i : ℕ) : Type 0 where
   pub at : under base path ≡ under place (get_or listed i [])

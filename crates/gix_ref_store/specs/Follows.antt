@@ -1,8 +1,8 @@
 -- Where symbolic references lead: a chain of readings.
-use Rattle.std.specs.Prelude.{ℕ, zero, suc, ◌≡◌, Bool, List, [], ◌∷◌, ◌++◌, Option, Some, None, option_map, Result, Ok, Err, MatchResult, bytes_eq, if◌then◌else◌}
-use Rattle.std.specs.List.{list_any}
+use Rattle.std.specs.Prelude.{ℕ, zero, suc, ◌≡◌, List, [], ◌∷◌, ◌++◌, Option, Some, None, option_map, Result, Ok, Err, MatchResult, if◌then◌else◌}
 use Rattle.gix_hash_id.specs.Id.{Id, id_of}
 use Rattle.gix_hash_id.specs.declared.object_id.ObjectId.{ObjectId}
+use Rattle.gix_object_lines.specs.Bytes.{is_among}
 use Rattle.gix_ref_file.specs.Tree.{Tree}
 use Rattle.gix_ref_name.specs.Targets.{Points, ToObject, ToName, IsObject, target_view}
 use Rattle.gix_ref_format.specs.PackedBuffer.{FileFault}
@@ -26,9 +26,6 @@ pub data Followed : Type 0 where
   TooDeep : Followed
   Dangles : Followed
   Breaks : Fault → Followed
-
-abbrev pub is_among : List (List ℕ) → List ℕ → Bool
-is_among seen name = list_any (λ other. bytes_eq other name) seen
 
 -- from a name and what it reads as, over at most so many other names, of which some were met
 abbrev pub follow : (List ℕ → Reading) → ℕ → List (List ℕ) → List ℕ → Reading → Followed

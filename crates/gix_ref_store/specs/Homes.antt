@@ -1,6 +1,7 @@
 -- What contracts see of the code's folders and paths.
 use Rattle.std.specs.Prelude.{ℕ, List, Option, Some, None, option_map}
-use Rattle.gix_ref_store.specs.Places.{Home, under}
+use Rattle.gix_ref_file.specs.Tree.{under}
+use Rattle.gix_ref_store.specs.Places.{Home}
 use Rattle.gix_ref_store.specs.declared.store.file.place.Home.{Home as Held}
 
 -- a folder, or a worktree's below it

@@ -1,5 +1,6 @@
 -- Where the files of names stand, and those of their logs and of packed records (gitrepository-layout; git-worktree, "Refs").
-use Rattle.std.specs.Prelude.{ℕ, ◌-◌, ◌||◌, List, [], ◌∷◌, ◌++◌, length, take, drop, codes, if◌then◌else◌, Option, Some, None}
+use Rattle.std.specs.Prelude.{ℕ, ◌-◌, ◌||◌, List, length, take, drop, codes, if◌then◌else◌, Option, Some, None}
+use Rattle.gix_ref_file.specs.Tree.{under}
 use Rattle.gix_hash_id.specs.declared.kind.Kind.{Kind}
 use Rattle.gix_object_lines.specs.NameTest.{begins, is_capitals}
 use Rattle.gix_ref_format.specs.Lookup.{is_own, behind_slash}
@@ -9,11 +10,6 @@ pub record Base : Type 0 where
   pub kind : Kind
   pub git : List ℕ
   pub common : List ℕ
-
--- what stands at a path below a folder; the root's path is empty
-abbrev pub under : List ℕ → List ℕ → List ℕ
-under [] path = path
-under (byte ∷ folder) path = (byte ∷ folder) ++ 47 ∷ path
 
 -- a folder, and a path below it
 pub record Home : Type 0 where

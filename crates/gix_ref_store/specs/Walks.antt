@@ -2,13 +2,13 @@
 use Rattle.std.specs.Prelude.{ℕ, ◌≡◌, ◌⊎◌, Bool, ◌∷◌, ◌++◌, List, IsTrue, IsSome}
 use Rattle.std.specs.List.{list_any}
 use Rattle.gix_object_lines.specs.NameTest.{is_full_name}
-use Rattle.gix_ref_file.specs.Tree.{Tree, same_path}
+use Rattle.gix_ref_file.specs.Tree.{Tree, same_path, under}
 use Rattle.gix_ref_file.specs.declared.files.FileError.{FileError}
 use Rattle.gix_ref_file.specs.declared.files.FileError.TheVariants as files
 use Rattle.gix_ref_file.specs.Changes.{is_file_at}
 use Rattle.gix_ref_format.specs.Packed.{Record}
 use Rattle.gix_ref_format.specs.PackedBuffer.{hit}
-use Rattle.gix_ref_store.specs.Places.{Base, place, under}
+use Rattle.gix_ref_store.specs.Places.{Base, place}
 use Rattle.gix_ref_store.specs.declared.store.file.iter.Error.{Error}
 use Rattle.gix_ref_store.specs.declared.store.file.iter.Error.TheVariants.{Traversal, ReadFileContents, ReferenceCreation, Memory}
 

@@ -10,7 +10,7 @@ use Rattle.gix_hash_id.specs.declared.kind.Kind as hash
 use Rattle.gix_hash_id.specs.declared.object_id.ObjectId.{ObjectId}
 use Rattle.gix_object_lines.specs.Actor.{TellsTime}
 use Rattle.gix_object_lines.specs.declared.decode.Error as decode
-use Rattle.gix_object_commit_lines.specs.Commit.{Person, IsPerson}
+use Rattle.gix_object_commit_lines.specs.Commit.{IsPerson}
 use Rattle.gix_object_commit_tokens.specs.ReadingOn.{Reads, TellsFirst, committer_told, parent_told}
 use Rattle.gix_object_commit_tokens.specs.Tokens.{Part, Tree, Parent, Author, Committer, Encoding, Header, Message, Place, IsNext, GivesToken, part_of, start}
 use Rattle.gix_object_commit_tokens.specs.declared.ref_iter.Token.{Token}
@@ -21,6 +21,7 @@ use Rattle.gix_object_find.specs.declared.find.Error.TheVariants as lookup
 use Rattle.gix_object_find.specs.declared.find.existing_iter.Error as existing_iter
 use Rattle.gix_object_find.specs.declared.find.existing_iter.Error.TheVariants as iter_case
 use Rattle.gix_object_lines.specs.declared.kind.Kind.TheVariants as kinds
+use Rattle.gix_object_lines.specs.Person.{Person}
 use Rattle.gix_traverse_commit.specs.Commits.{Commit, Commits, asked, asked_parents}
 use Rattle.gix_traverse_commit.specs.Fetching.{ReadsParents, LacksParents, ParentsFault, FetchFault, find_error}
 use Rattle.gix_traverse_commit.specs.Rows.{Holds}

@@ -7,7 +7,7 @@ use Rattle.gix_object_lines.specs.Time.{SpellsTime}
 use Rattle.gix_object_lines.specs.declared.decode.Error as decode
 use Rattle.gix_object_lines.specs.declared.kind.Kind.TheVariants as kinds
 use Rattle.gix_object_lines.specs.declared.lines.time.Time.{Time}
-use Rattle.gix_object_commit_lines.specs.Commit.{Person}
+use Rattle.gix_object_lines.specs.Person.{Person}
 use Rattle.gix_object_commit_tokens.specs.ReadingOn.{Reads, TellsFirst, TellsNone, TakesTree, parent_told, committer_told}
 use Rattle.gix_object_commit_tokens.specs.Tokens.{Part, Tree, Parent, Place, IsNext, place_of, start}
 use Rattle.gix_object_find.specs.Existing.{Stands}

@@ -1,6 +1,5 @@
 -- Ids: their equality, maps by them, and what their digits, texts and bytes tell.
-use Rattle.std.proofs.Common.{◌≡◌, ℕ, zero, suc, ◌+◌, ◌*◌, ◌/◌, ◌%◌, ◌<◌, Bool, true, false, cond, ◌&&◌, List, [], ◌∷◌, map, length, get_or, refl, sym, ◌∙◌, ap, subst, arith, tests, Option, Some, None, option_map, is_some, unwrap_or, nat_lt, ◌==◌}
-use Rattle.std.specs.Prelude.{Any}
+use Rattle.std.proofs.Common.{◌≡◌, ℕ, zero, suc, ◌+◌, ◌*◌, ◌/◌, ◌%◌, ◌<◌, Bool, true, false, cond, ◌&&◌, List, [], ◌∷◌, map, length, get_or, refl, sym, ◌∙◌, ap, arith, tests, Some, nat_lt, ◌==◌}
 use Rattle.std.specs.List.{list_all}
 use Rattle.std.specs.Ordering.{eq_by_cmp, is_eq}
 use Rattle.std.specs.declared.cmp.Ordering.TheVariants.{Equal}
@@ -21,13 +20,13 @@ use Rattle.gix_hash_id.specs.Spelling.{hex_character, IsHexOf}
 use Rattle.gix_hash_id.specs.Views.{IsBytesOf}
 use Rattle.gix_hash_id.proofs.ByteLists.{length-digits_of, id-digits_len}
 use Rattle.gix_hash_id.proofs.KindLemmas.{hex_len-byte_len}
-use Rattle.gix_hash_id.proofs.ReadBack.{all_values}
 use Rattle.gix_hash_id.proofs.LawLemmas.{AreDigits, none, more, same_text, hex_text-IsHexOf, digits_of-AreDigits, id-AreDigits}
+pub use Rattle.gix_ref_format.proofs.IdLemmas.{id_from_hex-reads, id_from_hex-tells}
 use Rattle.history_model.specs.Bytes.{Bytes}
 use Rattle.history_model.specs.Objects.{by_id, digest, hex}
 use Rattle.history_model.specs.Forms.{is_id}
 use Rattle.history_model.specs.PackedNames.{id_from_hex}
-use Rattle.history_model.proofs.WholeLists.{and_true, and_both, clash, some_inside, none_is_some}
+use Rattle.history_model.proofs.WholeLists.{and_true, and_both, clash}
 
 -- ---- equality
 
@@ -217,85 +216,11 @@ spelled_low (c ∷ text) (d ∷ digits) e =
     let others : map hex_digit_value text ≡ map (λ (d : ℕ). Some d) digits = cc in
     more (digit_value-low c d first) (spelled_low text digits others)
 
--- what is read of a text
-abbrev read_all : Bytes → List ℕ
-read_all text = map (λ c. unwrap_or (hex_digit_value c) 0) text
-
-abbrev all_read : Bytes → Bool
-all_read text = list_all (λ c. is_some (hex_digit_value c)) text
-
-spelled_all : (text digits : List ℕ) → IsHexOf text digits → (all_read text ≡ true) × (read_all text ≡ digits)
-spelled_all [] [] e = (refl, refl)
-spelled_all [] (d ∷ digits) e = cc
-spelled_all (c ∷ text) [] e = cc
-spelled_all (c ∷ text) (d ∷ digits) e =
-    let first : hex_digit_value c ≡ Some d = cc in
-    let others : map hex_digit_value text ≡ map (λ (d : ℕ). Some d) digits = cc in
-    let rest = spelled_all text digits others in
-    (rw first rest.0, rw (first, rest.1) refl)
-
-all_spelled : (text : List ℕ) → all_read text ≡ true → IsHexOf text (read_all text)
-all_spelled [] h = refl
-all_spelled (c ∷ text) h =
-    let parts = and_true (is_some (hex_digit_value c)) (all_read text) h in
-    rw (some_read (hex_digit_value c) parts.0, all_spelled text parts.1) refl
-  where
-    some_read : (o : Option ℕ) → is_some o ≡ true → o ≡ Some (unwrap_or o 0)
-    some_read None h = cc
-    some_read (Some d) h = refl
-
-module _ (kind : Kind) (text : Bytes) where
-  -- an id of the kind with these digits
-  abbrev of_digits : List ℕ → Id
-  of_digits digits = record { kind = kind; digits = digits }
-
-  -- what is read, by whether the length fits and all characters are digits
-  abbrev read_if : Bool → Bool → Option Id
-  read_if whole all = cond whole (option_map of_digits (cond all (Some (read_all text)) None)) None
-
-  read_parts : (whole all : Bool) (id : Id) → read_if whole all ≡ Some id → (whole ≡ true) × (all ≡ true) × (of_digits (read_all text) ≡ id)
-  read_parts true true id e = (refl, refl, some_inside (of_digits (read_all text)) id e)
-  read_parts true false id e = none_is_some id e
-  read_parts false all id e = none_is_some id e
-
-  -- exactly a text of the kind's length that spells an id of that kind in hexadecimal is read as it
-  pub id_from_hex-reads : (id : Id) → length text ≡ hex_len kind → IsHexOf text id.digits → id.kind ≡ kind → id_from_hex kind text ≡ Some id
-  id_from_hex-reads id whole spelled of_kind =
-      let read = spelled_all text id.digits spelled in
-      ap (λ t. read_if t (all_read text)) (same_number (length text) (hex_len kind) whole)
-      ∙ ap (λ t. read_if true t) read.0
-      ∙ ap Some (same_id (of_digits (read_all text)) id (sym of_kind) read.1)
-
-  pub id_from_hex-tells : (id : Id) → id_from_hex kind text ≡ Some id → (length text ≡ hex_len kind) × IsHexOf text id.digits × (id.kind ≡ kind)
-  id_from_hex-tells id e =
-      let parts = read_parts (length text == hex_len kind) (all_read text) id e in
-      let same = parts.2 in (
-        one_number (length text) (hex_len kind) parts.0,
-        subst (λ (i : Id). IsHexOf text i.digits) same (all_spelled text parts.1),
-        sym (ap (λ (i : Id). i.kind) same),
-      )
-
-  -- what is read has the kind's form
-  pub id_from_hex-is_id : (id : Id) → id_from_hex kind text ≡ Some id → is_id kind id ≡ true
-  id_from_hex-is_id id e =
-      let read = id_from_hex-tells id e in
-      kind_has kind id (record { of_kind = read.2; whole = spelled_length text id.digits read.1 ∙ read.0; digits = spelled_low text id.digits read.1 })
-
-  -- a text of another length is not read
-  pub id_from_hex-other : (length text ≡ hex_len kind → ⊥) → id_from_hex kind text ≡ None
-  id_from_hex-other other = go (length text == hex_len kind) refl
-    where
-      go : (t : Bool) → (length text == hex_len kind) ≡ t → read_if t (all_read text) ≡ None
-      go true e = absurd (other (one_number (length text) (hex_len kind) e))
-      go false e = refl
-
-  -- nor is one with a character that is no digit
-  pub id_from_hex-invalid : Any (λ c. hex_digit_value c ≡ None) text → id_from_hex kind text ≡ None
-  id_from_hex-invalid bad = go (id_from_hex kind text) refl
-    where
-      go : (o : Option Id) → id_from_hex kind text ≡ o → id_from_hex kind text ≡ None
-      go None e = e
-      go (Some id) e = absurd (all_values hex_digit_value text id.digits (id_from_hex-tells id e).1 bad)
+-- what is read has the kind's form
+pub id_from_hex-is_id : (kind : Kind) (text : Bytes) (id : Id) → id_from_hex kind text ≡ Some id → is_id kind id ≡ true
+id_from_hex-is_id kind text id e =
+    let read = id_from_hex-tells kind text id e in
+    kind_has kind id (record { of_kind = read.2; whole = spelled_length text id.digits read.1 ∙ read.0; digits = spelled_low text id.digits read.1 })
 
 -- and a printed id is read as itself
 pub id_from_hex-hex : (kind : Kind) (id : Id) → is_id kind id ≡ true → id_from_hex kind (hex id) ≡ Some id

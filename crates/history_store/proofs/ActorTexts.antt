@@ -17,8 +17,9 @@ use Rattle.gix_object_lines.specs.Actor.{SpellsActor}
 use Rattle.gix_object_lines.specs.declared.lines.time.Time.{Time}
 use Rattle.gix_object_lines.proofs.TimeLemmas.{seconds_written}
 use Rattle.gix_object_lines.proofs.ActorLemmas.{time_lacks}
+use Rattle.gix_object_lines.specs.Person.{Person, actor_line}
 use Rattle.history_store.specs.Actors.{plain_actor, IsFormed, IsNoTime, IsTimeOf}
-use Rattle.gix_object_commit_lines.specs.Commit.{Person, IsPerson, actor_line}
+use Rattle.gix_object_commit_lines.specs.Commit.{IsPerson}
 use Rattle.history_store.specs.Formats.{actor_of, person_of}
 use Rattle.history_store.specs.declared.actor.Actor as actors
 use Rattle.history_store.proofs.Offsets.{OffsetTold, offset_told}

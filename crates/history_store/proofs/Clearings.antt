@@ -4,7 +4,7 @@ use Rattle.std.specs.Prelude.{IsTrue, IsFalse, IsSome, IsErrOf, Option, Some, No
 use Rattle.std.specs.List.{list_any, after_last}
 use Rattle.std.specs.FinMap.{get, remove, keys, contains_key-keys}
 use Rattle.std.proofs.Math.ListN.{get_or}
-use Rattle.gix_ref_file.specs.Tree.{Tree, Node, file, folder, same_path, is_slash, is_path, parent, name_in, node_at, names_at, place_of, bytes_of, is_folder, IsRooted}
+use Rattle.gix_ref_file.specs.Tree.{Tree, Node, file, folder, same_path, is_slash, is_path, parent, name_in, node_at, names_at, place_of, bytes_of, is_folder, IsRooted, under}
 use Rattle.gix_ref_file.specs.Changes.{to_remove_folder, allows, is_empty_at, may_hold_file, MayLeave}
 use Rattle.gix_ref_file.specs.History.{History, Adds, HasRisen, HasCause}
 use Rattle.gix_ref_file.specs.declared.files.FileError.{FileError}
@@ -15,16 +15,15 @@ use Rattle.gix_ref_file.proofs.Histories.{adds_weaker, adds_joined, adds_nothing
 use Rattle.gix_ref_file.proofs.Rooted.{adds_now}
 use Rattle.gix_ref_file.proofs.Trees.{get-removed, one_path, same_path_itself}
 use Rattle.gix_ref_file.proofs.Below.{path_in_folder}
+use Rattle.gix_ref_file.proofs.Listings.{in_folder, found, root_is_no_path, node_is}
 use Rattle.history_model.specs.Bytes.{Bytes}
 use Rattle.history_model.specs.Places.{file_at}
-use Rattle.history_store.specs.Parts.{path_in}
 use Rattle.history_store.specs.Stores.{SameFiles, IsAbove, FoldersAbove, HasFoldersAbove}
 use Rattle.history_store.specs.References.{ClearsWay, NoFileBelow}
 use Rattle.history_store.proofs.FoldersMade.{above_above, above_shorter, may_hold, none_there}
-use Rattle.history_store.proofs.Surveys.{in_folder, found, root_is_no_path, node_is}
 
 -- ---- what is below
-pub below_in : (place name path : Bytes) → place ≢ [] → path ≡ path_in place name → IsAbove place path
+pub below_in : (place name path : Bytes) → place ≢ [] → path ≡ under place name → IsAbove place path
 below_in [] name path some is = absurd (some refl)
 below_in (b ∷ place) name path some is = (name, is)
 
@@ -175,7 +174,7 @@ one_of p (k ∷ ks) some = by_case (p k) refl (one_of p ks)
         (r.0, ap (λ b. same_path r.0 k || b) r.1 ∙ or_true (same_path r.0 k), r.2)
 
 module _ (place : Bytes) (old now : Tree) (names : List Bytes) (rooted : IsRooted old) (there : get old place ≡ Some folder) (listed : names ≡ names_at old place) (clears : ClearsBelow place old now)
-    (none : NoFileBelow place old) (gone : (i : ℕ) → i < length names → get now (path_in place (get_or names i [])) ≢ Some folder) where
+    (none : NoFileBelow place old) (gone : (i : ℕ) → i < length names → get now (under place (get_or names i [])) ≢ Some folder) where
   place_is : IsTrue (is_path place)
   place_is = (rooted place (subst IsSome (sym there) refl)).0
 
@@ -207,7 +206,7 @@ module _ (place : Bytes) (old now : Tree) (names : List Bytes) (rooted : IsRoote
       by_node (Some folder) is stood =
           let was : IsSome (get old k) = subst IsSome (sym (clears.folders k is)) refl in
           let r = found place (keys old) k [] (sym (contains_key-keys old k) ∙ was) here in
-          let same : k ≡ path_in place (get_or names r.0 []) = in_folder k (rooted k was).0 ∙ (λ j. path_in (here j) ((sym r.2 ∙ ap (λ (ns : List Bytes). get_or ns r.0 []) (sym names_are)) j)) in
+          let same : k ≡ under place (get_or names r.0 []) = in_folder k (rooted k was).0 ∙ (λ j. under (here j) ((sym r.2 ∙ ap (λ (ns : List Bytes). get_or ns r.0 []) (sym names_are)) j)) in
           gone r.0 (subst (λ (ns : List Bytes). r.0 < length ns) (sym names_are) r.1) (ap (get now) (sym same) ∙ is)
 
   empty : IsTrue (is_empty_at now place)

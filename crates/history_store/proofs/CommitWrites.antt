@@ -14,10 +14,11 @@ use Rattle.gix_object_lines.specs.Writes.{Refusal}
 use Rattle.gix_object_lines.specs.declared.write.Error as write
 use Rattle.gix_object_lines.specs.declared.lines.actor.Actor as lines
 use Rattle.gix_object_commit_lines.specs.Commit.{Parts, SpellsCommit, commit_text}
-use Rattle.gix_object_commit.specs.OwnedText.{is_own_person, is_whole_offset, own_digits, own_field, own_parts, own_person, own_person_piece, own_refusal}
+use Rattle.gix_object_commit.specs.OwnedText.{is_own_person, is_whole_offset, own_digits, own_field, own_parts, own_person_piece, own_refusal}
 use Rattle.gix_object_commit.specs.Writable.{IsPlainPerson}
 use Rattle.gix_object_commit.specs.Writing.{encoding_pieces, header_pieces, holds, id_pieces, is_plain, message_pieces, person_piece, refused_unless}
 use Rattle.gix_object_lines.specs.Pieces.{Piece, first_refused, refused_or}
+use Rattle.gix_object_lines.specs.Person.{own_person}
 use Rattle.gix_object_commit.specs.declared.commit.owned.Commit.{Commit}
 use Rattle.gix_object_commit.proofs.Accepted.{accepted}
 use Rattle.history_model.specs.Bytes.{Bytes}

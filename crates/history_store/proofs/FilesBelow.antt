@@ -7,18 +7,17 @@ use Rattle.std.specs.List.{after_last}
 use Rattle.std.specs.FinMap.{get, keys, contains_key-keys}
 use Rattle.std.proofs.lemmas.Bool.Decides.{nat_tests}
 use borrow.Author.Tests.{leb-true}
-use Rattle.gix_ref_file.specs.Tree.{Tree, Node, file, folder, same_path, is_slash, parent, name_in, node_at, names_at, place_of, bytes_of, is_folder, IsRooted}
+use Rattle.gix_ref_file.specs.Tree.{Tree, Node, file, folder, same_path, is_slash, parent, name_in, node_at, names_at, place_of, bytes_of, is_folder, IsRooted, under}
 use Rattle.gix_ref_file.specs.Changes.{is_file_at}
 use Rattle.gix_ref_file.specs.declared.files.Place.TheVariants as places
 use Rattle.gix_ref_file.proofs.Trees.{one_path}
 use Rattle.gix_ref_file.proofs.Below.{path_in_folder, parent_behind}
+use Rattle.gix_ref_file.proofs.Listings.{in_folder, found}
 use Rattle.history_model.specs.Bytes.{Bytes}
 use Rattle.history_model.specs.Places.{file_at}
-use Rattle.history_store.specs.Parts.{path_in}
 use Rattle.history_store.specs.Stores.{IsAbove, NoFileAbove}
 use Rattle.history_store.specs.References.{NoFileBelow, TellsBelow, TellsCollision}
 use Rattle.history_store.proofs.FoldersMade.{above_above, above_shorter, front_of}
-use Rattle.history_store.proofs.Surveys.{in_folder, found}
 
 -- ---- what stands at a path
 
@@ -141,13 +140,13 @@ module _ (tree : Tree) (rooted : IsRooted tree) (place : Bytes) (some : place �
           let over : IsAbove (parent path) path = (after_last is_slash path, path_in_folder path (omega (arith, long))) in
           behind (rest (parent path) (omega (arith, short, above_shorter (parent path) path over)) (folder_stands (parent path) beyond (rooted path there).1) beyond) over
 
-  module _ (names : List Bytes) (listed : names ≡ names_at tree place) (free : (i : ℕ) → i < length names → IsFreeFrom tree (path_in place (get_or names i []))) where
+  module _ (names : List Bytes) (listed : names ≡ names_at tree place) (free : (i : ℕ) → i < length names → IsFreeFrom tree (under place (get_or names i []))) where
     child : (path : Bytes) → IsSome (get tree path) → parent path ≡ place → IsFreeFrom tree path
     child path there here =
         let r = found place (keys tree) path [] (sym (contains_key-keys tree path) ∙ there) here in
         let is_there : is_folder (node_at tree place) ≡ true = subst (λ p. IsTrue (is_folder (node_at tree p))) here (rooted path there).1 in
         let names_are : names ≡ filter_map (name_in place) (keys tree) = listed ∙ ap (λ b. cond b (filter_map (name_in place) (keys tree)) []) is_there in
-        let same : path_in place (get_or names r.0 []) ≡ path = (λ j. path_in (sym here j) ((ap (λ (ns : List Bytes). get_or ns r.0 []) names_are ∙ r.2) j)) ∙ sym (in_folder path (rooted path there).0) in
+        let same : under place (get_or names r.0 []) ≡ path = (λ j. under (sym here j) ((ap (λ (ns : List Bytes). get_or ns r.0 []) names_are ∙ r.2) j)) ∙ sym (in_folder path (rooted path there).0) in
         subst (λ p. IsFreeFrom tree p) same (free r.0 (subst (λ (ns : List Bytes). r.0 < length ns) (sym names_are) r.1))
 
     -- none below where all that is listed is free

@@ -9,7 +9,7 @@ use Rattle.history_model.specs.Bytes.{Bytes}
 use Rattle.history_model.specs.Forms.{is_offset}
 use Rattle.history_model.proofs.TreePlaces.{one_text, text_itself}
 use Rattle.gix_object_lines.specs.declared.lines.time.Time.{Time}
-use Rattle.gix_object_lines.proofs.TimeLemmas.{front_is, five_reads, offset_length, offset_once, seconds_written}
+use Rattle.gix_object_lines.proofs.TimeLemmas.{front_is, five_reads, offset_length, offset_once, seconds_written, two_spelled}
 use Rattle.history_store.specs.Actors.{IsOffsetOf}
 use Rattle.history_store.proofs.Spelled.{and_of}
 
@@ -25,12 +25,6 @@ digit_low d h = grind (arith, tests)
 
 digit_high : (d : ℕ) → is_ascii_digit d ≡ true → d ≤ 57
 digit_high d h = grind (arith, tests)
-
-two_spelled : (tens ones : ℕ) → 48 ≤ tens → tens ≤ 57 → 48 ≤ ones → ones ≤ 57 → tens ∷ ones ∷ [] ≡ two_digits (10 * (tens - 48) + (ones - 48))
-two_spelled tens ones a b c d =
-    let high : tens ≡ 48 + (10 * (tens - 48) + (ones - 48)) / 10 = omega arith in
-    let low : ones ≡ 48 + (10 * (tens - 48) + (ones - 48)) % 10 = omega arith in
-    ap (λ t. t ∷ ones ∷ []) high ∙ ap (λ o. (48 + (10 * (tens - 48) + (ones - 48)) / 10) ∷ o ∷ []) low
 
 hours_of : (h m : ℕ) → m < 60 → (3600 * h + 60 * m) / 3600 ≡ h
 hours_of h m low = omega arith

@@ -1,101 +1,25 @@
 -- Listings from the root reach each path that stands.
-use Rattle.std.proofs.Common.{◌≡◌, ℕ, zero, suc, Vec, ◌+◌, ◌-◌, ◌<◌, ◌≤◌, Bool, true, false, cond, ◌&&◌, ◌||◌, List, [], ◌∷◌, ◌++◌, length, map, filter_map, Option, Some, None, refl, sym, ◌∙◌, ap, subst, arith, length-append}
+use Rattle.std.proofs.Common.{◌≡◌, ℕ, zero, suc, Vec, ◌+◌, ◌-◌, ◌<◌, ◌≤◌, Bool, true, false, cond, ◌&&◌, List, [], ◌∷◌, length, map, Option, Some, None, refl, sym, ◌∙◌, ap, subst, arith, length-append}
 use Rattle.std.specs.Prelude.{IsTrue, IsSome, is_some, nat_le, nat_lt, MatchOption, Result, Ok, Err, IfOk}
 use Rattle.gix_ref_file.specs.declared.files.FileError.{FileError}
 use Rattle.history_store.specs.declared.parts.Stray.{Stray}
-use Rattle.std.specs.List.{suffix_len, after_last, cons_option, list_any, list_all, slice_split}
+use Rattle.std.specs.List.{suffix_len, list_all, slice_split}
 use Rattle.std.specs.declared.alloc.Global.{Global}
 use borrow.Author.Tests.{ltb-true, ltb-false}
 use Rattle.std.specs.FinMap.{keys, get, contains_key-keys}
 use Rattle.std.proofs.Math.ListN.{get_or}
 use Rattle.std.proofs.lemmas.List.{length-take-le}
 use Rattle.gix_ref_file.specs.declared.files.Place.TheVariants as places
-use Rattle.gix_ref_file.proofs.Ascending.{root_name}
-use Rattle.gix_ref_file.specs.Tree.{Tree, Node, file, folder, same_path, is_slash, is_component, is_path, parent, name_in, names_at, node_at, place_of, is_folder, bytes_of, IsRooted}
+use Rattle.gix_ref_file.specs.Tree.{Tree, Node, file, folder, is_slash, is_component, is_path, parent, names_at, node_at, place_of, is_folder, bytes_of, IsRooted, under}
 use Rattle.gix_ref_file.specs.Changes.{is_file_at}
-use Rattle.gix_ref_file.proofs.Trees.{one_path, same_path_itself}
-use Rattle.gix_ref_file.proofs.Below.{inside, path_in_folder}
+use Rattle.gix_ref_file.proofs.Below.{inside}
+use Rattle.gix_ref_file.proofs.Listings.{in_folder, root_is_no_path, node_is, names_in, found, listed_stands, item_is, map_length}
 use Rattle.history_model.specs.Bytes.{Bytes}
-use Rattle.history_store.specs.Parts.{may_hold_folder, IsClearAt, IsClear, IsStray, path_in, above, IsClearBelow}
+use Rattle.history_store.specs.Parts.{may_hold_folder, IsClearAt, IsClear, IsStray, above, IsClearBelow}
 use Rattle.history_store.specs.declared.parts.Part.{Part}
 
-or_true : (b : Bool) → (b || true) ≡ true
-or_true true = refl
-or_true false = refl
-
--- ---- a path is its folder's with its name
-pub in_folder : (path : Bytes) → IsTrue (is_path path) → path ≡ path_in (parent path) (after_last is_slash path)
-in_folder path is = by_case (parent path) refl
-  where
-    by_case : (place : Bytes) → parent path ≡ place → path ≡ path_in place (after_last is_slash path)
-    by_case [] e = sym (root_name path is e)
-    by_case (b ∷ place) e = path_in_folder path (omega (arith, ap length e)) ∙ ap (λ p. p ++ 47 ∷ after_last is_slash path) e
-
-pub root_is_no_path : IsTrue (is_path []) → ⊥
-root_is_no_path is = cc
-
-pub node_is : (tree : Tree) (path : Bytes) → IsTrue (is_path path) → node_at tree path ≡ get tree path
-node_is tree [] is = absurd (root_is_no_path is)
-node_is tree (b ∷ path) is = refl
-
--- ---- the names in a folder are those of the paths that stand there
-abbrev names_in : Bytes → List Bytes → List Bytes
-names_in place paths = filter_map (name_in place) paths
-
-listed : (place : Bytes) (paths : List Bytes) (i : ℕ) (d : Bytes) → i < length (names_in place paths)
-    → (path : Bytes) × (list_any (same_path path) paths ≡ true) × (parent path ≡ place) × (after_last is_slash path ≡ get_or (names_in place paths) i d)
-listed place [] i d below = absurd (omega (arith, below))
-listed place (k ∷ paths) i d below = by_case (same_path (parent k) place) refl (λ j within. listed place paths j d within) i below
-  where
-    by_case : (b : Bool) → same_path (parent k) place ≡ b
-        → ((j : ℕ) → j < length (names_in place paths) → (path : Bytes) × (list_any (same_path path) paths ≡ true) × (parent path ≡ place) × (after_last is_slash path ≡ get_or (names_in place paths) j d))
-        → (i : ℕ) → i < length (cons_option (cond b (Some (after_last is_slash k)) None) (names_in place paths))
-        → (path : Bytes) × (list_any (same_path path) (k ∷ paths) ≡ true) × (parent path ≡ place) × (after_last is_slash path ≡ get_or (cons_option (cond b (Some (after_last is_slash k)) None) (names_in place paths)) i d)
-    by_case false apart rest i below = let r = rest i below in (r.0, ap (λ b. same_path r.0 k || b) r.1 ∙ or_true (same_path r.0 k), r.2, r.3)
-    by_case true same rest zero below = (k, ap (λ b. b || list_any (same_path k) paths) (same_path_itself k), one_path (parent k) place same, refl)
-    by_case true same rest (suc i) below = let r = rest i (omega (arith, below)) in (r.0, ap (λ b. same_path r.0 k || b) r.1 ∙ or_true (same_path r.0 k), r.2, r.3)
-
-pub found : (place : Bytes) (paths : List Bytes) (path : Bytes) (d : Bytes) → list_any (same_path path) paths ≡ true → parent path ≡ place
-    → (i : ℕ) × (i < length (names_in place paths)) × (get_or (names_in place paths) i d ≡ after_last is_slash path)
-found place [] path d there here = absurd (cc there)
-found place (k ∷ paths) path d there here = by_case (same_path path k) refl (λ more. found place paths path d more here)
-  where
-    is_here : (p : Bytes) → parent p ≡ place → same_path (parent p) place ≡ true
-    is_here p e = ap (λ f. same_path f place) e ∙ same_path_itself place
-
-    later : (b : Bool) → ((i : ℕ) × (i < length (names_in place paths)) × (get_or (names_in place paths) i d ≡ after_last is_slash path))
-        → (i : ℕ) × (i < length (cons_option (cond b (Some (after_last is_slash k)) None) (names_in place paths))) × (get_or (cons_option (cond b (Some (after_last is_slash k)) None) (names_in place paths)) i d ≡ after_last is_slash path)
-    later false r = r
-    later true r = (suc r.0, omega (arith, r.1), r.2)
-
-    at_head : (b : Bool) → same_path (parent k) place ≡ b → k ≡ path
-        → (i : ℕ) × (i < length (cons_option (cond b (Some (after_last is_slash k)) None) (names_in place paths))) × (get_or (cons_option (cond b (Some (after_last is_slash k)) None) (names_in place paths)) i d ≡ after_last is_slash path)
-    at_head true same is = (zero, omega arith, ap (after_last is_slash) is)
-    at_head false apart is = absurd (cc (sym apart ∙ is_here k (ap parent is ∙ here)))
-
-    by_case : (b : Bool) → same_path path k ≡ b
-        → (list_any (same_path path) paths ≡ true → (i : ℕ) × (i < length (names_in place paths)) × (get_or (names_in place paths) i d ≡ after_last is_slash path))
-        → (i : ℕ) × (i < length (names_in place (k ∷ paths))) × (get_or (names_in place (k ∷ paths)) i d ≡ after_last is_slash path)
-    by_case true same rest = at_head (same_path (parent k) place) refl (sym (one_path path k same))
-    by_case false apart rest = later (same_path (parent k) place) (rest (sym (ap (λ b. b || list_any (same_path path) paths) apart) ∙ there))
-
-listed_folder : (tree : Tree) (place : Bytes) (b : Bool) (i : ℕ) → i < length (cond b (names_in place (keys tree)) []) → cond b (names_in place (keys tree)) [] ≡ names_in place (keys tree)
-listed_folder tree place true i below = refl
-listed_folder tree place false i below = absurd (omega (arith, below))
-
--- what a folder lists stands, and at a path
-pub listed_stands : (tree : Tree) (place : Bytes) (names : List Bytes) (i : ℕ) → IsRooted tree → names ≡ names_at tree place → i < length names
-    → IsSome (get tree (path_in place (get_or names i []))) × IsTrue (is_path (path_in place (get_or names i [])))
-listed_stands tree place names i rooted is below =
-    let at_place : i < length (names_at tree place) = subst (λ (ns : List Bytes). i < length ns) is below in
-    let all : names ≡ names_in place (keys tree) = is ∙ listed_folder tree place (is_folder (node_at tree place)) i at_place in
-    let r = listed place (keys tree) i [] (subst (λ (ns : List Bytes). i < length ns) all below) in
-    let there : IsSome (get tree r.0) = contains_key-keys tree r.0 ∙ r.1 in
-    let path : r.0 ≡ path_in place (get_or names i []) = in_folder r.0 (rooted r.0 there).0 ∙ (λ j. path_in (r.2 j) ((r.3 ∙ ap (λ (ns : List Bytes). get_or ns i []) (sym all)) j)) in
-    (subst (λ p. IsSome (get tree p)) path there, subst (λ p. IsTrue (is_path p)) path (rooted r.0 there).0)
-
 -- a folder's path is shorter than those in it
-pub deeper : (place name : Bytes) → IsTrue (is_path (path_in place name)) → length place < length (path_in place name)
+pub deeper : (place name : Bytes) → IsTrue (is_path (under place name)) → length place < length (under place name)
 deeper [] [] is = absurd (root_is_no_path is)
 deeper [] (b ∷ name) is = omega arith
 deeper (b ∷ place) name is = omega (arith, length-append (b ∷ place) (47 ∷ name))
@@ -137,13 +61,13 @@ abbrev pub IsClearFrom : Part → Bytes → Tree → Bytes → Type 0
 IsClearFrom part permitted tree path = IsClearAt part permitted path (get tree path) × IsClearBelow part permitted path tree
 
 module _ (part : Part) (permitted : Bytes) (tree : Tree) (rooted : IsRooted tree) where
-  child : (place : Bytes) (names : List Bytes) → names ≡ names_at tree place → ((i : ℕ) → i < length names → IsClearFrom part permitted tree (path_in place (get_or names i [])))
+  child : (place : Bytes) (names : List Bytes) → names ≡ names_at tree place → ((i : ℕ) → i < length names → IsClearFrom part permitted tree (under place (get_or names i [])))
       → (path : Bytes) → IsSome (get tree path) → parent path ≡ place → IsClearFrom part permitted tree path
   child place names is all path there here =
       let r = found place (keys tree) path [] (sym (contains_key-keys tree path) ∙ there) here in
       let in_place : is_folder (node_at tree place) ≡ true = subst (λ p. IsTrue (is_folder (node_at tree p))) here (rooted path there).1 in
       let names_are : names ≡ names_in place (keys tree) = is ∙ ap (λ b. cond b (names_in place (keys tree)) []) in_place in
-      let same : path_in place (get_or names r.0 []) ≡ path = (λ j. path_in (sym here j) ((ap (λ (ns : List Bytes). get_or ns r.0 []) names_are ∙ r.2) j)) ∙ sym (in_folder path (rooted path there).0) in
+      let same : under place (get_or names r.0 []) ≡ path = (λ j. under (sym here j) ((ap (λ (ns : List Bytes). get_or ns r.0 []) names_are ∙ r.2) j)) ∙ sym (in_folder path (rooted path there).0) in
       subst (λ p. IsClearFrom part permitted tree p) same (all r.0 (subst (λ (ns : List Bytes). r.0 < length ns) (sym names_are) r.1))
 
   below : (place : Bytes) → ((path : Bytes) → IsSome (get tree path) → parent path ≡ place → IsClearFrom part permitted tree path)
@@ -156,7 +80,7 @@ module _ (part : Part) (permitted : Bytes) (tree : Tree) (rooted : IsRooted tree
       by_case (b ∷ q) is rest = (child (b ∷ q) (stands (get tree (b ∷ q)) (subst (λ p. IsTrue (is_folder (node_at tree p))) is (folder_above tree n path rooted there))) (ap parent (sym is) ∙ under)).1 n path is
 
   -- all that the folder lists is clear
-  pub all_clear : (place : Bytes) (names : List Bytes) → names ≡ names_at tree place → ((i : ℕ) → i < length names → IsClearFrom part permitted tree (path_in place (get_or names i []))) → IsClearBelow part permitted place tree
+  pub all_clear : (place : Bytes) (names : List Bytes) → names ≡ names_at tree place → ((i : ℕ) → i < length names → IsClearFrom part permitted tree (under place (get_or names i []))) → IsClearBelow part permitted place tree
   all_clear place names is all n path under = if_stands part permitted path (get tree path) (below place (child place names is all) n path under)
 
   -- nothing stands below a file
@@ -207,26 +131,17 @@ not_absent tree path is there absent = by_case (get tree path) there (ap place_o
     by_case (Some folder) there h = cc
 
 -- ---- one name of a listing
-pub item_is : (xs : List (Vec ℕ Global)) (i : ℕ) (v : Vec ℕ Global) → i < length xs → v ≡ get_or xs i v → get_or (map (λ (name : Vec ℕ Global). name.items) xs) i [] ≡ v.items
-item_is [] i v below is = absurd (omega (arith, below))
-item_is (x ∷ xs) zero v below is = ap (λ (w : Vec ℕ Global). w.items) (sym is)
-item_is (x ∷ xs) (suc i) v below is = item_is xs i v (omega (arith, below)) is
-
-pub map_length : (xs : List (Vec ℕ Global)) → length (map (λ (name : Vec ℕ Global). name.items) xs) ≡ length xs
-map_length [] = refl
-map_length (x ∷ xs) = ap suc (map_length xs)
-
 -- the path of a name that is listed
 pub record IsListed (tree : Tree) (place path : Bytes) (xs : List (Vec ℕ Global)) (i : ℕ) : Type 0 where
   pub there : IsSome (get tree path)
   pub is_path : IsTrue (is_path path)
   pub deeper : length place < length path
-  pub at : path ≡ path_in place (get_or (map (λ (name : Vec ℕ Global). name.items) xs) i [])
+  pub at : path ≡ under place (get_or (map (λ (name : Vec ℕ Global). name.items) xs) i [])
 
 pub is_listed : (tree : Tree) (place : Bytes) (xs : List (Vec ℕ Global)) (i : ℕ) (v : Vec ℕ Global) (path name : Bytes) → IsRooted tree
-    → map (λ (name : Vec ℕ Global). name.items) xs ≡ names_at tree place → i < length xs → v ≡ get_or xs i v → name ≡ v.items → path ≡ path_in place name → IsListed tree place path xs i
+    → map (λ (name : Vec ℕ Global). name.items) xs ≡ names_at tree place → i < length xs → v ≡ get_or xs i v → name ≡ v.items → path ≡ under place name → IsListed tree place path xs i
 is_listed tree place xs i v path name rooted names below is name_is path_is =
-    let at : path ≡ path_in place (get_or (map (λ (name : Vec ℕ Global). name.items) xs) i []) = path_is ∙ ap (path_in place) (name_is ∙ sym (item_is xs i v below is)) in
+    let at : path ≡ under place (get_or (map (λ (name : Vec ℕ Global). name.items) xs) i []) = path_is ∙ ap (under place) (name_is ∙ sym (item_is xs i v below is)) in
     let r = listed_stands tree place (map (λ (name : Vec ℕ Global). name.items) xs) i rooted names (omega (arith, below, map_length xs)) in
     record {
       there = subst (λ p. IsSome (get tree p)) (sym at) r.0;
@@ -236,15 +151,15 @@ is_listed tree place xs i v path name rooted names below is name_is path_is =
     }
 
 -- one more name is clear
-pub one_more : (P : Bytes → Type 0) (place path : Bytes) (names : List Bytes) (k : ℕ) → ((i : ℕ) → i < k → P (path_in place (get_or names i []))) → path ≡ path_in place (get_or names k []) → P path
-    → (i : ℕ) → i < k + 1 → P (path_in place (get_or names i []))
+pub one_more : (P : Bytes → Type 0) (place path : Bytes) (names : List Bytes) (k : ℕ) → ((i : ℕ) → i < k → P (under place (get_or names i []))) → path ≡ under place (get_or names k []) → P path
+    → (i : ℕ) → i < k + 1 → P (under place (get_or names i []))
 one_more P place path names k before at here i below = by_test (nat_lt i k) refl
   where
-    by_test : (b : Bool) → nat_lt i k ≡ b → P (path_in place (get_or names i []))
+    by_test : (b : Bool) → nat_lt i k ≡ b → P (under place (get_or names i []))
     by_test true less = before i (ltb-true _ _ less)
     by_test false more =
         let same : k ≡ i = omega (arith, below, ltb-false _ _ more) in
-        subst (λ j. P (path_in place (get_or names j []))) same (subst P at here)
+        subst (λ j. P (under place (get_or names j []))) same (subst P at here)
 
 pub path_short : (path : Bytes) → IsTrue (is_path path) → nat_le (length path) 4096 ≡ true
 path_short path is = by_case (nat_le (length path) 4096) is

@@ -1,5 +1,5 @@
 -- What may stand in a part that holds no names and no objects.
-use Rattle.std.specs.Prelude.{◌≡◌, ◌≢◌, ⊤, ℕ, zero, suc, Bool, [], ◌∷◌, ◌++◌, Option, Some, None, IsTrue, IsFalse}
+use Rattle.std.specs.Prelude.{◌≡◌, ◌≢◌, ⊤, ℕ, zero, suc, Bool, Option, Some, None, IsTrue, IsFalse}
 use Rattle.std.specs.FinMap.{get}
 use Rattle.gix_ref_file.specs.Tree.{Tree, Node, file, folder, parent, is_folder}
 use Rattle.gix_ref_file.specs.Changes.{is_file_at}
@@ -37,11 +37,6 @@ abbrev pub IsStrayAt : Part → Bytes → Bytes → Tree → Type 0
 IsStrayAt part permitted path tree = ¬ IsClearAt part permitted path (get tree path)
 
 -- ---- below a folder
-
--- the path of what stands in a folder under a name
-abbrev pub path_in : Bytes → Bytes → Bytes
-path_in [] name = name
-path_in (byte ∷ place) name = (byte ∷ place) ++ 47 ∷ name
 
 -- the folder so many folders above a path
 abbrev pub above : ℕ → Bytes → Bytes

@@ -3,9 +3,10 @@ ghost use Rattle.std.specs.Prelude.{◌≡◌, ◌&&◌, nat_lt, nat_le, length,
 ghost use Rattle.std.specs.List.{list_all};
 ghost use Rattle.gix_ref_file.specs.Calls.{Finds};
 ghost use Rattle.gix_ref_file.specs.declared.files.FileError.TheVariants.{Failed};
+ghost use Rattle.gix_ref_file.specs.Tree.{under};
 ghost use Rattle.history_model.specs.FileMap.{is_within};
 ghost use Rattle.history_model.specs.Places.{is_lower_hex, is_object_folder, is_name_folder};
-ghost use Rattle.history_store.specs.Parts.{may_hold_folder, IsClear, IsClearBelow, IsStray, path_in};
+ghost use Rattle.history_store.specs.Parts.{may_hold_folder, IsClear, IsClearBelow, IsStray};
 
 use gix_ref_file::{FileError, Files, Place};
 use std::alloc::{AllocError, Global};
@@ -98,7 +99,7 @@ pub fn is_deeper(path: &[u8], folder: &[u8]) -> bool
 
 /// The path of what stands in a folder under this name.
 pub fn joined(alloc: Global, folder: &[u8], name: &[u8]) -> Result<Vec<u8>, AllocError>
-    ensures { IfOk result (λ path. path.items ≡ path_in folder.now name.now) }
+    ensures { IfOk result (λ path. path.items ≡ under folder.now name.now) }
 {
     let mut path = Vec::from_slice(alloc, folder)?;
     if !folder.is_empty() {

@@ -1,4 +1,3 @@
-pub mod Streams
 pub mod Held
 pub mod Buffer
 pub mod Taking

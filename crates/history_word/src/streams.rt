@@ -3,8 +3,8 @@
 ghost use Rattle.std.specs.Prelude.{◌≡◌, ℕ, List, Option, Bool, true, ◌<◌, length, IfOk, OnOk, OnErr, is_err};
 ghost use Rattle.std.specs.Io.{ReadsAtMost, WritesAtMost};
 ghost use Rattle.std.specs.Io.KnownBytes.{ReadConsumes, WriteAppends, Appends};
-ghost use Rattle.gix_object_lines.specs.Writes.{AppendsFront};
-ghost use Rattle.history_word.specs.Streams.{one_more};
+ghost use Rattle.gix_hash_id.specs.Writes.{AppendsFewer};
+ghost use Rattle.gix_object_lines.specs.Counts.{one_more};
 
 /// A source or a sink has failed, and fails from then on.
 #[derive(Clone, Copy, Debug, PartialEq, Eq)]
@@ -53,7 +53,7 @@ pub trait Sink {
 pub fn write_all<W: Sink>(writer: &mut W, bytes: &[u8]) -> Result<(), Broken>
     ensures ok { OnOk result (Appends (W.contents writer.old) (W.contents writer.new) bytes.now) }
     ensures err { OnErr result ((W.has_failed writer.new ≡ true)
-        × AppendsFront (W.contents writer.old) (W.contents writer.new) bytes.now) }
+        × AppendsFewer (W.contents writer.old) (W.contents writer.new) bytes.now) }
 {
     let mut done = 0;
     while done < bytes.len() {

@@ -3,7 +3,7 @@
 ghost use Rattle.std.specs.Prelude.{ℕ, List, ◌≡◌, ◌++◌, ◌∷◌, ◌⊎◌, map, flat_map, All, IfOk, IfErr, MatchResult, codes};
 ghost use Rattle.bstr.specs.BStr.{bstr_bytes};
 ghost use Rattle.gix_hash_id.specs.Kind.{hex_len};
-ghost use Rattle.gix_object_lines.specs.Bytes.{BeginsWith};
+ghost use Rattle.gix_object_lines.specs.Bytes.{IsBeginningOf};
 ghost use Rattle.gix_object_lines.specs.HexLine.{hex_line, IsHex};
 ghost use Rattle.gix_object_lines.specs.declared.decode.Error.TheVariants.{Memory};
 ghost use Rattle.gix_object_commit_lines.specs.Commit.{Field, Parts, field_text, IsField, SpellsCommit};
@@ -74,9 +74,9 @@ fn read_parents<'a>(
         (input.now
         ≡ flat_map (hex_line (codes "parent")) (map bstr_bytes parents.0.items) ++ parents.1.now)
         × All (IsHex digits) (map bstr_bytes parents.0.items)
-        × ¬ BeginsWith (codes "parent ") parents.1.now) }
+        × ¬ IsBeginningOf (codes "parent ") parents.1.now) }
     ensures every { (parents : List (List ℕ)) (rest : List ℕ) → All (IsHex digits) parents
-        → ¬ BeginsWith (codes "parent ") rest
+        → ¬ IsBeginningOf (codes "parent ") rest
         → input.now ≡ flat_map (hex_line (codes "parent")) parents ++ rest
         → MatchResult result
         (λ read. (map bstr_bytes read.0.items ≡ parents) × (read.1.now ≡ rest))

@@ -5,9 +5,10 @@ ghost use Rattle.std.specs.List.{AllZip};
 ghost use Rattle.bstr.specs.BStr.{bstr_bytes};
 ghost use Rattle.gix_object_lines.specs.Actor.{TellsTime};
 ghost use Rattle.gix_object_lines.specs.declared.decode.Error.TheVariants.{HexDigits, InvalidTime, Memory};
+ghost use Rattle.gix_object_lines.specs.Person.{person_of, IsActorOf};
 ghost use Rattle.gix_object_commit_lines.specs.HeaderViews.{own_header, headers_of};
-ghost use Rattle.gix_object_commit.specs.Owned.{IsOwnId, IsActorOf, IsHeaderOf, IsCommitOf, SpellsNoId, OwningFault};
-ghost use Rattle.gix_object_commit_lines.specs.Views.{person_of, field_of};
+ghost use Rattle.gix_object_commit.specs.Owned.{IsOwnId, IsHeaderOf, IsCommitOf, SpellsNoId, OwningFault};
+ghost use Rattle.gix_object_commit_lines.specs.Views.{field_of};
 ghost use Rattle.gix_object_commit.specs.Views.{parts_of};
 
 use crate::commit::{CommitRef, ExtraHeader, ExtraHeaders, HeaderRef};
@@ -15,6 +16,7 @@ use bstr::BStr;
 use gix_hash::ObjectId;
 use gix_object_lines::ByteString;
 use gix_object_lines::decode::Error;
+use gix_object_lines::hex_line::own_id;
 use gix_object_lines::lines::{Actor, ActorRef};
 use gix_object_lines::text::{own_text, own_text_if_any};
 use smallvec::SmallVec;
@@ -114,17 +116,6 @@ fn own_actors(
     let author = own_actor(alloc, author)?;
     let committer = own_actor(alloc, committer)?;
     Ok((author, committer))
-}
-
-fn own_id(digits: BStr<'_>) -> Result<ObjectId, Error>
-    ensures own { IfOk result (IsOwnId (bstr_bytes digits.entry)) }
-    ensures refused { IfErr result
-        (λ error. (error ≡ HexDigits) × SpellsNoId (bstr_bytes digits.entry)) }
-{
-    match ObjectId::from_hex(digits.as_bytes()) {
-        Ok(id) => Ok(id),
-        Err(_) => Err(Error::HexDigits),
-    }
 }
 
 fn own_ids(alloc: Global, texts: &[BStr<'_>]) -> Result<SmallVec<ObjectId, 1>, Error>

@@ -6,10 +6,11 @@ ghost use Rattle.bstr.specs.BStr.{bstr_bytes};
 ghost use Rattle.gix_object_lines.specs.HexLine.{hex_line};
 ghost use Rattle.gix_object_lines.specs.declared.kind.Kind.TheVariants as kinds;
 ghost use Rattle.gix_object_commit_lines.specs.Commit.{Field, commit_text, field_text};
-ghost use Rattle.gix_object_commit_lines.specs.Views.{person_of, field_of};
+ghost use Rattle.gix_object_commit_lines.specs.Views.{field_of};
 ghost use Rattle.gix_object_commit.specs.Views.{parts_of};
 ghost use Rattle.gix_object_commit.specs.Writing.{tree_piece, parent_piece, person_piece, encoding_piece, field_piece, message_piece, id_pieces, encoding_pieces, header_pieces, is_encoding_first as is_named_first, commit_refusal};
 ghost use Rattle.gix_object_lines.specs.Pieces.{WritesPieces, pieces_text};
+ghost use Rattle.gix_object_lines.specs.Person.{person_of};
 
 use crate::commit::spelling::{
     encoding_cause, is_encoding_first, is_field, is_id_like, is_person, unless,

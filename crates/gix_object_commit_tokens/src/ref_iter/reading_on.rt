@@ -5,10 +5,9 @@ ghost use Rattle.std.specs.Iterator.{at_most};
 ghost use Rattle.std.specs.Option.{option_map};
 ghost use Rattle.bstr.specs.BStr.{bstr_bytes};
 ghost use Rattle.gix_hash_id.specs.Id.{id_of};
-ghost use Rattle.gix_object_commit_lines.specs.Commit.{Person};
+ghost use Rattle.gix_object_lines.specs.Person.{Person, person_of};
 ghost use Rattle.gix_object_commit_tokens.specs.ReadingOn.{TakesTree, TellsFirst, TellsNone, GivesTold, ids_place, signatures_place, parent_told, author_told, committer_told, actor_told, message_told};
 ghost use Rattle.gix_object_commit_tokens.specs.Tokens.{place_of};
-ghost use Rattle.gix_object_commit_lines.specs.Views.{person_of};
 
 use crate::ref_iter::{CommitRefIter, Token};
 use bstr::BStr;

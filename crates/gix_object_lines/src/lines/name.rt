@@ -1,7 +1,7 @@
 //! Names of references.
 
 ghost use Rattle.std.specs.Prelude.{◌≡◌, ◌↔◌, ◌⊎◌, IsTrue, Any, Contains, codes};
-ghost use Rattle.gix_object_lines.specs.Bytes.{BeginsWith};
+ghost use Rattle.gix_object_lines.specs.Bytes.{IsBeginningOf};
 ghost use Rattle.gix_object_lines.specs.PartialName.{EndsWith, Holds, IsBarred, IsPartialName};
 ghost use Rattle.gix_object_lines.specs.NameTest as test;
 
@@ -46,7 +46,8 @@ fn obeys_rules(name: &[u8]) -> bool
 }
 
 fn has_barred_start(name: &[u8]) -> bool
-    ensures { IsTrue result ↔ (BeginsWith (codes ".") name.now ⊎ BeginsWith (codes "/") name.now) }
+    ensures { IsTrue result
+        ↔ (IsBeginningOf (codes ".") name.now ⊎ IsBeginningOf (codes "/") name.now) }
 {
     name.starts_with(b".") || name.starts_with(b"/")
 }

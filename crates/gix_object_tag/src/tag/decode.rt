@@ -3,7 +3,8 @@
 ghost use Rattle.std.specs.Prelude.{ℕ, List, Option, ◌≡◌, ◌↔◌, IsTrue, IfOk, IfErr, IsOkAnd, MatchResult};
 ghost use Rattle.bstr.specs.BStr.{bstr_bytes};
 ghost use Rattle.gix_object_lines.specs.declared.kind.Kind.{Kind};
-ghost use Rattle.gix_object_tag.specs.Tag.{Tagger, IsLine, SpellsKind, SpellsName, SpellsTagger, SpellsBody, SpellsRest};
+ghost use Rattle.gix_object_lines.specs.Person.{Person};
+ghost use Rattle.gix_object_tag.specs.Tag.{IsLine, SpellsKind, SpellsName, SpellsTagger, SpellsBody, SpellsRest};
 ghost use Rattle.gix_object_tag.specs.Views.{tagger_of, text_of};
 ghost use Rattle.gix_object_tag.specs.Faults.{LineFault, KindFault, NameFault, TaggerFault, RestFault};
 
@@ -56,7 +57,7 @@ pub(crate) fn name(input: &[u8]) -> Result<(&[u8], &[u8]), Error>
 /// The tagger, where a line of one begins the input.
 pub(crate) fn tagger(input: &[u8]) -> Result<(Option<ActorRef<'_>>, &[u8]), Error>
     ensures read { IfOk result (λ cut. SpellsTagger input.now (tagger_of cut.0) cut.1.now) }
-    ensures every { (tagger : Option Tagger) (after : List ℕ)
+    ensures every { (tagger : Option Person) (after : List ℕ)
         → SpellsTagger input.now tagger after
         → IsOkAnd result (λ cut. (tagger_of cut.0 ≡ tagger) × (cut.1.now ≡ after)) }
     ensures refused { IfErr result (λ error. TaggerFault input.now error) }

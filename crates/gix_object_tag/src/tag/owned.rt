@@ -11,6 +11,7 @@ ghost use Rattle.gix_object_tag.specs.Views.{parts_of, tagger_of};
 use crate::tag::TagRef;
 use gix_hash::ObjectId;
 use gix_object_lines::decode::Error;
+use gix_object_lines::hex_line::own_id;
 use gix_object_lines::lines::{Actor, ActorRef};
 use gix_object_lines::text::{own_text, own_text_if_any};
 use gix_object_lines::{ByteString, Kind};
@@ -55,9 +56,7 @@ impl<'a> TagRef<'a> {
             (λ error. OwningFault (bstr_bytes self.entry.target)
             (tagger_of self.entry.tagger) error) }
     {
-        let Ok(target) = ObjectId::from_hex(self.target.as_bytes()) else {
-            return Err(Error::HexDigits);
-        };
+        let target = own_id(self.target)?;
         let tagger = own_tagger(alloc, self.tagger)?;
         let name = own_text(alloc, self.name)?;
         let message = own_text(alloc, self.message)?;

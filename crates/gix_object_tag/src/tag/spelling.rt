@@ -3,6 +3,7 @@
 ghost use Rattle.std.specs.Prelude.{◌≡◌, ◌↔◌, [], Some, true, false, codes, IsTrue, IsFalse};
 ghost use Rattle.bstr.specs.BStr.{bstr_bytes};
 ghost use Rattle.gix_object_lines.specs.Actor.{IsSpellable};
+ghost use Rattle.gix_object_lines.specs.NameTest.{begins};
 ghost use Rattle.gix_object_tag.specs.BodyTest as test;
 ghost use Rattle.gix_object_tag.specs.NameTest as name_test;
 ghost use Rattle.gix_object_tag.specs.OwnedText as owned_text;
@@ -30,7 +31,7 @@ pub(crate) fn name_fault(name: &[u8]) -> Option<TagNameError>
 }
 
 fn begins_with_dash(name: &[u8]) -> bool
-    ensures { result ≡ name_test.begins (codes "-") name.now }
+    ensures { result ≡ begins (codes "-") name.now }
 {
     name.starts_with(b"-")
 }

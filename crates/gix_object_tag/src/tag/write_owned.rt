@@ -4,7 +4,7 @@ ghost use Rattle.std.specs.Prelude.{◌≡◌, ◌≤◌, ◌^◌, ◌+◌, leng
 ghost use Rattle.bstr.specs.BStr.{bstr_bytes};
 ghost use Rattle.gix_object_lines.specs.Writes.{Writes};
 ghost use Rattle.gix_object_lines.specs.declared.kind.Kind.TheVariants.{Tag as TagKind};
-ghost use Rattle.gix_object_tag.specs.OwnedText.{own_person, own_parts, is_bad_actor};
+ghost use Rattle.gix_object_tag.specs.OwnedText.{own_tagger, own_parts, is_bad_actor};
 ghost use Rattle.gix_object_tag.specs.Views.{text_of};
 ghost use Rattle.gix_object_lines.specs.HexLine.{is_id};
 ghost use Rattle.gix_object_tag.specs.Pieces.{first_refusal};
@@ -109,7 +109,7 @@ fn write_own_name<W: io::Write>(name: &ByteString, out: &mut W) -> Result<(), Er
 
 fn write_own_tagger<W: io::Write>(tagger: &Option<Actor>, out: &mut W) -> Result<(), Error>
     ensures { Writes (W.contents out.old) (W.contents out.new)
-        (tagger_line (own_person tagger.now)) (tagger_refusal (is_bad_actor tagger.now)) result }
+        (tagger_line (own_tagger tagger.now)) (tagger_refusal (is_bad_actor tagger.now)) result }
 {
     let Some(actor) = tagger else {
         return Ok(());
@@ -124,7 +124,7 @@ fn write_own_tagger<W: io::Write>(tagger: &Option<Actor>, out: &mut W) -> Result
 
 // An offset has five bytes, whatever it is.
 fn add_own_tagger(before: u64, tagger: &Option<Actor>) -> Option<u64>
-    ensures { let text = tagger_line (own_person tagger.now) in
+    ensures { let text = tagger_line (own_tagger tagger.now) in
         MatchOption result (2 ^ 64 ≤ before + length text) (λ total. total ≡ before + length text) }
 {
     match tagger {

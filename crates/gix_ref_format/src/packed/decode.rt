@@ -1,6 +1,7 @@
 //! The lines of `packed-refs`.
 
 ghost use Rattle.std.specs.Prelude.{◌≡◌, ◌∷◌, [], ◌+◌, take, drop, IsTrue, IsFalse, MatchOption};
+ghost use Rattle.gix_object_lines.specs.Bytes.{is_among};
 ghost use Rattle.gix_object_lines.specs.NameTest.{begins};
 ghost use Rattle.std.specs.List.{slice_split};
 ghost use Rattle.std.specs.Prelude.{◌==◌, option_map};
@@ -53,7 +54,7 @@ fn peeled_in(words: &[u8]) -> Peeled
 
 // Whether the word is one of those between spaces.
 fn has_word(words: &[u8], word: &[u8]) -> bool
-    ensures { result ≡ spec.has_word (slice_split (λ byte. byte == 32) words.now) word.now }
+    ensures { result ≡ is_among (slice_split (λ byte. byte == 32) words.now) word.now }
 {
     words.split(|byte| *byte == b' ').any(|other| other == word)
 }

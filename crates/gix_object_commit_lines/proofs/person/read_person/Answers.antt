@@ -1,8 +1,8 @@
 use Rattle.std.proofs.Common.{◌∙◌, sym, subst}
 use Rattle.gix_object_lines.specs.Actor.{SpellsActor}
 use Rattle.gix_object_lines.proofs.CutLemmas.{lacks_it}
+use Rattle.gix_object_lines.specs.Person.{actor_line}
 use Rattle.std.proofs.lemmas.Result.{err_from_is_err_and}
-use Rattle.gix_object_commit_lines.specs.Commit.{actor_line}
 use Rattle.gix_object_commit_lines.proofs.FaultLemmas.{actor_fault}
 use Rattle.gix_object_commit_lines.proofs.Lines.{line_shape, behind_same, actor_cut, person_same}
 use Rattle.gix_object_commit_lines.proofs.person.read_person.Goals as goal

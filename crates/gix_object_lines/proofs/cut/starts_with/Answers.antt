@@ -1,10 +1,10 @@
 use Rattle.std.proofs.Common.{◌≡◌, refl, Bor, List, ℕ, Option, Some, None, ◌++◌}
 use Rattle.std.specs.Prelude.{◌≢◌, ◌↔◌, IsTrue, MatchOption}
 use Rattle.std.specs.Option.{is_some}
-use Rattle.gix_object_lines.specs.Bytes.{BeginsWith}
+use Rattle.gix_object_lines.specs.Bytes.{IsBeginningOf}
 use Rattle.gix_object_lines.proofs.cut.starts_with.Goals as goal
 
-told : (bytes front : List ℕ) (r : Option (Bor (List ℕ))) → MatchOption r ((rest : List ℕ) → bytes ≢ front ++ rest) (λ rest. bytes ≡ front ++ rest.now) → IsTrue (is_some r) ↔ BeginsWith front bytes
+told : (bytes front : List ℕ) (r : Option (Bor (List ℕ))) → MatchOption r ((rest : List ℕ) → bytes ≢ front ++ rest) (λ rest. bytes ≡ front ++ rest.now) → IsTrue (is_some r) ↔ IsBeginningOf front bytes
 told bytes front None h = (λ e. cc, λ begins. absurd (h begins.0 begins.1))
 told bytes front (Some rest) h = (λ e. (rest.now, h), λ begins. refl)
 

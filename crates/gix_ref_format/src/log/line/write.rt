@@ -6,7 +6,7 @@ ghost use Rattle.gix_hash_id.specs.Id.{id_of};
 ghost use Rattle.gix_hash_id.specs.Spelling.{hex_text};
 ghost use Rattle.gix_object_lines.specs.Actor.{IsPlain, IsSpellable, actor_text};
 ghost use Rattle.gix_object_lines.specs.Time.{IsSpellableOffset};
-ghost use Rattle.gix_object_lines.specs.Writes.{AppendsFront};
+ghost use Rattle.gix_hash_id.specs.Writes.{AppendsFewer};
 ghost use Rattle.gix_ref_format.specs.LogOwned.{WritesLogLine, written_text};
 ghost use Rattle.gix_ref_format.specs.declared.log.line.write.Error.TheVariants.{MessageWithNewlines, Unspellable};
 
@@ -63,7 +63,7 @@ fn write_whole<W: io::Write>(line: &Line, out: &mut W) -> io::Result<()>
     ensures ok { OnOk result
         (Appends (W.contents out.old) (W.contents out.new) (written_text line.now ++ 10 ∷ [])) }
     ensures err { OnErr result
-        (AppendsFront (W.contents out.old) (W.contents out.new)
+        (AppendsFewer (W.contents out.old) (W.contents out.new)
         (written_text line.now ++ 10 ∷ [])) }
 {
     write_id(line.previous_oid, out)?;
@@ -78,7 +78,7 @@ fn write_id<W: io::Write>(id: ObjectId, out: &mut W) -> io::Result<()>
         (Appends (W.contents out.old) (W.contents out.new)
         (hex_text (id_of id).digits ++ 32 ∷ [])) }
     ensures err { OnErr result
-        (AppendsFront (W.contents out.old) (W.contents out.new)
+        (AppendsFewer (W.contents out.old) (W.contents out.new)
         (hex_text (id_of id).digits ++ 32 ∷ [])) }
 {
     let mut buffer = Kind::hex_buf();
@@ -93,7 +93,7 @@ fn write_signature<W: io::Write>(actor: &Actor, out: &mut W) -> io::Result<()>
         (Appends (W.contents out.old) (W.contents out.new)
         (actor_text actor.now.name actor.now.email actor.now.time)) }
     ensures err { OnErr result
-        (AppendsFront (W.contents out.old) (W.contents out.new)
+        (AppendsFewer (W.contents out.old) (W.contents out.new)
         (actor_text actor.now.name actor.now.email actor.now.time)) }
 {
     match write_actor(actor, out) {
@@ -108,7 +108,7 @@ fn write_message<W: io::Write>(message: &[u8], out: &mut W) -> io::Result<()>
     ensures ok { OnOk result
         (Appends (W.contents out.old) (W.contents out.new) (9 ∷ (message.now ++ 10 ∷ []))) }
     ensures err { OnErr result
-        (AppendsFront (W.contents out.old) (W.contents out.new) (9 ∷ (message.now ++ 10 ∷ []))) }
+        (AppendsFewer (W.contents out.old) (W.contents out.new) (9 ∷ (message.now ++ 10 ∷ []))) }
 {
     write_bytes(out, b"\t")?;
     write_bytes(out, message)?;

@@ -1,7 +1,6 @@
 //! Stores of folders, and which folders no store is of.
 
 ghost use Rattle.std.specs.Prelude.{◌≡◌, ◌<◌, Some, None, length, IfOk, IfErr, IsTrue};
-ghost use Rattle.gix_ref_file.specs.Tree as tree;
 ghost use Rattle.gix_ref_store.specs.Folders as spec;
 ghost use Rattle.gix_ref_store.specs.Folders.{IsStoreOf, IsRefused};
 ghost use Rattle.gix_ref_store.specs.Stores.{IsUsual};
@@ -9,6 +8,7 @@ ghost use Rattle.gix_ref_store.specs.Stores.{IsUsual};
 use crate::options::Options;
 use crate::store::file::Store;
 use gix_ref_file::Files;
+use gix_ref_file::paths::is_path;
 use thiserror::Error;
 
 /// Why no store is of a folder.
@@ -116,21 +116,6 @@ fn is_folder_path(folder: &[u8]) -> bool
     ensures { result ≡ spec.is_folder_path folder.now }
 {
     folder == b"".as_slice() || is_path(folder)
-}
-
-fn is_path(path: &[u8]) -> bool
-    ensures { result ≡ tree.is_path path.now }
-{
-    path.len() <= 4096
-        && path
-            .split(|byte| *byte == b'/')
-            .all(|part| is_component(part))
-}
-
-fn is_component(part: &[u8]) -> bool
-    ensures { result ≡ tree.is_component part.now }
-{
-    !part.is_empty() && part != b".".as_slice() && part != b"..".as_slice() && !part.contains(&0)
 }
 
 // Whether neither folder lies among the names or logs of the other.

@@ -1,8 +1,9 @@
 //! Where the files of names stand.
 
 ghost use Rattle.std.specs.Prelude.{◌≡◌, option_map, IfOk, OnOk};
+ghost use Rattle.gix_ref_file.specs.Tree.{under};
 ghost use Rattle.gix_ref_store.specs.Places as spec;
-ghost use Rattle.gix_ref_store.specs.Places.{under, place_in, log_place_in, main_home, linked_home};
+ghost use Rattle.gix_ref_store.specs.Places.{place_in, log_place_in, main_home, linked_home};
 ghost use Rattle.gix_ref_store.specs.Stores.{base_of};
 ghost use Rattle.gix_ref_store.specs.Homes.{home_of};
 

@@ -2,8 +2,7 @@
 
 ghost use Rattle.std.specs.Prelude.{◌≡◌, ◌<◌, ◌⊎◌, ◌&&◌, ℕ, List, IsTrue, IfOk, IfErr, OnOk, nat_lt, nat_le, length};
 ghost use Rattle.gix_object_lines.specs.NameTest.{is_full_name};
-ghost use Rattle.gix_ref_file.specs.Tree.{node_at, place_of};
-ghost use Rattle.gix_ref_store.specs.Places.{under};
+ghost use Rattle.gix_ref_file.specs.Tree.{node_at, place_of, under};
 ghost use Rattle.gix_ref_store.specs.Asks.{is_asked, leads};
 ghost use Rattle.gix_ref_store.specs.Listings.{is_pseudo};
 ghost use Rattle.gix_ref_store.specs.Walks.{Keeps, BringsAsked, GathersBelow, Gathers, MayStop, has};

@@ -2,10 +2,9 @@ use Rattle.std.proofs.Common.{rules, ◌≡◌, ◌∙◌, ap, sym, subst, List,
 use Rattle.gix_object_lines.specs.declared.decode.Error.{Error}
 use Rattle.gix_object_lines.specs.declared.lines.time.Time.{Time}
 use Rattle.bstr.specs.BStr.{bstr_bytes}
-use Rattle.gix_object_commit_lines.specs.Commit.{Person}
 use Rattle.gix_object_commit_tokens.specs.Tokens.{place_of}
-use Rattle.gix_object_commit_lines.specs.Views.{person_of}
 use Rattle.gix_object_lines.specs.Time.{SpellsTime}
+use Rattle.gix_object_lines.specs.Person.{Person, person_of}
 use Rattle.gix_traverse_commit.proofs.Told.{committer_time}
 use Rattle.gix_traverse_commit.proofs.either.seconds.Goals as goal
 

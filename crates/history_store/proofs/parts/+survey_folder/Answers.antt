@@ -2,8 +2,9 @@ use Rattle.std.proofs.Common.{◌≡◌, ◌∙◌, sym, ap, subst, ℕ, ◌&&�
 use Rattle.std.specs.Prelude.{nat_lt, nat_le, is_some}
 use Rattle.std.specs.declared.alloc.Global.{Global}
 use Rattle.history_store.specs.Parts.{may_hold_folder, IsClearBelow}
-use Rattle.history_store.proofs.Surveys.{IsClearFrom, is_listed, all_clear, clear_file, clear_folder, folder_stands, not_absent, one_more, map_length, none_stray, is_deep}
+use Rattle.history_store.proofs.Surveys.{IsClearFrom, is_listed, all_clear, clear_file, clear_folder, folder_stands, not_absent, one_more, none_stray, is_deep}
 use Rattle.gix_ref_file.specs.Tree.{node_at, place_of}
+use Rattle.gix_ref_file.proofs.Listings.{map_length}
 use Rattle.history_store.proofs.parts.+survey_folder.Goals as goal
 use Rattle.history_store.proofs.parts.+survey_folder.Goals.{then-may_hold_folder+else-is_deeper, else-may_hold_folder, in-Folder+in_ok-stray-in-Folder+else-is_some, in-File}
 

@@ -1,7 +1,7 @@
 use Rattle.std.proofs.Common.{◌-◌, ◌<◌, ℕ, [], length, map, Vec}
 use Rattle.std.proofs.Math.ListN.{get_or}
 use Rattle.std.specs.declared.alloc.Global.{Global}
-use Rattle.history_store.specs.Parts.{path_in}
+use Rattle.gix_ref_file.specs.Tree.{under}
 use Rattle.history_store.proofs.Surveys.{IsClearFrom}
 use Rattle.history_store.proofs.parts.+survey_folder.Given as goal
 
@@ -12,4 +12,4 @@ decreases-survey_folder g l = 4096 - length l.folder.now
 -- what is listed so far is clear
 abbrev pub invariant-loop-name : goal.invariant-loop-name
 invariant-loop-name g l = g.F.Files.is_honest l.fn.files → (i : ℕ) → i < l.name-index
-    → IsClearFrom l.part l.permitted (g.F.Files.history l.fn.files).tree (path_in l.folder (get_or (map (λ (name : Vec ℕ Global). name.items) l.name-items) i []))
+    → IsClearFrom l.part l.permitted (g.F.Files.history l.fn.files).tree (under l.folder (get_or (map (λ (name : Vec ℕ Global). name.items) l.name-items) i []))

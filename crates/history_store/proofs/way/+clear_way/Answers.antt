@@ -2,10 +2,11 @@ use Rattle.std.proofs.Common.{◌≡◌, ◌≢◌, ◌∙◌, ◌&&◌, ℕ, []
 use Rattle.std.specs.Prelude.{Some, nat_lt, nat_le}
 use Rattle.std.specs.FinMap.{get}
 use Rattle.gix_ref_file.specs.Tree.{folder}
+use Rattle.gix_ref_file.proofs.Listings.{map_length}
 use Rattle.std.specs.declared.alloc.Global.{Global}
 use Rattle.std.proofs.lemmas.Result.{on_ok_weaker}
 use Rattle.history_store.specs.Stores.{IsAbove}
-use Rattle.history_store.proofs.Surveys.{is_listed, is_deep, one_more, map_length}
+use Rattle.history_store.proofs.Surveys.{is_listed, is_deep, one_more}
 use Rattle.history_store.proofs.Clearings.{not_root, folder_there, below_in, way_now, below_now, below_way, below_joined, way_joined, none_deeper, later_risen, may_go, caused, removed_gone}
 use Rattle.history_store.proofs.way.+clear_way.Goals as goal
 use Rattle.history_store.proofs.way.+clear_way.Goals.{then-is_deeper+in_ok-clear_way, else-is_deeper}

@@ -3,9 +3,8 @@ use Rattle.std.specs.Prelude.{Some}
 use Rattle.std.specs.FinMap.{get}
 use Rattle.std.proofs.Math.ListN.{get_or}
 use Rattle.std.specs.declared.alloc.Global.{Global}
-use Rattle.gix_ref_file.specs.Tree.{folder}
+use Rattle.gix_ref_file.specs.Tree.{folder, under}
 use Rattle.gix_ref_file.specs.History.{Adds}
-use Rattle.history_store.specs.Parts.{path_in}
 use Rattle.history_store.proofs.Clearings.{ClearsBelow}
 use Rattle.history_store.proofs.way.+clear_way.Given as goal
 
@@ -20,7 +19,7 @@ invariant-loop-name g l =
     record {
       honest : g.F.Files.is_honest l.fn.files → g.F.Files.is_honest l.files;
       moments : g.F.Files.is_honest l.fn.files → Adds (ClearsBelow l.place (history l.fn.files).tree) (history l.fn.files) (history l.files);
-      gone : g.F.Files.is_honest l.fn.files → (i : ℕ) → i < l.name-index → get (history l.files).tree (path_in l.place (get_or (map (λ (name : Vec ℕ Global). name.items) l.name-items) i [])) ≢ Some folder;
+      gone : g.F.Files.is_honest l.fn.files → (i : ℕ) → i < l.name-index → get (history l.files).tree (under l.place (get_or (map (λ (name : Vec ℕ Global). name.items) l.name-items) i [])) ≢ Some folder;
       later : g.F.Files.failures l.fn.files ≤ g.F.Files.failures l.files;
       unfailed : g.F.Files.failures l.files ≡ g.F.Files.failures l.fn.files;
     }

@@ -2,13 +2,14 @@ use Rattle.std.proofs.Common.{◌≡◌, ◌≢◌, ◌∙◌, sym, ap, subst, t
 use Rattle.std.specs.Prelude.{nat_lt, nat_le}
 use Rattle.std.specs.declared.alloc.Global.{Global}
 use Rattle.gix_ref_file.specs.Changes.{is_file_at}
+use Rattle.gix_ref_file.proofs.Listings.{map_length}
 use Rattle.history_model.specs.Bytes.{Bytes}
 use Rattle.history_store.specs.Stores.{IsAbove}
 use Rattle.history_store.specs.References.{TellsBelow}
 use Rattle.history_store.proofs.Clearings.{below_in}
 use Rattle.history_store.proofs.FoldersMade.{above_above}
 use Rattle.history_store.proofs.FilesBelow.{IsFreeFrom, none_below, no_file_at, longer_too}
-use Rattle.history_store.proofs.Surveys.{is_listed, one_more, map_length, is_deep}
+use Rattle.history_store.proofs.Surveys.{is_listed, one_more, is_deep}
 use Rattle.history_store.proofs.way.+has_file_below.Goals as goal
 use Rattle.history_store.proofs.way.+has_file_below.Goals.{then-is_deeper+in_ok-has_file_below+else-branch-2, else-is_deeper}
 

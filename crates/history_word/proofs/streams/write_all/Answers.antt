@@ -1,6 +1,6 @@
-use Rattle.std.proofs.Common.{◌-◌, ◌<◌, length, take, drop, sym, subst, arith}
+use Rattle.std.proofs.Common.{◌-◌, length, take, drop, sym, subst, arith}
 use Rattle.std.proofs.Math.Seq.{take-add}
-use Rattle.std.proofs.lemmas.List.{take-append-drop, length-drop, length-take, take_rest}
+use Rattle.std.proofs.lemmas.List.{length-drop, length-take, take_rest}
 use Rattle.std.proofs.lemmas.Result.{err_from_is_err_and}
 use Rattle.std.specs.Io.KnownBytes.{Appends}
 use Rattle.history_word.proofs.SinkLemmas.{appends_then, keeps_after}
@@ -12,8 +12,7 @@ returns-in_err-done-clause-err g c =
     let bytes = c.args.bytes.now in
     let n = c.loop-done.done in
     let room = c.loop-done-test.true in
-    let short : length (take n bytes) < length bytes = omega (arith, length-take n bytes) in
-    rw p.1 (sym c.in_err-done.ensures.failed, (take n bytes, drop n bytes, sym (take-append-drop n bytes), short, keeps_after _ _ _ (take n bytes) c.loop-done.invariant.0 c.in_err-done.ensures.bytes))
+    rw p.1 (sym c.in_err-done.ensures.failed, (n, room, keeps_after _ _ _ (take n bytes) c.loop-done.invariant.0 c.in_err-done.ensures.bytes))
 
 pub loop-done-preserved : goal.loop-done-preserved
 loop-done-preserved g c =

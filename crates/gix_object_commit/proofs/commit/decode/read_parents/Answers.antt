@@ -6,7 +6,7 @@ use Rattle.std.proofs.lemmas.List.{map-append, length-map}
 use Rattle.std.proofs.lemmas.Result.{err_from_is_err_and}
 use Rattle.bstr.specs.BStr.{bstr_bytes}
 use Rattle.gix_object_lines.specs.HexLine.{hex_line, IsHex}
-use Rattle.gix_object_lines.specs.Bytes.{BeginsWith}
+use Rattle.gix_object_lines.specs.Bytes.{IsBeginningOf}
 use Rattle.gix_object_commit_lines.proofs.FaultLemmas.{next_parent, no_room_for_parent}
 use Rattle.gix_object_commit_lines.proofs.Results.{when_ok}
 use Rattle.gix_object_commit_lines.proofs.Progress.{Progress, progress_none, progress_one, progress_end, progress_stuck}
@@ -16,7 +16,7 @@ abbrev parent_line : List ℕ → List ℕ
 parent_line = hex_line (codes "parent")
 
 abbrev NoParent : List ℕ → Type 0
-NoParent end = ¬ BeginsWith (codes "parent ") end
+NoParent end = ¬ IsBeginningOf (codes "parent ") end
 
 line_shorter : (rest parent after : List ℕ) → rest ≡ parent_line parent ++ after → length after < length rest
 line_shorter rest parent after is = omega (arith, ap length is, length-append (parent_line parent) after, length-append (codes "parent" ++ 32 ∷ parent) (10 ∷ []))
@@ -28,7 +28,7 @@ pub returns-in_err-parent-clause-every : goal.returns-in_err-parent-clause-every
 returns-in_err-parent-clause-every c = λ parents rest hex none whole.
     let begins = c.starts_with.ensures.0 c.parents-test.true in
     absurd (progress_stuck parent_line (IsHex c.args.digits) NoParent _ _ _ c.parents.invariant.0
-    (λ end ends is. ends (subst (BeginsWith (codes "parent ")) is begins))
+    (λ end ends is. ends (subst (IsBeginningOf (codes "parent ")) is begins))
     (λ y more end fit fits ends is. c.in_err-parent.ensures.back y _ fit is)
     parents rest hex none whole)
 
@@ -41,7 +41,7 @@ parents-preserved c =
     let pushed = when_ok c.push.result (sym c.is_err.ensures.value ∙ c.if-is_err.false) c.push.ensures.ok in
     let step = progress_one parent_line (IsHex c.args.digits) NoParent _ _ _ c.in_ok-parent.parent.now c.in_ok-parent.after.now c.parents.invariant.0
     c.in_ok-parent.ensures.read.1 c.in_ok-parent.ensures.read.0
-    (λ end ends is. ends (subst (BeginsWith (codes "parent ")) is begins))
+    (λ end ends is. ends (subst (IsBeginningOf (codes "parent ")) is begins))
     (λ y r more end fit fits ends same is. c.in_ok-parent.ensures.back y r fit is) in
     let kept = c.push.ensures.capacity in
     let had = c.parents.invariant.1 in

@@ -1,8 +1,8 @@
 use Rattle.std.proofs.Common.{◌∙◌, ap, Ok, Err}
 use Rattle.std.proofs.lemmas.Result.{err_from_is_err_and}
 use Rattle.gix_object_lines.specs.Actor.{IsSpellable}
-use Rattle.gix_object_commit_lines.specs.Commit.{actor_line}
-use Rattle.gix_object_commit.specs.OwnedText.{own_person, own_person_piece}
+use Rattle.gix_object_lines.specs.Person.{actor_line, own_person}
+use Rattle.gix_object_commit.specs.OwnedText.{own_person_piece}
 use Rattle.gix_object_commit.specs.Writing.{unspellable_unless}
 use Rattle.gix_object_commit.proofs.OwnPieces.{as_piece, line_piece, front_stops, text_stops, line_ends, from_line}
 use Rattle.gix_object_commit.proofs.OwnTexts.{front_fine}

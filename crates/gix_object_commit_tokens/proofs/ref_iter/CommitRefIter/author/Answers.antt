@@ -1,9 +1,9 @@
 use Rattle.std.proofs.Common.{ap}
 use Rattle.std.proofs.lemmas.Result.{err_from_is_err_and}
 use Rattle.gix_object_lines.specs.declared.decode.Error.TheVariants.{FieldName}
+use Rattle.gix_object_lines.specs.Person.{person_of}
 use Rattle.gix_object_commit_tokens.specs.ReadingOn.{author_told}
 use Rattle.gix_object_commit_tokens.specs.Tokens.{part_of, place_of}
-use Rattle.gix_object_commit_lines.specs.Views.{person_of}
 use Rattle.gix_object_commit_tokens.proofs.FirstTold.{none_first, one_first, stops_at_fault, stops_at_end}
 use Rattle.gix_object_commit_tokens.proofs.Readings.{given_on, given_one, given_fault, no_author}
 use Rattle.gix_object_commit_tokens.proofs.ref_iter.CommitRefIter.author.Goals as goal

@@ -1,14 +1,8 @@
-use Rattle.std.proofs.Common.{◌≡◌, ◌∙◌, ap, arith, ℕ, ◌+◌, ◌-◌, ◌*◌, ◌≤◌, ◌/◌, ◌%◌, [], ◌∷◌}
+use Rattle.std.proofs.Common.{◌≡◌, arith, ℕ, ◌+◌, ◌-◌, ◌≤◌, ◌/◌, ◌%◌}
 use Rattle.std.specs.Char.{IsNotAsciiDigit}
-use Rattle.gix_object_lines.specs.Time.{two_digits}
 use Rattle.gix_object_lines.proofs.lines.digits.read_two_digits.Goals as goal
 use Rattle.gix_object_lines.proofs.lines.digits.read_two_digits.Goals.{else-is_ascii_digit-via-then-is_ascii_digit+else-is_ascii_digit-2, else-is_ascii_digit-via-else-is_ascii_digit}
-
-spelled : (tens ones : ℕ) → 48 ≤ tens → tens ≤ 57 → 48 ≤ ones → ones ≤ 57 → tens ∷ ones ∷ [] ≡ two_digits (10 * (tens - 48) + (ones - 48))
-spelled tens ones a b c d =
-    let high : tens ≡ 48 + (10 * (tens - 48) + (ones - 48)) / 10 = omega arith in
-    let low : ones ≡ 48 + (10 * (tens - 48) + (ones - 48)) % 10 = omega arith in
-    ap (λ t. t ∷ ones ∷ []) high ∙ ap (λ o. (48 + (10 * (tens - 48) + (ones - 48)) / 10) ∷ o ∷ []) low
+use Rattle.gix_object_lines.proofs.TimeLemmas.{two_spelled}
 
 not_digit : (c : ℕ) → IsNotAsciiDigit c → 48 ≤ c → c ≤ 57 → ⊥
 not_digit c e low high = grind (arith, e)
@@ -17,7 +11,7 @@ pub returns-then-is_ascii_digit-2 : goal.returns-then-is_ascii_digit-2
 returns-then-is_ascii_digit-2 c =
     let high = c.if-is_ascii_digit.ensures in
     let low = c.if-is_ascii_digit-2.ensures in
-    (omega (arith, high.cases, low.cases), spelled c.args.tens c.args.ones high.cases.0 high.cases.1 low.cases.0 low.cases.1)
+    (omega (arith, high.cases, low.cases), two_spelled c.args.tens c.args.ones high.cases.0 high.cases.1 low.cases.0 low.cases.1)
 
 pub returns-else-is_ascii_digit : goal.returns-else-is_ascii_digit
 returns-else-is_ascii_digit c n below spells =

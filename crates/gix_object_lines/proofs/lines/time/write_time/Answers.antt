@@ -5,7 +5,7 @@ use Rattle.std.specs.Int.{w64, w32}
 use Rattle.std.specs.Io.KnownBytes.{Appends}
 use Rattle.std.proofs.lemmas.Int.{to_z-of_z}
 use Rattle.gix_object_lines.specs.Time.{IsSpellableOffset, offset_text}
-use Rattle.gix_object_lines.specs.Writes.{AppendsFront}
+use Rattle.gix_hash_id.specs.Writes.{AppendsFewer}
 use Rattle.gix_object_lines.proofs.TimeLemmas.{time_parts, time_written}
 use Rattle.gix_object_lines.proofs.lines.time.write_time.Goals as goal
 
@@ -16,7 +16,7 @@ returns-in-Err-clause-written g c =
     let seconds = c.as_bytes-seconds.ensures.value ∙ c.format.ensures.text ∙ ap signed_decimal (to_z-of_z w64 c.args.time.seconds fits) in
     let offset = c.in-Some.ensures.0 ∙ ap offset_text (to_z-of_z w32 c.args.time.offset small) in (
       subst IsSpellableOffset (to_z-of_z w32 c.args.time.offset small) c.in-Some.ensures.1,
-      subst (AppendsFront _ _) (time_parts c.args.time _ _ seconds offset) c.in-Err.ensures.err,
+      subst (AppendsFewer _ _) (time_parts c.args.time _ _ seconds offset) c.in-Err.ensures.err,
     )
 
 pub returns-clause-written : goal.returns-clause-written

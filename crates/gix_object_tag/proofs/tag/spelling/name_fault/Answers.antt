@@ -3,11 +3,12 @@ use Rattle.std.specs.Prelude.{codes, if◌then◌else◌}
 use Rattle.std.proofs.lemmas.Bool.Decides.{same_from_decides}
 use Rattle.gix_object_lines.specs.declared.write.TagNameError.{TagNameError}
 use Rattle.gix_object_lines.specs.declared.write.TagNameError.TheVariants.{StartsWithDash, InvalidRefName}
-use Rattle.gix_object_tag.specs.NameTest.{is_partial, begins, name_fault}
+use Rattle.gix_object_lines.specs.NameTest.{begins, is_partial_name}
+use Rattle.gix_object_tag.specs.NameTest.{name_fault}
 use Rattle.gix_object_lines.proofs.NameTests.{is_partial_name-Decides}
 use Rattle.gix_object_tag.proofs.tag.spelling.name_fault.Goals as goal
 
-told : (name : List ℕ) (partial dashed : Bool) → is_partial name ≡ partial → begins (codes "-") name ≡ dashed
+told : (name : List ℕ) (partial dashed : Bool) → is_partial_name name ≡ partial → begins (codes "-") name ≡ dashed
     → ◌≡◌ {A = Option TagNameError} (if partial then (if dashed then Some StartsWithDash else None) else Some InvalidRefName) (name_fault name)
 told name partial dashed a b = sym (λ i. if a i then (if b i then Some StartsWithDash else None) else Some InvalidRefName)
 

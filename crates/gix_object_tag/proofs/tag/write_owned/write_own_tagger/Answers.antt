@@ -5,7 +5,7 @@ use Rattle.gix_object_lines.specs.Actor.{IsSpellable, actor_text}
 use Rattle.gix_object_lines.specs.Writes.{Writes}
 use Rattle.gix_object_lines.specs.declared.lines.actor.Actor.{Actor}
 use Rattle.gix_object_lines.specs.declared.write.Error.{Error}
-use Rattle.gix_object_tag.specs.OwnedText.{own_person, is_bad_actor}
+use Rattle.gix_object_tag.specs.OwnedText.{own_tagger, is_bad_actor}
 use Rattle.gix_object_tag.specs.TagText.{tagger_line, tagger_refusal}
 use Rattle.gix_object_tag.proofs.ActorLines.{from_line, same_text}
 use Rattle.gix_object_tag.proofs.PieceLemmas.{first_stops, then_writes}
@@ -16,9 +16,9 @@ line_of actor = codes "tagger " ++ (actor_text actor.name actor.email actor.time
 
 -- the three parts are the line, and it isn't refused
 whole : (tagger : Option Actor) (actor : Actor) (a b : Option (List ℕ)) (result : Result (Unit {0}) Error) → tagger ≡ Some actor → is_bad_actor (Some actor) ≡ false
-    → Writes {U = Unit {0}} a b (line_of actor) None result → Writes {U = Unit {0}} a b (tagger_line (own_person tagger)) (tagger_refusal (is_bad_actor tagger)) result
+    → Writes {U = Unit {0}} a b (line_of actor) None result → Writes {U = Unit {0}} a b (tagger_line (own_tagger tagger)) (tagger_refusal (is_bad_actor tagger)) result
 whole tagger actor a b result is good h =
-    rw is (subst (λ bad. Writes {U = Unit {0}} a b (tagger_line (own_person (Some actor))) (tagger_refusal bad) result) (sym good)
+    rw is (subst (λ bad. Writes {U = Unit {0}} a b (tagger_line (own_tagger (Some actor))) (tagger_refusal bad) result) (sym good)
     (subst (λ t. Writes {U = Unit {0}} a b (codes "tagger " ++ (t ++ 10 ∷ [])) None result) (same_text actor.name actor.email actor.time) h))
 
 pub returns-in_err-write_all : goal.returns-in_err-write_all

@@ -1,6 +1,6 @@
 use Rattle.std.proofs.Common.{◌<◌, ap, length, arith}
 use Rattle.std.specs.Option.{option_map}
-use Rattle.gix_object_commit_lines.specs.Views.{person_of}
+use Rattle.gix_object_lines.specs.Person.{person_of}
 use Rattle.gix_object_commit_tokens.specs.Tokens.{part_of, place_of}
 use Rattle.gix_object_commit_tokens.specs.ReadingOn.{signatures_place, actor_told}
 use Rattle.gix_object_commit_tokens.proofs.Readings.{given_on, given_one}

@@ -9,7 +9,7 @@ use Rattle.gix_object_editor.specs.Laid.{laid_at}
 use Rattle.gix_object_editor.proofs.Entered.{none_met}
 use Rattle.gix_object_editor.proofs.Slots.{back, all_slots, cut_back, none_past}
 use Rattle.gix_object_editor.proofs.Opening.{fewer}
-use Rattle.gix_object_editor.proofs.Ladder.{put_forest, put_files, put_end, put_marks, put_entries, none_behind}
+use Rattle.gix_object_editor.proofs.LoneName.{put_forest, put_files, put_end, put_marks, put_entries, none_behind}
 use Rattle.gix_object_editor.specs.Marks.{marks_of, AreMarksKept, AreOnPath}
 use Rattle.gix_object_editor.proofs.Changes.{none_on_path}
 use Rattle.gix_object_editor.specs.Entries.{EachHas}

@@ -24,7 +24,7 @@ use Rattle.std.proofs.lemmas.Result.{err_from_is_err_and}
 use Rattle.gix_object_editor.specs.Editor.{names_of, leaf_of_kind, LeadsThrough}
 use Rattle.gix_object_editor.specs.Nodes.{slots_of, files_of_node, entry_from, child_of, onto, LeadsTo, IsFolderAt, IsForest, IsNoFolder, IsEntry, Way}
 use Rattle.gix_object_editor.proofs.Edits.{rest_is, first_left, upserts_at, stopped_tree, edit_fault, less_forest}
-use Rattle.gix_object_editor.proofs.Ladder.{put_files}
+use Rattle.gix_object_editor.proofs.LoneName.{put_files}
 use Rattle.gix_object_editor.proofs.Asking.{through_asked, through_stops, some_all}
 use Rattle.gix_object_editor.proofs.Walked.{names, names_step}
 use Rattle.gix_object_editor.proofs.Ways.{way_kept, way_above}

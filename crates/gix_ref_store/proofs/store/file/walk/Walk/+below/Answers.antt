@@ -1,13 +1,13 @@
 use Rattle.std.proofs.Common.{◌≡◌, ◌∙◌, sym, ap, subst, ℕ, ◌&&◌, map, length, Vec, arith, rules}
 use Rattle.std.specs.Prelude.{IsTrue, nat_lt, nat_le}
 use Rattle.std.specs.declared.alloc.Global.{Global}
-use Rattle.gix_ref_file.specs.Tree.{node_at, place_of, names_at}
-use Rattle.gix_ref_store.specs.Places.{under}
+use Rattle.gix_ref_file.specs.Tree.{node_at, place_of, names_at, under}
+use Rattle.gix_ref_file.proofs.Listings.{map_length}
 use Rattle.gix_ref_store.specs.Asks.{is_asked, leads}
 use Rattle.gix_ref_store.specs.Walks.{GathersBelow}
 use Rattle.gix_ref_store.proofs.AskLemmas.{asked_leads}
 use Rattle.gix_ref_store.proofs.NameSets.{keeps_on, brings_on}
-use Rattle.gix_ref_store.proofs.WalkSteps.{IsGathered, still_gathered, with_folder, with_file, with_absent, step_of, step_stands, one_more, all_gathered, map_length}
+use Rattle.gix_ref_store.proofs.WalkSteps.{IsGathered, still_gathered, with_folder, with_file, with_absent, step_of, step_stands, one_more, all_gathered}
 use Rattle.gix_ref_store.proofs.store.file.walk.Walk.+below.Goals as goal
 use Rattle.gix_ref_store.proofs.store.file.walk.Walk.+below.Goals.{in-Folder, then-is_deeper+in_ok-below-in-Folder, else-is_deeper, in-File+in_ok-put-in-File, in-Absent}
 

@@ -1,7 +1,7 @@
 use Rattle.std.proofs.Common.{◌-◌, ◌<◌, ℕ, [], length, map, Vec}
 use Rattle.std.proofs.Math.ListN.{get_or}
 use Rattle.std.specs.declared.alloc.Global.{Global}
-use Rattle.gix_ref_store.specs.Places.{under}
+use Rattle.gix_ref_file.specs.Tree.{under}
 use Rattle.gix_ref_store.specs.Asks.{is_asked}
 use Rattle.gix_ref_store.specs.Walks.{Keeps, BringsAsked}
 use Rattle.gix_ref_store.proofs.WalkSteps.{IsGathered}

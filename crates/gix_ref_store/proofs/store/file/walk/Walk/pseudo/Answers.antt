@@ -1,10 +1,11 @@
 use Rattle.std.proofs.Common.{◌∙◌, sym, ap, ℕ, map, Vec, arith}
 use Rattle.std.specs.Prelude.{IsTrue}
 use Rattle.std.specs.declared.alloc.Global.{Global}
+use Rattle.gix_ref_file.proofs.Listings.{item_is, map_length}
 use Rattle.gix_object_lines.specs.NameTest.{is_full_name}
 use Rattle.gix_ref_store.specs.Listings.{is_pseudo}
 use Rattle.gix_ref_store.proofs.NameSets.{keeps_on, brings_on}
-use Rattle.gix_ref_store.proofs.WalkSteps.{one_more_there, item_is, map_length, all_pseudo}
+use Rattle.gix_ref_store.proofs.WalkSteps.{one_more_there, all_pseudo}
 use Rattle.gix_ref_store.proofs.store.file.walk.Walk.pseudo.Goals as goal
 
 pub loop-name-preserved : goal.loop-name-preserved

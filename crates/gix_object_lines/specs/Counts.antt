@@ -1,6 +1,6 @@
--- Numbers of lines.
+-- Counts that stay at their last value.
 use Rattle.std.specs.Prelude.{ℕ, ◌+◌, ◌-◌, ◌^◌, min}
 
--- the next number; a count stays at its last value
+-- the next number, as far as a `u64` counts
 abbrev pub one_more : ℕ → ℕ
 one_more n = min (n + 1) (2 ^ 64 - 1)
