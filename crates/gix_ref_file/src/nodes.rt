@@ -65,8 +65,8 @@ impl Model for Nodes {
 impl Nodes {
     ghost use Rattle.std.specs.Option.{option_copied_mut};
     ghost use Rattle.std.specs.Borrow.{LendsIf, sem};
-    ghost use Rattle.gix_ref_file.specs.contracts.nodes.Nodes as nodes_type;
-    ghost use Rattle.gix_ref_file.specs.contracts.nodes.Entry as entry_type;
+    ghost use Rattle.gix_ref_file.specs.contracts.nodes.Nodes as lender;
+    ghost use Rattle.gix_ref_file.specs.contracts.nodes.Entry as lent;
 
     pub fn new(alloc: Global) -> Self
         ensures { result ≡ map.empty }
@@ -84,7 +84,7 @@ impl Nodes {
 
     /// The entry at a path, to be changed.
     pub fn get_mut(&mut self, path: &[u8]) -> Option<&mut Entry>
-        ensures* writes_back { sem 𝓛 (LendsIf nodes_type.the_row entry_type.the_row self.entry result
+        ensures* writes_back { sem 𝓛 (LendsIf lender.the_row lent.the_row self.entry result
             (λ entry. map.insert self.old path.now (node_of entry)) self.old) }
         ensures value { option_map node_of (option_copied_mut result)
             ≡ map.get self.old path.now }
