@@ -48,7 +48,7 @@ parent path = before_last is_slash path
 -- the path of what stands at a path below a folder; the root's path is empty
 abbrev pub under : List ℕ → List ℕ → List ℕ
 under [] path = path
-under (byte ∷ folder) path = (byte ∷ folder) ++ 47 ∷ path
+under (byte ∷ place) path = (byte ∷ place) ++ 47 ∷ path
 
 -- what stands at a path; the root's path is empty, and a folder stands there
 abbrev pub node_at : Tree → List ℕ → Option Node
