@@ -3,6 +3,7 @@
 ghost use Rattle.std.specs.Prelude.{◌≡◌, [], Some, IfOk, IsOk, OnOk, map, take, unwrap_or};
 ghost use Rattle.bstr.specs.BStr.{bstr_bytes};
 ghost use Rattle.gix_object_entries.specs.Entry.{item_of};
+ghost use Rattle.gix_traverse_tree.specs.Calls.{pop_back, pop_front, pop};
 ghost use Rattle.gix_traverse_tree.specs.declared.recorder.Location.TheVariants as locations;
 ghost use Rattle.gix_traverse_tree.specs.Recorder.{Records, Recorded, Recording, joined, parent, recorded_of, recording_of, with_entry};
 
@@ -222,7 +223,10 @@ impl Recorder {
 impl Visit for Recorder {
     ghost goes = { Records };
 
-    fn pop_back_tracked_path_and_set_current(&mut self) -> Result<(), Error> {
+    fn pop_back_tracked_path_and_set_current(&mut self) -> Result<(), Error>
+        ensures goes { OnOk result (Records self.old pop_back self.new) }
+        ensures whole { IsOk result }
+    {
         if let Some(Location::Path) = self.location {
             let path = self.path_deque.pop_back();
             self.set_path(path);
@@ -230,7 +234,10 @@ impl Visit for Recorder {
         Ok(())
     }
 
-    fn pop_front_tracked_path_and_set_current(&mut self) -> Result<(), Error> {
+    fn pop_front_tracked_path_and_set_current(&mut self) -> Result<(), Error>
+        ensures goes { OnOk result (Records self.old pop_front self.new) }
+        ensures whole { IsOk result }
+    {
         if let Some(Location::Path) = self.location {
             let path = self.path_deque.pop_front();
             self.set_path(path);
@@ -259,7 +266,10 @@ impl Visit for Recorder {
         Ok(())
     }
 
-    fn pop_path_component(&mut self) -> Result<(), Error> {
+    fn pop_path_component(&mut self) -> Result<(), Error>
+        ensures goes { OnOk result (Records self.old pop self.new) }
+        ensures whole { IsOk result }
+    {
         if let Some(Location::Path) = self.location {
             self.pop_element();
         }
