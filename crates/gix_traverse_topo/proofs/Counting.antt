@@ -1,9 +1,9 @@
 -- Names are counted, and counted off.
-use Rattle.std.proofs.Common.{◌≡◌, ℕ, zero, suc, ◌+◌, ◌<◌, ◌≤◌, inl, inr, List, [], ◌∷◌, ◌++◌, length, refl, sym, ◌∙◌, ap, subst, arith, set, append_assoc, append-nil}
+use Rattle.std.proofs.Common.{◌≡◌, ℕ, zero, suc, ◌+◌, ◌<◌, ◌≤◌, inl, inr, List, [], ◌∷◌, ◌++◌, length, take, refl, sym, ◌∙◌, ap, subst, arith, set, append_assoc, append-nil}
 use Rattle.std.specs.Prelude.{Contains, IsPermutation}
 use Rattle.std.specs.BinaryHeap.{heap_items}
 use Rattle.std.proofs.lemmas.Option.{slice_get_within, get_or_from_slice_get}
-use Rattle.std.proofs.lemmas.List.Elements.{Contains-push_cases}
+use Rattle.std.proofs.lemmas.List.Elements.{Contains-append_left, Contains-push_cases}
 use Rattle.std.proofs.lemmas.List.Sorted.{IsPermutation-refl, IsPermutation-trans, IsPermutation-append_left}
 use Rattle.gix_hash_id.specs.declared.object_id.ObjectId.{ObjectId}
 use Rattle.gix_hash_id.specs.declared.object_id.ObjectId.TheVariants.{Sha1}
@@ -11,10 +11,10 @@ use Rattle.gix_traverse_commit.specs.Commits.{Commits}
 use Rattle.gix_traverse_commit.specs.Numbered.{same_id}
 use Rattle.gix_traverse_commit.specs.Order.{At}
 use Rattle.gix_traverse_commit.proofs.Ids.{same_id_apart}
-use Rattle.gix_traverse_commit.proofs.Lists.{at_one, at_from_contains, contains_from_at, none_at_nil, three}
-use Rattle.gix_traverse_topo.specs.Nodes.{readings, counts, EachCount, NamesOne, IsOnce}
+use Rattle.gix_traverse_commit.proofs.Lists.{at_one, at_from_contains, at_from_push, contains_from_at, none_at_nil, three}
+use Rattle.gix_traverse_topo.specs.Nodes.{readings, counts, EachCount, NamesAre, IsOnce}
 use Rattle.gix_traverse_topo.specs.Standing.{id_at, ids_of, CountsOff, passed, counted, freed, NotCounted, GoesOff, RowOff}
-use Rattle.gix_traverse_topo.specs.Turns.{total, names_of, named_so_far, Freed}
+use Rattle.gix_traverse_topo.specs.Turns.{times, total, names_of, named_so_far, Freed}
 use Rattle.gix_traverse_topo.specs.Waiting.{Joined}
 use Rattle.gix_traverse_topo.specs.declared.known.Known.{Known}
 use Rattle.gix_traverse_topo.specs.declared.ready.Pending.{Pending}
@@ -34,6 +34,13 @@ at_set_other (y ∷ xs) zero zero v x d a = absurd (d refl)
 at_set_other (y ∷ xs) zero (suc m) v x d a = a
 at_set_other (y ∷ xs) (suc n) zero v x d a = a
 at_set_other (y ∷ xs) (suc n) (suc m) v x d a = at_set_other xs n m v x (λ e. d (ap suc e)) a
+
+pub at_set_away : {A : Type 0} (xs : List A) (n m : ℕ) (v x : A) → (m ≡ n → ⊥) → At xs m x → At (set xs n v) m x
+at_set_away [] n m v x d a = a
+at_set_away (y ∷ xs) zero zero v x d a = absurd (d refl)
+at_set_away (y ∷ xs) zero (suc m) v x d a = a
+at_set_away (y ∷ xs) (suc n) zero v x d a = a
+at_set_away (y ∷ xs) (suc n) (suc m) v x d a = at_set_away xs n m v x (λ e. d (ap suc e)) a
 
 pub total_set : (cs : List ℕ) (n count : ℕ) → At cs n (count + 1) → total (λ c. c) (set cs n count) + 1 ≡ total (λ c. c) cs
 total_set [] n count a = absurd (none_at_nil n (count + 1) a)
@@ -60,29 +67,51 @@ each_kept low keys cs P Q each f n z c l a b = f n z c l a (each n z c l a b)
 
 -- ---- counting
 
-module _ (low : ℕ) (keys : List ObjectId) (once : IsOnce keys) (way : ObjectId → List ObjectId) (before row : List ObjectId) (m : ℕ) (y : ObjectId) (here : At row m y) where
-  more : (z : ObjectId) → (z ≡ y → ⊥) → named_so_far same_id way before row (m + 1) z ≡ named_so_far same_id way before row m z
-  more z d = freeing.not_counted same_id same_id_apart way [] no_two before row m y here z d
-    where
-      no_two : (j k : ℕ) (x : ObjectId) → At [] j x → At [] k x → j ≡ k
-      no_two j k x a b = absurd (none_at_nil j x a)
+pub names_as : (low : ℕ) (keys : List ObjectId) (cs : List ℕ) (names names' : ObjectId → ℕ) → NamesAre low keys cs names → ((y : ObjectId) → names y ≡ names' y) → NamesAre low keys cs names'
+names_as low keys cs names names' (each, none) same = ((λ n x c l a b. each n x c l a b ∙ same x), (λ y out. sym (same y) ∙ none y out))
 
-  mine : named_so_far same_id way before row (m + 1) y ≡ named_so_far same_id way before row m y + 1
-  mine = freeing.counted same_id same_id_apart way [] no_two before row m y here
-    where
-      no_two : (j k : ℕ) (x : ObjectId) → At [] j x → At [] k x → j ≡ k
-      no_two j k x a b = absurd (none_at_nil j x a)
+-- none has a number behind these
+pub names_none : (low : ℕ) (keys : List ObjectId) (cs : List ℕ) → length keys ≤ low → NamesAre low keys cs (λ y. 0)
+names_none low keys cs l = ((λ n x c m a b. absurd (let w = slice_get_within keys n x a in omega arith)), (λ y out. refl))
 
-  -- one more name of the row is counted
-  pub count_more : (cs cs' : List ℕ) → NamesOne low keys cs y cs' → EachCount low keys cs (λ z c. c ≡ named_so_far same_id way before row m z) → EachCount low keys cs' (λ z c. c ≡ named_so_far same_id way before row (m + 1) z)
-  count_more cs cs' (inl (n, count, l, a, b, e)) each =
-      let old = each n y count l a b in
-      let within = slice_get_within cs n count b in
-      subst (λ (ds : List ℕ). EachCount low keys ds (λ z c. c ≡ named_so_far same_id way before row (m + 1) z)) (sym e)
-      (each_set low keys cs (λ z c. c ≡ named_so_far same_id way before row m z) (λ z c. c ≡ named_so_far same_id way before row (m + 1) z) n (count + 1) y each once a within (omega (arith, mine)) (λ z c d p. p ∙ sym (more z d)))
-  count_more cs cs' (inr (none, e)) each =
-      subst (λ (ds : List ℕ). EachCount low keys ds (λ z c. c ≡ named_so_far same_id way before row (m + 1) z)) (sym e)
-      (each_kept low keys cs (λ z c. c ≡ named_so_far same_id way before row m z) (λ z c. c ≡ named_so_far same_id way before row (m + 1) z) each (λ n z c l a p. p ∙ sym (more z (λ f. let b = none once n (subst (λ (x : ObjectId). At keys n x) f a) in omega arith))))
+-- a commit that isn't named yet gets a number
+pub names_pushed : (low : ℕ) (keys : List ObjectId) (cs : List ℕ) (names : ObjectId → ℕ) (y : ObjectId) → length cs ≡ length keys → (Contains keys y → ⊥) → NamesAre low keys cs names → NamesAre low (keys ++ y ∷ []) (cs ++ 0 ∷ []) names
+names_pushed low keys cs names y long new (each, none) = (
+  λ n x c l a b. elim (at_from_push keys y n x a) [
+    | inl d ↦ elim (at_from_push cs 0 n c b) [ inl e ↦ each n x c l d e | inr e ↦ absurd (let w = slice_get_within keys n x d in omega (arith, e.0)) ]
+    | inr d ↦ elim (at_from_push cs 0 n c b) [ inl e ↦ absurd (let w = slice_get_within cs n c e in omega (arith, d.0)) | inr e ↦ e.1 ∙ sym (none y new) ∙ ap names (sym d.1) ]
+  ],
+  λ z out. none z (λ c. out (Contains-append_left keys (y ∷ []) z c)),
+)
+
+-- one commit is named once more
+pub names_set : (low : ℕ) (keys : List ObjectId) (cs : List ℕ) (names names' : ObjectId → ℕ) (n count : ℕ) (y : ObjectId) → IsOnce keys → At keys n y → At cs n count → names' y ≡ names y + 1 → ((z : ObjectId) → (z ≡ y → ⊥) → names' z ≡ names z) → NamesAre low keys cs names → NamesAre low keys (set cs n (count + 1)) names'
+names_set low keys cs names names' n count y once here at mine others (each, none) = (
+  λ m z c l a b. elim (three m n) [
+    | inl lt ↦ away m z c l a b (λ e. omega arith)
+    | inr (inl e) ↦ (
+        let same : z ≡ y = at_one keys n z y (subst (λ (k : ℕ). At keys k z) e a) here in
+        let c_is : c ≡ count + 1 = at_one (set cs n (count + 1)) n c (count + 1) (subst (λ (k : ℕ). At (set cs n (count + 1)) k c) e b) (at_set_here cs n (count + 1) (slice_get_within cs n count at)) in
+        let before : count ≡ names y = each n y count (omega arith) here at in
+        let now : c ≡ names' y = omega arith in
+        now ∙ ap names' (sym same))
+    | inr (inr gt) ↦ away m z c l a b (λ e. omega arith)
+  ],
+  λ z out. others z (λ e. out (subst (λ (x : ObjectId). Contains keys x) (sym e) (contains_from_at keys n y here))) ∙ none z out,
+)
+  where
+    away : (m : ℕ) (z : ObjectId) (c : ℕ) → low ≤ m → At keys m z → At (set cs n (count + 1)) m c → (m ≡ n → ⊥) → c ≡ names' z
+    away m z c l a b d = each m z c l a (at_set_other cs n m (count + 1) c d b) ∙ sym (others z (λ e. d (once m n y (subst (λ (x : ObjectId). At keys m x) e a) here)))
+
+-- one more name of the row is counted
+pub names_more : (low : ℕ) (keys : List ObjectId) (cs : List ℕ) (names : ObjectId → ℕ) (row : List ObjectId) (m n count : ℕ) (y : ObjectId) → IsOnce keys → At row m y → At keys n y → At cs n count → NamesAre low keys cs (λ z. names z + times (same_id z) (take m row)) → NamesAre low keys (set cs n (count + 1)) (λ z. names z + times (same_id z) (take (m + 1) row))
+names_more low keys cs names row m n count y once named here at known =
+    names_set low keys cs (λ z. names z + times (same_id z) (take m row)) (λ z. names z + times (same_id z) (take (m + 1) row)) n count y once here at
+    (let e = freeing.counted same_id same_id_apart (λ _. []) [] no_two [] row m y named in omega arith)
+    (λ z d. let e = freeing.not_counted same_id same_id_apart (λ _. []) [] no_two [] row m y named z d in omega arith) known
+  where
+    no_two : (j k : ℕ) (x : ObjectId) → At [] j x → At [] k x → j ≡ k
+    no_two j k x a b = absurd (none_at_nil j x a)
 
 -- ---- counting off
 

@@ -15,7 +15,6 @@ use Rattle.gix_traverse_commit.specs.declared.rows.Row.{Row}
 use Rattle.gix_traverse_commit.proofs.Lists.{at_from_contains, contains_from_at, none_at_nil, three}
 use Rattle.gix_traverse_topo.specs.Exploring.{IsPainted, Numbers, IsExplored}
 use Rattle.gix_traverse_topo.specs.Faults.{StopsAtEnds, IsFaultOf}
-use Rattle.gix_traverse_topo.specs.Meeting.{Walks}
 use Rattle.gix_traverse_topo.specs.Nodes.{readings, counts, EachCount, IsOnce, IsReading, ParentsFrom}
 use Rattle.gix_traverse_topo.specs.Standing.{as_read}
 use Rattle.gix_traverse_topo.specs.Turns.{names_of}
@@ -24,15 +23,19 @@ use Rattle.gix_traverse_topo.specs.declared.error.Error.{Error}
 use Rattle.gix_traverse_topo.specs.declared.known.Known.{Known}
 use Rattle.gix_traverse_topo.specs.declared.known.Node.{Node}
 use Rattle.gix_traverse_topo.specs.declared.known.Reading.{Reading}
-use Rattle.gix_traverse_topo.proofs.Found.{seen_in, seen_parents, fault_in, parents_so, reached_read}
-use Rattle.gix_traverse_topo.proofs.Meeting.{walks_all, length_map, at_map, from_map, at_back}
+use Rattle.gix_traverse_topo.proofs.Found.{fault_in, parents_so, reached_read}
+use Rattle.gix_traverse_topo.proofs.Meeting.{length_map, at_back}
 use Rattle.gix_traverse_topo.proofs.Updates.{at_within}
+use Rattle.gix_traverse_topo.proofs.Walking.{walks_all}
 
 -- without parents asked for, the parents
-module _ (honest may_fail : Type 0) (rows : List Row) (table : Table) (ends : List ObjectId) (keys : List ObjectId) (nodes : List Node) (w : Walking honest may_fail rows table All ends [] [] keys nodes) (full : length keys ≤ length nodes) where
+module _ (honest may_fail : Type 0) (rows : List Row) (table : Table) (ends : List ObjectId) (keys : List ObjectId) (nodes : List Node) (high : ℕ) (w : Walking honest may_fail rows table All ends [] [] high keys nodes) (full : length keys ≤ high) where
+  none_twice : IsOnce {I = ObjectId} []
+  none_twice j k x a b = absurd (none_at_nil j x a)
+
   one_by_one : (h : Commits ObjectId) → ParentsFrom 0 h keys (readings nodes) → (x : ObjectId) → Contains keys x ↔ ReachedFrom h ends x
   one_by_one h t x =
-      let walks = (walks_all honest may_fail rows table All ends [] [] keys nodes w full refl h t).0 in
+      let walks = (walks_all honest may_fail rows table All ends [] [] high keys nodes w full refl none_twice h t).0 in
       let each = walks.breadth.list.each x in (
         (λ c. plain h (each.0 (subst (λ (zs : List ObjectId). Contains zs x) walks.keys_are c))),
         (λ r. subst (λ (zs : List ObjectId). Contains zs x) (sym walks.keys_are) (each.1 (passing h r))),
@@ -50,13 +53,13 @@ module _ (honest may_fail : Type 0) (rows : List Row) (table : Table) (ends : Li
       passing h (parent {y = y} r n p) = parent (passing h r) n (none y)
 
   once : IsOnce keys
-  once = w.once (λ j k x a b. absurd (none_at_nil j x a))
+  once = w.once none_twice
 
   pub as_many : length nodes ≡ length keys
-  as_many = (walks_all honest may_fail rows table All ends [] [] keys nodes w full refl (seen_in keys (readings nodes)) (seen_parents 0 keys (readings nodes) once)).1
+  as_many = w.many refl
 
   read : (n : ℕ) (x : ObjectId) (reading : Reading) → At keys n x → At (readings nodes) n reading → IsReading honest may_fail rows table x reading
-  read n x reading a b = w.read n x reading (omega arith) a b
+  read n x reading a b = w.read n x reading (omega arith) (let m = slice_get_within keys n x a in omega arith) a b
 
   -- all that the ends reach is read
   pub painted : (known : Known) → known.ids.keys ≡ keys → known.nodes.items ≡ nodes → known.hidden ≡ length keys → ((n : ℕ) (reading : Reading) → At (readings nodes) n reading → reading.fault ≡ None) → IsPainted honest may_fail rows table ends known
@@ -89,11 +92,9 @@ module _ (honest may_fail : Type 0) (rows : List Row) (table : Table) (ends : Li
 
 -- ---- behind it what the tips reach
 
-module _ (honest may_fail : Type 0) (rows : List Row) (table : Table) (tips ends : List ObjectId) (parents : Parents) (old mid : Known) (p : IsPainted honest may_fail rows table ends old) (w : Walking honest may_fail rows table parents tips old.ids.keys old.nodes.items mid.ids.keys mid.nodes.items) (full : length mid.ids.keys ≤ length mid.nodes.items) (hidden : mid.hidden ≡ old.hidden) where
+module _ (honest may_fail : Type 0) (rows : List Row) (table : Table) (tips ends : List ObjectId) (parents : Parents) (old mid : Known) (high : ℕ) (p : IsPainted honest may_fail rows table ends old) (w : Walking honest may_fail rows table parents tips old.ids.keys old.nodes.items high mid.ids.keys mid.nodes.items) (full : length mid.ids.keys ≤ high) (hidden : mid.hidden ≡ old.hidden) where
   forward : (n : ℕ) (r : Reading) → At (readings old.nodes.items) n r → At (readings mid.nodes.items) n r
-  forward n r b =
-      let (node, a, e) = from_map (λ (v : Node). v.reading) old.nodes.items n r b in
-      subst (λ (s : Reading). At (readings mid.nodes.items) n s) e (at_map (λ (v : Node). v.reading) mid.nodes.items n node (w.nodes_kept n node a))
+  forward n r b = w.told_kept n r (let l = slice_get_within (readings old.nodes.items) n r b in omega (arith, length_map (λ (v : Node). v.reading) old.nodes.items)) b
 
   back : (n : ℕ) (r : Reading) → n < length old.nodes.items → At (readings mid.nodes.items) n r → At (readings old.nodes.items) n r
   back n r l b = at_back (readings old.nodes.items) (readings mid.nodes.items) forward n r (omega (arith, length_map (λ (v : Node). v.reading) old.nodes.items)) b
@@ -101,45 +102,37 @@ module _ (honest may_fail : Type 0) (rows : List Row) (table : Table) (tips ends
   mid_once : IsOnce mid.ids.keys
   mid_once = w.once p.once
 
+  below : (n : ℕ) (x : ObjectId) → At mid.ids.keys n x → n < high
+  below n x a = let l = slice_get_within mid.ids.keys n x a in omega (arith, full)
+
   mid_read : (n : ℕ) (x : ObjectId) (reading : Reading) → At mid.ids.keys n x → At (readings mid.nodes.items) n reading → IsReading honest may_fail rows table x reading
   mid_read n x reading a b = elim (three n (length old.nodes.items)) [
     | inl lt ↦ p.read n x reading (at_back old.ids.keys mid.ids.keys w.keys_kept n x (omega (arith, p.all_read)) a) (back n reading lt b)
-    | inr (inl e) ↦ w.read n x reading (omega arith) a b
-    | inr (inr gt) ↦ w.read n x reading (omega arith) a b
+    | inr (inl e) ↦ w.read n x reading (omega arith) (below n x a) a b
+    | inr (inr gt) ↦ w.read n x reading (omega arith) (below n x a) a b
   ]
 
   mid_hidden : mid.hidden ≡ length old.ids.keys
   mid_hidden = hidden ∙ p.all_hidden
 
-  pub explored : (new : Known) → new.ids ≡ mid.ids → new.hidden ≡ mid.hidden → readings new.nodes.items ≡ readings mid.nodes.items
-      → ((h : Commits ObjectId) (hs xs : List ObjectId) → mid.ids.keys ≡ hs ++ xs → mid.hidden ≡ length hs → IsOnce mid.ids.keys → length mid.nodes.items ≡ length mid.ids.keys → ParentsFrom mid.hidden h mid.ids.keys (readings mid.nodes.items) → EachCount mid.hidden mid.ids.keys (counts mid.nodes.items) (λ _ count. count ≡ 0) → EachCount mid.hidden mid.ids.keys (counts new.nodes.items) (λ y count. count ≡ names_of same_id (asked_parents parents h) y xs))
-      → IsExplored honest may_fail rows table tips ends parents new
-  explored new ids same_hidden same_told count =
-      let keys_same : new.ids.keys ≡ mid.ids.keys = ap (λ i. i.keys) ids in
-      let long : length new.nodes.items ≡ length mid.nodes.items = sym (length_map (λ (v : Node). v.reading) new.nodes.items) ∙ ap length same_told ∙ length_map (λ (v : Node). v.reading) mid.nodes.items in
-      let many : length mid.nodes.items ≡ length mid.ids.keys = (walks_with (seen_in mid.ids.keys (readings mid.nodes.items)) (seen_parents 0 mid.ids.keys (readings mid.nodes.items) mid_once)).1 in
-      record {
-        once = subst (λ (ks : List ObjectId). IsOnce ks) (sym keys_same) mid_once;
-        all_read = long ∙ many ∙ sym (ap length keys_same);
-        read = λ n x reading a b. mid_read n x reading (subst (λ (ks : List ObjectId). At ks n x) keys_same a) (subst (λ (rs : List Reading). At rs n reading) same_told b);
-        no_fault = λ n reading l b. p.no_fault n reading (back n reading (omega (arith, l, same_hidden, mid_hidden, p.all_read)) (subst (λ (rs : List Reading). At rs n reading) same_told b));
-        numbers = λ h t. numbers_of h keys_same many (λ n x r l a b. t n x r l (subst (λ (ks : List ObjectId). At ks n x) (sym keys_same) a) (subst (λ (rs : List Reading). At rs n r) (sym same_told) b));
-      }
+  pub explored : IsExplored honest may_fail rows table tips ends parents mid
+  explored = record {
+    once = mid_once;
+    all_read = w.many p.all_read;
+    read = mid_read;
+    no_fault = λ n reading l b. p.no_fault n reading (back n reading (omega (arith, l, mid_hidden, p.all_read)) b);
+    numbers = numbers_of;
+  }
     where
-      walks_with : (h : Commits ObjectId) → ParentsFrom 0 h mid.ids.keys (readings mid.nodes.items) → Walks (asked_parents parents h) tips old.ids.keys mid.ids.keys × (length mid.nodes.items ≡ length mid.ids.keys)
-      walks_with h t = walks_all honest may_fail rows table parents tips old.ids.keys old.nodes.items mid.ids.keys mid.nodes.items w full p.all_read h (λ n x r l a b. t n x r (omega arith) a b)
-
-      numbers_of : (h : Commits ObjectId) → new.ids.keys ≡ mid.ids.keys → length mid.nodes.items ≡ length mid.ids.keys → ParentsFrom 0 h mid.ids.keys (readings mid.nodes.items) → Numbers h tips ends parents new
-      numbers_of h keys_same many t =
-          let walks = (walks_with h t).0 in
+      numbers_of : (h : Commits ObjectId) → ParentsFrom 0 h mid.ids.keys (readings mid.nodes.items) → Numbers h tips ends parents mid
+      numbers_of h t =
+          let (walks, counted) = walks_all honest may_fail rows table parents tips old.ids.keys old.nodes.items high mid.ids.keys mid.nodes.items w full p.all_read p.once h (λ n x r l a b. t n x r (omega arith) a b) in
           record {
             hs = old.ids.keys;
             xs = walks.xs;
-            keys_are = keys_same ∙ walks.keys_are;
-            hidden_are = same_hidden ∙ mid_hidden;
+            keys_are = walks.keys_are;
+            hidden_are = mid_hidden;
             hides = p.hides h (λ n x r l a b. t n x r l (w.keys_kept n x a) (forward n r b));
             breadth = walks.breadth;
-            counted = subst (λ (lo : ℕ). EachCount lo new.ids.keys (counts new.nodes.items) (λ y c. c ≡ names_of same_id (asked_parents parents h) y walks.xs)) (sym same_hidden)
-                (subst (λ (ks : List ObjectId). EachCount mid.hidden ks (counts new.nodes.items) (λ y c. c ≡ names_of same_id (asked_parents parents h) y walks.xs)) (sym keys_same)
-                (count h old.ids.keys walks.xs walks.keys_are mid_hidden mid_once many (λ n x r l a b. t n x r (omega arith) a b) (λ n x c l a b. w.unnamed n c (omega (arith, l, mid_hidden, p.all_read)) b)));
+            counted = subst (λ (lo : ℕ). EachCount lo mid.ids.keys (counts mid.nodes.items) (λ y c. c ≡ names_of same_id (asked_parents parents h) y walks.xs)) (sym mid_hidden) counted;
           }

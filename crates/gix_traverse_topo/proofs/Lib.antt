@@ -6,6 +6,7 @@ pub mod Begins
 pub mod Freeing
 pub mod Meeting
 pub mod Counting
+pub mod Walking
 pub mod Found
 pub mod Exploring
 pub mod Starting

@@ -1,5 +1,5 @@
 -- A walk gives one commit after another, up to its end.
-use Rattle.std.proofs.Common.{◌≡◌, ℕ, ◌<◌, ◌≤◌, ◌⊎◌, inl, inr, List, [], ◌∷◌, ◌++◌, length, refl, sym, ◌∙◌, ap, subst, arith, Some, None, Option, Bool, true, false, append-nil}
+use Rattle.std.proofs.Common.{◌≡◌, ℕ, ◌<◌, ◌≤◌, ◌⊎◌, inl, inr, List, [], ◌∷◌, ◌++◌, length, drop, refl, sym, ◌∙◌, ap, subst, arith, Some, None, Option, Bool, true, false, append-nil}
 use Rattle.std.specs.Prelude.{Contains, ⊤, filter, ◌↔◌, IfOk, IfErr, OnOk, Result, Ok, Err}
 use Rattle.std.proofs.lemmas.Option.{slice_get_within}
 use Rattle.std.proofs.lemmas.List.Elements.{Contains-append_left, Contains-push, Contains-push_cases}
@@ -263,9 +263,11 @@ take_refused (Err e) n along old mid ids told refused = λ way h before hs xs re
     let all = goes.all_read in
     absurd (elim refused [ inl l ↦ omega arith | inr l ↦ omega arith ])
 
-pub take_falls : (r : Result Info Error) (old mid new : Known) (ready ready' : Ready) → counts new.nodes.items ≡ counts mid.nodes.items → weight mid ready' ≤ weight old ready → OnOk r (weight new ready' ≤ weight old ready)
-take_falls (Ok info) old mid new ready ready' e l = let f = ap (total (λ (c : ℕ). c)) e in omega arith
-take_falls (Err x) old mid new ready ready' e l = tt
+pub take_falls : (r : Result Info Error) (old mid new : Known) (ready ready' : Ready) → new.hidden ≡ mid.hidden → counts new.nodes.items ≡ counts mid.nodes.items → weight mid ready' ≤ weight old ready → OnOk r (weight new ready' ≤ weight old ready)
+take_falls (Ok info) old mid new ready ready' h e l =
+    let f : total (λ (c : ℕ). c) (drop new.hidden (counts new.nodes.items)) ≡ total (λ (c : ℕ). c) (drop mid.hidden (counts mid.nodes.items)) = ap (λ (low : ℕ). total (λ (c : ℕ). c) (drop low (counts new.nodes.items))) h ∙ ap (λ (cs : List ℕ). total (λ (c : ℕ). c) (drop mid.hidden cs)) e in
+    omega arith
+take_falls (Err x) old mid new ready ready' h e l = tt
 
 module _ (sorting : Sorting) (rows : List Row) (faults : ObjectId → Option Error) (g : Commits ObjectId) (tips ends : List ObjectId) (parents parents' : Parents) (same_parents : parents' ≡ parents) (accepts : ObjectId → Bool) (given : List ObjectId) (old new : Known) (ready ready' : Ready) (info : Info) (same_ids : new.ids ≡ old.ids) (sd : Stands sorting rows faults g tips ends parents accepts given old ready) (stood : (s : Sorting) (rs : List Row) (h : Commits ObjectId) (ts hs xs finished : List ObjectId) → Standing s rs h ts parents' hs xs finished old ready → Steps s rs h ts parents' hs xs finished old ready new ready' info) where
   next_stands : Stands sorting rows faults g tips ends parents accepts (given ++ filter accepts (info.id ∷ [])) new ready' × IsInfo rows g info

@@ -1,5 +1,5 @@
 -- What a change of one commit's count leaves.
-use Rattle.std.proofs.Common.{◌≡◌, ℕ, zero, suc, ◌+◌, ◌-◌, ◌<◌, ◌≤◌, inl, inr, List, [], ◌∷◌, ◌++◌, length, take, refl, sym, ◌∙◌, ap, subst, arith, Some, None, slice_get, Option, Bool, true, false, get_or, set, Result, Ok, Err, length-append}
+use Rattle.std.proofs.Common.{◌≡◌, ℕ, zero, suc, ◌+◌, ◌-◌, ◌<◌, ◌≤◌, inl, inr, List, [], ◌∷◌, ◌++◌, length, take, drop, refl, sym, ◌∙◌, ap, subst, arith, Some, None, slice_get, Option, Bool, true, false, get_or, set, Result, Ok, Err, length-append}
 use Rattle.std.specs.Prelude.{Contains, IsPermutation, OnOk, IfSome, is_some, SomeIff}
 use Rattle.std.specs.Option.{option_copied}
 use Rattle.std.specs.Borrow.{Bor}
@@ -14,24 +14,19 @@ use Rattle.std.proofs.lemmas.List.Sorted.{IsPermutation-to_front, IsPermutation-
 use Rattle.std.proofs.lemmas.Option.{slice_get_within, slice_get-get_or}
 use Rattle.gix_hash_id.specs.declared.object_id.ObjectId.{ObjectId}
 use Rattle.gix_hash_id.specs.declared.object_id.ObjectId.TheVariants.{Sha1}
-use Rattle.gix_traverse_commit.specs.Commits.{Commits, asked, asked_parents}
-use Rattle.gix_traverse_commit.specs.Numbered.{same_id}
 use Rattle.gix_traverse_commit.specs.Order.{At}
-use Rattle.gix_traverse_commit.specs.declared.parents.Parents.{Parents}
 use Rattle.gix_traverse_commit.proofs.Lists.{at_from_contains, contains_from_at, none_at_nil, at_from_push, three}
-use Rattle.gix_traverse_topo.specs.Nodes.{readings, counts, EachCount, ParentsFrom}
+use Rattle.gix_traverse_topo.specs.Nodes.{readings, counts}
 use Rattle.gix_traverse_topo.specs.Standing.{CountsOff, counted, freed}
-use Rattle.gix_traverse_topo.specs.Turns.{total, times, names_of, named_so_far}
+use Rattle.gix_traverse_topo.specs.Turns.{total}
 use Rattle.gix_traverse_topo.specs.Waiting.{waiting, Joined, Popped, IsFree, pending_cmp}
 use Rattle.gix_traverse_topo.specs.declared.known.Node.{Node}
 use Rattle.gix_traverse_topo.specs.declared.known.Reading.{Reading}
 use Rattle.gix_traverse_topo.specs.declared.ready.Pending.{Pending}
 use Rattle.gix_traverse_topo.specs.declared.ready.Ready.{Ready}
 use Rattle.gix_traverse_topo.specs.declared.ready.Ready.TheVariants.{ByDate, Topological}
-use Rattle.gix_traverse_topo.proofs.Counting.{at_set_other, each_kept, total_set}
-use Rattle.gix_traverse_topo.proofs.Degree.{total_push}
-use Rattle.gix_traverse_topo.proofs.Freeing.{take_at}
-use Rattle.gix_traverse_topo.proofs.Meeting.{at_map, from_map, asked_same, at_length_append, length_map}
+use Rattle.gix_traverse_topo.proofs.Counting.{at_set_away, at_set_here, at_set_other, total_set}
+use Rattle.gix_traverse_topo.proofs.Meeting.{at_map, from_map, length_map}
 
 -- a changed count leaves what was read
 pub set_readings : (nodes : List Node) (n k : ℕ) (node : Node) → node ≡ get_or nodes n node → readings (set nodes n (record { reading = node.reading; names = k })) ≡ readings nodes
@@ -54,6 +49,14 @@ pub other_readings : (nodes : List Node) (n : ℕ) (v : Node) (k : ℕ) (r : Rea
 other_readings nodes n v k r d a =
     let (node, b, e) = from_map (λ (x : Node). x.reading) (set nodes n v) k r a in
     subst (λ (z : Reading). At (readings nodes) k z) e (at_map (λ (x : Node). x.reading) nodes k node (at_set_other nodes n k v node d b))
+
+pub readings_put : (nodes : List Node) (n : ℕ) (v : Node) (k : ℕ) (r : Reading) → (k ≡ n → ⊥) → At (readings nodes) k r → At (readings (set nodes n v)) k r
+readings_put nodes n v k r d a =
+    let (node, b, e) = from_map (λ (x : Node). x.reading) nodes k r a in
+    subst (λ (z : Reading). At (readings (set nodes n v)) k z) e (at_map (λ (x : Node). x.reading) (set nodes n v) k node (at_set_away nodes n k v node d b))
+
+pub reading_put : (nodes : List Node) (n : ℕ) (v : Node) → n < length nodes → At (readings (set nodes n v)) n v.reading
+reading_put nodes n v l = at_map (λ (x : Node). x.reading) (set nodes n v) n v (at_set_here nodes n v l)
 
 pub node_at : (nodes : List Node) (n : ℕ) (node : Node) → n < length nodes → node ≡ get_or nodes n node → At nodes n node
 node_at nodes n node l e = slice_get-get_or nodes n node l ∙ ap Some (sym e)
@@ -87,40 +90,16 @@ popped_length (Topological a) (ByDate b) p h = absurd h
 
 -- ---- rows of names
 
-pub none_so_far : (way : ObjectId → List ObjectId) (before row : List ObjectId) (y : ObjectId) → named_so_far same_id way before row 0 y ≡ names_of same_id way y before
-none_so_far way before [] y = omega arith
-none_so_far way before (z ∷ zs) y = omega arith
-
-whole : (zs : List ObjectId) (n : ℕ) → length zs ≤ n → take n zs ≡ zs
+pub whole : (zs : List ObjectId) (n : ℕ) → length zs ≤ n → take n zs ≡ zs
 whole [] zero l = refl
 whole [] (suc n) l = refl
 whole (y ∷ zs) zero l = absurd (omega arith)
 whole (y ∷ zs) (suc n) l = ap (λ (ys : List ObjectId). y ∷ ys) (whole zs n (omega arith))
 
-pub all_so_far : (way : ObjectId → List ObjectId) (before row : List ObjectId) (m : ℕ) (y : ObjectId) → length row ≤ m → named_so_far same_id way before row m y ≡ names_of same_id way y before + times (same_id y) row
-all_so_far way before row m y l = ap (λ (zs : List ObjectId). names_of same_id way y before + times (same_id y) zs) (whole row m l)
-
 pub past_end : {I : Type 0} (xs : List I) (n : ℕ) → slice_get xs n ≡ None → length xs ≤ n
 past_end [] n e = omega arith
 past_end (x ∷ xs) zero e = let z : ⊥ = cc in absurd z
 past_end (x ∷ xs) (suc n) e = let r = past_end xs n e in omega arith
-
--- the names of one more commit are counted
-pub count_next : (low : ℕ) (keys hs xs : List ObjectId) (h : Commits ObjectId) (parents : Parents) (told : List Reading) (cs : List ℕ) (place : ℕ) (reading : Reading) → keys ≡ hs ++ xs → low ≡ length hs → low ≤ place → place < length keys → ParentsFrom low h keys told → At told place reading → EachCount low keys cs (λ y c. c ≡ names_of same_id (asked_parents parents h) y (take (place - low) xs) + times (same_id y) (asked parents reading.parents.items)) → EachCount low keys cs (λ y c. c ≡ names_of same_id (asked_parents parents h) y (take (place + 1 - low) xs))
-count_next low keys hs xs h parents told cs place reading e f l within t a each = each_kept low keys cs (λ y c. c ≡ names_of same_id (asked_parents parents h) y (take (place - low) xs) + times (same_id y) (asked parents reading.parents.items)) (λ y c. c ≡ names_of same_id (asked_parents parents h) y (take (place + 1 - low) xs)) each (λ n y c m b p. p ∙ sym (more y))
-  where
-    there : (x : ObjectId) × At keys place x
-    there = (get_or keys place (Sha1 []), slice_get-get_or keys place (Sha1 []) within)
-
-    more : (y : ObjectId) → names_of same_id (asked_parents parents h) y (take (place + 1 - low) xs) ≡ names_of same_id (asked_parents parents h) y (take (place - low) xs) + times (same_id y) (asked parents reading.parents.items)
-    more y =
-        let (x, at) = there in
-        let here : At xs (place - low) x = at_length_append hs xs (place - low) x (subst (λ (n : ℕ). At (hs ++ xs) n x) (omega arith) (subst (λ (zs : List ObjectId). At zs place x) e at)) in
-        let parents_are = t place x reading l at a in
-        let row : asked_parents parents h x ≡ asked parents reading.parents.items = asked_same parents h x ∙ ap (asked parents) (sym parents_are) in
-        let next : place + 1 - low ≡ (place - low) + 1 = omega arith in
-        let s : take (place + 1 - low) xs ≡ take (place - low) xs ++ x ∷ [] = ap (λ (n : ℕ). take n xs) next ∙ take_at xs (place - low) x here in
-        ap (names_of same_id (asked_parents parents h) y) s ∙ total_push (λ c. times (same_id y) (asked_parents parents h c)) (take (place - low) xs) x ∙ ap (λ (zs : List ObjectId). names_of same_id (asked_parents parents h) y (take (place - low) xs) + times (same_id y) zs) row
 
 -- ---- those that wait at first
 
@@ -230,21 +209,17 @@ pub off_counted : (low : ℕ) (keys : List ObjectId) (told : List Reading) (cs c
 off_counted low keys told cs cs' ready id number count last t l a b e f =
     counted {n = number.0} {count = count} l a b (λ z. let g : eqb 0 0 ≡ false = ap (λ (k : ℕ). eqb k 0) (sym z) ∙ sym f ∙ t in let w : ⊥ = cc in w) e refl
 
-pub off_falls : (cs cs' : List ℕ) (n count : ℕ) → At cs n (count + 1) → cs' ≡ set cs n count → total (λ c. c) cs' + 1 ≡ total (λ c. c) cs
-off_falls cs cs' n count a e = ap (λ (zs : List ℕ). total (λ c. c) zs + 1) e ∙ total_set cs n count a
+set_falls : (low : ℕ) (cs : List ℕ) (n count : ℕ) → low ≤ n → At cs n (count + 1) → total (λ c. c) (drop low (set cs n count)) + 1 ≡ total (λ c. c) (drop low cs)
+set_falls zero cs n count l a = total_set cs n count a
+set_falls (suc low) [] n count l a = absurd (none_at_nil n (count + 1) a)
+set_falls (suc low) (c ∷ cs) zero count l a = absurd (omega arith)
+set_falls (suc low) (c ∷ cs) (suc n) count l a = set_falls low cs n count (omega arith) a
+
+pub off_falls : (low : ℕ) (cs cs' : List ℕ) (n count : ℕ) → low ≤ n → At cs n (count + 1) → cs' ≡ set cs n count → total (λ c. c) (drop low cs') + 1 ≡ total (λ c. c) (drop low cs)
+off_falls low cs cs' n count l a e = ap (λ (zs : List ℕ). total (λ c. c) (drop low zs) + 1) e ∙ set_falls low cs n count l a
 
 pub many_counts : (a b : List Node) → readings a ≡ readings b → length (counts a) ≡ length b
 many_counts a b e = length_map (λ (v : Node). v.names) a ∙ sym (length_map (λ (v : Node). v.reading) a) ∙ ap length e ∙ length_map (λ (v : Node). v.reading) b
 
 pub many_nodes : (a b : List Node) → readings a ≡ readings b → length a ≡ length b
 many_nodes a b e = sym (length_map (λ (v : Node). v.reading) a) ∙ ap length e ∙ length_map (λ (v : Node). v.reading) b
-
-pub names_none : (way : ObjectId → List ObjectId) (y : ObjectId) (n : ℕ) (xs : List ObjectId) → names_of same_id way y (take (n - n) xs) ≡ 0
-names_none way y n xs = let e : n - n ≡ 0 = omega arith in ap (λ (k : ℕ). names_of same_id way y (take k xs)) e ∙ go xs
-  where
-    go : (xs : List ObjectId) → names_of same_id way y (take 0 xs) ≡ 0
-    go [] = refl
-    go (x ∷ xs) = refl
-
-pub names_all : (way : ObjectId → List ObjectId) (y : ObjectId) (hs xs : List ObjectId) (low n len : ℕ) → low ≡ length hs → len ≤ n → len ≡ length (hs ++ xs) → names_of same_id way y (take (n - low) xs) ≡ names_of same_id way y xs
-names_all way y hs xs low n len e l f = let long : length xs ≤ n - low = omega (arith, length-append hs xs) in ap (names_of same_id way y) (whole xs (n - low) long)

@@ -1,5 +1,5 @@
 -- What a walk knows of commits, each by its number.
-use Rattle.std.specs.Prelude.{◌≡◌, ℕ, ◌+◌, ◌<◌, ◌≤◌, ◌⊎◌, pos, List, [], map, IsSome, IfSome, None, Some, slice_set}
+use Rattle.std.specs.Prelude.{◌≡◌, ℕ, ◌+◌, ◌<◌, ◌≤◌, pos, List, [], map, Contains, IsSome, IfSome, None, Some}
 use Rattle.gix_hash_id.specs.declared.object_id.ObjectId.{ObjectId}
 use Rattle.gix_object_find.specs.Table.{Table}
 use Rattle.gix_traverse_commit.specs.Commits.{Commits}
@@ -67,9 +67,14 @@ EachCount low keys cs P =
 abbrev pub IsOnce : {I : Type 0} → List I → Type 0
 IsOnce {I} xs = (j k : ℕ) (x : I) → At xs j x → At xs k x → j ≡ k
 
--- one more name of a commit is counted, where its number is not below low
-abbrev pub NamesOne : ℕ → List ObjectId → List ℕ → ObjectId → List ℕ → Type 0
-NamesOne low keys cs id cs' =
-    ((n : ℕ) × (count : ℕ) × (low ≤ n) × At keys n id × At cs n count
-    × (cs' ≡ slice_set cs n (count + 1)))
-    ⊎ ((IsOnce keys → (n : ℕ) → At keys n id → n < low) × (cs' ≡ cs))
+-- from low up to high each commit's parents are those that were read
+abbrev pub ParentsIn : ℕ → ℕ → Commits ObjectId → List ObjectId → List Reading → Type 0
+ParentsIn low high g keys told =
+    (n : ℕ) (x : ObjectId) (reading : Reading) → low ≤ n → n < high → At keys n x
+    → At told n reading → reading.parents.items ≡ (g x).parents
+
+-- from this number on each commit is counted so often, and what has no number is named never
+abbrev pub NamesAre : ℕ → List ObjectId → List ℕ → (ObjectId → ℕ) → Type 0
+NamesAre low keys cs names =
+    EachCount low keys cs (λ y count. count ≡ names y)
+    × ((y : ObjectId) → (Contains keys y → ⊥) → names y ≡ 0)

@@ -1,5 +1,5 @@
 -- Where a walk stands, and what it gives.
-use Rattle.std.specs.Prelude.{◌≡◌, ◌↔◌, ◌⊎◌, ℕ, ◌+◌, ◌<◌, ◌≤◌, Bool, ℤ, pos, List, [], ◌∷◌, ◌++◌, length, map, filter, Contains, Option, None, Some, IfSome, ⊤, true, slice_set, slice_index_or}
+use Rattle.std.specs.Prelude.{◌≡◌, ◌↔◌, ◌⊎◌, ℕ, ◌+◌, ◌<◌, ◌≤◌, Bool, ℤ, pos, List, [], ◌∷◌, ◌++◌, length, drop, map, filter, Contains, Option, None, Some, IfSome, ⊤, true, slice_set, slice_index_or}
 use Rattle.std.specs.BinaryHeap.{heap_items, IsHeap}
 use Rattle.gix_hash_id.specs.declared.object_id.ObjectId.{ObjectId}
 use Rattle.gix_hash_id.specs.declared.object_id.ObjectId.TheVariants.{Sha1}
@@ -52,7 +52,8 @@ Ranks TopoOrder way tips time keys finished (ByDate heap) = ⊥
 
 -- what is still to be counted off, and what waits
 abbrev pub weight : Known → Ready → ℕ
-weight known ready = total (λ count. count) (counts known.nodes.items) + length (waiting ready)
+weight known ready =
+    total (λ count. count) (drop known.hidden (counts known.nodes.items)) + length (waiting ready)
 
 -- a name of this commit is counted off, and it waits where that was the last
 pub data CountsOff (low : ℕ) (keys : List ObjectId) (told : List Reading) (cs : List ℕ)

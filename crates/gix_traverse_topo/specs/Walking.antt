@@ -1,42 +1,69 @@
 -- How far a walk has read the commits that it numbered.
-use Rattle.std.specs.Prelude.{◌≡◌, ℕ, ◌+◌, ◌≤◌, List, [], ◌∷◌, ◌++◌, length}
+use Rattle.std.specs.Prelude.{◌≡◌, ℕ, ◌+◌, ◌<◌, ◌≤◌, List, ◌++◌, length, take}
 use Rattle.gix_hash_id.specs.declared.object_id.ObjectId.{ObjectId}
 use Rattle.gix_object_find.specs.Table.{Table}
 use Rattle.gix_traverse_commit.specs.Commits.{Commits, asked, asked_parents}
+use Rattle.gix_traverse_commit.specs.Numbered.{same_id}
 use Rattle.gix_traverse_commit.specs.Order.{At}
 use Rattle.gix_traverse_commit.specs.Reading.{Read}
 use Rattle.gix_traverse_commit.specs.Standing.{NotIn}
 use Rattle.gix_traverse_commit.specs.declared.parents.Parents.{Parents}
 use Rattle.gix_traverse_commit.specs.declared.rows.Row.{Row}
 use Rattle.gix_traverse_topo.specs.Meeting.{IsRow, Met}
-use Rattle.gix_traverse_topo.specs.Nodes.{readings, counts, IsOnce, IsReading, ParentsFrom}
+use Rattle.gix_traverse_topo.specs.Nodes.{readings, counts, IsOnce, IsReading, NamesAre, ParentsIn}
+use Rattle.gix_traverse_topo.specs.Turns.{names_of, times}
 use Rattle.gix_traverse_topo.specs.declared.known.Node.{Node}
 use Rattle.gix_traverse_topo.specs.declared.known.Reading.{Reading}
 
--- one more commit is read, and its parents are numbered
+-- each of these has a number, and what was known stays
+pub record Meets (ids keys : List ObjectId) (nodes : List Node) (keys' : List ObjectId)
+    (nodes' : List Node) : Type 0 where
+  pub kept : (k : ℕ) (x : ObjectId) → At keys k x → At keys' k x
+  pub told : (k : ℕ) (reading : Reading) → At (readings nodes) k reading
+      → At (readings nodes') k reading
+  pub many : length nodes ≡ length keys → length nodes' ≡ length keys'
+  pub met : (way : ObjectId → List ObjectId) (tips hs xs : List ObjectId) (p : ℕ)
+      → keys ≡ hs ++ xs → Read way tips (NotIn hs) xs p 0 → IsRow way tips xs p ids
+      → Met way tips hs keys' p
+
+-- names are counted, so many more of each as that says
+abbrev pub Names : (ObjectId → ℕ) → List ObjectId → List Node → List ObjectId → List Node → Type 0
+Names more keys nodes keys' nodes' = (low : ℕ) (names : ObjectId → ℕ) → IsOnce keys
+    → length nodes ≡ length keys → NamesAre low keys (counts nodes) names
+    → NamesAre low keys' (counts nodes') (λ y. names y + more y)
+
+-- the commit of this number is read, and its parents are numbered and named
 pub record Visits (honest may_fail : Type 0) (rows : List Row) (table : Table) (along : Parents)
-    (id : ObjectId) (keys : List ObjectId) (nodes : List Node) (keys' : List ObjectId)
+    (number : ℕ) (id : ObjectId) (keys : List ObjectId) (nodes : List Node) (keys' : List ObjectId)
     (nodes' : List Node) : Type 0 where
   pub reading : Reading
-  pub pushed : nodes' ≡ nodes ++ record { reading = reading; names = 0 } ∷ []
   pub is_read : IsReading honest may_fail rows table id reading
-  pub kept : (k : ℕ) (x : ObjectId) → At keys k x → At keys' k x
-  pub met : (way : ObjectId → List ObjectId) (tips hs xs : List ObjectId) (p : ℕ)
-      → keys ≡ hs ++ xs → Read way tips (NotIn hs) xs p 0
-      → IsRow way tips xs p (asked along reading.parents.items) → Met way tips hs keys' p
+  pub placed : At (readings nodes') number reading
+  pub others : (k : ℕ) (other : Reading) → (k ≡ number → ⊥) → At (readings nodes) k other
+      → At (readings nodes') k other
+  pub middle : List Node
+  pub meets : Meets (asked along reading.parents.items) keys nodes keys' middle
+  pub many : length nodes' ≡ length middle
+  pub names : Names (λ y. times (same_id y) (asked along reading.parents.items)) keys nodes keys'
+      nodes'
 
--- behind the commits that were known some are read, of all that are numbered
+-- behind the commits that were known those up to high are read, and the names that they give are counted
 pub record Walking (honest may_fail : Type 0) (rows : List Row) (table : Table) (along : Parents)
-    (tips keys : List ObjectId) (nodes : List Node) (keys' : List ObjectId)
+    (tips keys : List ObjectId) (nodes : List Node) (high : ℕ) (keys' : List ObjectId)
     (nodes' : List Node) : Type 0 where
   pub keys_kept : (k : ℕ) (x : ObjectId) → At keys k x → At keys' k x
   pub once : IsOnce keys → IsOnce keys'
-  pub nodes_kept : (k : ℕ) (node : Node) → At nodes k node → At nodes' k node
-  pub read : (n : ℕ) (x : ObjectId) (reading : Reading) → length nodes ≤ n → At keys' n x
-      → At (readings nodes') n reading → IsReading honest may_fail rows table x reading
-  pub unnamed : (n count : ℕ) → length nodes ≤ n → At (counts nodes') n count → count ≡ 0
+  pub told_kept : (k : ℕ) (reading : Reading) → k < length nodes → At (readings nodes) k reading
+      → At (readings nodes') k reading
+  pub many : length nodes ≡ length keys → length nodes' ≡ length keys'
+  pub within : high ≤ length nodes'
+  pub read : (n : ℕ) (x : ObjectId) (reading : Reading) → length nodes ≤ n → n < high
+      → At keys' n x → At (readings nodes') n reading
+      → IsReading honest may_fail rows table x reading
   pub place : ℕ
-  pub placed : length nodes' ≡ length nodes + place
-  pub met : length nodes ≡ length keys → (h : Commits ObjectId)
-      → ParentsFrom (length nodes) h keys' (readings nodes')
-      → Met (asked_parents along h) tips keys keys' place
+  pub placed : high ≡ length nodes + place
+  pub met : length nodes ≡ length keys → IsOnce keys → (h : Commits ObjectId)
+      → ParentsIn (length nodes) high h keys' (readings nodes')
+      → (m : Met (asked_parents along h) tips keys keys' place)
+      × NamesAre (length keys) keys' (counts nodes')
+      (λ y. names_of same_id (asked_parents along h) y (take place m.xs))

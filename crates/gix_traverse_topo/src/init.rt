@@ -1,6 +1,6 @@
 //! What a walk is asked for.
 
-ghost use Rattle.std.specs.Prelude.{◌≡◌, ◌+◌, ◌≤◌, ◌++◌, [], length, IfOk, IfErr, IfSome, IfNone, None};
+ghost use Rattle.std.specs.Prelude.{◌≡◌, ◌+◌, ◌≤◌, ◌++◌, [], length, IfOk, IfErr, IfSome, IfNone, IsOk, None};
 ghost use Rattle.gix_hash_id.specs.declared.object_id.ObjectId.{ObjectId};
 ghost use Rattle.gix_traverse_commit.specs.Rows.{AllHeld, Holds};
 ghost use Rattle.gix_traverse_commit.specs.Told.{rows_of};
@@ -53,6 +53,7 @@ pub struct Builder<F, P> {
 // These ids, with others behind them.
 fn with_more(mut ids: Vec<ObjectId>, more: &[ObjectId]) -> Result<Vec<ObjectId>, Error>
     ensures all { IfOk result (λ all. all.items ≡ ids.items ++ more.now) }
+    ensures whole { more.now ≡ [] → IsOk result }
     ensures refused { IfErr result (λ error. error ≡ Memory) }
 {
     ids.extend_from_slice(more)?;
@@ -128,10 +129,11 @@ impl<F: Find + Drop, P: Accept + Drop> Builder<F, P> {
         }
     }
 
-    /// The same walk with further tips. It is an error where there is no memory for them.
+    /// The same walk with further tips. It is an error where there is no memory for them; none takes none.
     pub fn with_tips(self, tips: &[ObjectId]) -> Result<Builder<F, P>, Error>
         ensures asked { IfOk result (λ builder. asked_of builder
             ≡ record (asked_of self) { tips = (asked_of self).tips ++ tips.now }) }
+        ensures whole { tips.now ≡ [] → IsOk result }
         ensures refused { IfErr result (λ error. error ≡ Memory) }
     {
         Ok(Builder {
@@ -140,10 +142,11 @@ impl<F: Find + Drop, P: Accept + Drop> Builder<F, P> {
         })
     }
 
-    /// The same walk with further ends. It is an error where there is no memory for them.
+    /// The same walk with further ends. It is an error where there is no memory for them; none takes none.
     pub fn with_ends(self, ends: &[ObjectId]) -> Result<Builder<F, P>, Error>
         ensures asked { IfOk result (λ builder. asked_of builder
             ≡ record (asked_of self) { ends = (asked_of self).ends ++ ends.now }) }
+        ensures whole { ends.now ≡ [] → IsOk result }
         ensures refused { IfErr result (λ error. error ≡ Memory) }
     {
         Ok(Builder {
@@ -273,6 +276,5 @@ fn explore<F: Find>(
 {
     let mut known = explore_ends(alloc, source, ends)?;
     known.walk(source, tips, parents)?;
-    known.count(parents)?;
     Ok(known)
 }

@@ -1,20 +1,18 @@
 //! The commits that a walk knows, each by a number.
 
 ghost use Rattle.std.specs.Prelude.{◌≡◌, ◌+◌, ◌^◌, ◌<◌, ◌≤◌, ◌==◌, ◌⊎◌, ℕ, List, [], ◌++◌, length, OnOk, IfOk, IfErr, IfSome, IfNone, Some, None, slice_get, slice_set};
+ghost use Rattle.indexmap.specs.IndexSet.{insert_key};
 ghost use Rattle.gix_hash_id.specs.declared.object_id.ObjectId.{ObjectId};
-ghost use Rattle.gix_traverse_commit.specs.Commits.{Commits, asked, asked_parents};
+ghost use Rattle.gix_traverse_commit.specs.Commits.{asked};
 ghost use Rattle.gix_traverse_commit.specs.Fetching.{one_more};
 ghost use Rattle.gix_traverse_commit.specs.Numbered.{same_id};
 ghost use Rattle.gix_traverse_commit.specs.Order.{At};
-ghost use Rattle.gix_traverse_commit.specs.Reading.{Read};
 ghost use Rattle.gix_traverse_commit.specs.Rows.{AllHeld, Holds};
-ghost use Rattle.gix_traverse_commit.specs.Standing.{NotIn};
 ghost use Rattle.gix_traverse_commit.specs.Told.{rows_of};
-ghost use Rattle.gix_traverse_topo.specs.Meeting.{IsRow, Met, Walks};
-ghost use Rattle.gix_traverse_topo.specs.Nodes.{readings, counts, IsBlank, IsReading, ParentsFrom, EachCount, NamesOne, IsOnce};
-ghost use Rattle.gix_traverse_topo.specs.Turns.{names_of, times};
+ghost use Rattle.gix_traverse_topo.specs.Nodes.{readings, counts, IsBlank, IsReading, NamesAre, IsOnce};
+ghost use Rattle.gix_traverse_topo.specs.Turns.{times};
 ghost use Rattle.gix_traverse_topo.specs.Waiting.{IsFree};
-ghost use Rattle.gix_traverse_topo.specs.Walking.{Visits, Walking};
+ghost use Rattle.gix_traverse_topo.specs.Walking.{Meets, Names, Visits, Walking};
 ghost use Rattle.gix_traverse_topo.specs.declared.error.Error.TheVariants.{Memory, MissingStateUnexpected, MissingIndegreeUnexpected};
 ghost use Rattle.gix_traverse_topo.specs.declared.known.Node.{Node};
 ghost use Rattle.gix_traverse_topo.specs.declared.known.Reading.{Reading};
@@ -66,22 +64,19 @@ pub(crate) struct Known {
     pub hidden: usize,
 }
 
-// Numbers the commits that have no number yet.
-fn meet(ids: &mut IndexSet<ObjectId>, met: &[ObjectId]) -> Result<(), Error>
-    ensures met { OnOk result ((way : ObjectId → List ObjectId) (tips hs xs : List ObjectId) (p : ℕ)
-        → ids.old.keys ≡ hs ++ xs → Read way tips (NotIn hs) xs p 0 → IsRow way tips xs p met.now
-        → Met way tips hs ids.new.keys p) }
-    ensures kept { OnOk result ((k : ℕ) (x : ObjectId) → At ids.old.keys k x
-        → At ids.new.keys k x) }
-    ensures refused { IfErr result (λ error. error ≡ Memory) }
+// What stands for a commit until it is read.
+fn unread(alloc: Global) -> Reading
+    ensures { result.parents.items ≡ [] }
 {
-    'met: for id in met {
-        ids.insert(*id)?;
+    Reading {
+        parents: ParentIds::new(alloc),
+        time: 0,
+        generation: None,
+        fault: None,
     }
-    Ok(())
 }
 
-// What stands for a commit that isn't read.
+// What stands for a commit that isn't read, for this fault.
 fn blank(alloc: Global, fault: FetchError) -> Result<Reading, Error>
     ensures blank { IfOk result (IsBlank fault) }
     ensures refused { IfErr result (λ error. error ≡ Memory) }
@@ -141,6 +136,22 @@ fn add_name(nodes: &mut Vec<Node>, number: Number) -> Result<(), Error>
     Ok(())
 }
 
+// Puts what was read of a commit in the place of what stood for it.
+fn put_reading(nodes: &mut Vec<Node>, number: Number, reading: Reading) -> Result<(), Error>
+    ensures as_many { length nodes.new.items ≡ length nodes.old.items }
+    ensures counts { counts nodes.new.items ≡ counts nodes.old.items }
+    ensures put { OnOk result (At (readings nodes.new.items) number.0 reading) }
+    ensures others { (k : ℕ) (other : Reading) → (k ≡ number.0 → ⊥)
+        → At (readings nodes.old.items) k other → At (readings nodes.new.items) k other }
+    ensures refused { IfErr result (λ _. length nodes.old.items ≤ number.0) }
+{
+    if nodes.as_slice().len() <= number.0 {
+        return Err(Error::MissingStateUnexpected);
+    }
+    nodes[number.0].reading = reading;
+    Ok(())
+}
+
 /// Counts a name of a commit off, and tells whether it was the last.
 pub(crate) fn take_name(nodes: &mut Vec<Node>, number: Number) -> Result<bool, Error>
     ensures as_many { length nodes.new.items ≡ length nodes.old.items }
@@ -185,18 +196,84 @@ impl Known {
         }
     }
 
-    // The first commit that isn't read.
-    fn unread(&self) -> Option<ObjectId>
-        ensures unread { result ≡ slice_get self.now.ids.keys (length self.now.nodes.items) }
-        ensures room { length self.now.nodes.items < 2 ^ 64 }
+    // The commit of this number.
+    fn id_at(&self, place: usize) -> Option<ObjectId>
+        ensures id { result ≡ slice_get self.now.ids.keys place }
+        ensures room { IfSome result (λ _. place + 1 < 2 ^ 64) }
+        ensures small { place < 2 ^ 64 }
     {
-        self.ids.get_index(self.nodes.as_slice().len()).copied()
+        if place < self.ids.len() {
+            self.ids.get_index(place).copied()
+        } else {
+            None
+        }
     }
 
-    // Reads this commit, the first that isn't read, and numbers its parents that the walk goes along.
+    // The number of a commit, a new one where it has none.
+    fn number(&mut self, id: &ObjectId) -> Result<Number, Error>
+        ensures hidden { self.new.hidden ≡ self.old.hidden }
+        ensures keys { OnOk result
+            (self.new.ids.keys ≡ insert_key same_id self.old.ids.keys id.now) }
+        ensures number { IfOk result (λ number. At self.new.ids.keys number.0 id.now) }
+        ensures told { OnOk result ((k : ℕ) (reading : Reading)
+            → At (readings self.old.nodes.items) k reading
+            → At (readings self.new.nodes.items) k reading) }
+        ensures many { OnOk result (length self.old.nodes.items ≡ length self.old.ids.keys
+            → length self.new.nodes.items ≡ length self.new.ids.keys) }
+        ensures names { OnOk result ((low : ℕ) (names : ObjectId → ℕ)
+            → length self.old.nodes.items ≡ length self.old.ids.keys
+            → NamesAre low self.old.ids.keys (counts self.old.nodes.items) names
+            → NamesAre low self.new.ids.keys (counts self.new.nodes.items) names) }
+        ensures refused { IfErr result (λ error. error ≡ Memory) }
+    {
+        let (place, is_new) = self.ids.insert_full(*id)?;
+        if is_new {
+            let alloc: Global = *self.nodes.allocator();
+            self.nodes.push(Node {
+                reading: unread(alloc),
+                names: 0,
+            })?;
+        }
+        Ok(Number(place))
+    }
+
+    // Numbers the commits that have no number yet.
+    fn meet(&mut self, met: &[ObjectId]) -> Result<(), Error>
+        ensures hidden { self.new.hidden ≡ self.old.hidden }
+        ensures meets { OnOk result (Meets met.now self.old.ids.keys self.old.nodes.items
+            self.new.ids.keys self.new.nodes.items) }
+        ensures names { OnOk result (Names (λ _. 0) self.old.ids.keys self.old.nodes.items
+            self.new.ids.keys self.new.nodes.items) }
+        ensures refused { IfErr result (λ error. error ≡ Memory) }
+    {
+        'met: for id in met {
+            self.number(id)?;
+        }
+        Ok(())
+    }
+
+    // Numbers the parents that have no number yet, and counts a name of each.
+    fn name_all(&mut self, parents: &[ObjectId]) -> Result<(), Error>
+        ensures hidden { self.new.hidden ≡ self.old.hidden }
+        ensures meets { OnOk result (Meets parents.now self.old.ids.keys self.old.nodes.items
+            self.new.ids.keys self.new.nodes.items) }
+        ensures names { OnOk result (Names (λ y. times (same_id y) parents.now) self.old.ids.keys
+            self.old.nodes.items self.new.ids.keys self.new.nodes.items) }
+        ensures refused { length self.old.nodes.items ≡ length self.old.ids.keys
+            → IfErr result (λ error. error ≡ Memory) }
+    {
+        'row: for id in parents {
+            let number = self.number(id)?;
+            add_name(&mut self.nodes, number)?;
+        }
+        Ok(())
+    }
+
+    // Reads the commit of this number, and numbers and counts its parents that the walk goes along.
     fn visit<F: Find>(
         &mut self,
         source: &mut Source<F>,
+        number: Number,
         id: &ObjectId,
         along: Parents,
     ) -> Result<(), Error>
@@ -205,7 +282,7 @@ impl Known {
         ensures rows { source.new.rows ≡ source.old.rows }
         ensures visited { OnOk result (Visits (F.is_honest source.old.objects)
             (F.may_fail source.old.objects) (rows_of source.old.rows) (F.table source.old.objects)
-            along id.now self.old.ids.keys self.old.nodes.items self.new.ids.keys
+            along number.0 id.now self.old.ids.keys self.old.nodes.items self.new.ids.keys
             self.new.nodes.items) }
         ensures counted { source.new.lookups ≤ source.old.lookups + 1 }
         ensures asked { (¬ Holds (rows_of source.old.rows) id.now)
@@ -214,15 +291,17 @@ impl Known {
             → AllHeld (rows_of source.old.rows) self.old.ids.keys
             → OnOk result (AllHeld (rows_of source.old.rows) self.new.ids.keys
             × (source.new.lookups ≡ source.old.lookups)) }
-        ensures refused { IfErr result (λ error. error ≡ Memory) }
+        ensures refused { length self.old.nodes.items ≡ length self.old.ids.keys
+            → number.0 < length self.old.ids.keys → IfErr result (λ error. error ≡ Memory) }
     {
         let reading = read(source, id)?;
-        meet(&mut self.ids, asked_of(reading.parents.as_slice(), along))?;
-        self.nodes.push(Node { reading, names: 0 })?;
+        self.name_all(asked_of(reading.parents.as_slice(), along))?;
+        put_reading(&mut self.nodes, number, reading)?;
         Ok(())
     }
 
-    /// Numbers and reads all that the tips reach and that isn't known yet.
+    /// Numbers and reads all that the tips reach and that isn't known yet, and counts how often these name each as a parent that
+    /// the walk goes along.
     pub fn walk<F: Find>(
         &mut self,
         source: &mut Source<F>,
@@ -232,14 +311,14 @@ impl Known {
         ensures hidden { self.new.hidden ≡ self.old.hidden }
         ensures objects { source.new.objects ≡ source.old.objects }
         ensures rows { source.new.rows ≡ source.old.rows }
-        ensures walking { OnOk result (Walking (F.is_honest source.old.objects)
-            (F.may_fail source.old.objects) (rows_of source.old.rows) (F.table source.old.objects)
-            along tips.now self.old.ids.keys self.old.nodes.items self.new.ids.keys
-            self.new.nodes.items) }
-        ensures all { OnOk result (length self.new.ids.keys ≤ length self.new.nodes.items) }
+        ensures walking { OnOk result ((high : ℕ) × (length self.new.ids.keys ≤ high)
+            × Walking (F.is_honest source.old.objects) (F.may_fail source.old.objects)
+            (rows_of source.old.rows) (F.table source.old.objects) along tips.now
+            self.old.ids.keys self.old.nodes.items high self.new.ids.keys self.new.nodes.items) }
         ensures counted { OnOk result (source.new.lookups + length self.old.nodes.items
             ≤ source.old.lookups + length self.new.nodes.items) }
-        ensures each { OnOk result (((x : ObjectId) → ¬ Holds (rows_of source.old.rows) x)
+        ensures each { OnOk result (length self.old.nodes.items ≡ length self.old.ids.keys
+            → ((x : ObjectId) → ¬ Holds (rows_of source.old.rows) x)
             → source.old.lookups ≤ length self.old.nodes.items
             → source.new.lookups + length self.old.nodes.items
             ≡ source.old.lookups + length self.new.nodes.items) }
@@ -247,11 +326,14 @@ impl Known {
             → AllHeld (rows_of source.old.rows) tips.now
             → AllHeld (rows_of source.old.rows) self.new.ids.keys
             × (source.new.lookups ≡ source.old.lookups)) }
-        ensures refused { IfErr result (λ error. error ≡ Memory) }
+        ensures refused { length self.old.nodes.items ≡ length self.old.ids.keys
+            → IfErr result (λ error. error ≡ Memory) }
     {
-        meet(&mut self.ids, tips)?;
-        'walk: while let Some(id) = self.unread() {
-            self.visit(source, &id, along)?;
+        let mut place = self.nodes.as_slice().len();
+        self.meet(tips)?;
+        'walk: while let Some(id) = self.id_at(place) {
+            self.visit(source, Number(place), &id, along)?;
+            place += 1;
         }
         Ok(())
     }
@@ -296,68 +378,6 @@ impl Known {
         asked_of(node.reading.parents.as_slice(), along)
             .get(index)
             .copied()
-    }
-
-    // Counts one more name of a commit, unless it has no number or the ends reach it.
-    fn count_name(&mut self, id: &ObjectId) -> Result<(), Error>
-        ensures ids { self.new.ids ≡ self.old.ids }
-        ensures hidden { self.new.hidden ≡ self.old.hidden }
-        ensures readings { readings self.new.nodes.items ≡ readings self.old.nodes.items }
-        ensures counted { OnOk result (NamesOne self.old.hidden self.old.ids.keys
-            (counts self.old.nodes.items) id.now (counts self.new.nodes.items)) }
-        ensures refused { length self.old.ids.keys ≤ length self.old.nodes.items
-            → IfErr result (λ error. error ≡ Memory) }
-    {
-        match self.number_of(id) {
-            Some(number) => add_name(&mut self.nodes, number),
-            None => Ok(()),
-        }
-    }
-
-    // Counts the names that a commit gives its parents.
-    fn count_row(&mut self, number: Number, along: Parents) -> Result<(), Error>
-        ensures ids { self.new.ids ≡ self.old.ids }
-        ensures hidden { self.new.hidden ≡ self.old.hidden }
-        ensures readings { readings self.new.nodes.items ≡ readings self.old.nodes.items }
-        ensures counted { OnOk result ((way : ObjectId → List ObjectId) (before : List ObjectId)
-            (reading : Reading) → IsOnce self.old.ids.keys
-            → At (readings self.old.nodes.items) number.0 reading
-            → EachCount self.old.hidden self.old.ids.keys (counts self.old.nodes.items)
-            (λ y count. count ≡ names_of same_id way y before)
-            → EachCount self.old.hidden self.old.ids.keys (counts self.new.nodes.items)
-            (λ y count. count ≡ names_of same_id way y before + times (same_id y)
-            (asked along reading.parents.items))) }
-        ensures refused { length self.old.ids.keys ≤ length self.old.nodes.items
-            → IfErr result (λ error. error ≡ Memory) }
-    {
-        let mut index: usize = 0;
-        'row: while let Some(parent) = self.parent(number, index, along) {
-            self.count_name(&parent)?;
-            index += 1;
-        }
-        Ok(())
-    }
-
-    /// Counts how often those that the tips reach name each other as parents that the walk goes along.
-    pub fn count(&mut self, along: Parents) -> Result<(), Error>
-        ensures ids { self.new.ids ≡ self.old.ids }
-        ensures hidden { self.new.hidden ≡ self.old.hidden }
-        ensures readings { readings self.new.nodes.items ≡ readings self.old.nodes.items }
-        ensures counted { OnOk result ((h : Commits ObjectId) (hs xs : List ObjectId)
-            → self.old.ids.keys ≡ hs ++ xs → self.old.hidden ≡ length hs
-            → IsOnce self.old.ids.keys → length self.old.nodes.items ≡ length self.old.ids.keys
-            → ParentsFrom self.old.hidden h self.old.ids.keys (readings self.old.nodes.items)
-            → EachCount self.old.hidden self.old.ids.keys (counts self.old.nodes.items)
-            (λ _ count. count ≡ 0) → EachCount self.old.hidden self.old.ids.keys
-            (counts self.new.nodes.items) (λ y count. count
-            ≡ names_of same_id (asked_parents along h) y xs)) }
-        ensures refused { length self.old.ids.keys ≤ length self.old.nodes.items
-            → IfErr result (λ error. error ≡ Memory) }
-    {
-        'commits: for place in self.hidden..self.nodes.as_slice().len() {
-            self.count_row(Number(place), along)?;
-        }
-        Ok(())
     }
 
     /// A commit that waits for its turn.

@@ -5,4 +5,7 @@ pub mod Levelled
 pub mod Walked
 pub mod Opening
 pub mod Walking
+pub mod Paths
 pub mod Recording
+pub mod RecordingInDepth
+pub mod RecordingInBreadth

@@ -48,7 +48,7 @@ impl State {
         }
     }
 
-    /// A state that serves as well: one for a first walk.
+    /// A state that serves as well: one for a first walk. It takes no memory, so it always comes.
     pub fn try_clone(&self) -> Result<State, AllocError>
         ensures nodes { IfOk result (λ state. state.nodes.items ≡ []) }
         ensures content { IfOk result (λ state. state.content.items ≡ []) }

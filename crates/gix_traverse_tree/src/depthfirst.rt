@@ -1,6 +1,6 @@
 //! Walks in depth order.
 
-ghost use Rattle.std.specs.Prelude.{◌≡◌, ◌<◌, ◌++◌, ◌∷◌, [], IfOk, IfErr, OnOk, reverse, length};
+ghost use Rattle.std.specs.Prelude.{◌≡◌, ◌<◌, ◌++◌, ◌∷◌, [], IfOk, IfErr, IsOk, OnOk, reverse, length};
 ghost use Rattle.std.specs.List.{list_any};
 ghost use Rattle.gix_hash_id.specs.Id.{id_of};
 ghost use Rattle.gix_hash_id.specs.Order.{id_eq};
@@ -55,9 +55,10 @@ impl State {
         }
     }
 
-    /// A state that serves as well.
+    /// A state that serves as well: one for a first walk. It takes no memory, so it always comes.
     pub fn try_clone(&self) -> Result<State, AllocError>
-        ensures { IfOk result (λ state. state.buffers.items ≡ []) }
+        ensures buffers { IfOk result (λ state. state.buffers.items ≡ []) }
+        ensures whole { IsOk result }
     {
         Ok(State::new(*self.buffers.allocator()))
     }

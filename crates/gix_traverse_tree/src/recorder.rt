@@ -1,8 +1,9 @@
 //! A delegate that records each entry of a walk.
 
-ghost use Rattle.std.specs.Prelude.{◌≡◌, [], Some, IfOk, OnOk, map, take, unwrap_or};
+ghost use Rattle.std.specs.Prelude.{◌≡◌, [], Some, IfOk, IsOk, OnOk, map, take, unwrap_or};
 ghost use Rattle.bstr.specs.BStr.{bstr_bytes};
 ghost use Rattle.gix_object_entries.specs.Entry.{item_of};
+ghost use Rattle.gix_traverse_tree.specs.Calls.{pop_back, pop_front, pop};
 ghost use Rattle.gix_traverse_tree.specs.declared.recorder.Location.TheVariants as locations;
 ghost use Rattle.gix_traverse_tree.specs.Recorder.{Records, Recorded, Recording, joined, parent, recorded_of, recording_of, with_entry};
 
@@ -27,6 +28,16 @@ fn parent_len(path: &[u8]) -> usize
     }
 }
 
+// A copy of these bytes. Where there are none it takes no memory.
+fn copied_bytes(alloc: Global, bytes: &[u8]) -> Result<Vec<u8>, AllocError>
+    ensures copied { IfOk result (λ copy. copy.items ≡ bytes.now) }
+    ensures whole { bytes.now ≡ [] → IsOk result }
+{
+    let mut copy = Vec::new(alloc);
+    copy.extend_from_slice(bytes)?;
+    Ok(copy)
+}
+
 /// What is tracked of where an entry lies.
 #[derive(Debug, Clone, Copy, PartialEq, Eq)]
 pub enum Location {
@@ -48,13 +59,15 @@ pub struct Entry {
 }
 
 impl Entry {
-    /// A copy.
+    /// A copy. It is an error where there is no memory for its path; an empty path takes none.
     pub fn try_clone(&self) -> Result<Entry, AllocError>
-        ensures { IfOk result (λ copy. recorded_of copy ≡ recorded_of self.now) }
+        ensures copied { IfOk result (λ copy. recorded_of copy ≡ recorded_of self.now) }
+        ensures whole { (recorded_of self.now).path ≡ [] → IsOk result }
     {
+        let path = copied_bytes(self.filepath.allocator(), self.filepath.as_bytes())?;
         Ok(Entry {
             mode: self.mode,
-            filepath: self.filepath.try_clone()?,
+            filepath: ByteString::new(path),
             oid: self.oid,
         })
     }
@@ -62,7 +75,9 @@ impl Entry {
 
 // Copies of these entries, in their order.
 fn copied_entries(alloc: Global, entries: &[Entry]) -> Result<Vec<Entry>, AllocError>
-    ensures { IfOk result (λ copies. map recorded_of copies.items ≡ map recorded_of entries.now) }
+    ensures copied { IfOk result
+        (λ copies. map recorded_of copies.items ≡ map recorded_of entries.now) }
+    ensures whole { entries.now ≡ [] → IsOk result }
 {
     let mut copies = Vec::new(alloc);
     'entries: for entry in entries {
@@ -76,7 +91,8 @@ fn copied_paths(
     alloc: Global,
     paths: &VecDeque<ByteString>,
 ) -> Result<VecDeque<ByteString>, AllocError>
-    ensures { IfOk result (λ copies. copies.items ≡ paths.now.items) }
+    ensures copied { IfOk result (λ copies. copies.items ≡ paths.now.items) }
+    ensures whole { paths.now.items ≡ [] → IsOk result }
 {
     let mut copies = VecDeque::new(alloc);
     'paths: while let Some(path) = paths.get(copies.len()) {
@@ -125,24 +141,29 @@ impl Recorder {
         BStr::new(self.path.as_slice())
     }
 
-    /// A copy, with its entries and with the paths that are queued. It is an error where there is no memory for it.
+    /// A copy, with its entries and with the paths that are queued. It is an error where there is no memory for it; where there
+    /// are no entries, and no path is built on or queued, it takes none.
     pub fn try_clone(&self) -> Result<Recorder, AllocError>
-        ensures { IfOk result (λ copy. recording_of copy ≡ recording_of self.now) }
+        ensures copied { IfOk result (λ copy. recording_of copy ≡ recording_of self.now) }
+        ensures whole { (recording_of self.now).queue ≡ [] → (recording_of self.now).path ≡ []
+            → (recording_of self.now).entries ≡ [] → IsOk result }
     {
         let alloc: Global = *self.path.allocator();
         Ok(Recorder {
             path_deque: copied_paths(alloc, &self.path_deque)?,
-            path: self.path.clone()?,
+            path: copied_bytes(alloc, self.path.as_slice())?,
             location: self.location,
             records: copied_entries(alloc, self.records.as_slice())?,
         })
     }
 
-    /// A copy of that path.
+    /// A copy of that path. It is an error where there is no memory for it; an empty one takes none.
     pub fn path_clone(&self) -> Result<ByteString, AllocError>
-        ensures { IfOk result (λ path. path ≡ (recording_of self.now).path) }
+        ensures copied { IfOk result (λ path. path ≡ (recording_of self.now).path) }
+        ensures whole { (recording_of self.now).path ≡ [] → IsOk result }
     {
-        Ok(ByteString::new(self.path.clone()?))
+        let path = copied_bytes(*self.path.allocator(), self.path.as_slice())?;
+        Ok(ByteString::new(path))
     }
 }
 
@@ -202,7 +223,10 @@ impl Recorder {
 impl Visit for Recorder {
     ghost goes = { Records };
 
-    fn pop_back_tracked_path_and_set_current(&mut self) -> Result<(), Error> {
+    fn pop_back_tracked_path_and_set_current(&mut self) -> Result<(), Error>
+        ensures goes { OnOk result (Records self.old pop_back self.new) }
+        ensures whole { IsOk result }
+    {
         if let Some(Location::Path) = self.location {
             let path = self.path_deque.pop_back();
             self.set_path(path);
@@ -210,7 +234,10 @@ impl Visit for Recorder {
         Ok(())
     }
 
-    fn pop_front_tracked_path_and_set_current(&mut self) -> Result<(), Error> {
+    fn pop_front_tracked_path_and_set_current(&mut self) -> Result<(), Error>
+        ensures goes { OnOk result (Records self.old pop_front self.new) }
+        ensures whole { IsOk result }
+    {
         if let Some(Location::Path) = self.location {
             let path = self.path_deque.pop_front();
             self.set_path(path);
@@ -239,7 +266,10 @@ impl Visit for Recorder {
         Ok(())
     }
 
-    fn pop_path_component(&mut self) -> Result<(), Error> {
+    fn pop_path_component(&mut self) -> Result<(), Error>
+        ensures goes { OnOk result (Records self.old pop self.new) }
+        ensures whole { IsOk result }
+    {
         if let Some(Location::Path) = self.location {
             self.pop_element();
         }

@@ -1,4 +1,5 @@
-use Rattle.std.proofs.Common.{◌≡◌, List, [], inr, length, refl, ap, sym, subst, arith}
+use Rattle.std.proofs.Common.{◌≡◌, ◌∙◌, List, [], inl, inr, length, refl, ap, sym, subst, arith}
+use Rattle.std.proofs.lemmas.Result.{err_from_is_err_and}
 use Rattle.gix_hash_id.specs.declared.object_id.ObjectId.{ObjectId}
 use Rattle.gix_traverse_commit.specs.Rows.{AllHeld}
 use Rattle.gix_traverse_commit.specs.Told.{rows_of}
@@ -18,9 +19,10 @@ returns-in-Some-clause-refused g c =
     let table = g.F.Lookup.table c.args.source.now.objects in
     let keys : List ObjectId = c.walk.new.self.ids.keys in
     let nodes : List Node = c.walk.new.self.nodes.items in
-    let w : Walking honest may_fail rows table All c.args.ends.now [] [] keys nodes = subst (λ (ks : List ObjectId). Walking honest may_fail rows table All c.args.ends.now ks [] keys nodes) c.new-known.ensures.ids (subst (λ (ns : List Node). Walking honest may_fail rows table All c.args.ends.now c.new-known.result.ids.keys ns keys nodes) c.new-known.ensures.nodes c.in_ok-walk.ensures.walking) in
+    let (high, full, walking) = c.in_ok-walk.ensures.walking in
+    let w : Walking honest may_fail rows table All c.args.ends.now [] [] high keys nodes = subst (λ (ks : List ObjectId). Walking honest may_fail rows table All c.args.ends.now ks [] high keys nodes) c.new-known.ensures.ids (subst (λ (ns : List Node). Walking honest may_fail rows table All c.args.ends.now c.new-known.result.ids.keys ns high keys nodes) c.new-known.ensures.nodes walking) in
     let (n, reading, a, e) = c.in-Some.ensures.fault in
-    inr (stops honest may_fail rows table c.args.ends.now keys nodes w c.in_ok-walk.ensures.all n reading c.in-Some.error a e)
+    inr (stops honest may_fail rows table c.args.ends.now keys nodes high w full n reading c.in-Some.error a e)
 
 pub returns-in-None-clause-painted : goal.returns-in-None-clause-painted
 returns-in-None-clause-painted g c =
@@ -30,8 +32,9 @@ returns-in-None-clause-painted g c =
     let table = g.F.Lookup.table c.args.source.now.objects in
     let keys : List ObjectId = c.walk.new.self.ids.keys in
     let nodes : List Node = c.walk.new.self.nodes.items in
-    let w : Walking honest may_fail rows table All c.args.ends.now [] [] keys nodes = subst (λ (ks : List ObjectId). Walking honest may_fail rows table All c.args.ends.now ks [] keys nodes) c.new-known.ensures.ids (subst (λ (ns : List Node). Walking honest may_fail rows table All c.args.ends.now c.new-known.result.ids.keys ns keys nodes) c.new-known.ensures.nodes c.in_ok-walk.ensures.walking) in
-    painted honest may_fail rows table c.args.ends.now keys nodes w c.in_ok-walk.ensures.all (record { ids = c.walk.new.self.ids; nodes = c.walk.new.self.nodes; hidden = c.len.result }) refl refl c.len.ensures.len c.in-None.ensures.none
+    let (high, full, walking) = c.in_ok-walk.ensures.walking in
+    let w : Walking honest may_fail rows table All c.args.ends.now [] [] high keys nodes = subst (λ (ks : List ObjectId). Walking honest may_fail rows table All c.args.ends.now ks [] high keys nodes) c.new-known.ensures.ids (subst (λ (ns : List Node). Walking honest may_fail rows table All c.args.ends.now c.new-known.result.ids.keys ns high keys nodes) c.new-known.ensures.nodes walking) in
+    painted honest may_fail rows table c.args.ends.now keys nodes high w full (record { ids = c.walk.new.self.ids; nodes = c.walk.new.self.nodes; hidden = c.len.result }) refl refl c.len.ensures.len c.in-None.ensures.none
 
 pub returns-in-None-clause-counted : goal.returns-in-None-clause-counted
 returns-in-None-clause-counted g c =
@@ -41,8 +44,9 @@ returns-in-None-clause-counted g c =
     let table = g.F.Lookup.table c.args.source.now.objects in
     let keys : List ObjectId = c.walk.new.self.ids.keys in
     let nodes : List Node = c.walk.new.self.nodes.items in
-    let w : Walking honest may_fail rows table All c.args.ends.now [] [] keys nodes = subst (λ (ks : List ObjectId). Walking honest may_fail rows table All c.args.ends.now ks [] keys nodes) c.new-known.ensures.ids (subst (λ (ns : List Node). Walking honest may_fail rows table All c.args.ends.now c.new-known.result.ids.keys ns keys nodes) c.new-known.ensures.nodes c.in_ok-walk.ensures.walking) in
-    let many : length nodes ≡ length keys = as_many honest may_fail rows table c.args.ends.now keys nodes w c.in_ok-walk.ensures.all in
+    let (high, full, walking) = c.in_ok-walk.ensures.walking in
+    let w : Walking honest may_fail rows table All c.args.ends.now [] [] high keys nodes = subst (λ (ks : List ObjectId). Walking honest may_fail rows table All c.args.ends.now ks [] high keys nodes) c.new-known.ensures.ids (subst (λ (ns : List Node). Walking honest may_fail rows table All c.args.ends.now c.new-known.result.ids.keys ns high keys nodes) c.new-known.ensures.nodes walking) in
+    let many : length nodes ≡ length keys = as_many honest may_fail rows table c.args.ends.now keys nodes high w full in
     omega (arith, c.in_ok-walk.ensures.counted, many)
 
 pub returns-in-None-clause-each : goal.returns-in-None-clause-each
@@ -53,10 +57,12 @@ returns-in-None-clause-each g c = λ bare zero.
     let table = g.F.Lookup.table c.args.source.now.objects in
     let keys : List ObjectId = c.walk.new.self.ids.keys in
     let nodes : List Node = c.walk.new.self.nodes.items in
-    let w : Walking honest may_fail rows table All c.args.ends.now [] [] keys nodes = subst (λ (ks : List ObjectId). Walking honest may_fail rows table All c.args.ends.now ks [] keys nodes) c.new-known.ensures.ids (subst (λ (ns : List Node). Walking honest may_fail rows table All c.args.ends.now c.new-known.result.ids.keys ns keys nodes) c.new-known.ensures.nodes c.in_ok-walk.ensures.walking) in
-    let many : length nodes ≡ length keys = as_many honest may_fail rows table c.args.ends.now keys nodes w c.in_ok-walk.ensures.all in
+    let (high, full, walking) = c.in_ok-walk.ensures.walking in
+    let w : Walking honest may_fail rows table All c.args.ends.now [] [] high keys nodes = subst (λ (ks : List ObjectId). Walking honest may_fail rows table All c.args.ends.now ks [] high keys nodes) c.new-known.ensures.ids (subst (λ (ns : List Node). Walking honest may_fail rows table All c.args.ends.now c.new-known.result.ids.keys ns high keys nodes) c.new-known.ensures.nodes walking) in
+    let many : length nodes ≡ length keys = as_many honest may_fail rows table c.args.ends.now keys nodes high w full in
     let none : length c.new-known.result.nodes.items ≡ 0 = ap length c.new-known.ensures.nodes in
-    let each = c.in_ok-walk.ensures.each bare (omega (arith, zero)) in
+    let none_either : length c.new-known.result.ids.keys ≡ 0 = ap length c.new-known.ensures.ids in
+    let each = c.in_ok-walk.ensures.each (none ∙ sym none_either) bare (omega (arith, zero)) in
     omega (arith, each, zero, none, many)
 
 none_held : (rows : List Row) → AllHeld rows []
@@ -64,3 +70,8 @@ none_held rows x c = let (k, a) = at_from_contains [] x c in absurd (none_at_nil
 
 pub returns-in-None-clause-rowed : goal.returns-in-None-clause-rowed
 returns-in-None-clause-rowed g c = λ held. c.in_ok-walk.ensures.rowed (subst (AllHeld (rows_of c.args.source.now.rows)) (sym c.new-known.ensures.ids) (none_held (rows_of c.args.source.now.rows))) held
+
+pub returns-in_err-walk-clause-refused : goal.returns-in_err-walk-clause-refused
+returns-in_err-walk-clause-refused g c =
+    let p = err_from_is_err_and c.from_residual.result c.from_residual.ensures.1 in
+    rw (p.1, p.2) (inl (c.in_err-walk.ensures.refused (ap length c.new-known.ensures.nodes ∙ sym (ap length c.new-known.ensures.ids))))

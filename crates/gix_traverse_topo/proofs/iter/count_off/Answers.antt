@@ -1,4 +1,4 @@
-use Rattle.std.proofs.Common.{◌≡◌, ◌+◌, ◌≤◌, length, arith}
+use Rattle.std.proofs.Common.{◌≡◌, ◌+◌, ◌≤◌, length, drop, arith}
 use Rattle.gix_traverse_topo.specs.Nodes.{readings, counts}
 use Rattle.gix_traverse_topo.specs.Turns.{total}
 use Rattle.gix_traverse_topo.specs.Waiting.{waiting}
@@ -14,9 +14,9 @@ returns-in_ok-push-clause-counted c =
 pub returns-in_ok-push-clause-falls : goal.returns-in_ok-push-clause-falls
 returns-in_ok-push-clause-falls c =
     let (count, at, set_is, last) = c.in_ok-take_name.ensures.taken in
-    let less : total (λ k. k) (counts c.take_name.new.nodes.items) + 1 ≡ total (λ k. k) (counts c.args.known.now.nodes.items) = off_falls (counts c.args.known.now.nodes.items) (counts c.take_name.new.nodes.items) c.in-Some.number.0 count at set_is in
+    let less : total (λ k. k) (drop c.args.known.now.hidden (counts c.take_name.new.nodes.items)) + 1 ≡ total (λ k. k) (drop c.args.known.now.hidden (counts c.args.known.now.nodes.items)) = off_falls c.args.known.now.hidden (counts c.args.known.now.nodes.items) (counts c.take_name.new.nodes.items) c.in-Some.number.0 count c.in-Some.ensures.found.0 at set_is in
     let more : length (waiting c.push.new.self) ≡ length (waiting c.args.ready.now) + 1 = joined_length c.args.ready.now c.push.new.self c.in_ok-pending.pending c.in_ok-push.ensures in
-    let all : total (λ k. k) (counts c.take_name.new.nodes.items) + length (waiting c.push.new.self) ≤ total (λ k. k) (counts c.args.known.now.nodes.items) + length (waiting c.args.ready.now) = omega (arith, less, more) in
+    let all : total (λ k. k) (drop c.args.known.now.hidden (counts c.take_name.new.nodes.items)) + length (waiting c.push.new.self) ≤ total (λ k. k) (drop c.args.known.now.hidden (counts c.args.known.now.nodes.items)) + length (waiting c.args.ready.now) = omega (arith, less, more) in
     all
 
 pub returns-else-branch-clause-counted : goal.returns-else-branch-clause-counted
@@ -28,6 +28,6 @@ returns-else-branch-clause-counted c =
 pub returns-else-branch-clause-falls : goal.returns-else-branch-clause-falls
 returns-else-branch-clause-falls c =
     let (count, at, set_is, last) = c.in_ok-take_name.ensures.taken in
-    let less : total (λ k. k) (counts c.take_name.new.nodes.items) + 1 ≡ total (λ k. k) (counts c.args.known.now.nodes.items) = off_falls (counts c.args.known.now.nodes.items) (counts c.take_name.new.nodes.items) c.in-Some.number.0 count at set_is in
-    let all : total (λ k. k) (counts c.take_name.new.nodes.items) + length (waiting c.args.ready.now) ≤ total (λ k. k) (counts c.args.known.now.nodes.items) + length (waiting c.args.ready.now) = omega (arith, less) in
+    let less : total (λ k. k) (drop c.args.known.now.hidden (counts c.take_name.new.nodes.items)) + 1 ≡ total (λ k. k) (drop c.args.known.now.hidden (counts c.args.known.now.nodes.items)) = off_falls c.args.known.now.hidden (counts c.args.known.now.nodes.items) (counts c.take_name.new.nodes.items) c.in-Some.number.0 count c.in-Some.ensures.found.0 at set_is in
+    let all : total (λ k. k) (drop c.args.known.now.hidden (counts c.take_name.new.nodes.items)) + length (waiting c.args.ready.now) ≤ total (λ k. k) (drop c.args.known.now.hidden (counts c.args.known.now.nodes.items)) + length (waiting c.args.ready.now) = omega (arith, less) in
     all

@@ -12,7 +12,7 @@ pub returns-clause-refused : goal.returns-clause-refused
 returns-clause-refused c = take_refused c.take.result c.args.number.0 c.args.along c.args.known.now c.count_row_off.new.known c.in_ok-count_row_off.ensures.ids c.in_ok-count_row_off.ensures.readings c.take.ensures.refused
 
 pub returns-clause-falls : goal.returns-clause-falls
-returns-clause-falls c = take_falls c.take.result c.args.known.now c.count_row_off.new.known c.take.new.self c.args.ready.now c.count_row_off.new.ready c.take.ensures.counts c.in_ok-count_row_off.ensures.falls
+returns-clause-falls c = take_falls c.take.result c.args.known.now c.count_row_off.new.known c.take.new.self c.args.ready.now c.count_row_off.new.ready c.take.ensures.hidden c.take.ensures.counts c.in_ok-count_row_off.ensures.falls
 
 pub returns-in_err-check-clause-refused : goal.returns-in_err-check-clause-refused
 returns-in_err-check-clause-refused c =

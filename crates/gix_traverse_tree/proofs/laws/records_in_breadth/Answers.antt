@@ -1,4 +1,4 @@
-use Rattle.gix_traverse_tree.proofs.Recording.{records_in_breadth}
+use Rattle.gix_traverse_tree.proofs.RecordingInBreadth.{records_in_breadth}
 use Rattle.gix_traverse_tree.proofs.laws.records_in_breadth.Goals as goal
 
 pub returns : goal.returns

@@ -1,4 +1,4 @@
-use Rattle.gix_traverse_tree.proofs.Recording.{records_in_depth}
+use Rattle.gix_traverse_tree.proofs.RecordingInDepth.{records_in_depth}
 use Rattle.gix_traverse_tree.proofs.laws.records_in_depth.Goals as goal
 
 pub returns : goal.returns

@@ -1,4 +1,4 @@
-use Rattle.gix_traverse_tree.proofs.Recording.{parent_taken, parent_untaken}
+use Rattle.gix_traverse_tree.proofs.Paths.{parent_taken, parent_untaken}
 use Rattle.gix_traverse_tree.proofs.recorder.parent_len.Goals as goal
 
 pub returns-in-Some : goal.returns-in-Some

@@ -11,11 +11,11 @@ invariant-walk g l = record {
   hidden : l.self.hidden ≡ l.fn.self.hidden;
   objects : l.source.objects ≡ l.fn.source.objects;
   rows : l.source.rows ≡ l.fn.source.rows;
-  walking : Walking (g.F.Lookup.is_honest l.fn.source.objects) (g.F.Lookup.may_fail l.fn.source.objects) (rows_of l.fn.source.rows) (g.F.Lookup.table l.fn.source.objects) l.along l.fn.tips l.fn.self.ids.keys l.fn.self.nodes.items l.self.ids.keys l.self.nodes.items;
+  walking : Walking (g.F.Lookup.is_honest l.fn.source.objects) (g.F.Lookup.may_fail l.fn.source.objects) (rows_of l.fn.source.rows) (g.F.Lookup.table l.fn.source.objects) l.along l.fn.tips l.fn.self.ids.keys l.fn.self.nodes.items l.place l.self.ids.keys l.self.nodes.items;
   rowed : AllHeld (rows_of l.fn.source.rows) l.fn.self.ids.keys → AllHeld (rows_of l.fn.source.rows) l.fn.tips → AllHeld (rows_of l.fn.source.rows) l.self.ids.keys × (l.source.lookups ≡ l.fn.source.lookups);
-  each : ((x : ObjectId) → ¬ Holds (rows_of l.fn.source.rows) x) → IsCountedFrom l.fn.source.lookups (length l.fn.self.nodes.items) l.source.lookups (length l.self.nodes.items);
-  counted : l.source.lookups + length l.fn.self.nodes.items ≤ l.fn.source.lookups + length l.self.nodes.items;
+  each : ((x : ObjectId) → ¬ Holds (rows_of l.fn.source.rows) x) → IsCountedFrom l.fn.source.lookups (length l.fn.self.nodes.items) l.source.lookups l.place;
+  counted : l.source.lookups + length l.fn.self.nodes.items ≤ l.fn.source.lookups + l.place;
 }
 
 abbrev pub decreases-walk : goal.decreases-walk
-decreases-walk g l = 2 ^ 64 - length l.self.nodes.items
+decreases-walk g l = 2 ^ 64 - l.place

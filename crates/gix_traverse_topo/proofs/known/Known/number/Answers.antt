@@ -1,0 +1,34 @@
+use Rattle.std.proofs.Common.{◌≡◌, List, refl, sym, subst}
+use Rattle.gix_hash_id.specs.declared.object_id.ObjectId.{ObjectId}
+use Rattle.gix_traverse_commit.specs.Order.{At}
+use Rattle.gix_traverse_commit.proofs.Ids.{same_from_test}
+use Rattle.gix_traverse_topo.specs.Nodes.{counts, NamesAre}
+use Rattle.gix_traverse_topo.specs.declared.known.Node.{Node}
+use Rattle.gix_traverse_topo.proofs.Walking.{new_key, old_key, told_pushed, unnamed_pushed}
+use Rattle.gix_traverse_topo.proofs.known.Known.number.Goals as goal
+
+pub returns-in_ok-push-clause-number : goal.returns-in_ok-push-clause-number
+returns-in_ok-push-clause-number c =
+    let (key, at, same) = c.in_ok-place.ensures.stored in
+    subst (λ (x : ObjectId). At c.insert_full.new.self.keys c.in_ok-place.place x) (sym (same_from_test c.args.id.now key same)) at
+
+pub returns-in_ok-push-clause-told : goal.returns-in_ok-push-clause-told
+returns-in_ok-push-clause-told c = told_pushed c.args.self.now.nodes.items c.push.new.self.items (record { reading = c.unread.result; names = 0 }) c.in_ok-push.ensures.items
+
+pub returns-in_ok-push-clause-names : goal.returns-in_ok-push-clause-names
+returns-in_ok-push-clause-names c =
+    let node : Node = record { reading = c.unread.result; names = 0 } in
+    let keys : List ObjectId = c.args.self.now.ids.keys in
+    let key = new_key keys c.insert_full.new.self.keys c.args.id.now c.in_ok-place.is_new c.in_ok-place.ensures.added c.if-is_new.true c.in_ok-place.ensures.keys in
+    unnamed_pushed c.args.self.now.nodes.items c.push.new.self.items node keys c.insert_full.new.self.keys c.args.id.now c.in_ok-push.ensures.items refl key.0 key.1
+
+pub returns-else-is_new-clause-number : goal.returns-else-is_new-clause-number
+returns-else-is_new-clause-number c =
+    let (key, at, same) = c.in_ok-place.ensures.stored in
+    subst (λ (x : ObjectId). At c.insert_full.new.self.keys c.in_ok-place.place x) (sym (same_from_test c.args.id.now key same)) at
+
+pub returns-else-is_new-clause-names : goal.returns-else-is_new-clause-names
+returns-else-is_new-clause-names c = λ low names many known.
+    let keys : List ObjectId = c.args.self.now.ids.keys in
+    let same = old_key keys c.insert_full.new.self.keys c.args.id.now c.in_ok-place.is_new c.in_ok-place.ensures.added c.if-is_new.false c.in_ok-place.ensures.keys in
+    subst (λ (ks : List ObjectId). NamesAre low ks (counts c.args.self.now.nodes.items) names) (sym same) known
