@@ -10,9 +10,10 @@ use Rattle.gix_traverse_commit.specs.Numbered.{same_id}
 use Rattle.gix_traverse_commit.specs.Order.{At}
 use Rattle.gix_traverse_commit.specs.Painting.{ReachedFrom}
 use Rattle.gix_traverse_commit.specs.Rows.{AllHeld, Holds}
-use Rattle.gix_traverse_commit.specs.Simply.{AcceptsAs, Answers, Asked, AreAsked, IsKnown, IsTurn, keep_of, request_in, timing}
+use Rattle.gix_traverse_commit.specs.Simply.{AcceptsAs, Answers, Asked, AreAsked, IsKnown, keep_of, request_in, timing}
+use Rattle.gix_traverse_commit.specs.Giving.{IsTurn}
 use Rattle.gix_object_find.specs.Table.{Table}
-use Rattle.gix_traverse_commit.specs.Simply.{SimpleFault, StopsFetch}
+use Rattle.gix_traverse_commit.specs.Giving.{SimpleFault, StopsFetch}
 use Rattle.gix_traverse_commit.specs.declared.simple.faults.Error.{Error}
 use Rattle.gix_traverse_commit.specs.declared.simple.faults.Error.TheVariants as fault
 use Rattle.gix_traverse_commit.specs.declared.simple.faults.HiddenGraphError.TheVariants as hidden_fault

@@ -51,10 +51,21 @@ find_error (iter_case.NotFound oid) = fault.Find (iter_case.NotFound oid)
 find_error (iter_case.ObjectKind oid actual expected) =
     fault.Find (iter_case.ObjectKind oid actual expected)
 
+-- why a commit's object isn't found; want of memory at its lookup is told as want of memory
+abbrev pub FindFault : Type 0 → Type 0 → Table → ObjectId → existing_iter.Error → Type 0
+FindFault honest may_fail table id (iter_case.Find lookup.Memory) = ⊥
+FindFault honest may_fail table id (iter_case.Find lookup.Failed) =
+    KindFault honest may_fail table (id_of id) kinds.Commit (iter_case.Find lookup.Failed)
+FindFault honest may_fail table id (iter_case.NotFound oid) =
+    KindFault honest may_fail table (id_of id) kinds.Commit (iter_case.NotFound oid)
+FindFault honest may_fail table id (iter_case.ObjectKind oid actual expected) =
+    KindFault honest may_fail table (id_of id) kinds.Commit
+    (iter_case.ObjectKind oid actual expected)
+
 -- why a commit isn't read: it has no row, and its object isn't found or is no commit, or its lines aren't a commit's
 abbrev pub FetchFault : Type 0 → Type 0 → List Row → Table → ObjectId → FetchError → Type 0
 FetchFault honest may_fail rows table id (fault.Find error) =
-    (¬ Holds rows id) × KindFault honest may_fail table (id_of id) kinds.Commit error
+    (¬ Holds rows id) × FindFault honest may_fail table id error
 FetchFault honest may_fail rows table id (fault.ObjectDecode error) =
     (¬ Holds rows id)
     × (honest
@@ -65,7 +76,7 @@ FetchFault honest may_fail rows table id fault.Memory = ⊤
 -- why a commit's time isn't read: it has no row, and its object isn't found or is no commit, or tells no committer
 abbrev pub TimeFault : Type 0 → Type 0 → List Row → Table → ObjectId → FetchError → Type 0
 TimeFault honest may_fail rows table id (fault.Find error) =
-    (¬ Holds rows id) × KindFault honest may_fail table (id_of id) kinds.Commit error
+    (¬ Holds rows id) × FindFault honest may_fail table id error
 TimeFault honest may_fail rows table id (fault.ObjectDecode error) =
     (¬ Holds rows id)
     × (honest

@@ -12,6 +12,7 @@ pub mod Standing
 pub mod Told
 pub mod Fetching
 pub mod Simply
+pub mod Giving
 pub mod Nodes
 pub mod Waiting
 pub mod Known

@@ -5,7 +5,7 @@ ghost use Rattle.gix_hash_id.specs.Id.{id_of};
 ghost use Rattle.gix_hash_id.specs.declared.object_id.ObjectId.{ObjectId};
 ghost use Rattle.gix_traverse_commit.specs.Ending.{NoneGains, times_in};
 ghost use Rattle.gix_traverse_commit.specs.Keeping.{Kept, KeptAll};
-ghost use Rattle.gix_traverse_commit.specs.Meeting.{Asks, AsksOnce, IsFresh, fresh};
+ghost use Rattle.gix_traverse_commit.specs.Meeting.{Asks, AsksOnce, IsFresh, MarksMet, fresh};
 ghost use Rattle.gix_traverse_commit.specs.Known.{turns_of};
 ghost use Rattle.gix_traverse_commit.specs.Nodes.{is_asked, is_met, is_hidden};
 ghost use Rattle.gix_traverse_commit.specs.Numbered.{same_id};
@@ -196,6 +196,7 @@ pub fn meet_parents<P: Accept>(
         (length listed)) }
     ensures asked { OnOk result (AsksOnce P.goes (IsFresh known.old.nodes parents.now) predicate.old
         predicate.new) }
+    ensures marks { OnOk result (MarksMet known.old.nodes parents.now known.new.nodes) }
 {
     'parents: for parent in parents {
         meet(known, predicate, *parent)?;

@@ -1,16 +1,18 @@
 //! The steps of a walk: it begins, takes the commit whose turn it is, and meets its parents.
 
-ghost use Rattle.std.specs.Prelude.{◌≡◌, ◌↔◌, ◌≤◌, ◌+◌, List, Contains, [], ◌∷◌, ◌++◌, length, IfOk, IfErr, IfSome, IfNone, IsNone, IsOk, IsSome, OnOk, None, true, false};
+ghost use Rattle.std.specs.Prelude.{◌≡◌, ◌⊎◌, ◌↔◌, ◌≤◌, ◌+◌, List, Contains, [], ◌∷◌, ◌++◌, length, IfOk, IfErr, IfSome, IfNone, IsNone, IsOk, IsSome, OnOk, None, true, false};
 ghost use Rattle.gix_hash_id.specs.Id.{Id, id_of};
 ghost use Rattle.gix_hash_id.specs.declared.object_id.ObjectId.{ObjectId};
 ghost use Rattle.gix_traverse_commit.specs.Commits.{Commits, asked_parents};
 ghost use Rattle.gix_traverse_commit.specs.Ending.{times_in};
 ghost use Rattle.gix_traverse_commit.specs.Fetching.{TimeIsTold};
 ghost use Rattle.gix_traverse_commit.specs.Known.{turns_of};
-ghost use Rattle.gix_traverse_commit.specs.Meeting.{Asks, CountsOne, CountsTimes, CountsTips, IsFresh, accepted, unmet};
+ghost use Rattle.gix_traverse_commit.specs.Meeting.{Asks, CountsOne, CountsTimes, CountsTips, IsFresh, MarksMet, accepted, unmet};
 ghost use Rattle.gix_traverse_commit.specs.Order.{IsListOf};
+ghost use Rattle.gix_traverse_commit.specs.Painting.{Paints, StaysPainted};
 ghost use Rattle.gix_traverse_commit.specs.Rows.{AllHeld, Holds};
-ghost use Rattle.gix_traverse_commit.specs.Simply.{Answers, Asked, CountsBeginning, CountsFault, CountsUpTo, HasAhead, IsMade, IsNew, IsPaintedFor, IsUnderWay, IsAtTurn, IsOver, IsKnown, IsInfo, IsMetWith, IsTurn, IsSure, IsContentOf, IsUnmet, IsWanted, InRows, Meets, Stands, StopsFetch, TipFault, SimpleFault, GainsNone, content_of, times_queued, timing};
+ghost use Rattle.gix_traverse_commit.specs.Simply.{Answers, Asked, HasAhead, IsMade, IsNew, IsPaintedFor, IsUnderWay, IsAtTurn, IsOver, IsKnown, IsSure, Stands, GainsNone, content_of, times_queued, timing, StaysAsked};
+ghost use Rattle.gix_traverse_commit.specs.Giving.{CountsBeginning, CountsFault, CountsUpTo, IsInfo, IsMetWith, IsTurn, IsContentOf, IsUnmet, IsWanted, InRows, Meets, StopsFetch, TipFault, SimpleFault};
 ghost use Rattle.gix_traverse_commit.specs.Sorting.{IsByTime, timing_of};
 ghost use Rattle.gix_traverse_commit.specs.Timely.{LetsWaitIn, TakesTurn};
 ghost use Rattle.gix_traverse_commit.specs.Told.{AreTold, rows_of};
@@ -39,6 +41,8 @@ impl<F: Find + Drop, P: Accept + Drop> Simple<F, P> {
         ensures ahead { (a : Asked) → HasAhead P.accepts a self.old → IsMade P.accepts a self.new }
         ensures left { GainsNone self.old self.new }
         ensures over { IsOver self.old → IsOver self.new }
+        ensures stays { (self.new.hidden ≡ self.old.hidden) × (self.new.kind ≡ self.old.kind) }
+        ensures emptied { IsOver self.old → self.new.tips.items ≡ [] }
     {
         if !self.begun {
             return;
@@ -78,6 +82,8 @@ impl<F: Find + Drop, P: Accept + Drop> Simple<F, P> {
             (F.table self.old.source.objects) self.old.tips.items (IsUnmet self.old.known.nodes)) }
         ensures left { OnOk result (GainsNone self.old self.new) }
         ensures over { IsOver self.old → IsOver self.new }
+        ensures kind { self.new.kind ≡ self.old.kind }
+        ensures whole { self.old.tips.items ≡ [] → IsOk result }
     {
         if time_order(Parents::All, sorting).is_none() {
             return Ok(());
@@ -101,6 +107,7 @@ impl<F: Find + Drop, P: Accept + Drop> Simple<F, P> {
         ensures order { (self.new.parents ≡ self.old.parents)
             × (self.new.sorting ≡ self.old.sorting) }
         ensures rowed { InRows self.old → OnOk result (InRows self.new) }
+        ensures stays { (self.new.hidden ≡ self.old.hidden) × (self.new.kind ≡ self.old.kind) }
     {
         if self.is_idle() {
             return Ok(());
@@ -142,6 +149,10 @@ impl<F: Find + Drop, P: Accept + Drop> Simple<F, P> {
         ensures order { (self.new.parents ≡ self.old.parents)
             × (self.new.sorting ≡ self.old.sorting) }
         ensures refused { IfErr result (λ error. error ≡ Memory) }
+        ensures stays { OnOk result ((self.new.hidden ≡ self.old.hidden)
+            × (self.new.begun ≡ true)) }
+        ensures kind { self.new.kind ≡ self.old.kind }
+        ensures painted { OnOk result (StaysPainted self.old.known.nodes self.new.known.nodes) }
     {
         let Some(timing) = time_order(self.parents, self.sorting) else {
             queue_tips(&mut self.known, self.tips.as_slice())?;
@@ -185,6 +196,12 @@ impl<F: Find + Drop, P: Accept + Drop> Simple<F, P> {
             → IfErr result (SimpleFault (λ _. ⊥) (F.is_honest self.old.source.objects)
             (F.may_fail self.old.source.objects) (rows_of self.old.source.rows)
             (F.table self.old.source.objects) a.hidden) }
+        ensures stays { OnOk result (StaysAsked self.old self.new) }
+        ensures kind { OnOk result (self.new.kind ≡ self.old.kind) }
+        ensures painted { OnOk result ((a : Asked) → IsMade P.accepts a self.old
+            → F.is_honest self.old.source.objects → (g : Commits ObjectId)
+            → AreTold (rows_of self.old.source.rows) (F.table self.old.source.objects) g
+            → Paints g a.hidden self.new.known.nodes) }
     {
         self.gather()?;
         let alloc: Global = *self.tips.allocator();
@@ -229,6 +246,12 @@ impl<F: Find + Drop, P: Accept + Drop> Simple<F, P> {
             → IfErr result (SimpleFault (λ _. ⊥) (F.is_honest self.old.source.objects)
             (F.may_fail self.old.source.objects) (rows_of self.old.source.rows)
             (F.table self.old.source.objects) a.hidden) }
+        ensures stays { OnOk result (StaysAsked self.old self.new) }
+        ensures kind { OnOk result (self.new.kind ≡ self.old.kind) }
+        ensures painted { OnOk result ((a : Asked) → IsMade P.accepts a self.old
+            → F.is_honest self.old.source.objects → (g : Commits ObjectId)
+            → AreTold (rows_of self.old.source.rows) (F.table self.old.source.objects) g
+            → Paints g a.hidden self.new.known.nodes) }
     {
         if self.begun {
             return Ok(());
@@ -241,6 +264,7 @@ impl<F: Find + Drop, P: Accept + Drop> Simple<F, P> {
         ensures source { self.new.source ≡ self.old.source }
         ensures predicate { self.new.predicate ≡ self.old.predicate }
         ensures over { IsOver self.new }
+        ensures kind { self.new.kind ≡ self.old.kind }
     {
         self.begun = true;
         self.known.clear();
@@ -253,6 +277,7 @@ impl<F: Find + Drop, P: Accept + Drop> Simple<F, P> {
         ensures lookups { self.new.source.lookups ≡ self.old.source.lookups }
         ensures emptied { content_of self.new ≡ [] }
         ensures over { IsOver self.new }
+        ensures predicate { self.new.predicate ≡ self.old.predicate }
     {
         self.finish();
         self.source.buffer.clear();
@@ -280,6 +305,8 @@ impl<F: Find + Drop, P: Accept + Drop> Simple<F, P> {
         ensures ended { IsOver self.old → IsNone result }
         ensures rowed { IfSome result (λ id. InRows self.old → InRows self.new
             × Holds (rows_of self.old.source.rows) id) }
+        ensures stays { (self.new.hidden ≡ self.old.hidden) × (self.new.begun ≡ self.old.begun) }
+        ensures kind { self.new.kind ≡ self.old.kind }
     {
         let Some(timing) = time_order(self.parents, self.sorting) else {
             let id = self.known.pop()?;
@@ -324,6 +351,10 @@ impl<F: Find + Drop, P: Accept + Drop> Simple<F, P> {
             (rows_of self.old.source.rows) (accepted (P.accepts self.old.predicate) met)
             self.old.source.lookups self.new.source.lookups) }
         ensures refused { IfErr result (λ error. error ≡ Memory) }
+        ensures stays { (self.new.hidden ≡ self.old.hidden) × (self.new.begun ≡ self.old.begun) }
+        ensures painted { OnOk result (StaysPainted self.old.known.nodes self.new.known.nodes) }
+        ensures marks { OnOk result (MarksMet self.old.known.nodes parents.now
+            self.new.known.nodes) }
     {
         let Some(timing) = time_order(self.parents, self.sorting) else {
             meet_parents(&mut self.known, &mut self.predicate, parents)?;
@@ -382,6 +413,12 @@ impl<F: Find + Drop, P: Accept + Drop> Simple<F, P> {
         ensures refused { IfErr result (StopsFetch (F.is_honest self.old.source.objects)
             (F.may_fail self.old.source.objects) (rows_of self.old.source.rows)
             (F.table self.old.source.objects) id) }
+        ensures stays { OnOk result (self.old.begun ≡ true → StaysAsked self.old self.new) }
+        ensures painted { OnOk result (StaysPainted self.old.known.nodes self.new.known.nodes) }
+        ensures marks { IfOk result (λ info. MarksMet self.old.known.nodes info.parent_ids.items
+            self.new.known.nodes) }
+        ensures unasked { IfErr result (λ error. (error ≡ Memory)
+            ⊎ (self.new.predicate ≡ self.old.predicate)) }
     {
         let commit = self.source.fetch(&id, self.parents)?;
         let alloc: Global = *self.tips.allocator();

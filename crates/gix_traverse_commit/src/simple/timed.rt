@@ -1,18 +1,18 @@
 //! Meeting commits in a walk by time: tips and parents, each once.
 
-ghost use Rattle.std.specs.Prelude.{◌≡◌, ◌⊎◌, ◌∷◌, ℕ, ℤ, ◌≤◌, ◌+◌, ◌&&◌, not, List, Bool, true, length, if◌then◌else◌, [], false, Contains, IfOk, IfErr, OnOk};
+ghost use Rattle.std.specs.Prelude.{◌≡◌, ◌⊎◌, ◌∷◌, ℕ, ℤ, ◌≤◌, ◌+◌, ◌&&◌, not, List, Bool, true, length, if◌then◌else◌, [], false, Contains, IfOk, IfErr, IsOk, OnOk};
 ghost use Rattle.gix_hash_id.specs.Id.{Id, id_of};
 ghost use Rattle.gix_hash_id.specs.declared.object_id.ObjectId.{ObjectId};
 ghost use Rattle.gix_traverse_commit.specs.Commits.{Commits};
 ghost use Rattle.gix_traverse_commit.specs.Ending.{NoneGains, times_in, times_waiting};
 ghost use Rattle.gix_traverse_commit.specs.Fetching.{TimeIsTold, one_more};
 ghost use Rattle.gix_traverse_commit.specs.Known.{turns_of};
-ghost use Rattle.gix_traverse_commit.specs.Meeting.{Asks, CountsAll, IsFresh, accepted, fresh, unmet};
+ghost use Rattle.gix_traverse_commit.specs.Meeting.{Asks, CountsAll, IsFresh, MarksMet, accepted, fresh, unmet};
 ghost use Rattle.gix_traverse_commit.specs.Nodes.{is_met, is_hidden};
 ghost use Rattle.gix_traverse_commit.specs.Numbered.{same_id};
 ghost use Rattle.gix_traverse_commit.specs.Order.{At, IsListOf, IsOpen};
 ghost use Rattle.gix_traverse_commit.specs.Rows.{AllHeld, Holds};
-ghost use Rattle.gix_traverse_commit.specs.Simply.{IsReadBefore, IsUnmet, TipFault};
+ghost use Rattle.gix_traverse_commit.specs.Giving.{IsReadBefore, IsUnmet, TipFault};
 ghost use Rattle.gix_traverse_commit.specs.Sorting.{in_time};
 ghost use Rattle.gix_traverse_commit.specs.Timely.{AllRowed, CountsAs, IsMetSoFar, Joins, LetsWait, keep_since, turn_of};
 ghost use Rattle.gix_traverse_commit.specs.Told.{AreTold, rows_of};
@@ -99,6 +99,7 @@ pub fn read_times<F: Find>(
     ensures refused { IfErr result (TipFault (F.is_honest source.old.objects)
         (F.may_fail source.old.objects) (rows_of source.old.rows) (F.table source.old.objects)
         tips.now (IsUnmet known.now.nodes)) }
+    ensures whole { tips.now ≡ [] → IsOk result }
 {
     'tips: for tip in tips {
         read_time(source, known, tip)?;
@@ -347,6 +348,7 @@ pub fn await_parents<F: Find, P: Accept>(
         × Asks P.goes met predicate.old predicate.new
         × CountsAll (rows_of source.old.rows) (accepted (P.accepts predicate.old) met)
         source.old.lookups source.new.lookups) }
+    ensures marks { OnOk result (MarksMet known.old.nodes parents.now known.new.nodes) }
     ensures refused { IfErr result (λ error. error ≡ Memory) }
 {
     'parents: for parent in parents {

@@ -1,4 +1,4 @@
-use Rattle.std.proofs.Common.{arith, ℕ, ◌≡◌, ◌≤◌, ◌+◌, sym, ◌∙◌, ap, refl, subst, List, [], Option, length}
+use Rattle.std.proofs.Common.{arith, Bool, true, ℕ, ◌≡◌, ◌↔◌, ◌≤◌, ◌+◌, sym, ◌∙◌, ap, refl, subst, List, [], Option, length}
 use Rattle.gix_hash_id.specs.declared.object_id.ObjectId.{ObjectId}
 use Rattle.gix_hash_id.specs.Id.{Id}
 use Rattle.gix_traverse_commit.specs.Ending.{times_in, times_waiting}
@@ -10,7 +10,8 @@ use Rattle.gix_traverse_commit.specs.Meeting.{CountsAll, CountsTimes, IsFresh}
 use Rattle.gix_traverse_commit.specs.Known.{turns_of}
 use Rattle.gix_traverse_commit.specs.Nodes.{is_hidden}
 use Rattle.gix_traverse_commit.specs.Sorting.{timing_of}
-use Rattle.gix_traverse_commit.specs.Simply.{IsAccepted, IsNew, IsSure, SimpleFault, hidden_error, times_queued, timing, IsWanted}
+use Rattle.gix_traverse_commit.specs.Simply.{IsNew, IsSure, times_queued, timing}
+use Rattle.gix_traverse_commit.specs.Giving.{IsAccepted, SimpleFault, hidden_error, IsWanted}
 use Rattle.gix_traverse_commit.specs.Timely.{AllRowed, LetsWaitIn}
 use Rattle.gix_traverse_commit.specs.Told.{AreTold, rows_of}
 use Rattle.gix_object_find.specs.Table.{Table}
@@ -171,3 +172,21 @@ returns-clause-awaits g c = λ a m honest0 commits told0.
       is_false (is_hidden c.paint.new.known.nodes x) (λ t. out ((painted x).0 t)),
     ))
     empty
+
+pub returns-clause-stays : goal.returns-clause-stays
+returns-clause-stays g c = record {
+  begun = c.in_ok-line_up.ensures.stays.1;
+  parents = c.line_up.ensures.order.0 ∙ c.gather.ensures.order.0;
+  sorting = c.line_up.ensures.order.1 ∙ c.gather.ensures.order.1;
+  hidden = ap (λ v. v.items) (c.in_ok-line_up.ensures.stays.0 ∙ c.gather.ensures.stays.0);
+}
+
+pub returns-clause-painted : goal.returns-clause-painted
+returns-clause-painted g c = λ a m honest0 commits told0.
+    let still = c.gather.ensures.source in
+    let w : IsNew g.P.Accept.accepts a c.gather.new.self = c.in_ok-gather.ensures.made a m in
+    let honest = subst (λ s. g.F.Lookup.is_honest s.objects) (sym still) honest0 in
+    let told = subst (λ s. AreTold (rows_of s.rows) (g.F.Lookup.table s.objects) commits) (sym still) told0 in
+    let hidden : c.as_slice.result.now ≡ a.hidden = c.as_slice.ensures.value ∙ w.hidden in
+    let painted = subst (λ (hs : List ObjectId). Paints commits hs c.paint.new.known.nodes) hidden (c.in_default.ensures.painted w.asked.unpainted honest commits told) in
+    λ x. subst (λ (b : Bool). (b ≡ true) ↔ ReachedFrom commits a.hidden x) (sym (c.in_ok-line_up.ensures.painted x)) (painted x)

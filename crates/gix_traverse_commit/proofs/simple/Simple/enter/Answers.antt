@@ -4,10 +4,11 @@ use Rattle.gix_hash_id.specs.declared.object_id.ObjectId.{ObjectId}
 use Rattle.gix_object_find.specs.Existing.{Stands}
 use Rattle.gix_object_lines.specs.declared.kind.Kind.TheVariants as kinds
 use Rattle.gix_traverse_commit.specs.Commits.{asked_parents}
-use Rattle.gix_traverse_commit.specs.Meeting.{CountsTimes, IsFresh, accepted}
+use Rattle.gix_traverse_commit.specs.Meeting.{CountsTimes, IsFresh, MarksMet, accepted}
 use Rattle.gix_traverse_commit.specs.Order.{IsListOf}
 use Rattle.gix_traverse_commit.specs.Rows.{AllHeld}
-use Rattle.gix_traverse_commit.specs.Simply.{IsKnown, IsSure, IsTime, IsMetWith}
+use Rattle.gix_traverse_commit.specs.Simply.{IsKnown, IsSure}
+use Rattle.gix_traverse_commit.specs.Giving.{IsTime, IsMetWith}
 use Rattle.gix_traverse_commit.specs.Sorting.{timing_of}
 use Rattle.gix_traverse_commit.specs.Timely.{AllRowed, LetsWaitIn}
 use Rattle.gix_traverse_commit.specs.Known.{turns_of}
@@ -97,3 +98,14 @@ returns-clause-awaits g c = λ honest commits told.
     let turns' = turns_of c.meet_all.new.self.known in
     let step = subst (λ (o : g.row.F.Denot). LetsWaitIn order (g.F.Lookup.may_fail o) commits (IsMetWith g.P.Accept.accepts c.args.self.now c.as_slice.result.now) turns turns') c.fetch.ensures.objects (c.in_ok-meet_all.ensures.awaits honest' commits told') in
     subst (λ (ps : List ObjectId). LetsWaitIn order (g.F.Lookup.may_fail c.args.self.now.source.objects) commits (IsMetWith g.P.Accept.accepts c.args.self.now ps) turns turns') c.as_slice.ensures step
+
+pub returns-clause-stays : goal.returns-clause-stays
+returns-clause-stays g c = λ b. record {
+  begun = c.meet_all.ensures.stays.1 ∙ b;
+  parents = c.meet_all.ensures.order.0;
+  sorting = c.meet_all.ensures.order.1;
+  hidden = ap (λ v. v.items) c.meet_all.ensures.stays.0;
+}
+
+pub returns-clause-marks : goal.returns-clause-marks
+returns-clause-marks g c = subst (λ (ps : List ObjectId). MarksMet c.args.self.now.known.nodes ps c.meet_all.new.self.known.nodes) c.as_slice.ensures c.in_ok-meet_all.ensures.marks

@@ -7,7 +7,8 @@ use Rattle.gix_traverse_commit.specs.Meeting.{CountsTimes, accepted}
 use Rattle.gix_traverse_commit.specs.Known.{turns_of}
 use Rattle.gix_traverse_commit.specs.Nodes.{is_hidden, is_met}
 use Rattle.gix_traverse_commit.specs.Rows.{AllHeld}
-use Rattle.gix_traverse_commit.specs.Simply.{IsKnown, keep_of, times_queued, IsMetWith}
+use Rattle.gix_traverse_commit.specs.Simply.{IsKnown, keep_of, times_queued}
+use Rattle.gix_traverse_commit.specs.Giving.{IsMetWith}
 use Rattle.gix_traverse_commit.specs.Sorting.{in_time, timing_of}
 use Rattle.gix_traverse_commit.specs.Timely.{AllRowed, IsMetSoFar, keep_since, LetsWaitIn}
 use Rattle.gix_traverse_commit.specs.Told.{rows_of}
