@@ -6,11 +6,12 @@ use Rattle.gix_object_find.specs.Existing as object
 use Rattle.gix_object_find.specs.Table.{Table}
 use Rattle.gix_object_lines.specs.declared.kind.Kind.TheVariants as kinds
 use Rattle.gix_traverse_commit.specs.Commits.{Commit, Commits, asked_parents}
-use Rattle.gix_traverse_commit.specs.Fetching.{FetchFault, TimeFault, TimeIsTold, HasRowsGeneration, one_more}
-use Rattle.gix_traverse_commit.specs.Known.{turns_of}
+use Rattle.gix_traverse_commit.specs.Fetching.{ReadFault, TimeFault, TimeIsTold, HasRowsGeneration, one_more}
+use Rattle.gix_traverse_commit.specs.Known.{KnownCommits, turns_of}
 use Rattle.gix_traverse_commit.specs.Meeting.{Asks, CountsAll, CountsOne, CountsTimes, IsFresh, MarksMet, accepted}
 use Rattle.gix_traverse_commit.specs.Nodes.{is_met}
 use Rattle.gix_traverse_commit.specs.Painting.{Paints, ReachedFrom, StaysPainted, StopsPainting}
+use Rattle.gix_traverse_commit.specs.Queueing.{QueuesSome}
 use Rattle.gix_traverse_commit.specs.Rows.{AllHeld, Holds}
 use Rattle.gix_traverse_commit.specs.Told.{AreTold, rows_of}
 use Rattle.gix_traverse_commit.specs.Order.{At, IsListOf}
@@ -54,32 +55,33 @@ hidden_error (fetch.ObjectDecode error) = fault.HiddenGraph (hidden_fault.Object
 hidden_error fetch.Memory = fault.Memory
 
 -- a commit whose turn it is isn't read, for this cause
-abbrev pub StopsAt : (ObjectId → Type 0) → Type 0 → Type 0 → List Row → Table → FetchError → Type 0
-StopsAt Turn honest may_fail rows table error =
-    (id : ObjectId) × Turn id × FetchFault honest may_fail rows table id error
+abbrev pub StopsAt : (ObjectId → Type 0) → Parents → Type 0 → Type 0 → List Row → Table → FetchError
+    → Type 0
+StopsAt Turn along honest may_fail rows table error =
+    (id : ObjectId) × Turn id × ReadFault along honest may_fail rows table id error
 
 -- this commit isn't read, for this cause
-abbrev pub StopsFetch : Type 0 → Type 0 → List Row → Table → ObjectId → Error → Type 0
-StopsFetch honest may_fail rows table id (fault.Find error) =
-    FetchFault honest may_fail rows table id (fetch.Find error)
-StopsFetch honest may_fail rows table id (fault.ObjectDecode error) =
-    FetchFault honest may_fail rows table id (fetch.ObjectDecode error)
-StopsFetch honest may_fail rows table id (fault.HiddenGraph error) = ⊥
-StopsFetch honest may_fail rows table id fault.Memory = ⊤
+abbrev pub StopsFetch : Parents → Type 0 → Type 0 → List Row → Table → ObjectId → Error → Type 0
+StopsFetch along honest may_fail rows table id (fault.Find error) =
+    ReadFault along honest may_fail rows table id (fetch.Find error)
+StopsFetch along honest may_fail rows table id (fault.ObjectDecode error) =
+    ReadFault along honest may_fail rows table id (fetch.ObjectDecode error)
+StopsFetch along honest may_fail rows table id (fault.HiddenGraph error) = ⊥
+StopsFetch along honest may_fail rows table id fault.Memory = ⊤
 
 -- why the walk ends: a commit whose turn it is, or one that the hidden commits reach, isn't read
-abbrev pub SimpleFault : (ObjectId → Type 0) → Type 0 → Type 0 → List Row → Table → List ObjectId
-    → Error → Type 0
-SimpleFault Turn honest may_fail rows table hidden (fault.Find error) =
-    StopsAt Turn honest may_fail rows table (fetch.Find error)
-SimpleFault Turn honest may_fail rows table hidden (fault.ObjectDecode error) =
-    StopsAt Turn honest may_fail rows table (fetch.ObjectDecode error)
-SimpleFault Turn honest may_fail rows table hidden (fault.HiddenGraph (hidden_fault.Find error)) =
+abbrev pub SimpleFault : (ObjectId → Type 0) → Parents → Type 0 → Type 0 → List Row → Table
+    → List ObjectId → Error → Type 0
+SimpleFault Turn along honest may_fail rows table hidden (fault.Find error) =
+    StopsAt Turn along honest may_fail rows table (fetch.Find error)
+SimpleFault Turn along honest may_fail rows table hidden (fault.ObjectDecode error) =
+    StopsAt Turn along honest may_fail rows table (fetch.ObjectDecode error)
+SimpleFault Turn along honest may_fail rows table hidden (fault.HiddenGraph (hidden_fault.Find error)) =
     StopsPainting honest may_fail rows table hidden (fetch.Find error)
-SimpleFault Turn honest may_fail rows table hidden
+SimpleFault Turn along honest may_fail rows table hidden
     (fault.HiddenGraph (hidden_fault.ObjectDecode error)) =
     StopsPainting honest may_fail rows table hidden (fetch.ObjectDecode error)
-SimpleFault Turn honest may_fail rows table hidden fault.Memory = ⊤
+SimpleFault Turn along honest may_fail rows table hidden fault.Memory = ⊤
 
 -- its turn is next
 abbrev pub IsTurn : Commits ObjectId → Asked → List ObjectId → ObjectId → Type 0
@@ -195,13 +197,23 @@ pub record ComesInTurn {F P : Type 0} (accepts : P → Id → Bool) (may_fail : 
   pub parents : LetsWaitIn (timing_of before.parents before.sorting) may_fail g
       (IsMetWith accepts before info.parent_ids.items) others (turns_of after.known)
 
+-- by time what waits stays queued in its order, and parents that begin to wait are queued behind it, in their order
+pub record KeepsOrder {F P : Type 0} (before : Simple F P) (info : Info)
+    (after : Simple F P) : Type 0 where
+  pub between : KnownCommits
+  pub nodes : between.nodes ≡ before.known.nodes
+  pub order : between.order ≡ before.known.order
+  pub taken : TakesTurn (timing_of before.parents before.sorting)
+      (turns_of before.known) info.id (turns_of between)
+  pub behind : QueuesSome between info.parent_ids.items after.known
+
 -- by time it is the turn of a commit that isn't read, for this cause
 pub record FailsInTurn {F P : Type 0} (honest may_fail : Type 0) (rows : List Row) (table : Table)
     (before : Simple F P) (error : Error) : Type 0 where
   pub id : ObjectId
   pub others : List Turn
   pub taken : TakesTurn (timing_of before.parents before.sorting) (turns_of before.known) id others
-  pub cause : StopsFetch honest may_fail rows table id error
+  pub cause : StopsFetch before.parents honest may_fail rows table id error
 
 -- the walk has begun, for which the predicate isn't asked
 pub record Begins {F P : Type 0} (accepts : P → Id → Bool) (honest may_fail : Type 0)
@@ -232,6 +244,7 @@ pub record CountsFirst {F P : Type 0} (accepts : P → Id → Bool) (goes : P �
       (length info.parent_ids.items) begun.source.lookups after.source.lookups
   pub in_turn : honest → (g : Commits ObjectId) → AreTold (rows_of before.source.rows) table g
       → ComesInTurn accepts may_fail g begun info after
+  pub queues : IsSome (timing a) → KeepsOrder begun info after
   pub marks : MarksMet begun.known.nodes info.parent_ids.items after.known.nodes
   pub paint_stays : StaysPainted begun.known.nodes after.known.nodes
 
@@ -255,7 +268,7 @@ pub record FailsBegun {F P : Type 0} (accepts : P → Id → Bool) (honest may_f
 abbrev pub FailsFirst : {F P : Type 0} → (P → Id → Bool) → Type 0 → Type 0 → Table → List Id → Asked
     → Simple F P → Error → Simple F P → Type 0
 FailsFirst accepts honest may_fail table ids a before error after =
-    SimpleFault (λ _. ⊥) honest may_fail (rows_of before.source.rows) table a.hidden error
+    SimpleFault (λ _. ⊥) a.parents honest may_fail (rows_of before.source.rows) table a.hidden error
     ⊎ FailsBegun accepts honest may_fail table ids a before error after
 
 -- what the next commit is, after this list
@@ -287,7 +300,7 @@ pub record GivesNext {F P : Type 0} (accepts : P → Id → Bool) (goes : P → 
       → Stands accepts ids g a listed before
       → IfSome item
       (λ answer. IfErr answer
-      (SimpleFault (IsTurn g a listed) honest may_fail
+      (SimpleFault (IsTurn g a listed) a.parents honest may_fail
       (rows_of before.source.rows) table a.hidden))
   pub failed : IfSome item (λ answer. OnErr answer (IsOver after))
   pub ended : IsOver before → IsNone item
@@ -367,3 +380,5 @@ pub record GivesNext {F P : Type 0} (accepts : P → Id → Bool) (goes : P → 
       (λ answer. IfErr answer
       (λ error. (error ≡ fault.Memory) ⊎ (after.predicate ≡ before.predicate)))
   pub kind_end : IfNone item (after.kind ≡ before.kind)
+  pub queues : before.begun ≡ true → IsSome (timing_of before.parents before.sorting)
+      → IfSome item (λ answer. IfOk answer (λ info. KeepsOrder before info after))

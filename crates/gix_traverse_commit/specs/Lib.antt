@@ -16,6 +16,7 @@ pub mod Giving
 pub mod Nodes
 pub mod Waiting
 pub mod Known
+pub mod Queueing
 pub mod Meeting
 pub mod Keeping
 pub mod Painting

@@ -9,6 +9,7 @@ ghost use Rattle.gix_traverse_commit.specs.Meeting.{Asks, AsksOnce, IsFresh, Mar
 ghost use Rattle.gix_traverse_commit.specs.Known.{turns_of};
 ghost use Rattle.gix_traverse_commit.specs.Nodes.{is_asked, is_met, is_hidden};
 ghost use Rattle.gix_traverse_commit.specs.Numbered.{same_id};
+ghost use Rattle.gix_traverse_commit.specs.Queueing.{QueuesBehind};
 ghost use Rattle.gix_traverse_commit.specs.Rows.{AllHeld};
 ghost use Rattle.gix_traverse_commit.specs.Simply.{AreAsked, AreRefused};
 ghost use Rattle.gix_traverse_commit.specs.Standing.{Reads};
@@ -77,6 +78,7 @@ pub fn mark_met(known: &mut Known, id: ObjectId, marks: Marks) -> Result<(), All
         → (q : ObjectId) → is_hidden known.new.nodes q ≡ is_hidden known.old.nodes q) }
     ensures queue { OnOk result (known.new.queue ≡ known.old.queue) }
     ensures turns { OnOk result (turns_of known.new ≡ turns_of known.old) }
+    ensures behind { OnOk result (QueuesBehind known.old [] known.new) }
 {
     known.mark(id, marks.as_met())
 }

@@ -10,6 +10,7 @@ ghost use Rattle.gix_traverse_commit.specs.Known.{turns_of};
 ghost use Rattle.gix_traverse_commit.specs.Meeting.{Asks, CountsOne, CountsTimes, CountsTips, IsFresh, MarksMet, accepted, unmet};
 ghost use Rattle.gix_traverse_commit.specs.Order.{IsListOf};
 ghost use Rattle.gix_traverse_commit.specs.Painting.{Paints, StaysPainted};
+ghost use Rattle.gix_traverse_commit.specs.Queueing.{QueuesSome};
 ghost use Rattle.gix_traverse_commit.specs.Rows.{AllHeld, Holds};
 ghost use Rattle.gix_traverse_commit.specs.Simply.{Answers, Asked, HasAhead, IsMade, IsNew, IsPaintedFor, IsUnderWay, IsAtTurn, IsOver, IsKnown, IsSure, Stands, GainsNone, content_of, times_queued, timing, StaysAsked};
 ghost use Rattle.gix_traverse_commit.specs.Giving.{CountsBeginning, CountsFault, CountsUpTo, IsInfo, IsMetWith, IsTurn, IsContentOf, IsUnmet, IsWanted, InRows, Meets, StopsFetch, TipFault, SimpleFault};
@@ -193,7 +194,7 @@ impl<F: Find + Drop, P: Accept + Drop> Simple<F, P> {
         ensures order { (self.new.parents ≡ self.old.parents)
             × (self.new.sorting ≡ self.old.sorting) }
         ensures refused { (a : Asked) → IsMade P.accepts a self.old
-            → IfErr result (SimpleFault (λ _. ⊥) (F.is_honest self.old.source.objects)
+            → IfErr result (SimpleFault (λ _. ⊥) a.parents (F.is_honest self.old.source.objects)
             (F.may_fail self.old.source.objects) (rows_of self.old.source.rows)
             (F.table self.old.source.objects) a.hidden) }
         ensures stays { OnOk result (StaysAsked self.old self.new) }
@@ -243,7 +244,7 @@ impl<F: Find + Drop, P: Accept + Drop> Simple<F, P> {
             × (self.new.sorting ≡ self.old.sorting) }
         ensures refused { (g : Commits ObjectId) (ids : List Id) (a : Asked)
             (listed : List ObjectId) → Stands P.accepts ids g a listed self.old
-            → IfErr result (SimpleFault (λ _. ⊥) (F.is_honest self.old.source.objects)
+            → IfErr result (SimpleFault (λ _. ⊥) a.parents (F.is_honest self.old.source.objects)
             (F.may_fail self.old.source.objects) (rows_of self.old.source.rows)
             (F.table self.old.source.objects) a.hidden) }
         ensures stays { OnOk result (StaysAsked self.old self.new) }
@@ -307,6 +308,8 @@ impl<F: Find + Drop, P: Accept + Drop> Simple<F, P> {
             × Holds (rows_of self.old.source.rows) id) }
         ensures stays { (self.new.hidden ≡ self.old.hidden) × (self.new.begun ≡ self.old.begun) }
         ensures kind { self.new.kind ≡ self.old.kind }
+        ensures queueing { IfSome result (λ _. IsSome (timing_of self.old.parents self.old.sorting)
+            → self.new.known.order ≡ self.old.known.order) }
     {
         let Some(timing) = time_order(self.parents, self.sorting) else {
             let id = self.known.pop()?;
@@ -355,6 +358,8 @@ impl<F: Find + Drop, P: Accept + Drop> Simple<F, P> {
         ensures painted { OnOk result (StaysPainted self.old.known.nodes self.new.known.nodes) }
         ensures marks { OnOk result (MarksMet self.old.known.nodes parents.now
             self.new.known.nodes) }
+        ensures behind { OnOk result (IsSome (timing_of self.old.parents self.old.sorting)
+            → QueuesSome self.old.known parents.now self.new.known) }
     {
         let Some(timing) = time_order(self.parents, self.sorting) else {
             meet_parents(&mut self.known, &mut self.predicate, parents)?;
@@ -410,7 +415,7 @@ impl<F: Find + Drop, P: Accept + Drop> Simple<F, P> {
             → OnOk result (InRows self.new × (self.new.source.lookups ≡ self.old.source.lookups)) }
         ensures failed { IfErr result (CountsFault self.old.source.lookups
             self.new.source.lookups) }
-        ensures refused { IfErr result (StopsFetch (F.is_honest self.old.source.objects)
+        ensures refused { IfErr result (StopsFetch self.old.parents (F.is_honest self.old.source.objects)
             (F.may_fail self.old.source.objects) (rows_of self.old.source.rows)
             (F.table self.old.source.objects) id) }
         ensures stays { OnOk result (self.old.begun ≡ true → StaysAsked self.old self.new) }
@@ -419,6 +424,9 @@ impl<F: Find + Drop, P: Accept + Drop> Simple<F, P> {
             self.new.known.nodes) }
         ensures unasked { IfErr result (λ error. (error ≡ Memory)
             ⊎ (self.new.predicate ≡ self.old.predicate)) }
+        ensures behind { IfOk result (λ info.
+            IsSome (timing_of self.old.parents self.old.sorting)
+            → QueuesSome self.old.known info.parent_ids.items self.new.known) }
     {
         let commit = self.source.fetch(&id, self.parents)?;
         let alloc: Global = *self.tips.allocator();

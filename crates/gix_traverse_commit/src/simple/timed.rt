@@ -11,6 +11,7 @@ ghost use Rattle.gix_traverse_commit.specs.Meeting.{Asks, CountsAll, IsFresh, Ma
 ghost use Rattle.gix_traverse_commit.specs.Nodes.{is_met, is_hidden};
 ghost use Rattle.gix_traverse_commit.specs.Numbered.{same_id};
 ghost use Rattle.gix_traverse_commit.specs.Order.{At, IsListOf, IsOpen};
+ghost use Rattle.gix_traverse_commit.specs.Queueing.{QueuesSome};
 ghost use Rattle.gix_traverse_commit.specs.Rows.{AllHeld, Holds};
 ghost use Rattle.gix_traverse_commit.specs.Giving.{IsReadBefore, IsUnmet, TipFault};
 ghost use Rattle.gix_traverse_commit.specs.Sorting.{in_time};
@@ -141,6 +142,7 @@ fn wait<F: Find>(
     ensures asked { (¬ Holds (rows_of source.old.rows) id)
         → source.new.lookups ≡ one_more source.old.lookups }
     ensures refused { IfErr result (λ error. error ≡ Memory) }
+    ensures behind { OnOk result (QueuesSome known.old (id ∷ []) known.new) }
 {
     let time = seconds_or_zero(source, &id)?;
     if !is_in_time(since, time) {
@@ -286,6 +288,7 @@ fn await_parent<F: Find, P: Accept>(
         (accepted (P.accepts predicate.old) (fresh known.old.nodes id)) source.old.lookups
         source.new.lookups) }
     ensures refused { IfErr result (λ error. error ≡ Memory) }
+    ensures behind { OnOk result (QueuesSome known.old (id ∷ []) known.new) }
 {
     let marks = known.marks(&id);
     if marks.hidden {
@@ -350,6 +353,7 @@ pub fn await_parents<F: Find, P: Accept>(
         source.old.lookups source.new.lookups) }
     ensures marks { OnOk result (MarksMet known.old.nodes parents.now known.new.nodes) }
     ensures refused { IfErr result (λ error. error ≡ Memory) }
+    ensures behind { OnOk result (QueuesSome known.old parents.now known.new) }
 {
     'parents: for parent in parents {
         await_parent(source, known, predicate, since, *parent)?;

@@ -17,6 +17,7 @@ use Rattle.gix_traverse_commit.specs.Told.{AreTold, rows_of}
 use Rattle.gix_object_find.specs.Table.{Table}
 use Rattle.gix_traverse_commit.specs.declared.fetch.FetchError.{FetchError}
 use Rattle.gix_traverse_commit.specs.declared.fetch.FetchError.TheVariants as fault
+use Rattle.gix_traverse_commit.specs.declared.parents.Parents.{Parents}
 use Rattle.gix_traverse_commit.specs.declared.rows.Row.{Row}
 use Rattle.gix_traverse_commit.specs.declared.simple.waiting.Turn.{Turn}
 use Rattle.gix_traverse_commit.specs.declared.simple.sorting.Timing.{Timing}
@@ -102,10 +103,10 @@ returns-clause-rowed g c = λ r0.
     }) in
     (record { tips = step.0.tips; hidden = step.0.hidden; queue = step.0.queue; waiting_rows = step.0.waiting_rows }, step.1 ∙ c.in_default.ensures.rowed (subst (λ (xs : List ObjectId). AllHeld (rows_of c.gather.new.self.source.rows) xs) (sym c.as_slice.ensures.value) r.hidden) ∙ ap (λ s. s.lookups) c.gather.ensures.source)
 
-of_hidden : (honest may_fail : Type 0) (rows : List Row) (table : Table) (hidden : List ObjectId) (error : FetchError) → PaintFault honest may_fail rows table hidden error → SimpleFault (λ _. ⊥) honest may_fail rows table hidden (hidden_error error)
-of_hidden honest may_fail rows table hidden (fault.Find error) h = h
-of_hidden honest may_fail rows table hidden (fault.ObjectDecode error) h = h
-of_hidden honest may_fail rows table hidden fault.Memory h = tt
+of_hidden : (along : Parents) (honest may_fail : Type 0) (rows : List Row) (table : Table) (hidden : List ObjectId) (error : FetchError) → PaintFault honest may_fail rows table hidden error → SimpleFault (λ _. ⊥) along honest may_fail rows table hidden (hidden_error error)
+of_hidden along honest may_fail rows table hidden (fault.Find error) h = h
+of_hidden along honest may_fail rows table hidden (fault.ObjectDecode error) h = h
+of_hidden along honest may_fail rows table hidden fault.Memory h = tt
 
 pub returns-in-Err-clause-refused : goal.returns-in-Err-clause-refused
 returns-in-Err-clause-refused g c = λ a m.
@@ -119,7 +120,7 @@ returns-in-Err-clause-refused g c = λ a m.
     let here = subst (λ s. PaintFault (g.F.Lookup.is_honest s.objects) (g.F.Lookup.may_fail s.objects) (rows_of s.rows) (g.F.Lookup.table s.objects) c.as_slice.result.now error) still (c.in-Err.ensures.refused w.asked.unpainted) in
     let hidden : c.as_slice.result.now ≡ a.hidden = c.as_slice.ensures.value ∙ w.hidden in
     let of_tips = subst (λ (hs : List ObjectId). PaintFault honest may_fail rows table hs error) hidden here in
-    subst (λ (e : Error). SimpleFault (λ _. ⊥) honest may_fail rows table a.hidden e) (sym c.of_painting.ensures) (of_hidden honest may_fail rows table a.hidden error of_tips)
+    subst (λ (e : Error). SimpleFault (λ _. ⊥) a.parents honest may_fail rows table a.hidden e) (sym c.of_painting.ensures) (of_hidden a.parents honest may_fail rows table a.hidden error of_tips)
 
 pub returns-in_err-gather-clause-order : goal.returns-in_err-gather-clause-order
 returns-in_err-gather-clause-order g c = c.gather.ensures.order

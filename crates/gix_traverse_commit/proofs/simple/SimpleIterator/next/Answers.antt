@@ -5,7 +5,7 @@ use Rattle.std.specs.List.{sum_by}
 use Rattle.gix_traverse_commit.specs.Ending.{may_come, times_in}
 use Rattle.gix_traverse_commit.specs.Meeting.{CountsOne, IsFresh, MarksMet}
 use Rattle.gix_traverse_commit.specs.Simply.{timing, IsAtTurn, IsOver, IsKnown, IsSure, IsUnderWay, is_over, known_ids, left_of, times_queued}
-use Rattle.gix_traverse_commit.specs.Giving.{CountsBeginning, IsWanted, CountsFault, CountsUpTo, IsContentOf, IsInfo, IsTurn, StopsFetch, ComesInTurn, FailsInTurn, IsMetWith}
+use Rattle.gix_traverse_commit.specs.Giving.{CountsBeginning, IsWanted, CountsFault, CountsUpTo, IsContentOf, IsInfo, IsTurn, StopsFetch, ComesInTurn, FailsInTurn, IsMetWith, KeepsOrder}
 use Rattle.gix_traverse_commit.specs.Rows.{Holds}
 use Rattle.gix_traverse_commit.specs.Sorting.{timing_of}
 use Rattle.gix_traverse_commit.specs.Known.{turns_of}
@@ -35,7 +35,7 @@ returns-in-Err-clause-steps g c = record {
   rows = c.stop.ensures.rows ∙ c.ready.ensures.rows;
   given = λ honest commits told a listed sure s. tt;
   end = λ honest commits told a listed sure s. tt;
-  refused = λ honest commits told a listed sure s. fault_more (λ _. ⊥) (IsTurn commits a listed) (g.F.Lookup.is_honest c.args.self.now.source.objects) (g.F.Lookup.may_fail c.args.self.now.source.objects) (rows_of c.args.self.now.source.rows) (g.F.Lookup.table c.args.self.now.source.objects) a.hidden c.in-Err.error (λ x z. absurd z) (c.in-Err.ensures.refused commits (g.F.Lookup.ids c.args.self.now.source.objects) a listed s);
+  refused = λ honest commits told a listed sure s. fault_more (λ _. ⊥) (IsTurn commits a listed) a.parents (g.F.Lookup.is_honest c.args.self.now.source.objects) (g.F.Lookup.may_fail c.args.self.now.source.objects) (rows_of c.args.self.now.source.rows) (g.F.Lookup.table c.args.self.now.source.objects) a.hidden c.in-Err.error (λ x z. absurd z) (c.in-Err.ensures.refused commits (g.F.Lookup.ids c.args.self.now.source.objects) a listed s);
   failed = c.stop.ensures.over;
   ended = λ o. absurd (no_way (c.in-Err.ensures.begun o.begun));
   content = tt;
@@ -66,6 +66,7 @@ returns-in-Err-clause-steps g c = record {
   first_fault = λ a m. inl (c.in-Err.ensures.refused (λ _. record { parents = []; time = pos 0 }) (g.F.Lookup.ids c.args.self.now.source.objects) a [] (inl (refl, m)));
   unasked_fault = inr (c.stop.ensures.predicate ∙ c.ready.ensures.predicate);
   kind_end = tt;
+  queues = λ b some. tt;
 }
 
 pub returns-in_default-take-clause-steps : goal.returns-in_default-take-clause-steps
@@ -110,6 +111,7 @@ returns-in_default-take-clause-steps g c =
       first_fault = λ a m. tt;
       unasked_fault = tt;
       kind_end = c.finish.ensures.kind ∙ (c.take.ensures.kind ∙ c.in_default.ensures.kind);
+      queues = λ b some. tt;
     }
 
 pub returns-in-Ok-clause-steps : goal.returns-in-Ok-clause-steps
@@ -136,6 +138,13 @@ returns-in-Ok-clause-steps g c =
       others = turns;
       taken = subst (λ (x : ObjectId). TakesTurn order (turns_of c.ready.new.self.known) x turns) (sym c.in-Ok.ensures.id) c.in-Some.ensures.waiting;
       parents = subst (λ (p : g.row.P.Denot). LetsWaitIn order may_fail commits (λ x. IsFresh c.ready.new.self.known.nodes ps x × (g.P.Accept.accepts p (id_of x) ≡ true)) turns turns') c.take.ensures.predicate nodes;
+    }) in
+    let queued : IsSome order → KeepsOrder c.ready.new.self c.in-Ok.info c.enter.new.self = (λ some. record {
+      between = c.take.new.self.known;
+      nodes = c.take.ensures.nodes;
+      order = c.in-Some.ensures.queueing some;
+      taken = subst (λ (x : ObjectId). TakesTurn order (turns_of c.ready.new.self.known) x (turns_of c.take.new.self.known)) (sym c.in-Ok.ensures.id) c.in-Some.ensures.waiting;
+      behind = c.in-Ok.ensures.behind (subst (λ (t : Option Timing). IsSome t) (sym in_order) some);
     }) in
     let known : IsKnown rows ids id = subst (λ (o : g.row.F.Denot). IsKnown rows (g.F.Lookup.ids o) id) objects (subst (λ (r : Option (List Row)). IsKnown (rows_of r) (g.F.Lookup.ids c.take.new.self.source.objects) id) same_rows c.in-Ok.ensures.known) in
     record {
@@ -216,6 +225,7 @@ returns-in-Ok-clause-steps g c =
                 (subst (λ (k : ℕ). CountsUpTo rows id more k c.enter.new.self.source.lookups) f
                 (subst (λ (r : Option (List Row)). CountsUpTo (rows_of r) id more c.take.new.self.source.lookups c.enter.new.self.source.lookups) same_rows c.in-Ok.ensures.counted));
             in_turn = comes;
+            queues = λ some. queued (subst (λ (t : Option Timing). IsSome t) (sym (timing_same a c.ready.new.self.parents c.ready.new.self.sorting (c.ready.ensures.order.0 ∙ order.0) (c.ready.ensures.order.1 ∙ order.1))) some);
             marks = subst (λ (ns : List Node). MarksMet ns c.in-Ok.info.parent_ids.items c.enter.new.self.known.nodes) c.take.ensures.nodes c.in-Ok.ensures.marks;
             paint_stays = λ x. c.in-Ok.ensures.painted x ∙ ap (λ (ns : List Node). is_hidden ns x) c.take.ensures.nodes;
           });
@@ -251,6 +261,7 @@ returns-in-Ok-clause-steps g c =
       first_fault = λ a m. tt;
       unasked_fault = tt;
       kind_end = tt;
+      queues = λ b some. subst (λ walk. KeepsOrder walk c.in-Ok.info c.enter.new.self) (c.in_default.ensures.same b) (queued (subst (λ walk. IsSome (timing_of walk.parents walk.sorting)) (sym (c.in_default.ensures.same b)) some));
       falls = (
           let now = ap rows_of (c.enter.ensures.rows ∙ same_rows) in
           let old = c.args.self.now in
@@ -271,8 +282,10 @@ returns-in-Err-enter-clause-steps g c =
     let ids = g.F.Lookup.ids c.args.self.now.source.objects in
     let objects : c.take.new.self.source.objects ≡ c.args.self.now.source.objects = ap (λ s. s.objects) c.take.ensures.source ∙ c.ready.ensures.objects in
     let same_rows : c.take.new.self.source.rows ≡ c.args.self.now.source.rows = ap (λ s. s.rows) c.take.ensures.source ∙ c.ready.ensures.rows in
-    let fault = subst (λ (o : g.row.F.Denot). StopsFetch (g.F.Lookup.is_honest o) (g.F.Lookup.may_fail o) (rows_of c.args.self.now.source.rows) (g.F.Lookup.table o) id error) objects
-    (subst (λ (r : Option (List Row)). StopsFetch (g.F.Lookup.is_honest c.take.new.self.source.objects) (g.F.Lookup.may_fail c.take.new.self.source.objects) (rows_of r) (g.F.Lookup.table c.take.new.self.source.objects) id error) same_rows c.in-Err-enter.ensures.refused) in
+    let along : c.take.new.self.parents ≡ c.ready.new.self.parents = c.take.ensures.order.0 in
+    let fault = subst (λ (p : Parents). StopsFetch p (g.F.Lookup.is_honest c.args.self.now.source.objects) (g.F.Lookup.may_fail c.args.self.now.source.objects) (rows_of c.args.self.now.source.rows) (g.F.Lookup.table c.args.self.now.source.objects) id error) along
+    (subst (λ (o : g.row.F.Denot). StopsFetch c.take.new.self.parents (g.F.Lookup.is_honest o) (g.F.Lookup.may_fail o) (rows_of c.args.self.now.source.rows) (g.F.Lookup.table o) id error) objects
+    (subst (λ (r : Option (List Row)). StopsFetch c.take.new.self.parents (g.F.Lookup.is_honest c.take.new.self.source.objects) (g.F.Lookup.may_fail c.take.new.self.source.objects) (rows_of r) (g.F.Lookup.table c.take.new.self.source.objects) id error) same_rows c.in-Err-enter.ensures.refused)) in
     record {
       objects = c.stop-in-Err-enter.ensures.objects ∙ (c.enter.ensures.objects ∙ objects);
       rows = c.stop-in-Err-enter.ensures.rows ∙ (c.enter.ensures.rows ∙ same_rows);
@@ -280,8 +293,10 @@ returns-in-Err-enter-clause-steps g c =
       end = λ honest commits told a listed sure s. tt;
       refused = (λ honest commits told a listed sure s.
           let w = c.in_default.ensures.going honest commits told ids a listed sure s in
-          let turn = (c.in-Some.ensures.turn ids commits a listed w).1 in
-          fetch_fault (IsTurn commits a listed) (g.F.Lookup.is_honest c.args.self.now.source.objects) (g.F.Lookup.may_fail c.args.self.now.source.objects) (rows_of c.args.self.now.source.rows) (g.F.Lookup.table c.args.self.now.source.objects) a.hidden id error turn fault);
+          let (at, turn) = c.in-Some.ensures.turn ids commits a listed w in
+          let parents = (at_order g.P.Accept.accepts ids commits a listed id c.take.new.self at).0 in
+          let here = subst (λ (p : Parents). StopsFetch p (g.F.Lookup.is_honest c.args.self.now.source.objects) (g.F.Lookup.may_fail c.args.self.now.source.objects) (rows_of c.args.self.now.source.rows) (g.F.Lookup.table c.args.self.now.source.objects) id error) (sym along ∙ parents) fault in
+          fetch_fault (IsTurn commits a listed) a.parents (g.F.Lookup.is_honest c.args.self.now.source.objects) (g.F.Lookup.may_fail c.args.self.now.source.objects) (rows_of c.args.self.now.source.rows) (g.F.Lookup.table c.args.self.now.source.objects) a.hidden id error turn here);
       failed = c.stop-in-Err-enter.ensures.over;
       ended = (λ o. let e = c.in_default.ensures.same o.begun in let over : IsOver c.ready.new.self = subst IsOver (sym e) o in let h = rw c.in-Some.is at (c.take.ensures.ended over) in absurd (no_way (sym h)));
       content = tt;
@@ -339,6 +354,7 @@ returns-in-Err-enter-clause-steps g c =
         | inr p ↦ inr (c.stop-in-Err-enter.ensures.predicate ∙ (p ∙ (c.take.ensures.predicate ∙ c.ready.ensures.predicate)))
       ];
       kind_end = tt;
+      queues = λ b some. tt;
     }
 
 pub returns-in-Ok-clause-goes : goal.returns-in-Ok-clause-goes

@@ -8,6 +8,7 @@ use Rattle.gix_traverse_commit.specs.Meeting.{Asks, CountsAll, MarksMet, accepte
 use Rattle.gix_traverse_commit.specs.Known.{turns_of}
 use Rattle.gix_traverse_commit.specs.Nodes.{is_hidden, is_met}
 use Rattle.gix_traverse_commit.specs.Order.{IsOpen}
+use Rattle.gix_traverse_commit.specs.Queueing.{QueuesSome}
 use Rattle.gix_traverse_commit.specs.Rows.{AllHeld}
 use Rattle.gix_traverse_commit.specs.Timely.{AllRowed, IsMetSoFar, LetsWait, keep_since}
 use Rattle.gix_traverse_commit.specs.Told.{AreTold, rows_of}
@@ -32,6 +33,7 @@ invariant-parents g l = record {
       → ((x : ObjectId) → is_met l.fn.known.nodes x ≡ false → g.P.Accept.accepts l.fn.predicate (id_of x) ≡ accepts (id_of x))
       → IsMetSoFar h (keep_since l.since h (is_hidden l.fn.known.nodes) accepts) (is_met l.fn.known.nodes) (IsOpen along tips front) listed (turns_of l.fn.known)
       → IsMetSoFar h (keep_since l.since h (is_hidden l.fn.known.nodes) accepts) (is_met l.known.nodes) (λ x. IsOpen along tips front x ⊎ Contains (take l.parent-index l.parents) x) listed (turns_of l.known);
+  behind : QueuesSome l.fn.known (take l.parent-index l.parents) l.known;
   marks : MarksMet l.fn.known.nodes (take l.parent-index l.parents) l.known.nodes;
   once : (xs : List ObjectId) × Asks g.P.Accept.goes xs l.fn.predicate l.predicate
       × CountsAll (rows_of l.fn.source.rows) (accepted (g.P.Accept.accepts l.fn.predicate) xs) l.fn.source.lookups l.source.lookups
