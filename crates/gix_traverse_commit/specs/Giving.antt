@@ -76,7 +76,8 @@ SimpleFault Turn along honest may_fail rows table hidden (fault.Find error) =
     StopsAt Turn along honest may_fail rows table (fetch.Find error)
 SimpleFault Turn along honest may_fail rows table hidden (fault.ObjectDecode error) =
     StopsAt Turn along honest may_fail rows table (fetch.ObjectDecode error)
-SimpleFault Turn along honest may_fail rows table hidden (fault.HiddenGraph (hidden_fault.Find error)) =
+SimpleFault Turn along honest may_fail rows table hidden
+    (fault.HiddenGraph (hidden_fault.Find error)) =
     StopsPainting honest may_fail rows table hidden (fetch.Find error)
 SimpleFault Turn along honest may_fail rows table hidden
     (fault.HiddenGraph (hidden_fault.ObjectDecode error)) =
@@ -179,7 +180,8 @@ abbrev pub Meets : {F P : Type 0} → (P → Id → Bool) → (P → Id → P �
     → Simple F P → Info → Simple F P → Type 0
 Meets accepts goes rows before info after =
     MeetsParents accepts goes rows before.known.nodes
-    (timing_of before.parents before.sorting) info before.predicate before.source.lookups after.predicate after.source.lookups
+    (timing_of before.parents before.sorting) info before.predicate before.source.lookups
+    after.predicate after.source.lookups
 
 -- one of these parents that is met with its child, and that the predicate accepts
 abbrev pub IsMetWith : {F P : Type 0} → (P → Id → Bool) → Simple F P → List ObjectId → ObjectId
