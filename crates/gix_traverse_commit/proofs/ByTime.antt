@@ -7,7 +7,8 @@ use Rattle.gix_traverse_commit.specs.Commits.{Commits, asked_parents, Reached, t
 use Rattle.gix_traverse_commit.specs.Order.{At, IsChosen, IsOpen}
 use Rattle.gix_traverse_commit.specs.Painting.{ReachedFrom}
 use Rattle.gix_traverse_commit.specs.Nodes.{is_met}
-use Rattle.gix_traverse_commit.specs.Simply.{Answers, Asked, IsAtTurn, IsKnown, IsSure, IsTurn, IsUnderWay, keep_of, request_in, timing}
+use Rattle.gix_traverse_commit.specs.Simply.{Answers, Asked, IsAtTurn, IsKnown, IsSure, IsUnderWay, keep_of, request_in, timing}
+use Rattle.gix_traverse_commit.specs.Giving.{IsTurn}
 use Rattle.gix_traverse_commit.specs.Sorting.{ComesFirst, InOrder, InTimeOrder, IsNextIn, in_time, timing_of}
 use Rattle.gix_traverse_commit.specs.Told.{rows_of}
 use Rattle.gix_hash_id.specs.declared.kind.Kind.{Kind}

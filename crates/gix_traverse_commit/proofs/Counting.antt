@@ -12,7 +12,7 @@ use Rattle.gix_traverse_commit.specs.Order.{At, IsListOf}
 use Rattle.gix_traverse_commit.specs.Painting.{ReachedFrom, every}
 use Rattle.gix_traverse_commit.specs.Rows.{Holds}
 use Rattle.gix_traverse_commit.specs.Meeting.{CountsAll, CountsOne}
-use Rattle.gix_traverse_commit.specs.Simply.{CountsFault, MeetsParents, error_of}
+use Rattle.gix_traverse_commit.specs.Giving.{CountsFault, MeetsParents, error_of}
 use Rattle.gix_traverse_commit.specs.declared.info.Info.{Info}
 use Rattle.gix_traverse_commit.specs.declared.simple.sorting.Timing.{Timing}
 use Rattle.gix_traverse_commit.specs.declared.fetch.FetchError.{FetchError}

@@ -27,3 +27,4 @@ mod Counting
 pub mod Ending
 pub mod Meeting
 pub mod KnownLemmas
+pub mod Queueing

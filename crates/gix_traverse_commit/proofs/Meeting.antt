@@ -1,5 +1,5 @@
 -- Which commits are met, and what is asked of each.
-use Rattle.std.proofs.Common.{◌≡◌, ◌∙◌, ℕ, ◌+◌, ◌⊎◌, inl, inr, List, [], ◌∷◌, ◌++◌, suc, ap, take, append-nil, refl, sym, subst, Bool, true, false, cond}
+use Rattle.std.proofs.Common.{◌≡◌, ◌∙◌, ◌↔◌, ℕ, ◌+◌, ◌⊎◌, inl, inr, List, [], ◌∷◌, ◌++◌, suc, ap, take, append-nil, refl, sym, subst, Bool, true, false, cond}
 use Rattle.std.specs.Prelude.{Contains, filter, not}
 use Rattle.std.proofs.lemmas.List.Elements.{Contains-append_left, Contains-push, filter-append}
 use Rattle.gix_hash_id.specs.Id.{Id, id_of}
@@ -9,7 +9,7 @@ use Rattle.gix_traverse_commit.specs.Nodes.{Node, is_met}
 use Rattle.gix_traverse_commit.specs.Numbered.{same_id}
 use Rattle.gix_traverse_commit.specs.Order.{At, IsListOf}
 use Rattle.gix_traverse_commit.specs.declared.rows.Row.{Row}
-use Rattle.gix_traverse_commit.proofs.Keeping.{Meets, met_itself, met_other, unmet_before}
+use Rattle.gix_traverse_commit.proofs.Keeping.{Meets, met_itself, met_other, stays_met, unmet_before}
 use Rattle.gix_traverse_commit.proofs.Lists.{at_from_contains, contains_from_at, none_at_nil, once_push}
 use Rattle.gix_traverse_commit.proofs.Simply.{in_push, take_push}
 use Rattle.gix_traverse_commit.proofs.Timely.{in_nil}
@@ -181,3 +181,51 @@ unmet_accepted nodes accepts tips refused taken = filter_same (λ (x : ObjectId)
     go : (x : ObjectId) (b : Bool) → is_met nodes x ≡ b → Contains tips x → not b ≡ accepts (id_of x)
     go x true e c = sym (refused x e)
     go x false e c = sym (taken x c e)
+
+-- ---- which are marked as met
+
+-- the same by what is met and hidden
+abbrev pub Marks : (has hides has' : ObjectId → Bool) → List ObjectId → Type 0
+Marks has hides has' xs = (x : ObjectId) → (has' x ≡ true) ↔ ((has x ≡ true) ⊎ Fresh has hides xs x)
+
+pub marks_none : (has hides : ObjectId → Bool) → Marks has hides has []
+marks_none has hides = λ x. ((λ h. inl h), (λ d. elim d [ inl h ↦ h | inr f ↦ absurd (in_nil x f.0) ]))
+
+module _ (has hides mid has' : ObjectId → Bool) (hidden : Bool) (xs : List ObjectId) (i : ℕ) (y : ObjectId) (here : At xs i y) (w : Marks has hides mid (take i xs)) (same : hidden ≡ hides y) (new : (q : ObjectId) → has' q ≡ cond hidden (mid q) (cond (same_id y q) true (mid q))) where
+  wider : take (i + 1) xs ≡ take i xs ++ y ∷ []
+  wider = take_push xs i y here
+
+  in_wider : (x : ObjectId) → Contains (take i xs) x → Contains (take (i + 1) xs) x
+  in_wider x c = subst (λ (zs : List ObjectId). Contains zs x) (sym wider) (Contains-append_left (take i xs) (y ∷ []) x c)
+
+  last_wider : Contains (take (i + 1) xs) y
+  last_wider = subst (λ (zs : List ObjectId). Contains zs y) (sym wider) (Contains-push (take i xs) y)
+
+  before : (x : ObjectId) → mid x ≡ true → (has x ≡ true) ⊎ Fresh has hides (take (i + 1) xs) x
+  before x m = elim ((w x).0 m) [
+    | inl h ↦ inl h
+    | inr f ↦ inr (in_wider x f.0, f.1, f.2)
+  ]
+
+  itself : (h b : Bool) → hidden ≡ h → has y ≡ b → has' y ≡ true → (has y ≡ true) ⊎ Fresh has hides (take (i + 1) xs) y
+  itself true b e f t = before y (sym (new y ∙ ap (λ (h : Bool). cond h (mid y) (cond (same_id y y) true (mid y))) e) ∙ t)
+  itself false true e f t = inl f
+  itself false false e f t = inr (last_wider, f, sym same ∙ e)
+
+  to_marks : (x : ObjectId) → has' x ≡ true → (has x ≡ true) ⊎ Fresh has hides (take (i + 1) xs) x
+  to_marks x t = elim (parent_or_met mid has' hidden y new x t) [
+    | inl e ↦ subst (λ (z : ObjectId). (has z ≡ true) ⊎ Fresh has hides (take (i + 1) xs) z) (sym e) (itself hidden (has y) refl refl (subst (λ (z : ObjectId). has' z ≡ true) e t))
+    | inr m ↦ before x m
+  ]
+
+  from_marks : (x : ObjectId) → (has x ≡ true) ⊎ Fresh has hides (take (i + 1) xs) x → has' x ≡ true
+  from_marks x d = elim d [
+    | inl h ↦ stays_met mid has' hidden y x new ((w x).1 (inl h))
+    | inr f ↦ elim (in_push (take i xs) y x (subst (λ (zs : List ObjectId). Contains zs x) wider f.0)) [
+      | inl c ↦ stays_met mid has' hidden y x new ((w x).1 (inr (c, f.1, f.2)))
+      | inr e ↦ subst (λ (z : ObjectId). has' z ≡ true) (sym e) (parent_met mid has' hidden y new (same ∙ subst (λ (z : ObjectId). hides z ≡ false) e f.2))
+    ]
+  ]
+
+  pub marks_step : Marks has hides has' (take (i + 1) xs)
+  marks_step = λ x. (to_marks x, from_marks x)

@@ -10,9 +10,11 @@ use Rattle.gix_traverse_commit.specs.Numbered.{same_id}
 use Rattle.gix_traverse_commit.specs.Order.{At}
 use Rattle.gix_traverse_commit.specs.Painting.{ReachedFrom}
 use Rattle.gix_traverse_commit.specs.Rows.{AllHeld, Holds}
-use Rattle.gix_traverse_commit.specs.Simply.{AcceptsAs, Answers, Asked, AreAsked, IsKnown, IsTurn, keep_of, request_in, timing}
+use Rattle.gix_traverse_commit.specs.Simply.{AcceptsAs, Answers, Asked, AreAsked, IsKnown, keep_of, request_in, timing}
+use Rattle.gix_traverse_commit.specs.Giving.{IsTurn}
 use Rattle.gix_object_find.specs.Table.{Table}
-use Rattle.gix_traverse_commit.specs.Simply.{SimpleFault, StopsFetch}
+use Rattle.gix_traverse_commit.specs.Giving.{SimpleFault, StopsFetch}
+use Rattle.gix_traverse_commit.specs.declared.parents.Parents.{Parents}
 use Rattle.gix_traverse_commit.specs.declared.simple.faults.Error.{Error}
 use Rattle.gix_traverse_commit.specs.declared.simple.faults.Error.TheVariants as fault
 use Rattle.gix_traverse_commit.specs.declared.simple.faults.HiddenGraphError.TheVariants as hidden_fault
@@ -244,18 +246,18 @@ held_first rows queue queue' id e all =
 
 -- ---- faults
 
-pub fault_more : (P Q : ObjectId → Type 0) (honest may_fail : Type 0) (rows : List Row) (table : Table) (hidden : List ObjectId) (error : Error) → ((x : ObjectId) → P x → Q x) → SimpleFault P honest may_fail rows table hidden error → SimpleFault Q honest may_fail rows table hidden error
-fault_more P Q honest may_fail rows table hidden (fault.Find error) f (id, t, h) = (id, f id t, h)
-fault_more P Q honest may_fail rows table hidden (fault.ObjectDecode error) f (id, t, h) = (id, f id t, h)
-fault_more P Q honest may_fail rows table hidden (fault.HiddenGraph (hidden_fault.Find error)) f h = h
-fault_more P Q honest may_fail rows table hidden (fault.HiddenGraph (hidden_fault.ObjectDecode error)) f h = h
-fault_more P Q honest may_fail rows table hidden fault.Memory f h = tt
+pub fault_more : (P Q : ObjectId → Type 0) (along : Parents) (honest may_fail : Type 0) (rows : List Row) (table : Table) (hidden : List ObjectId) (error : Error) → ((x : ObjectId) → P x → Q x) → SimpleFault P along honest may_fail rows table hidden error → SimpleFault Q along honest may_fail rows table hidden error
+fault_more P Q along honest may_fail rows table hidden (fault.Find error) f (id, t, h) = (id, f id t, h)
+fault_more P Q along honest may_fail rows table hidden (fault.ObjectDecode error) f (id, t, h) = (id, f id t, h)
+fault_more P Q along honest may_fail rows table hidden (fault.HiddenGraph (hidden_fault.Find error)) f h = h
+fault_more P Q along honest may_fail rows table hidden (fault.HiddenGraph (hidden_fault.ObjectDecode error)) f h = h
+fault_more P Q along honest may_fail rows table hidden fault.Memory f h = tt
 
-pub fetch_fault : (P : ObjectId → Type 0) (honest may_fail : Type 0) (rows : List Row) (table : Table) (hidden : List ObjectId) (id : ObjectId) (error : Error) → P id → StopsFetch honest may_fail rows table id error → SimpleFault P honest may_fail rows table hidden error
-fetch_fault P honest may_fail rows table hidden id (fault.Find error) p h = (id, p, h)
-fetch_fault P honest may_fail rows table hidden id (fault.ObjectDecode error) p h = (id, p, h)
-fetch_fault P honest may_fail rows table hidden id (fault.HiddenGraph error) p h = absurd h
-fetch_fault P honest may_fail rows table hidden id fault.Memory p h = tt
+pub fetch_fault : (P : ObjectId → Type 0) (along : Parents) (honest may_fail : Type 0) (rows : List Row) (table : Table) (hidden : List ObjectId) (id : ObjectId) (error : Error) → P id → StopsFetch along honest may_fail rows table id error → SimpleFault P along honest may_fail rows table hidden error
+fetch_fault P along honest may_fail rows table hidden id (fault.Find error) p h = (id, p, h)
+fetch_fault P along honest may_fail rows table hidden id (fault.ObjectDecode error) p h = (id, p, h)
+fetch_fault P along honest may_fail rows table hidden id (fault.HiddenGraph error) p h = absurd h
+fetch_fault P along honest may_fail rows table hidden id fault.Memory p h = tt
 
 -- ---- tips are kept where they are accepted and not hidden
 

@@ -17,7 +17,7 @@ use Rattle.gix_object_lines.specs.declared.kind.Kind.TheVariants as kinds
 use Rattle.gix_traverse_commit.specs.Commits.{Commits}
 use Rattle.gix_traverse_commit.specs.Fetching.{TimeFault, TimeIsTold, find_error}
 use Rattle.gix_traverse_commit.specs.Rows.{Holds}
-use Rattle.gix_traverse_commit.specs.Simply.{IsFirstUnread, TipFault, error_of}
+use Rattle.gix_traverse_commit.specs.Giving.{IsFirstUnread, TipFault, error_of}
 use Rattle.gix_traverse_commit.specs.Timely.{CountsAs}
 use Rattle.gix_traverse_commit.specs.Told.{AreTold}
 use Rattle.gix_traverse_commit.specs.declared.fetch.FetchError.{FetchError}

@@ -23,7 +23,7 @@ use Rattle.gix_object_find.specs.declared.find.existing_iter.Error.TheVariants a
 use Rattle.gix_object_lines.specs.declared.kind.Kind.TheVariants as kinds
 use Rattle.gix_object_lines.specs.Person.{Person}
 use Rattle.gix_traverse_commit.specs.Commits.{Commit, Commits, asked, asked_parents}
-use Rattle.gix_traverse_commit.specs.Fetching.{ReadsParents, LacksParents, ParentsFault, FetchFault, find_error}
+use Rattle.gix_traverse_commit.specs.Fetching.{ReadsParents, LacksParents, ParentsFault, FetchFault, ReadFault, find_error}
 use Rattle.gix_traverse_commit.specs.Rows.{Holds}
 use Rattle.gix_traverse_commit.specs.Told.{TellsFront, TellsParents, TellsCommit, TellsSeconds, AreTold, beyond_told}
 use Rattle.gix_traverse_commit.specs.declared.fetch.FetchError.{FetchError}
@@ -111,8 +111,8 @@ reads_all All here xs none told = told
 reads_all First here xs none told = inl (told, ap (map id_of) (none refl))
 
 -- a token that is no part
-pub lacks_parents : (here mid after : Place) (ids : List Id) (given : Result Token decode.Error) (error : decode.Error) → TellsFront here ids mid → GivesToken mid (Some given) after → given ≡ Err error → LacksParents here error
-lacks_parents here mid after ids given error f gives is = (ids, mid, after, f, subst (λ (g : Result Token decode.Error). GivesToken mid (Some g) after) is gives)
+pub lacks_parents : (along : Parents) (here mid after : Place) (ids : List Id) (given : Result Token decode.Error) (error : decode.Error) → TellsFront here ids mid → GivesToken mid (Some given) after → given ≡ Err error → (along ≡ First → ids ≡ []) → LacksParents along here error
+lacks_parents along here mid after ids given error f gives is none = (ids, mid, after, f, subst (λ (g : Result Token decode.Error). GivesToken mid (Some g) after) is gives, none)
 
 -- ---- what is read is what the commit is
 
@@ -166,14 +166,20 @@ module _ (rows : List Row) (table : Table) (g : Commits ObjectId) (told : AreTol
       unread seconds f = cc
 
 -- want of memory is told as that, and other faults of a lookup as they are
-pub find_fault : (honest may_fail : Type 0) (rows : List Row) (table : Table) (id : ObjectId) (e : existing_iter.Error) → (¬ Holds rows id) → KindFault honest may_fail table (id_of id) kinds.Commit e → FetchFault honest may_fail rows table id (find_error e)
-find_fault honest may_fail rows table id (iter_case.Find lookup.Memory) h k = tt
-find_fault honest may_fail rows table id (iter_case.Find lookup.Failed) h k = (h, k)
-find_fault honest may_fail rows table id (iter_case.NotFound oid) h k = (h, k)
-find_fault honest may_fail rows table id (iter_case.ObjectKind oid actual expected) h k = (h, k)
+pub read_fault : (along : Parents) (honest may_fail : Type 0) (rows : List Row) (table : Table) (id : ObjectId) (e : existing_iter.Error) → (¬ Holds rows id) → KindFault honest may_fail table (id_of id) kinds.Commit e → ReadFault along honest may_fail rows table id (find_error e)
+read_fault along honest may_fail rows table id (iter_case.Find lookup.Memory) h k = tt
+read_fault along honest may_fail rows table id (iter_case.Find lookup.Failed) h k = (h, k)
+read_fault along honest may_fail rows table id (iter_case.NotFound oid) h k = (h, k)
+read_fault along honest may_fail rows table id (iter_case.ObjectKind oid actual expected) h k = (h, k)
 
 -- lines that aren't a commit's
-pub parents_fault : (honest may_fail : Type 0) (rows : List Row) (table : Table) (id : ObjectId) (content : List ℕ) (here : Place) (e : FetchError) → (¬ Holds rows id) → (honest → Stands table (id_of id) kinds.Commit content) → here ≡ start (id_of id).kind content → ParentsFault here e → FetchFault honest may_fail rows table id e
-parents_fault honest may_fail rows table id content here (fault.Find error) h s e f = absurd f
-parents_fault honest may_fail rows table id content here (fault.ObjectDecode error) h s e f = (h, λ t. (content, s t, subst (λ (p : Place). LacksParents p error) e f))
-parents_fault honest may_fail rows table id content here fault.Memory h s e f = tt
+pub parents_unread : (along : Parents) (honest may_fail : Type 0) (rows : List Row) (table : Table) (id : ObjectId) (content : List ℕ) (here : Place) (e : FetchError) → (¬ Holds rows id) → (honest → Stands table (id_of id) kinds.Commit content) → here ≡ start (id_of id).kind content → ParentsFault along here e → ReadFault along honest may_fail rows table id e
+parents_unread along honest may_fail rows table id content here (fault.Find error) h s e f = absurd f
+parents_unread along honest may_fail rows table id content here (fault.ObjectDecode error) h s e f = (h, λ t. (content, s t, subst (λ (p : Place). LacksParents along p error) e f))
+parents_unread along honest may_fail rows table id content here fault.Memory h s e f = tt
+
+-- what stops a walk along some parents stops one along all
+pub parents_fault : (along : Parents) (honest may_fail : Type 0) (rows : List Row) (table : Table) (id : ObjectId) (content : List ℕ) (here : Place) (e : FetchError) → (¬ Holds rows id) → (honest → Stands table (id_of id) kinds.Commit content) → here ≡ start (id_of id).kind content → ParentsFault along here e → FetchFault honest may_fail rows table id e
+parents_fault along honest may_fail rows table id content here (fault.Find error) h s e f = absurd f
+parents_fault along honest may_fail rows table id content here (fault.ObjectDecode error) h s e (ids, there, after, front, gives, none) = (h, λ t. (content, s t, subst (λ (p : Place). LacksParents All p error) e (ids, there, after, front, gives, (λ (f : All ≡ First). let z : ⊥ = cc in absurd z))))
+parents_fault along honest may_fail rows table id content here fault.Memory h s e f = tt

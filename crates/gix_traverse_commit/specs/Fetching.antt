@@ -32,16 +32,16 @@ HasRowsGeneration rows id None = ¬ Holds rows id
 HasRowsGeneration rows id (Some n) =
     (row : Row) × Contains rows row × (row.id ≡ id) × (row.generation ≡ n)
 
--- behind the tree and some parents a line stands that is no part, for this cause
-abbrev pub LacksParents : Place → decode.Error → Type 0
-LacksParents here error =
+-- behind the tree and some parents, and along first parents behind none, a line stands that is no part, for this cause
+abbrev pub LacksParents : Parents → Place → decode.Error → Type 0
+LacksParents along here error =
     (ids : List Id) × (there : Place) × (after : Place) × TellsFront here ids there
-    × GivesToken there (Some (Err error)) after
+    × GivesToken there (Some (Err error)) after × (along ≡ First → ids ≡ [])
 
-abbrev pub ParentsFault : Place → FetchError → Type 0
-ParentsFault here (fault.Find error) = ⊥
-ParentsFault here (fault.ObjectDecode error) = LacksParents here error
-ParentsFault here fault.Memory = ⊤
+abbrev pub ParentsFault : Parents → Place → FetchError → Type 0
+ParentsFault along here (fault.Find error) = ⊥
+ParentsFault along here (fault.ObjectDecode error) = LacksParents along here error
+ParentsFault along here fault.Memory = ⊤
 
 -- want of memory at a lookup is want of memory
 abbrev pub find_error : existing_iter.Error → FetchError
@@ -51,21 +51,36 @@ find_error (iter_case.NotFound oid) = fault.Find (iter_case.NotFound oid)
 find_error (iter_case.ObjectKind oid actual expected) =
     fault.Find (iter_case.ObjectKind oid actual expected)
 
--- why a commit isn't read: it has no row, and its object isn't found or is no commit, or its lines aren't a commit's
-abbrev pub FetchFault : Type 0 → Type 0 → List Row → Table → ObjectId → FetchError → Type 0
-FetchFault honest may_fail rows table id (fault.Find error) =
-    (¬ Holds rows id) × KindFault honest may_fail table (id_of id) kinds.Commit error
-FetchFault honest may_fail rows table id (fault.ObjectDecode error) =
+-- why a commit's object isn't found; want of memory at its lookup is told as want of memory
+abbrev pub FindFault : Type 0 → Type 0 → Table → ObjectId → existing_iter.Error → Type 0
+FindFault honest may_fail table id (iter_case.Find lookup.Memory) = ⊥
+FindFault honest may_fail table id (iter_case.Find lookup.Failed) =
+    KindFault honest may_fail table (id_of id) kinds.Commit (iter_case.Find lookup.Failed)
+FindFault honest may_fail table id (iter_case.NotFound oid) =
+    KindFault honest may_fail table (id_of id) kinds.Commit (iter_case.NotFound oid)
+FindFault honest may_fail table id (iter_case.ObjectKind oid actual expected) =
+    KindFault honest may_fail table (id_of id) kinds.Commit
+    (iter_case.ObjectKind oid actual expected)
+
+-- why a commit isn't read along these parents: it has no row, and its object isn't found or is no commit, or its lines aren't a commit's
+abbrev pub ReadFault : Parents → Type 0 → Type 0 → List Row → Table → ObjectId → FetchError → Type 0
+ReadFault along honest may_fail rows table id (fault.Find error) =
+    (¬ Holds rows id) × FindFault honest may_fail table id error
+ReadFault along honest may_fail rows table id (fault.ObjectDecode error) =
     (¬ Holds rows id)
     × (honest
     → (content : List ℕ) × Stands table (id_of id) kinds.Commit content
-    × LacksParents (start (id_of id).kind content) error)
-FetchFault honest may_fail rows table id fault.Memory = ⊤
+    × LacksParents along (start (id_of id).kind content) error)
+ReadFault along honest may_fail rows table id fault.Memory = ⊤
+
+-- the same along all parents
+abbrev pub FetchFault : Type 0 → Type 0 → List Row → Table → ObjectId → FetchError → Type 0
+FetchFault honest may_fail rows table id error = ReadFault All honest may_fail rows table id error
 
 -- why a commit's time isn't read: it has no row, and its object isn't found or is no commit, or tells no committer
 abbrev pub TimeFault : Type 0 → Type 0 → List Row → Table → ObjectId → FetchError → Type 0
 TimeFault honest may_fail rows table id (fault.Find error) =
-    (¬ Holds rows id) × KindFault honest may_fail table (id_of id) kinds.Commit error
+    (¬ Holds rows id) × FindFault honest may_fail table id error
 TimeFault honest may_fail rows table id (fault.ObjectDecode error) =
     (¬ Holds rows id)
     × (honest

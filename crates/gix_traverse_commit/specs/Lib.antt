@@ -12,9 +12,11 @@ pub mod Standing
 pub mod Told
 pub mod Fetching
 pub mod Simply
+pub mod Giving
 pub mod Nodes
 pub mod Waiting
 pub mod Known
+pub mod Queueing
 pub mod Meeting
 pub mod Keeping
 pub mod Painting

@@ -1,5 +1,5 @@
 -- Which commits a walk meets, and what it asks of each.
-use Rattle.std.specs.Prelude.{◌≡◌, ℕ, Bool, false, not, List, [], ◌∷◌, Option, None, Some, IsSome, Contains, filter, if◌then◌else◌}
+use Rattle.std.specs.Prelude.{◌≡◌, ◌⊎◌, ◌↔◌, ℕ, Bool, true, false, not, List, [], ◌∷◌, Option, None, Some, IsSome, Contains, filter, if◌then◌else◌}
 use Rattle.gix_hash_id.specs.Id.{Id, id_of}
 use Rattle.gix_hash_id.specs.declared.object_id.ObjectId.{ObjectId}
 use Rattle.gix_traverse_commit.specs.Fetching.{one_more}
@@ -22,6 +22,11 @@ AsksOnce goes S before after = (xs : List ObjectId) × IsListOf S xs × Asks goe
 -- one of these commits, that is not met and not hidden
 abbrev pub IsFresh : List Node → List ObjectId → ObjectId → Type 0
 IsFresh nodes xs x = Contains xs x × (is_met nodes x ≡ false) × (is_hidden nodes x ≡ false)
+
+-- met now are those that were, and of these commits each that is not hidden
+abbrev pub MarksMet : List Node → List ObjectId → List Node → Type 0
+MarksMet nodes xs nodes' =
+    (x : ObjectId) → (is_met nodes' x ≡ true) ↔ ((is_met nodes x ≡ true) ⊎ IsFresh nodes xs x)
 
 -- the commit alone, where it is not met and not hidden
 abbrev pub fresh : List Node → ObjectId → List ObjectId

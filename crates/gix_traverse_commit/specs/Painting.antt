@@ -28,6 +28,10 @@ IsUnpainted nodes = (x : ObjectId) → is_hidden nodes x ≡ false
 abbrev pub Paints : Commits ObjectId → List ObjectId → List Node → Type 0
 Paints g hidden nodes = (x : ObjectId) → (is_hidden nodes x ≡ true) ↔ ReachedFrom g hidden x
 
+-- the same commits are painted
+abbrev pub StaysPainted : List Node → List Node → Type 0
+StaysPainted nodes nodes' = (x : ObjectId) → is_hidden nodes' x ≡ is_hidden nodes x
+
 -- a list of painted commits, each once
 pub record IsPainted (nodes : List Node) (xs : List ObjectId) : Type 0 where
   pub marked : (x : ObjectId) → Contains xs x → is_hidden nodes x ≡ true

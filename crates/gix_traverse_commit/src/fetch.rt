@@ -7,7 +7,7 @@ ghost use Rattle.gix_object_commit_tokens.specs.Tokens.{place_of};
 ghost use Rattle.gix_object_find.specs.Existing.{KindFault, Stands};
 ghost use Rattle.gix_object_lines.specs.declared.kind.Kind.TheVariants as kinds;
 ghost use Rattle.gix_traverse_commit.specs.Commits.{Commits, asked_parents, asked};
-ghost use Rattle.gix_traverse_commit.specs.Fetching.{ReadsParents, HasRowsGeneration, ParentsFault, FetchFault, TimeFault, TimeIsTold, find_error, one_more};
+ghost use Rattle.gix_traverse_commit.specs.Fetching.{ReadsParents, HasRowsGeneration, ParentsFault, FetchFault, ReadFault, TimeFault, TimeIsTold, find_error, one_more};
 ghost use Rattle.gix_traverse_commit.specs.Rows.{AllHeld, Holds};
 ghost use Rattle.gix_traverse_commit.specs.Timely.{CountsAs};
 ghost use Rattle.gix_traverse_commit.specs.Told.{AreTold, rows_of};
@@ -104,7 +104,7 @@ fn read_parents(
 ) -> Result<ParentIds, FetchError>
     ensures told { IfOk result (λ ids. ReadsParents along (place_of reader.entry)
         (map id_of ids.items)) }
-    ensures refused { IfErr result (ParentsFault (place_of reader.entry)) }
+    ensures refused { IfErr result (ParentsFault along (place_of reader.entry)) }
 {
     let mut ids = ParentIds::new(alloc);
     'tokens: for token in reader {
@@ -186,6 +186,9 @@ impl<F: Find> Source<F> {
             → OnOk result (Stands (F.table self.old.objects) (id_of id.now) kinds.Commit
             self.new.buffer.items) }
         ensures refused { IfErr result (FetchFault (F.is_honest self.old.objects)
+            (F.may_fail self.old.objects) (rows_of self.old.rows) (F.table self.old.objects)
+            id.now) }
+        ensures unread { IfErr result (ReadFault along (F.is_honest self.old.objects)
             (F.may_fail self.old.objects) (rows_of self.old.rows) (F.table self.old.objects)
             id.now) }
     {

@@ -7,6 +7,7 @@ ghost use Rattle.gix_traverse_commit.specs.Ending.{times_in, times_waiting};
 ghost use Rattle.gix_traverse_commit.specs.Known.{turns_of, waited_of};
 ghost use Rattle.gix_traverse_commit.specs.Nodes.{ids_of, marks_of};
 ghost use Rattle.gix_traverse_commit.specs.Numbered.{same_id};
+ghost use Rattle.gix_traverse_commit.specs.Queueing.{QueuesBehind};
 ghost use Rattle.gix_traverse_commit.specs.Timely.{IsTaken, Joins};
 
 use crate::nodes::{Marks, Nodes, Number};
@@ -82,6 +83,7 @@ impl Known {
             ≡ (if same_id id q then marks else marks_of self.old.nodes q)) }
         ensures queue { OnOk result (self.new.queue ≡ self.old.queue) }
         ensures turns { OnOk result (turns_of self.new ≡ turns_of self.old) }
+        ensures behind { OnOk result (QueuesBehind self.old [] self.new) }
     {
         self.nodes.mark(id, marks)?;
         Ok(())
@@ -107,6 +109,7 @@ impl Known {
         ensures joins { OnOk result (Joins true (turns_of self.old) turn (turns_of self.new)) }
         ensures once { OnOk result ((id : Id) → times_waiting (turns_of self.new) id
             ≤ times_waiting (turns_of self.old) id + times_in (turn.id ∷ []) id) }
+        ensures behind { OnOk result (QueuesBehind self.old (turn.id ∷ []) self.new) }
     {
         let number = self.nodes.mark(turn.id, marks)?;
         self.waiting.put(turn.numbered(number))?;
@@ -133,6 +136,7 @@ impl Known {
             (turns_of self.new)) }
         ensures none { IfNone result (turns_of self.old ≡ []) }
         ensures emptied { IfNone result (turns_of self.new ≡ []) }
+        ensures order { self.new.order ≡ self.old.order }
     {
         let pending = self.waiting.take(order)?;
         let id = self.nodes.id(pending.number)?;

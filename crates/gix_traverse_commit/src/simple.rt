@@ -9,7 +9,8 @@ ghost use Rattle.gix_traverse_commit.specs.Commits.{Commits};
 ghost use Rattle.gix_traverse_commit.specs.Fetching.{TimeIsTold};
 ghost use Rattle.gix_traverse_commit.specs.Meeting.{AsksOnce, CountsTimes, accepted};
 ghost use Rattle.gix_traverse_commit.specs.Rows.{AllHeld};
-ghost use Rattle.gix_traverse_commit.specs.Simply.{Asked, GainsNone, HasAhead, IsAccepted, IsMade, IsUnderWay, IsOver, IsKnown, TipFault, GivesNext, answers_left, predicate_of, source_of, objects_of, graph_of, lookups_of, content_of, kind_of};
+ghost use Rattle.gix_traverse_commit.specs.Simply.{Asked, GainsNone, HasAhead, IsMade, IsUnderWay, IsOver, IsKnown, answers_left, predicate_of, source_of, objects_of, graph_of, lookups_of, content_of, kind_of};
+ghost use Rattle.gix_traverse_commit.specs.Giving.{IsAccepted, TipFault, GivesNext};
 ghost use Rattle.gix_traverse_commit.specs.Sorting.{IsByTime, timing_of};
 ghost use Rattle.gix_traverse_commit.specs.Told.{rows_of};
 ghost use Rattle.gix_traverse_commit.specs.declared.parents.Parents.TheVariants.{All as AllParents};
@@ -123,7 +124,8 @@ impl<F: Find + Drop, P: Accept + Drop> Simple<F, P> {
     /// `Memory` where there is no memory for the lookup. After an error there is no walk any more.
     ///
     /// After the first commit this begins the rest anew, as each builder call but `commit_graph` does: a walk whose tips are what is
-    /// queued, in the order in which that was queued, and which goes to no other commit that was met. A walk that is over stays over.
+    /// queued, in the order in which that was queued, and which goes to no other commit that was met. A walk that is over stays over,
+    /// and is never refused.
     pub fn sorting(mut self, sorting: Sorting) -> Result<Simple<F, P>, Error>
         ensures objects { IfOk result (λ walk. objects_of walk ≡ objects_of self) }
         ensures rows { IfOk result (λ walk. graph_of walk ≡ graph_of self) }
@@ -148,6 +150,8 @@ impl<F: Find + Drop, P: Accept + Drop> Simple<F, P> {
             (F.table (objects_of self)) a.tips (IsAccepted a)) }
         ensures left { IfOk result (GainsNone self) }
         ensures over { IsOver self → IfOk result IsOver }
+        ensures whole { IsOver self → IsOk result }
+        ensures kind { IfOk result (λ walk. kind_of walk ≡ kind_of self) }
     {
         self.turn();
         self.gather()?;
@@ -164,6 +168,7 @@ impl<F: Find + Drop, P: Accept + Drop> Simple<F, P> {
             → IsMade P.accepts (record a { parents = parents }) result }
         ensures left { GainsNone self result }
         ensures over { IsOver self → IsOver result }
+        ensures kind { kind_of result ≡ kind_of self }
     {
         self.turn();
         self.parents = parents;
@@ -180,6 +185,7 @@ impl<F: Find + Drop, P: Accept + Drop> Simple<F, P> {
         ensures left { IfOk result (GainsNone self) }
         ensures over { IsOver self → IfOk result IsOver }
         ensures whole { IsOk result }
+        ensures kind { IfOk result (λ walk. kind_of walk ≡ kind_of self) }
     {
         self.turn();
         self.hidden = tips;
@@ -200,6 +206,7 @@ impl<F: Find + Drop, P: Accept + Drop> Simple<F, P> {
             → IsUnderWay P.accepts ids g a listed result }
         ensures left { GainsNone self result }
         ensures over { IsOver self → IsOver result }
+        ensures kind { kind_of result ≡ kind_of self }
     {
         self.source.rows = rows;
         self

@@ -1,7 +1,7 @@
 //! Why a walk ends early.
 
 ghost use Rattle.std.specs.Prelude.{◌≡◌};
-ghost use Rattle.gix_traverse_commit.specs.Simply.{hidden_error, error_of};
+ghost use Rattle.gix_traverse_commit.specs.Giving.{hidden_error, error_of};
 ghost use Rattle.gix_traverse_commit.specs.declared.simple.faults.Error.TheVariants.{Find as FindFault, ObjectDecode as DecodeFault, HiddenGraph as HiddenFault, Memory};
 ghost use Rattle.gix_traverse_commit.specs.declared.simple.faults.HiddenGraphError.TheVariants.{Find as HiddenFind, ObjectDecode as HiddenDecode};
 

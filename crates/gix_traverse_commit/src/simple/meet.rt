@@ -5,10 +5,11 @@ ghost use Rattle.gix_hash_id.specs.Id.{id_of};
 ghost use Rattle.gix_hash_id.specs.declared.object_id.ObjectId.{ObjectId};
 ghost use Rattle.gix_traverse_commit.specs.Ending.{NoneGains, times_in};
 ghost use Rattle.gix_traverse_commit.specs.Keeping.{Kept, KeptAll};
-ghost use Rattle.gix_traverse_commit.specs.Meeting.{Asks, AsksOnce, IsFresh, fresh};
+ghost use Rattle.gix_traverse_commit.specs.Meeting.{Asks, AsksOnce, IsFresh, MarksMet, fresh};
 ghost use Rattle.gix_traverse_commit.specs.Known.{turns_of};
 ghost use Rattle.gix_traverse_commit.specs.Nodes.{is_asked, is_met, is_hidden};
 ghost use Rattle.gix_traverse_commit.specs.Numbered.{same_id};
+ghost use Rattle.gix_traverse_commit.specs.Queueing.{QueuesBehind};
 ghost use Rattle.gix_traverse_commit.specs.Rows.{AllHeld};
 ghost use Rattle.gix_traverse_commit.specs.Simply.{AreAsked, AreRefused};
 ghost use Rattle.gix_traverse_commit.specs.Standing.{Reads};
@@ -77,6 +78,7 @@ pub fn mark_met(known: &mut Known, id: ObjectId, marks: Marks) -> Result<(), All
         → (q : ObjectId) → is_hidden known.new.nodes q ≡ is_hidden known.old.nodes q) }
     ensures queue { OnOk result (known.new.queue ≡ known.old.queue) }
     ensures turns { OnOk result (turns_of known.new ≡ turns_of known.old) }
+    ensures behind { OnOk result (QueuesBehind known.old [] known.new) }
 {
     known.mark(id, marks.as_met())
 }
@@ -196,6 +198,7 @@ pub fn meet_parents<P: Accept>(
         (length listed)) }
     ensures asked { OnOk result (AsksOnce P.goes (IsFresh known.old.nodes parents.now) predicate.old
         predicate.new) }
+    ensures marks { OnOk result (MarksMet known.old.nodes parents.now known.new.nodes) }
 {
     'parents: for parent in parents {
         meet(known, predicate, *parent)?;

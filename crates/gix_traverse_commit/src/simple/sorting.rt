@@ -3,7 +3,7 @@
 ghost use Rattle.std.specs.Prelude.{◌≡◌, unwrap_or, pos};
 ghost use Rattle.gix_hash_id.specs.declared.object_id.ObjectId.{ObjectId};
 ghost use Rattle.gix_traverse_commit.specs.Commits.{Commit};
-ghost use Rattle.gix_traverse_commit.specs.Simply.{IsTime};
+ghost use Rattle.gix_traverse_commit.specs.Giving.{IsTime};
 ghost use Rattle.gix_traverse_commit.specs.Sorting.{timing_of, in_time};
 ghost use Rattle.gix_traverse_commit.specs.declared.simple.sorting.CommitTimeOrder.TheVariants.{NewestFirst};
 ghost use Rattle.gix_traverse_commit.specs.declared.simple.sorting.Sorting.TheVariants.{BreadthFirst};

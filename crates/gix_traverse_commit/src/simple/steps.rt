@@ -1,16 +1,19 @@
 //! The steps of a walk: it begins, takes the commit whose turn it is, and meets its parents.
 
-ghost use Rattle.std.specs.Prelude.{◌≡◌, ◌↔◌, ◌≤◌, ◌+◌, List, Contains, [], ◌∷◌, ◌++◌, length, IfOk, IfErr, IfSome, IfNone, IsNone, IsOk, IsSome, OnOk, None, true, false};
+ghost use Rattle.std.specs.Prelude.{◌≡◌, ◌⊎◌, ◌↔◌, ◌≤◌, ◌+◌, List, Contains, [], ◌∷◌, ◌++◌, length, IfOk, IfErr, IfSome, IfNone, IsNone, IsOk, IsSome, OnOk, None, true, false};
 ghost use Rattle.gix_hash_id.specs.Id.{Id, id_of};
 ghost use Rattle.gix_hash_id.specs.declared.object_id.ObjectId.{ObjectId};
 ghost use Rattle.gix_traverse_commit.specs.Commits.{Commits, asked_parents};
 ghost use Rattle.gix_traverse_commit.specs.Ending.{times_in};
 ghost use Rattle.gix_traverse_commit.specs.Fetching.{TimeIsTold};
 ghost use Rattle.gix_traverse_commit.specs.Known.{turns_of};
-ghost use Rattle.gix_traverse_commit.specs.Meeting.{Asks, CountsOne, CountsTimes, CountsTips, IsFresh, accepted, unmet};
+ghost use Rattle.gix_traverse_commit.specs.Meeting.{Asks, CountsOne, CountsTimes, CountsTips, IsFresh, MarksMet, accepted, unmet};
 ghost use Rattle.gix_traverse_commit.specs.Order.{IsListOf};
+ghost use Rattle.gix_traverse_commit.specs.Painting.{Paints, StaysPainted};
+ghost use Rattle.gix_traverse_commit.specs.Queueing.{QueuesSome};
 ghost use Rattle.gix_traverse_commit.specs.Rows.{AllHeld, Holds};
-ghost use Rattle.gix_traverse_commit.specs.Simply.{Answers, Asked, CountsBeginning, CountsFault, CountsUpTo, HasAhead, IsMade, IsNew, IsPaintedFor, IsUnderWay, IsAtTurn, IsOver, IsKnown, IsInfo, IsMetWith, IsTurn, IsSure, IsContentOf, IsUnmet, IsWanted, InRows, Meets, Stands, StopsFetch, TipFault, SimpleFault, GainsNone, content_of, times_queued, timing};
+ghost use Rattle.gix_traverse_commit.specs.Simply.{Answers, Asked, HasAhead, IsMade, IsNew, IsPaintedFor, IsUnderWay, IsAtTurn, IsOver, IsKnown, IsSure, Stands, GainsNone, content_of, times_queued, timing, StaysAsked};
+ghost use Rattle.gix_traverse_commit.specs.Giving.{CountsBeginning, CountsFault, CountsUpTo, IsInfo, IsMetWith, IsTurn, IsContentOf, IsUnmet, IsWanted, InRows, Meets, StopsFetch, TipFault, SimpleFault};
 ghost use Rattle.gix_traverse_commit.specs.Sorting.{IsByTime, timing_of};
 ghost use Rattle.gix_traverse_commit.specs.Timely.{LetsWaitIn, TakesTurn};
 ghost use Rattle.gix_traverse_commit.specs.Told.{AreTold, rows_of};
@@ -39,6 +42,8 @@ impl<F: Find + Drop, P: Accept + Drop> Simple<F, P> {
         ensures ahead { (a : Asked) → HasAhead P.accepts a self.old → IsMade P.accepts a self.new }
         ensures left { GainsNone self.old self.new }
         ensures over { IsOver self.old → IsOver self.new }
+        ensures stays { (self.new.hidden ≡ self.old.hidden) × (self.new.kind ≡ self.old.kind) }
+        ensures emptied { IsOver self.old → self.new.tips.items ≡ [] }
     {
         if !self.begun {
             return;
@@ -78,6 +83,8 @@ impl<F: Find + Drop, P: Accept + Drop> Simple<F, P> {
             (F.table self.old.source.objects) self.old.tips.items (IsUnmet self.old.known.nodes)) }
         ensures left { OnOk result (GainsNone self.old self.new) }
         ensures over { IsOver self.old → IsOver self.new }
+        ensures kind { self.new.kind ≡ self.old.kind }
+        ensures whole { self.old.tips.items ≡ [] → IsOk result }
     {
         if time_order(Parents::All, sorting).is_none() {
             return Ok(());
@@ -101,6 +108,7 @@ impl<F: Find + Drop, P: Accept + Drop> Simple<F, P> {
         ensures order { (self.new.parents ≡ self.old.parents)
             × (self.new.sorting ≡ self.old.sorting) }
         ensures rowed { InRows self.old → OnOk result (InRows self.new) }
+        ensures stays { (self.new.hidden ≡ self.old.hidden) × (self.new.kind ≡ self.old.kind) }
     {
         if self.is_idle() {
             return Ok(());
@@ -142,6 +150,10 @@ impl<F: Find + Drop, P: Accept + Drop> Simple<F, P> {
         ensures order { (self.new.parents ≡ self.old.parents)
             × (self.new.sorting ≡ self.old.sorting) }
         ensures refused { IfErr result (λ error. error ≡ Memory) }
+        ensures stays { OnOk result ((self.new.hidden ≡ self.old.hidden)
+            × (self.new.begun ≡ true)) }
+        ensures kind { self.new.kind ≡ self.old.kind }
+        ensures painted { OnOk result (StaysPainted self.old.known.nodes self.new.known.nodes) }
     {
         let Some(timing) = time_order(self.parents, self.sorting) else {
             queue_tips(&mut self.known, self.tips.as_slice())?;
@@ -182,9 +194,15 @@ impl<F: Find + Drop, P: Accept + Drop> Simple<F, P> {
         ensures order { (self.new.parents ≡ self.old.parents)
             × (self.new.sorting ≡ self.old.sorting) }
         ensures refused { (a : Asked) → IsMade P.accepts a self.old
-            → IfErr result (SimpleFault (λ _. ⊥) (F.is_honest self.old.source.objects)
+            → IfErr result (SimpleFault (λ _. ⊥) a.parents (F.is_honest self.old.source.objects)
             (F.may_fail self.old.source.objects) (rows_of self.old.source.rows)
             (F.table self.old.source.objects) a.hidden) }
+        ensures stays { OnOk result (StaysAsked self.old self.new) }
+        ensures kind { OnOk result (self.new.kind ≡ self.old.kind) }
+        ensures painted { OnOk result ((a : Asked) → IsMade P.accepts a self.old
+            → F.is_honest self.old.source.objects → (g : Commits ObjectId)
+            → AreTold (rows_of self.old.source.rows) (F.table self.old.source.objects) g
+            → Paints g a.hidden self.new.known.nodes) }
     {
         self.gather()?;
         let alloc: Global = *self.tips.allocator();
@@ -226,9 +244,15 @@ impl<F: Find + Drop, P: Accept + Drop> Simple<F, P> {
             × (self.new.sorting ≡ self.old.sorting) }
         ensures refused { (g : Commits ObjectId) (ids : List Id) (a : Asked)
             (listed : List ObjectId) → Stands P.accepts ids g a listed self.old
-            → IfErr result (SimpleFault (λ _. ⊥) (F.is_honest self.old.source.objects)
+            → IfErr result (SimpleFault (λ _. ⊥) a.parents (F.is_honest self.old.source.objects)
             (F.may_fail self.old.source.objects) (rows_of self.old.source.rows)
             (F.table self.old.source.objects) a.hidden) }
+        ensures stays { OnOk result (StaysAsked self.old self.new) }
+        ensures kind { OnOk result (self.new.kind ≡ self.old.kind) }
+        ensures painted { OnOk result ((a : Asked) → IsMade P.accepts a self.old
+            → F.is_honest self.old.source.objects → (g : Commits ObjectId)
+            → AreTold (rows_of self.old.source.rows) (F.table self.old.source.objects) g
+            → Paints g a.hidden self.new.known.nodes) }
     {
         if self.begun {
             return Ok(());
@@ -241,6 +265,7 @@ impl<F: Find + Drop, P: Accept + Drop> Simple<F, P> {
         ensures source { self.new.source ≡ self.old.source }
         ensures predicate { self.new.predicate ≡ self.old.predicate }
         ensures over { IsOver self.new }
+        ensures kind { self.new.kind ≡ self.old.kind }
     {
         self.begun = true;
         self.known.clear();
@@ -253,6 +278,7 @@ impl<F: Find + Drop, P: Accept + Drop> Simple<F, P> {
         ensures lookups { self.new.source.lookups ≡ self.old.source.lookups }
         ensures emptied { content_of self.new ≡ [] }
         ensures over { IsOver self.new }
+        ensures predicate { self.new.predicate ≡ self.old.predicate }
     {
         self.finish();
         self.source.buffer.clear();
@@ -280,6 +306,10 @@ impl<F: Find + Drop, P: Accept + Drop> Simple<F, P> {
         ensures ended { IsOver self.old → IsNone result }
         ensures rowed { IfSome result (λ id. InRows self.old → InRows self.new
             × Holds (rows_of self.old.source.rows) id) }
+        ensures stays { (self.new.hidden ≡ self.old.hidden) × (self.new.begun ≡ self.old.begun) }
+        ensures kind { self.new.kind ≡ self.old.kind }
+        ensures queueing { IfSome result (λ _. IsSome (timing_of self.old.parents self.old.sorting)
+            → self.new.known.order ≡ self.old.known.order) }
     {
         let Some(timing) = time_order(self.parents, self.sorting) else {
             let id = self.known.pop()?;
@@ -324,6 +354,12 @@ impl<F: Find + Drop, P: Accept + Drop> Simple<F, P> {
             (rows_of self.old.source.rows) (accepted (P.accepts self.old.predicate) met)
             self.old.source.lookups self.new.source.lookups) }
         ensures refused { IfErr result (λ error. error ≡ Memory) }
+        ensures stays { (self.new.hidden ≡ self.old.hidden) × (self.new.begun ≡ self.old.begun) }
+        ensures painted { OnOk result (StaysPainted self.old.known.nodes self.new.known.nodes) }
+        ensures marks { OnOk result (MarksMet self.old.known.nodes parents.now
+            self.new.known.nodes) }
+        ensures behind { OnOk result (IsSome (timing_of self.old.parents self.old.sorting)
+            → QueuesSome self.old.known parents.now self.new.known) }
     {
         let Some(timing) = time_order(self.parents, self.sorting) else {
             meet_parents(&mut self.known, &mut self.predicate, parents)?;
@@ -379,9 +415,18 @@ impl<F: Find + Drop, P: Accept + Drop> Simple<F, P> {
             → OnOk result (InRows self.new × (self.new.source.lookups ≡ self.old.source.lookups)) }
         ensures failed { IfErr result (CountsFault self.old.source.lookups
             self.new.source.lookups) }
-        ensures refused { IfErr result (StopsFetch (F.is_honest self.old.source.objects)
+        ensures refused { IfErr result (StopsFetch self.old.parents (F.is_honest self.old.source.objects)
             (F.may_fail self.old.source.objects) (rows_of self.old.source.rows)
             (F.table self.old.source.objects) id) }
+        ensures stays { OnOk result (self.old.begun ≡ true → StaysAsked self.old self.new) }
+        ensures painted { OnOk result (StaysPainted self.old.known.nodes self.new.known.nodes) }
+        ensures marks { IfOk result (λ info. MarksMet self.old.known.nodes info.parent_ids.items
+            self.new.known.nodes) }
+        ensures unasked { IfErr result (λ error. (error ≡ Memory)
+            ⊎ (self.new.predicate ≡ self.old.predicate)) }
+        ensures behind { IfOk result (λ info.
+            IsSome (timing_of self.old.parents self.old.sorting)
+            → QueuesSome self.old.known info.parent_ids.items self.new.known) }
     {
         let commit = self.source.fetch(&id, self.parents)?;
         let alloc: Global = *self.tips.allocator();

@@ -1,18 +1,19 @@
 //! Meeting commits in a walk by time: tips and parents, each once.
 
-ghost use Rattle.std.specs.Prelude.{◌≡◌, ◌⊎◌, ◌∷◌, ℕ, ℤ, ◌≤◌, ◌+◌, ◌&&◌, not, List, Bool, true, length, if◌then◌else◌, [], false, Contains, IfOk, IfErr, OnOk};
+ghost use Rattle.std.specs.Prelude.{◌≡◌, ◌⊎◌, ◌∷◌, ℕ, ℤ, ◌≤◌, ◌+◌, ◌&&◌, not, List, Bool, true, length, if◌then◌else◌, [], false, Contains, IfOk, IfErr, IsOk, OnOk};
 ghost use Rattle.gix_hash_id.specs.Id.{Id, id_of};
 ghost use Rattle.gix_hash_id.specs.declared.object_id.ObjectId.{ObjectId};
 ghost use Rattle.gix_traverse_commit.specs.Commits.{Commits};
 ghost use Rattle.gix_traverse_commit.specs.Ending.{NoneGains, times_in, times_waiting};
 ghost use Rattle.gix_traverse_commit.specs.Fetching.{TimeIsTold, one_more};
 ghost use Rattle.gix_traverse_commit.specs.Known.{turns_of};
-ghost use Rattle.gix_traverse_commit.specs.Meeting.{Asks, CountsAll, IsFresh, accepted, fresh, unmet};
+ghost use Rattle.gix_traverse_commit.specs.Meeting.{Asks, CountsAll, IsFresh, MarksMet, accepted, fresh, unmet};
 ghost use Rattle.gix_traverse_commit.specs.Nodes.{is_met, is_hidden};
 ghost use Rattle.gix_traverse_commit.specs.Numbered.{same_id};
 ghost use Rattle.gix_traverse_commit.specs.Order.{At, IsListOf, IsOpen};
+ghost use Rattle.gix_traverse_commit.specs.Queueing.{QueuesSome};
 ghost use Rattle.gix_traverse_commit.specs.Rows.{AllHeld, Holds};
-ghost use Rattle.gix_traverse_commit.specs.Simply.{IsReadBefore, IsUnmet, TipFault};
+ghost use Rattle.gix_traverse_commit.specs.Giving.{IsReadBefore, IsUnmet, TipFault};
 ghost use Rattle.gix_traverse_commit.specs.Sorting.{in_time};
 ghost use Rattle.gix_traverse_commit.specs.Timely.{AllRowed, CountsAs, IsMetSoFar, Joins, LetsWait, keep_since, turn_of};
 ghost use Rattle.gix_traverse_commit.specs.Told.{AreTold, rows_of};
@@ -99,6 +100,7 @@ pub fn read_times<F: Find>(
     ensures refused { IfErr result (TipFault (F.is_honest source.old.objects)
         (F.may_fail source.old.objects) (rows_of source.old.rows) (F.table source.old.objects)
         tips.now (IsUnmet known.now.nodes)) }
+    ensures whole { tips.now ≡ [] → IsOk result }
 {
     'tips: for tip in tips {
         read_time(source, known, tip)?;
@@ -140,6 +142,7 @@ fn wait<F: Find>(
     ensures asked { (¬ Holds (rows_of source.old.rows) id)
         → source.new.lookups ≡ one_more source.old.lookups }
     ensures refused { IfErr result (λ error. error ≡ Memory) }
+    ensures behind { OnOk result (QueuesSome known.old (id ∷ []) known.new) }
 {
     let time = seconds_or_zero(source, &id)?;
     if !is_in_time(since, time) {
@@ -285,6 +288,7 @@ fn await_parent<F: Find, P: Accept>(
         (accepted (P.accepts predicate.old) (fresh known.old.nodes id)) source.old.lookups
         source.new.lookups) }
     ensures refused { IfErr result (λ error. error ≡ Memory) }
+    ensures behind { OnOk result (QueuesSome known.old (id ∷ []) known.new) }
 {
     let marks = known.marks(&id);
     if marks.hidden {
@@ -347,7 +351,9 @@ pub fn await_parents<F: Find, P: Accept>(
         × Asks P.goes met predicate.old predicate.new
         × CountsAll (rows_of source.old.rows) (accepted (P.accepts predicate.old) met)
         source.old.lookups source.new.lookups) }
+    ensures marks { OnOk result (MarksMet known.old.nodes parents.now known.new.nodes) }
     ensures refused { IfErr result (λ error. error ≡ Memory) }
+    ensures behind { OnOk result (QueuesSome known.old parents.now known.new) }
 {
     'parents: for parent in parents {
         await_parent(source, known, predicate, since, *parent)?;

@@ -94,6 +94,7 @@ impl Waiting {
             (pendings self.new)) }
         ensures none { IfNone result (pendings self.old ≡ []) }
         ensures emptied { IfNone result (pendings self.new ≡ []) }
+        ensures order { self.new.order.items ≡ self.old.order.items }
     {
         match order {
             CommitTimeOrder::NewestFirst => match self.turns.pop_last() {

@@ -1,5 +1,5 @@
 use Rattle.std.proofs.lemmas.Result.{err_from_is_err_and}
-use Rattle.std.proofs.Common.{map}
+use Rattle.std.proofs.Common.{ap, map}
 use Rattle.gix_hash_id.specs.Id.{id_of}
 use Rattle.gix_object_commit_tokens.specs.Tokens.{place_of}
 use Rattle.gix_traverse_commit.proofs.Told.{front_tree, front_parent, first_parent, reads_all, past_other, lacks_parents}
@@ -8,7 +8,7 @@ use Rattle.gix_traverse_commit.proofs.fetch.read_parents.Goals as goal
 pub returns-in_err-token-clause-refused : goal.returns-in_err-token-clause-refused
 returns-in_err-token-clause-refused c =
     let p = err_from_is_err_and c.from_residual.result c.from_residual.ensures.1 in
-    let f = lacks_parents (place_of c.args.reader) (place_of c.tokens.token-iterator) (place_of c.next.new.self) (map id_of c.tokens.ids.items) c.in-Some.token c.in_err-token.field-0.0 c.tokens.invariant.front c.in-Some.ensures.steps c.in_err-token.was in
+    let f = lacks_parents c.args.along (place_of c.args.reader) (place_of c.tokens.token-iterator) (place_of c.next.new.self) (map id_of c.tokens.ids.items) c.in-Some.token c.in_err-token.field-0.0 c.tokens.invariant.front c.in-Some.ensures.steps c.in_err-token.was (λ first. ap (map id_of) (c.tokens.invariant.none first)) in
     rw (p.1, p.2) f
 
 pub tokens-preserved-in-Tree : goal.tokens-preserved-in-Tree

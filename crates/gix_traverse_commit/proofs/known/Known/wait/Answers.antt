@@ -1,5 +1,7 @@
 use Rattle.std.proofs.Common.{true, ◌≡◌, ◌∙◌, List, [], ◌∷◌, map, sym, ap, subst}
-use Rattle.gix_traverse_commit.specs.Known.{HaveNodes, KnownCommits, turn_at, turns_of}
+use Rattle.gix_traverse_commit.specs.Known.{HaveNodes, KnownCommits, ids_at, turn_at, turns_of}
+use Rattle.gix_traverse_commit.specs.Queueing.{QueuesBehind}
+use Rattle.gix_traverse_commit.proofs.Queueing.{queues_one}
 use Rattle.gix_traverse_commit.specs.Nodes.{ids_of}
 use Rattle.gix_traverse_commit.specs.Order.{At}
 use Rattle.gix_traverse_commit.specs.Timely.{Joins}
@@ -55,3 +57,11 @@ returns-clause-once c =
     let before : map (turn_at nodes) old ≡ turns_of c.args.self.now = turns_kept c.self.inside.nodes nodes old c.self.invariant.wait up ∙ ap turns_of c.self.view_is in
     let same : turn_at nodes c.numbered.result ≡ c.args.turn = same_turn (turn_at nodes c.numbered.result) c.args.turn c.numbered.ensures.time (id_from_at nodes c.numbered.result.number c.args.turn.id (subst (λ (m : Number). At (ids_of nodes) m.0 c.args.turn.id) (sym c.numbered.ensures.number) c.in_ok-number.ensures.numbered)) in
     λ id. subst (λ (ts : List Turn). times_waiting (map (turn_at nodes) new) id ≤ times_waiting ts id + times_in (c.args.turn.id ∷ []) id) before (turns_once (turn_at nodes) old new c.numbered.result c.args.turn c.in_ok-put.ensures.once same id)
+
+pub returns-clause-behind : goal.returns-clause-behind
+returns-clause-behind c =
+    let up = keeps_named c.self.inside.nodes c.mark.new.self c.args.turn.id c.in_ok-number.ensures.named in
+    let here = subst (λ (m : Number). At (ids_of c.mark.new.self) m.0 c.args.turn.id) (sym c.numbered.ensures.number) c.in_ok-number.ensures.numbered in
+    let old : KnownCommits = record { nodes = c.self.inside.nodes; queue = ids_at c.self.inside.nodes c.self.inside.queue.items; pending = pendings c.self.inside.waiting; order = c.self.inside.waiting.order.items } in
+    let new : KnownCommits = record { nodes = c.mark.new.self; queue = ids_at c.mark.new.self c.self.inside.queue.items; pending = pendings c.put.new.self; order = c.put.new.self.order.items } in
+    subst (λ (k : KnownCommits). QueuesBehind k (c.args.turn.id ∷ []) new) c.self.view_is (queues_one old new c.numbered.result c.args.turn.id c.in_ok-put.ensures.last c.in_ok-put.ensures.joins up here)

@@ -1,4 +1,4 @@
-use Rattle.std.proofs.Common.{arith, ℕ, ◌≡◌, ◌≤◌, ◌+◌, sym, ◌∙◌, ap, refl, subst, List, [], Option, length}
+use Rattle.std.proofs.Common.{arith, Bool, true, ℕ, ◌≡◌, ◌↔◌, ◌≤◌, ◌+◌, sym, ◌∙◌, ap, refl, subst, List, [], Option, length}
 use Rattle.gix_hash_id.specs.declared.object_id.ObjectId.{ObjectId}
 use Rattle.gix_hash_id.specs.Id.{Id}
 use Rattle.gix_traverse_commit.specs.Ending.{times_in, times_waiting}
@@ -10,12 +10,14 @@ use Rattle.gix_traverse_commit.specs.Meeting.{CountsAll, CountsTimes, IsFresh}
 use Rattle.gix_traverse_commit.specs.Known.{turns_of}
 use Rattle.gix_traverse_commit.specs.Nodes.{is_hidden}
 use Rattle.gix_traverse_commit.specs.Sorting.{timing_of}
-use Rattle.gix_traverse_commit.specs.Simply.{IsAccepted, IsNew, IsSure, SimpleFault, hidden_error, times_queued, timing, IsWanted}
+use Rattle.gix_traverse_commit.specs.Simply.{IsNew, IsSure, times_queued, timing}
+use Rattle.gix_traverse_commit.specs.Giving.{IsAccepted, SimpleFault, hidden_error, IsWanted}
 use Rattle.gix_traverse_commit.specs.Timely.{AllRowed, LetsWaitIn}
 use Rattle.gix_traverse_commit.specs.Told.{AreTold, rows_of}
 use Rattle.gix_object_find.specs.Table.{Table}
 use Rattle.gix_traverse_commit.specs.declared.fetch.FetchError.{FetchError}
 use Rattle.gix_traverse_commit.specs.declared.fetch.FetchError.TheVariants as fault
+use Rattle.gix_traverse_commit.specs.declared.parents.Parents.{Parents}
 use Rattle.gix_traverse_commit.specs.declared.rows.Row.{Row}
 use Rattle.gix_traverse_commit.specs.declared.simple.waiting.Turn.{Turn}
 use Rattle.gix_traverse_commit.specs.declared.simple.sorting.Timing.{Timing}
@@ -101,10 +103,10 @@ returns-clause-rowed g c = λ r0.
     }) in
     (record { tips = step.0.tips; hidden = step.0.hidden; queue = step.0.queue; waiting_rows = step.0.waiting_rows }, step.1 ∙ c.in_default.ensures.rowed (subst (λ (xs : List ObjectId). AllHeld (rows_of c.gather.new.self.source.rows) xs) (sym c.as_slice.ensures.value) r.hidden) ∙ ap (λ s. s.lookups) c.gather.ensures.source)
 
-of_hidden : (honest may_fail : Type 0) (rows : List Row) (table : Table) (hidden : List ObjectId) (error : FetchError) → PaintFault honest may_fail rows table hidden error → SimpleFault (λ _. ⊥) honest may_fail rows table hidden (hidden_error error)
-of_hidden honest may_fail rows table hidden (fault.Find error) h = h
-of_hidden honest may_fail rows table hidden (fault.ObjectDecode error) h = h
-of_hidden honest may_fail rows table hidden fault.Memory h = tt
+of_hidden : (along : Parents) (honest may_fail : Type 0) (rows : List Row) (table : Table) (hidden : List ObjectId) (error : FetchError) → PaintFault honest may_fail rows table hidden error → SimpleFault (λ _. ⊥) along honest may_fail rows table hidden (hidden_error error)
+of_hidden along honest may_fail rows table hidden (fault.Find error) h = h
+of_hidden along honest may_fail rows table hidden (fault.ObjectDecode error) h = h
+of_hidden along honest may_fail rows table hidden fault.Memory h = tt
 
 pub returns-in-Err-clause-refused : goal.returns-in-Err-clause-refused
 returns-in-Err-clause-refused g c = λ a m.
@@ -118,7 +120,7 @@ returns-in-Err-clause-refused g c = λ a m.
     let here = subst (λ s. PaintFault (g.F.Lookup.is_honest s.objects) (g.F.Lookup.may_fail s.objects) (rows_of s.rows) (g.F.Lookup.table s.objects) c.as_slice.result.now error) still (c.in-Err.ensures.refused w.asked.unpainted) in
     let hidden : c.as_slice.result.now ≡ a.hidden = c.as_slice.ensures.value ∙ w.hidden in
     let of_tips = subst (λ (hs : List ObjectId). PaintFault honest may_fail rows table hs error) hidden here in
-    subst (λ (e : Error). SimpleFault (λ _. ⊥) honest may_fail rows table a.hidden e) (sym c.of_painting.ensures) (of_hidden honest may_fail rows table a.hidden error of_tips)
+    subst (λ (e : Error). SimpleFault (λ _. ⊥) a.parents honest may_fail rows table a.hidden e) (sym c.of_painting.ensures) (of_hidden a.parents honest may_fail rows table a.hidden error of_tips)
 
 pub returns-in_err-gather-clause-order : goal.returns-in_err-gather-clause-order
 returns-in_err-gather-clause-order g c = c.gather.ensures.order
@@ -171,3 +173,21 @@ returns-clause-awaits g c = λ a m honest0 commits told0.
       is_false (is_hidden c.paint.new.known.nodes x) (λ t. out ((painted x).0 t)),
     ))
     empty
+
+pub returns-clause-stays : goal.returns-clause-stays
+returns-clause-stays g c = record {
+  begun = c.in_ok-line_up.ensures.stays.1;
+  parents = c.line_up.ensures.order.0 ∙ c.gather.ensures.order.0;
+  sorting = c.line_up.ensures.order.1 ∙ c.gather.ensures.order.1;
+  hidden = ap (λ v. v.items) (c.in_ok-line_up.ensures.stays.0 ∙ c.gather.ensures.stays.0);
+}
+
+pub returns-clause-painted : goal.returns-clause-painted
+returns-clause-painted g c = λ a m honest0 commits told0.
+    let still = c.gather.ensures.source in
+    let w : IsNew g.P.Accept.accepts a c.gather.new.self = c.in_ok-gather.ensures.made a m in
+    let honest = subst (λ s. g.F.Lookup.is_honest s.objects) (sym still) honest0 in
+    let told = subst (λ s. AreTold (rows_of s.rows) (g.F.Lookup.table s.objects) commits) (sym still) told0 in
+    let hidden : c.as_slice.result.now ≡ a.hidden = c.as_slice.ensures.value ∙ w.hidden in
+    let painted = subst (λ (hs : List ObjectId). Paints commits hs c.paint.new.known.nodes) hidden (c.in_default.ensures.painted w.asked.unpainted honest commits told) in
+    λ x. subst (λ (b : Bool). (b ≡ true) ↔ ReachedFrom commits a.hidden x) (sym (c.in_ok-line_up.ensures.painted x)) (painted x)

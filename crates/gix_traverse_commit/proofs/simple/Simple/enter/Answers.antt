@@ -4,16 +4,23 @@ use Rattle.gix_hash_id.specs.declared.object_id.ObjectId.{ObjectId}
 use Rattle.gix_object_find.specs.Existing.{Stands}
 use Rattle.gix_object_lines.specs.declared.kind.Kind.TheVariants as kinds
 use Rattle.gix_traverse_commit.specs.Commits.{asked_parents}
-use Rattle.gix_traverse_commit.specs.Meeting.{CountsTimes, IsFresh, accepted}
+use Rattle.gix_traverse_commit.specs.Meeting.{CountsTimes, IsFresh, MarksMet, accepted}
 use Rattle.gix_traverse_commit.specs.Order.{IsListOf}
+use Rattle.gix_traverse_commit.specs.Queueing.{QueuesSome}
 use Rattle.gix_traverse_commit.specs.Rows.{AllHeld}
-use Rattle.gix_traverse_commit.specs.Simply.{IsKnown, IsSure, IsTime, IsMetWith}
+use Rattle.gix_traverse_commit.specs.Simply.{IsKnown, IsSure}
+use Rattle.gix_traverse_commit.specs.Giving.{IsTime, IsMetWith, StopsFetch, error_of}
 use Rattle.gix_traverse_commit.specs.Sorting.{timing_of}
 use Rattle.gix_traverse_commit.specs.Timely.{AllRowed, LetsWaitIn}
 use Rattle.gix_traverse_commit.specs.Known.{turns_of}
 use Rattle.gix_traverse_commit.specs.Told.{AreTold, rows_of}
 use Rattle.gix_traverse_commit.specs.declared.parents.Parents.{Parents}
 use Rattle.gix_traverse_commit.specs.declared.rows.Row.{Row}
+use Rattle.gix_object_find.specs.Table.{Table}
+use Rattle.gix_traverse_commit.specs.Fetching.{ReadFault}
+use Rattle.gix_traverse_commit.specs.declared.fetch.FetchError.{FetchError}
+use Rattle.gix_traverse_commit.specs.declared.fetch.FetchError.TheVariants as fault
+use Rattle.std.proofs.lemmas.Result.{err_from_is_err_and}
 use Rattle.gix_traverse_commit.proofs.ByTime.{at_order, at_source, under_source}
 use Rattle.gix_traverse_commit.specs.declared.simple.sorting.Sorting.{Sorting}
 use Rattle.gix_traverse_commit.proofs.simple.Simple.enter.Goals as goal
@@ -97,3 +104,28 @@ returns-clause-awaits g c = λ honest commits told.
     let turns' = turns_of c.meet_all.new.self.known in
     let step = subst (λ (o : g.row.F.Denot). LetsWaitIn order (g.F.Lookup.may_fail o) commits (IsMetWith g.P.Accept.accepts c.args.self.now c.as_slice.result.now) turns turns') c.fetch.ensures.objects (c.in_ok-meet_all.ensures.awaits honest' commits told') in
     subst (λ (ps : List ObjectId). LetsWaitIn order (g.F.Lookup.may_fail c.args.self.now.source.objects) commits (IsMetWith g.P.Accept.accepts c.args.self.now ps) turns turns') c.as_slice.ensures step
+
+pub returns-clause-stays : goal.returns-clause-stays
+returns-clause-stays g c = λ b. record {
+  begun = c.meet_all.ensures.stays.1 ∙ b;
+  parents = c.meet_all.ensures.order.0;
+  sorting = c.meet_all.ensures.order.1;
+  hidden = ap (λ v. v.items) c.meet_all.ensures.stays.0;
+}
+
+pub returns-clause-marks : goal.returns-clause-marks
+returns-clause-marks g c = subst (λ (ps : List ObjectId). MarksMet c.args.self.now.known.nodes ps c.meet_all.new.self.known.nodes) c.as_slice.ensures c.in_ok-meet_all.ensures.marks
+
+pub returns-clause-behind : goal.returns-clause-behind
+returns-clause-behind g c = λ some. subst (λ (ps : List ObjectId). QueuesSome c.args.self.now.known ps c.meet_all.new.self.known) c.as_slice.ensures (c.in_ok-meet_all.ensures.behind some)
+
+stops_fetch : (along : Parents) (honest may_fail : Type 0) (rows : List Row) (table : Table) (id : ObjectId) (error : FetchError) → ReadFault along honest may_fail rows table id error → StopsFetch along honest may_fail rows table id (error_of error)
+stops_fetch along honest may_fail rows table id (fault.Find error) h = h
+stops_fetch along honest may_fail rows table id (fault.ObjectDecode error) h = h
+stops_fetch along honest may_fail rows table id fault.Memory h = tt
+
+pub returns-in_err-commit-clause-refused : goal.returns-in_err-commit-clause-refused
+returns-in_err-commit-clause-refused g c =
+    let p = err_from_is_err_and c.from_residual.result c.from_residual.ensures.1 in
+    let fault = stops_fetch c.args.self.now.parents (g.F.Lookup.is_honest c.args.self.now.source.objects) (g.F.Lookup.may_fail c.args.self.now.source.objects) (rows_of c.args.self.now.source.rows) (g.F.Lookup.table c.args.self.now.source.objects) c.args.id c.in_err-commit.field-0.0 c.in_err-commit.ensures.unread in
+    rw (p.1, p.2) fault

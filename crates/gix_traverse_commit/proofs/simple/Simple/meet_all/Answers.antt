@@ -1,5 +1,5 @@
-use Rattle.std.proofs.Common.{refl, ◌+◌, rules, ◌≡◌, ◌⊎◌, sym, ◌∙◌, ap, subst, inl, inr, List, [], ◌∷◌, ◌++◌, Option, Some, None, Bool}
-use Rattle.std.specs.Prelude.{Contains, not, ◌&&◌}
+use Rattle.std.proofs.Common.{refl, ◌+◌, rules, ◌≡◌, ◌⊎◌, sym, ◌∙◌, ap, subst, inl, inr, List, [], ◌∷◌, ◌++◌, Option, Some, None, Bool, true, false}
+use Rattle.std.specs.Prelude.{Contains, IsSome, not, ◌&&◌}
 use Rattle.gix_hash_id.specs.Id.{id_of}
 use Rattle.gix_hash_id.specs.declared.object_id.ObjectId.{ObjectId}
 use Rattle.gix_traverse_commit.specs.Commits.{asked_parents}
@@ -7,7 +7,8 @@ use Rattle.gix_traverse_commit.specs.Meeting.{CountsTimes, accepted}
 use Rattle.gix_traverse_commit.specs.Known.{turns_of}
 use Rattle.gix_traverse_commit.specs.Nodes.{is_hidden, is_met}
 use Rattle.gix_traverse_commit.specs.Rows.{AllHeld}
-use Rattle.gix_traverse_commit.specs.Simply.{IsKnown, keep_of, times_queued, IsMetWith}
+use Rattle.gix_traverse_commit.specs.Simply.{IsKnown, keep_of, times_queued}
+use Rattle.gix_traverse_commit.specs.Giving.{IsMetWith}
 use Rattle.gix_traverse_commit.specs.Sorting.{in_time, timing_of}
 use Rattle.gix_traverse_commit.specs.Timely.{AllRowed, IsMetSoFar, keep_since, LetsWaitIn}
 use Rattle.gix_traverse_commit.specs.Told.{rows_of}
@@ -123,3 +124,8 @@ pub returns-clause-awaits : goal.returns-clause-awaits
 returns-clause-awaits g c = λ honest commits told.
     let is : timing_of c.args.self.now.parents c.args.self.now.sorting ≡ Some c.in-Some.timing = sym c.time_order.ensures ∙ c.in-Some.is in
     subst (λ (t : Option Timing). LetsWaitIn t (g.F.Lookup.may_fail c.args.self.now.source.objects) commits (IsMetWith g.P.Accept.accepts c.args.self.now c.args.parents.now) (turns_of c.args.self.now.known) (turns_of c.await_parents.new.known)) (sym is) (c.in_ok-await_parents.ensures.awaits honest commits told)
+
+pub returns-in_default-clause-behind : goal.returns-in_default-clause-behind
+returns-in_default-clause-behind g c = λ some.
+    let none : timing_of c.args.self.now.parents c.args.self.now.sorting ≡ None = search rules in
+    absurd (let s : false ≡ true = subst (λ (t : Option Timing). IsSome t) none some in let z : ⊥ = cc in z)

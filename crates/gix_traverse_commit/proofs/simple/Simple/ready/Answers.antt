@@ -1,4 +1,4 @@
-use Rattle.std.proofs.Common.{sym, subst, inl, inr, List}
+use Rattle.std.proofs.Common.{refl, sym, subst, inl, inr, List}
 use Rattle.std.specs.Prelude.{OnOk}
 use Rattle.gix_hash_id.specs.declared.object_id.ObjectId.{ObjectId}
 use Rattle.gix_traverse_commit.specs.Simply.{IsUnderWay, times_queued}
@@ -37,6 +37,15 @@ returns-then-self-clause-left g c = gains_none c.args.self.now.known.nodes (time
 
 pub returns-then-self-clause-awaits : goal.returns-then-self-clause-awaits
 returns-then-self-clause-awaits g c = λ a made. elim made [
+  | inl m ↦ (let h = m.begun in let f = c.if-self.true in let z : ⊥ = cc in absurd z)
+  | inr m ↦ (let h = m.begun in let f = c.if-self.true in let z : ⊥ = cc in absurd z)
+]
+
+pub returns-then-self-clause-stays : goal.returns-then-self-clause-stays
+returns-then-self-clause-stays g c = record { begun = c.if-self.true; parents = refl; sorting = refl; hidden = refl }
+
+pub returns-then-self-clause-painted : goal.returns-then-self-clause-painted
+returns-then-self-clause-painted g c = λ a made. elim made [
   | inl m ↦ (let h = m.begun in let f = c.if-self.true in let z : ⊥ = cc in absurd z)
   | inr m ↦ (let h = m.begun in let f = c.if-self.true in let z : ⊥ = cc in absurd z)
 ]

@@ -1,4 +1,4 @@
-use Rattle.std.proofs.Common.{◌≡◌, ◌≤◌, ◌+◌, ◌∙◌, sym, refl, subst, ap, inl, List, length}
+use Rattle.std.proofs.Common.{◌≡◌, ◌≤◌, ◌+◌, ◌∙◌, sym, refl, subst, ap, inl, List, [], length, true, false}
 use Rattle.std.proofs.lemmas.Result.{err_from_is_err_and}
 use Rattle.std.specs.Prelude.{Contains}
 use Rattle.gix_hash_id.specs.declared.object_id.ObjectId.{ObjectId}
@@ -7,7 +7,8 @@ use Rattle.gix_traverse_commit.specs.Meeting.{CountsTimes, accepted, unmet}
 use Rattle.gix_traverse_commit.specs.Rows.{AllHeld}
 use Rattle.gix_traverse_commit.specs.Sorting.{timing_of}
 use Rattle.gix_traverse_commit.specs.declared.parents.Parents.TheVariants.{All}
-use Rattle.gix_traverse_commit.specs.Simply.{IsAccepted, IsNew, IsOver, IsUnmet, TipFault}
+use Rattle.gix_traverse_commit.specs.Simply.{IsNew, IsOver}
+use Rattle.gix_traverse_commit.specs.Giving.{IsAccepted, IsUnmet, TipFault}
 use Rattle.gix_traverse_commit.specs.Told.{rows_of}
 use Rattle.gix_traverse_commit.proofs.Meeting.{unmet_accepted}
 use Rattle.gix_traverse_commit.proofs.Times.{met_or_accepted, tip_fault_more}
@@ -77,3 +78,18 @@ returns-clause-each g c = λ a m.
     let same = unmet_accepted nodes a.accepts tips v.asked.refused (λ x k. v.asked.accepted x (subst (λ (ts : List ObjectId). Contains ts x) v.tips k)) ∙ ap (accepted a.accepts) v.tips in
     subst (λ (xs : List ObjectId). CountsTimes t (rows_of c.args.self.source.rows) xs c.args.self.source.lookups c.read_tips.new.self.source.lookups) same
     (subst (λ s. CountsTimes t (rows_of s.rows) (unmet nodes tips) s.lookups c.read_tips.new.self.source.lookups) e c.in_ok-read_tips.ensures.each)
+
+pub returns-in_err-gather-clause-whole : goal.returns-in_err-gather-clause-whole
+returns-in_err-gather-clause-whole g c = λ o.
+    let t = c.turn.ensures.over o in
+    let s : false ≡ true = (c.in_err-gather.ensures.same t.empty t.none_waits).1 in
+    let z : ⊥ = cc in
+    absurd z
+
+pub returns-in_err-read_tips-clause-whole : goal.returns-in_err-read_tips-clause-whole
+returns-in_err-read_tips-clause-whole g c = λ o.
+    let t = c.turn.ensures.over o in
+    let tips : c.gather.new.self.tips.items ≡ [] = ap (λ w. w.tips.items) (c.gather.ensures.same t.empty t.none_waits).0 ∙ c.turn.ensures.emptied o in
+    let s : false ≡ true = c.in_err-read_tips.ensures.whole tips in
+    let z : ⊥ = cc in
+    absurd z

@@ -150,3 +150,8 @@ pub returns-in_err-turn-clause-none_waits : goal.returns-in_err-turn-clause-none
 returns-in_err-turn-clause-none_waits g c =
     let out : IsSome (timing_of c.args.self.now.parents c.args.self.now.sorting) → turns_of c.args.self.now.known ≡ [] = (λ some. c.in_err-turn.ensures.none) in
     rw c.from_residual-in_err-turn.ensures out
+
+pub returns-in_default-clause-queueing : goal.returns-in_default-clause-queueing
+returns-in_default-clause-queueing g c = λ some.
+    let none : timing_of c.args.self.now.parents c.args.self.now.sorting ≡ None = search rules in
+    absurd (let s : false ≡ true = subst (λ (t : Option Timing). IsSome t) none some in let z : ⊥ = cc in z)

@@ -24,3 +24,6 @@ returns-clause-ahead g c = λ a m. elim m [
   | inr u ↦ inr (rest_turned g.P.Accept.accepts a c.args.self.now (record c.args.self.now { tips = c.clear.new.self; begun = c.is_idle-self.result }) u c.clear.ensures.items
       (is_false c.is_idle-self.result (λ h. let both = c.is_idle-self.ensures.0 h in u.goes_on (record { begun = begun_to g.P.Accept.accepts c.args.self.now a u; empty = both.0; none_waits = both.1 }))))
 ]
+
+pub returns-then-not-self-clause-emptied : goal.returns-then-not-self-clause-emptied
+returns-then-not-self-clause-emptied g c = λ o. let b = o.begun in let f = c.if-not-self.true in let z : ⊥ = cc in absurd z

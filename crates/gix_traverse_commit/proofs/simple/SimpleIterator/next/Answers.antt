@@ -1,10 +1,11 @@
-use Rattle.std.proofs.Common.{inl, ◌<◌, ◌≡◌, ◌∙◌, sym, refl, ap, subst, arith, ℕ, length, List, [], ◌∷◌, ◌++◌, Option, None, true, false, cond, ◌+◌}
+use Rattle.std.proofs.Common.{inl, inr, pos, ◌<◌, ◌≡◌, ◌∙◌, sym, refl, ap, subst, arith, ℕ, length, List, [], ◌∷◌, ◌++◌, Option, None, true, false, cond, ◌+◌}
 use Rattle.gix_hash_id.specs.Id.{id_of}
 use Rattle.gix_hash_id.specs.declared.object_id.ObjectId.{ObjectId}
 use Rattle.std.specs.List.{sum_by}
-use Rattle.gix_traverse_commit.specs.Ending.{may_come}
-use Rattle.gix_traverse_commit.specs.Meeting.{CountsOne, IsFresh}
-use Rattle.gix_traverse_commit.specs.Simply.{CountsBeginning, IsWanted, timing, CountsFault, CountsUpTo, IsAtTurn, IsContentOf, IsInfo, IsOver, IsKnown, IsSure, IsTurn, IsUnderWay, StopsFetch, is_over, known_ids, left_of, times_queued, ComesInTurn, FailsInTurn, IsMetWith}
+use Rattle.gix_traverse_commit.specs.Ending.{may_come, times_in}
+use Rattle.gix_traverse_commit.specs.Meeting.{CountsOne, IsFresh, MarksMet}
+use Rattle.gix_traverse_commit.specs.Simply.{timing, IsAtTurn, IsOver, IsKnown, IsSure, IsUnderWay, is_over, known_ids, left_of, times_queued}
+use Rattle.gix_traverse_commit.specs.Giving.{CountsBeginning, IsWanted, CountsFault, CountsUpTo, IsContentOf, IsInfo, IsTurn, StopsFetch, ComesInTurn, FailsInTurn, IsMetWith, KeepsOrder}
 use Rattle.gix_traverse_commit.specs.Rows.{Holds}
 use Rattle.gix_traverse_commit.specs.Sorting.{timing_of}
 use Rattle.gix_traverse_commit.specs.Known.{turns_of}
@@ -20,7 +21,7 @@ use Rattle.gix_traverse_commit.proofs.Rest.{made_order}
 use Rattle.gix_traverse_commit.proofs.Simply.{fault_more, fetch_fault}
 use Rattle.std.specs.Prelude.{IsSome}
 use Rattle.gix_traverse_commit.specs.Commits.{Commits}
-use Rattle.gix_traverse_commit.specs.Nodes.{Node}
+use Rattle.gix_traverse_commit.specs.Nodes.{Node, is_hidden}
 use Rattle.gix_traverse_commit.specs.Timely.{LetsWaitIn, TakesTurn}
 use Rattle.gix_traverse_commit.specs.declared.simple.sorting.Timing.{Timing}
 use Rattle.gix_traverse_commit.proofs.simple.SimpleIterator.next.Goals as goal
@@ -34,7 +35,7 @@ returns-in-Err-clause-steps g c = record {
   rows = c.stop.ensures.rows ∙ c.ready.ensures.rows;
   given = λ honest commits told a listed sure s. tt;
   end = λ honest commits told a listed sure s. tt;
-  refused = λ honest commits told a listed sure s. fault_more (λ _. ⊥) (IsTurn commits a listed) (g.F.Lookup.is_honest c.args.self.now.source.objects) (g.F.Lookup.may_fail c.args.self.now.source.objects) (rows_of c.args.self.now.source.rows) (g.F.Lookup.table c.args.self.now.source.objects) a.hidden c.in-Err.error (λ x z. absurd z) (c.in-Err.ensures.refused commits (g.F.Lookup.ids c.args.self.now.source.objects) a listed s);
+  refused = λ honest commits told a listed sure s. fault_more (λ _. ⊥) (IsTurn commits a listed) a.parents (g.F.Lookup.is_honest c.args.self.now.source.objects) (g.F.Lookup.may_fail c.args.self.now.source.objects) (rows_of c.args.self.now.source.rows) (g.F.Lookup.table c.args.self.now.source.objects) a.hidden c.in-Err.error (λ x z. absurd z) (c.in-Err.ensures.refused commits (g.F.Lookup.ids c.args.self.now.source.objects) a listed s);
   failed = c.stop.ensures.over;
   ended = λ o. absurd (no_way (c.in-Err.ensures.begun o.begun));
   content = tt;
@@ -57,6 +58,15 @@ returns-in-Err-clause-steps g c = record {
   in_turn_end = λ b by_time. tt;
   tips_end = λ a m honest commits told. tt;
   in_turn_fault = λ b. absurd (no_way (c.in-Err.ensures.begun b));
+  told = λ honest commits told. tt;
+  stays = tt;
+  paint_stays = λ b. tt;
+  takes_one = tt;
+  marks = λ b. tt;
+  first_fault = λ a m. inl (c.in-Err.ensures.refused (λ _. record { parents = []; time = pos 0 }) (g.F.Lookup.ids c.args.self.now.source.objects) a [] (inl (refl, m)));
+  unasked_fault = inr (c.stop.ensures.predicate ∙ c.ready.ensures.predicate);
+  kind_end = tt;
+  queues = λ b some. tt;
 }
 
 pub returns-in_default-take-clause-steps : goal.returns-in_default-take-clause-steps
@@ -93,6 +103,15 @@ returns-in_default-take-clause-steps g c =
           let same = timing_same a c.ready.new.self.parents c.ready.new.self.sorting (c.in_default.ensures.order.0 ∙ order.0) (c.in_default.ensures.order.1 ∙ order.1) in
           none_awaited (timing a) (g.F.Lookup.may_fail c.args.self.now.source.objects) commits (IsWanted commits a) (turns_of c.ready.new.self.known) (λ some. c.in_default-take.ensures.none_waits (subst (λ (t : Option Timing). IsSome t) (sym same) some)) (c.in_default.ensures.awaits a m honest commits told));
       in_turn_fault = λ b. tt;
+      told = λ honest commits told. tt;
+      stays = tt;
+      paint_stays = λ b. tt;
+      takes_one = tt;
+      marks = λ b. tt;
+      first_fault = λ a m. tt;
+      unasked_fault = tt;
+      kind_end = c.finish.ensures.kind ∙ (c.take.ensures.kind ∙ c.in_default.ensures.kind);
+      queues = λ b some. tt;
     }
 
 pub returns-in-Ok-clause-steps : goal.returns-in-Ok-clause-steps
@@ -119,6 +138,13 @@ returns-in-Ok-clause-steps g c =
       others = turns;
       taken = subst (λ (x : ObjectId). TakesTurn order (turns_of c.ready.new.self.known) x turns) (sym c.in-Ok.ensures.id) c.in-Some.ensures.waiting;
       parents = subst (λ (p : g.row.P.Denot). LetsWaitIn order may_fail commits (λ x. IsFresh c.ready.new.self.known.nodes ps x × (g.P.Accept.accepts p (id_of x) ≡ true)) turns turns') c.take.ensures.predicate nodes;
+    }) in
+    let queued : IsSome order → KeepsOrder c.ready.new.self c.in-Ok.info c.enter.new.self = (λ some. record {
+      between = c.take.new.self.known;
+      nodes = c.take.ensures.nodes;
+      order = c.in-Some.ensures.queueing some;
+      taken = subst (λ (x : ObjectId). TakesTurn order (turns_of c.ready.new.self.known) x (turns_of c.take.new.self.known)) (sym c.in-Ok.ensures.id) c.in-Some.ensures.waiting;
+      behind = c.in-Ok.ensures.behind (subst (λ (t : Option Timing). IsSome t) (sym in_order) some);
     }) in
     let known : IsKnown rows ids id = subst (λ (o : g.row.F.Denot). IsKnown rows (g.F.Lookup.ids o) id) objects (subst (λ (r : Option (List Row)). IsKnown (rows_of r) (g.F.Lookup.ids c.take.new.self.source.objects) id) same_rows c.in-Ok.ensures.known) in
     record {
@@ -173,7 +199,6 @@ returns-in-Ok-clause-steps g c =
       counted_fault = λ b. tt;
       rowed_end = λ r. tt;
       first = (λ a m.
-          let begin = c.in_default.ensures.counted a m in
           let f : c.take.new.self.source.lookups ≡ c.ready.new.self.source.lookups = ap (λ s. s.lookups) c.take.ensures.source in
           let more : ℕ = length c.in-Ok.info.parent_ids.items in
           let order = made_order g.P.Accept.accepts a c.args.self.now m in
@@ -181,9 +206,16 @@ returns-in-Ok-clause-steps g c =
           let sorting : c.take.new.self.sorting ≡ a.sorting = c.take.ensures.order.1 ∙ (c.in_default.ensures.order.1 ∙ order.1) in
           record {
             begun = c.ready.new.self;
-            under_way = λ honest commits told sure. c.in_default.ensures.going honest commits told ids a [] sure (inl (refl, m));
-            unasked = c.ready.ensures.predicate;
-            beginning = begin;
+            begins = record {
+              under_way = λ honest commits told sure. c.in_default.ensures.going honest commits told ids a [] sure (inl (refl, m));
+              unasked = c.ready.ensures.predicate;
+              beginning = c.in_default.ensures.counted a m;
+              order = (let order = made_order g.P.Accept.accepts a c.args.self.now m in timing_same a c.ready.new.self.parents c.ready.new.self.sorting (c.ready.ensures.order.0 ∙ order.0) (c.ready.ensures.order.1 ∙ order.1));
+              tips_wait = λ honest commits told. c.in_default.ensures.awaits a m honest commits told;
+              stays = c.in_default.ensures.stays;
+              painted = λ honest commits told. c.in_default.ensures.painted a m honest commits told;
+              gains = c.in_default.ensures.left;
+            };
             meets = meets_moved g.P.Accept.accepts g.P.Accept.goes (rows_of c.take.new.self.source.rows) rows c.take.new.self.known.nodes c.ready.new.self.known.nodes (timing_of c.take.new.self.parents c.take.new.self.sorting) (timing_of c.ready.new.self.parents c.ready.new.self.sorting) c.in-Ok.info c.take.new.self.predicate c.ready.new.self.predicate c.take.new.self.source.lookups c.ready.new.self.source.lookups c.enter.new.self.predicate c.enter.new.self.source.lookups
                 (ap rows_of same_rows) c.take.ensures.nodes in_order c.take.ensures.predicate f c.in-Ok.ensures.met;
             one = (λ n. subst (λ (x : ObjectId). CountsOne rows x c.ready.new.self.source.lookups c.enter.new.self.source.lookups) (sym c.in-Ok.ensures.id)
@@ -192,15 +224,44 @@ returns-in-Ok-clause-steps g c =
             more = subst (λ (x : ObjectId). CountsUpTo rows x more c.ready.new.self.source.lookups c.enter.new.self.source.lookups) (sym c.in-Ok.ensures.id)
                 (subst (λ (k : ℕ). CountsUpTo rows id more k c.enter.new.self.source.lookups) f
                 (subst (λ (r : Option (List Row)). CountsUpTo (rows_of r) id more c.take.new.self.source.lookups c.enter.new.self.source.lookups) same_rows c.in-Ok.ensures.counted));
-            order = timing_same a c.ready.new.self.parents c.ready.new.self.sorting (c.in_default.ensures.order.0 ∙ order.0) (c.in_default.ensures.order.1 ∙ order.1);
-            tips_wait = λ honest commits told. c.in_default.ensures.awaits a m honest commits told;
             in_turn = comes;
+            queues = λ some. queued (subst (λ (t : Option Timing). IsSome t) (sym (timing_same a c.ready.new.self.parents c.ready.new.self.sorting (c.ready.ensures.order.0 ∙ order.0) (c.ready.ensures.order.1 ∙ order.1))) some);
+            marks = subst (λ (ns : List Node). MarksMet ns c.in-Ok.info.parent_ids.items c.enter.new.self.known.nodes) c.take.ensures.nodes c.in-Ok.ensures.marks;
+            paint_stays = λ x. c.in-Ok.ensures.painted x ∙ ap (λ (ns : List Node). is_hidden ns x) c.take.ensures.nodes;
           });
       first_end = λ a m. tt;
       in_turn = λ b honest commits told. subst (λ walk. ComesInTurn g.P.Accept.accepts (g.F.Lookup.may_fail c.args.self.now.source.objects) commits walk c.in-Ok.info c.enter.new.self) (c.in_default.ensures.same b) (comes honest commits told);
       in_turn_end = λ b by_time. tt;
       tips_end = λ a m honest commits told. tt;
       in_turn_fault = λ b. tt;
+      told = (λ honest commits told.
+          let honest' = subst (λ (o : g.row.F.Denot). g.F.Lookup.is_honest o) (sym objects) honest in
+          let told' = subst (λ (o : g.row.F.Denot). AreTold (rows_of c.take.new.self.source.rows) (g.F.Lookup.table o) commits) (sym objects) (subst (λ (r : Option (List Row)). AreTold (rows_of r) (g.F.Lookup.table c.args.self.now.source.objects) commits) (sym same_rows) told) in
+          let parents : c.take.new.self.parents ≡ c.args.self.now.parents = c.take.ensures.order.0 ∙ c.ready.ensures.order.0 in
+          let sorting : c.take.new.self.sorting ≡ c.args.self.now.sorting = c.take.ensures.order.1 ∙ c.ready.ensures.order.1 in
+          subst (λ (p : Parents). IsInfo commits rows p c.args.self.now.sorting c.in-Ok.info) parents (subst (λ (s : Sorting). IsInfo commits rows c.take.new.self.parents s c.in-Ok.info) sorting (subst (λ (o : Option (List Row)). IsInfo commits (rows_of o) c.take.new.self.parents c.take.new.self.sorting c.in-Ok.info) same_rows (c.in-Ok.ensures.told honest' commits told'))));
+      stays = (
+          let r = c.in_default.ensures.stays in
+          let e = c.in-Ok.ensures.stays (c.take.ensures.stays.1 ∙ r.begun) in
+          record {
+            begun = e.begun;
+            parents = e.parents ∙ (c.take.ensures.order.0 ∙ r.parents);
+            sorting = e.sorting ∙ (c.take.ensures.order.1 ∙ r.sorting);
+            hidden = e.hidden ∙ (ap (λ v. v.items) c.take.ensures.stays.0 ∙ r.hidden);
+          });
+      paint_stays = λ b. λ x. c.in-Ok.ensures.painted x ∙ ap (λ (ns : List Node). is_hidden ns x) (c.take.ensures.nodes ∙ ap (λ walk. walk.known.nodes) (c.in_default.ensures.same b));
+      takes_one = λ x. (
+          let a = c.in_default.ensures.left x in
+          let b = c.in-Some.ensures.less (id_of x) in
+          let d = c.in-Ok.ensures.left x in
+          let e = ap (λ nodes. may_come nodes (times_queued c.take.new.self) (id_of x)) c.take.ensures.nodes in
+          let f = ap (λ (z : ObjectId). times_in (z ∷ []) (id_of x)) c.in-Ok.ensures.id in
+          omega (arith, a, b, d, e, f));
+      marks = λ b. subst (λ (ns : List Node). MarksMet ns c.in-Ok.info.parent_ids.items c.enter.new.self.known.nodes) (c.take.ensures.nodes ∙ ap (λ walk. walk.known.nodes) (c.in_default.ensures.same b)) c.in-Ok.ensures.marks;
+      first_fault = λ a m. tt;
+      unasked_fault = tt;
+      kind_end = tt;
+      queues = λ b some. subst (λ walk. KeepsOrder walk c.in-Ok.info c.enter.new.self) (c.in_default.ensures.same b) (queued (subst (λ walk. IsSome (timing_of walk.parents walk.sorting)) (sym (c.in_default.ensures.same b)) some));
       falls = (
           let now = ap rows_of (c.enter.ensures.rows ∙ same_rows) in
           let old = c.args.self.now in
@@ -221,8 +282,10 @@ returns-in-Err-enter-clause-steps g c =
     let ids = g.F.Lookup.ids c.args.self.now.source.objects in
     let objects : c.take.new.self.source.objects ≡ c.args.self.now.source.objects = ap (λ s. s.objects) c.take.ensures.source ∙ c.ready.ensures.objects in
     let same_rows : c.take.new.self.source.rows ≡ c.args.self.now.source.rows = ap (λ s. s.rows) c.take.ensures.source ∙ c.ready.ensures.rows in
-    let fault = subst (λ (o : g.row.F.Denot). StopsFetch (g.F.Lookup.is_honest o) (g.F.Lookup.may_fail o) (rows_of c.args.self.now.source.rows) (g.F.Lookup.table o) id error) objects
-    (subst (λ (r : Option (List Row)). StopsFetch (g.F.Lookup.is_honest c.take.new.self.source.objects) (g.F.Lookup.may_fail c.take.new.self.source.objects) (rows_of r) (g.F.Lookup.table c.take.new.self.source.objects) id error) same_rows c.in-Err-enter.ensures.refused) in
+    let along : c.take.new.self.parents ≡ c.ready.new.self.parents = c.take.ensures.order.0 in
+    let fault = subst (λ (p : Parents). StopsFetch p (g.F.Lookup.is_honest c.args.self.now.source.objects) (g.F.Lookup.may_fail c.args.self.now.source.objects) (rows_of c.args.self.now.source.rows) (g.F.Lookup.table c.args.self.now.source.objects) id error) along
+    (subst (λ (o : g.row.F.Denot). StopsFetch c.take.new.self.parents (g.F.Lookup.is_honest o) (g.F.Lookup.may_fail o) (rows_of c.args.self.now.source.rows) (g.F.Lookup.table o) id error) objects
+    (subst (λ (r : Option (List Row)). StopsFetch c.take.new.self.parents (g.F.Lookup.is_honest c.take.new.self.source.objects) (g.F.Lookup.may_fail c.take.new.self.source.objects) (rows_of r) (g.F.Lookup.table c.take.new.self.source.objects) id error) same_rows c.in-Err-enter.ensures.refused)) in
     record {
       objects = c.stop-in-Err-enter.ensures.objects ∙ (c.enter.ensures.objects ∙ objects);
       rows = c.stop-in-Err-enter.ensures.rows ∙ (c.enter.ensures.rows ∙ same_rows);
@@ -230,8 +293,10 @@ returns-in-Err-enter-clause-steps g c =
       end = λ honest commits told a listed sure s. tt;
       refused = (λ honest commits told a listed sure s.
           let w = c.in_default.ensures.going honest commits told ids a listed sure s in
-          let turn = (c.in-Some.ensures.turn ids commits a listed w).1 in
-          fetch_fault (IsTurn commits a listed) (g.F.Lookup.is_honest c.args.self.now.source.objects) (g.F.Lookup.may_fail c.args.self.now.source.objects) (rows_of c.args.self.now.source.rows) (g.F.Lookup.table c.args.self.now.source.objects) a.hidden id error turn fault);
+          let (at, turn) = c.in-Some.ensures.turn ids commits a listed w in
+          let parents = (at_order g.P.Accept.accepts ids commits a listed id c.take.new.self at).0 in
+          let here = subst (λ (p : Parents). StopsFetch p (g.F.Lookup.is_honest c.args.self.now.source.objects) (g.F.Lookup.may_fail c.args.self.now.source.objects) (rows_of c.args.self.now.source.rows) (g.F.Lookup.table c.args.self.now.source.objects) id error) (sym along ∙ parents) fault in
+          fetch_fault (IsTurn commits a listed) a.parents (g.F.Lookup.is_honest c.args.self.now.source.objects) (g.F.Lookup.may_fail c.args.self.now.source.objects) (rows_of c.args.self.now.source.rows) (g.F.Lookup.table c.args.self.now.source.objects) a.hidden id error turn here);
       failed = c.stop-in-Err-enter.ensures.over;
       ended = (λ o. let e = c.in_default.ensures.same o.begun in let over : IsOver c.ready.new.self = subst IsOver (sym e) o in let h = rw c.in-Some.is at (c.take.ensures.ended over) in absurd (no_way (sym h)));
       content = tt;
@@ -263,6 +328,33 @@ returns-in-Err-enter-clause-steps g c =
         taken = c.in-Some.ensures.waiting;
         cause = fault;
       }));
+      told = λ honest commits told. tt;
+      stays = tt;
+      paint_stays = λ b. tt;
+      takes_one = tt;
+      marks = λ b. tt;
+      first_fault = λ a m. inr (record {
+        begun = c.ready.new.self;
+        begins = record {
+          under_way = λ honest commits told sure. c.in_default.ensures.going honest commits told ids a [] sure (inl (refl, m));
+          unasked = c.ready.ensures.predicate;
+          beginning = c.in_default.ensures.counted a m;
+          order = (let order = made_order g.P.Accept.accepts a c.args.self.now m in timing_same a c.ready.new.self.parents c.ready.new.self.sorting (c.ready.ensures.order.0 ∙ order.0) (c.ready.ensures.order.1 ∙ order.1));
+          tips_wait = λ honest commits told. c.in_default.ensures.awaits a m honest commits told;
+          stays = c.in_default.ensures.stays;
+          painted = λ honest commits told. c.in_default.ensures.painted a m honest commits told;
+          gains = c.in_default.ensures.left;
+        };
+        fails = record { id = id; others = turns_of c.take.new.self.known; taken = c.in-Some.ensures.waiting; cause = fault };
+        counts = subst (λ (n : ℕ). CountsFault n c.stop-in-Err-enter.new.self.source.lookups error) (ap (λ s. s.lookups) c.take.ensures.source)
+            (subst (λ (n : ℕ). CountsFault c.take.new.self.source.lookups n error) (sym c.stop-in-Err-enter.ensures.lookups) c.in-Err-enter.ensures.failed);
+      });
+      unasked_fault = elim c.in-Err-enter.ensures.unasked [
+        | inl e ↦ inl e
+        | inr p ↦ inr (c.stop-in-Err-enter.ensures.predicate ∙ (p ∙ (c.take.ensures.predicate ∙ c.ready.ensures.predicate)))
+      ];
+      kind_end = tt;
+      queues = λ b some. tt;
     }
 
 pub returns-in-Ok-clause-goes : goal.returns-in-Ok-clause-goes

@@ -1,4 +1,4 @@
-use Rattle.std.proofs.Common.{List, ap, arith, rules, ◌≡◌, refl, true, false, sym, subst}
+use Rattle.std.proofs.Common.{List, [], ◌∷◌, ap, arith, rules, ◌≡◌, refl, true, false, sym, subst}
 use Rattle.std.specs.Prelude.{not, ◌&&◌, Contains}
 use Rattle.gix_hash_id.specs.Id.{id_of}
 use Rattle.gix_traverse_commit.specs.Known.{turns_of}
@@ -13,6 +13,7 @@ use Rattle.gix_traverse_commit.proofs.Timely.{all_pass, joins_same}
 use Rattle.gix_hash_id.specs.declared.object_id.ObjectId.{ObjectId}
 use Rattle.gix_traverse_commit.specs.Meeting.{accepted, fresh}
 use Rattle.gix_traverse_commit.proofs.Awaiting.{fresh_accepted, hidden_out, met_out, refused_out, waits_none, waits_one}
+use Rattle.gix_traverse_commit.proofs.Queueing.{queues_same, some_none}
 use Rattle.gix_traverse_commit.proofs.simple.timed.await_parent.Goals as goal
 
 pub returns-then-accept-clause-waits : goal.returns-then-accept-clause-waits
@@ -79,3 +80,12 @@ returns-clause-awaits g c = λ honest commits told.
     let a : accepts (id_of c.args.id) ≡ false = search rules in
     let still = subst (λ (xs : List ObjectId). LetsWait may_fail c.args.since commits (Contains xs) turns turns) (sym (refused_out accepts (is_met nodes c.args.id) (is_hidden nodes c.args.id) c.args.id a)) (waits_none may_fail c.args.since commits turns) in
     subst (λ (ts : List Turn). LetsWait may_fail c.args.since commits (Contains (accepted accepts (fresh nodes c.args.id))) turns ts) (sym c.in_ok-mark_met.ensures.turns) still
+
+pub returns-then-marks-clause-behind : goal.returns-then-marks-clause-behind
+returns-then-marks-clause-behind g c = some_none c.args.known.now c.args.known.now (c.args.id ∷ []) (queues_same c.args.known.now)
+
+pub returns-then-marks-2-clause-behind : goal.returns-then-marks-2-clause-behind
+returns-then-marks-2-clause-behind g c = some_none c.args.known.now c.args.known.now (c.args.id ∷ []) (queues_same c.args.known.now)
+
+pub returns-clause-behind : goal.returns-clause-behind
+returns-clause-behind g c = some_none c.args.known.now c.mark_met.new.known (c.args.id ∷ []) c.in_ok-mark_met.ensures.behind

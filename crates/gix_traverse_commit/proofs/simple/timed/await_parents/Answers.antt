@@ -18,10 +18,13 @@ use Rattle.gix_traverse_commit.proofs.Keeping.{stays_met, unmet_before}
 use Rattle.gix_traverse_commit.proofs.Lists.{contains_from_at}
 use Rattle.gix_traverse_commit.proofs.Timely.{hides_out, in_nil, joins_same, met_renamed, parent_joins, step_parent}
 use Rattle.gix_traverse_commit.specs.Order.{IsOpen, IsListOf}
-use Rattle.gix_traverse_commit.specs.Meeting.{CountsAll, accepted, IsFresh}
-use Rattle.gix_traverse_commit.proofs.Meeting.{Fresh, asks_more, counts_accepted, meets_none, meets_step, parent_met, parent_or_met}
+use Rattle.gix_traverse_commit.specs.Meeting.{CountsAll, MarksMet, accepted, IsFresh}
+use Rattle.gix_traverse_commit.proofs.Meeting.{Fresh, asks_more, counts_accepted, marks_none, marks_step, meets_none, meets_step, parent_met, parent_or_met}
 use Rattle.gix_traverse_commit.specs.Commits.{Commits}
 use Rattle.gix_traverse_commit.proofs.Awaiting.{accepted_more, of_accepted, to_accepted, waits_none, waits_same}
+use Rattle.gix_traverse_commit.specs.Queueing.{QueuesSome}
+use Rattle.gix_traverse_commit.proofs.Queueing.{queues_same, some_more, some_none}
+use Rattle.gix_traverse_commit.proofs.Simply.{take_push}
 use Rattle.gix_traverse_commit.proofs.simple.timed.await_parents.Goals as goal
 
 pub parents-init : goal.parents-init
@@ -38,6 +41,8 @@ parents-init g c = record {
   left = gains_none c.args.known.now.nodes (times_waiting (turns_of c.args.known.now));
   rowed = λ all before. before;
   walked = λ honest sure h told accepts along tips front listed which w. met_renamed h (keep_since c.args.since h (is_hidden c.args.known.now.nodes) accepts) listed (is_met c.args.known.now.nodes) (IsOpen along tips front) (λ x. IsOpen along tips front x ⊎ Contains (take 0 c.args.parents.now) x) (turns_of c.args.known.now) w (λ x. ((λ o. inl o), (λ d. elim d [ inl o ↦ o | inr c ↦ absurd (in_nil x c) ])));
+  behind = some_none c.args.known.now c.args.known.now [] (queues_same c.args.known.now);
+  marks = marks_none (is_met c.args.known.now.nodes) (is_hidden c.args.known.now.nodes);
   once = ([], refl, refl, (λ honest h told. waits_none (g.F.Lookup.may_fail c.args.source.now.objects) c.args.since h (turns_of c.args.known.now)), meets_none (is_met c.args.known.now.nodes) (is_hidden c.args.known.now.nodes));
 }
 
@@ -72,6 +77,9 @@ parents-preserved g c =
           let j = joins_same (not met && (not (is_hidden c.parents.known.nodes id) && (g.P.Accept.accepts c.parents.predicate (id_of id) && time))) (not met && keep id) (turns_of c.parents.known) (turn_of h id) (turn_of h id) (turns_of c.await_parent.new.known) so refl (c.in_ok-await_parent.ensures.waits honest' sure' h told') in
           step_parent h keep (is_met c.parents.known.nodes) (is_met c.await_parent.new.known.nodes) (is_hidden c.parents.known.nodes id) ids c.parents.parent-index (turns_of c.parents.known) (turns_of c.await_parent.new.known) id here j c.in_ok-await_parent.ensures.met
           (λ e. hides_out (is_hidden c.args.known.now.nodes id) (accepts (id_of id) && time) (sym (inv.hidden id) ∙ e)) (IsOpen along tips front) listed (inv.walked honest sure h told accepts along tips front listed which w));
+      behind = subst (λ (ps : List ObjectId). QueuesSome c.args.known.now ps c.await_parent.new.known) (sym (take_push ids c.parents.parent-index id here))
+          (some_more c.args.known.now c.parents.known c.await_parent.new.known (take c.parents.parent-index ids) (id ∷ []) inv.behind c.in_ok-await_parent.ensures.behind);
+      marks = marks_step (is_met c.args.known.now.nodes) (is_hidden c.args.known.now.nodes) (is_met c.parents.known.nodes) (is_met c.await_parent.new.known.nodes) (is_hidden c.parents.known.nodes id) ids c.parents.parent-index id here inv.marks (inv.hidden id) c.in_ok-await_parent.ensures.met;
       once = (let (xs, asks, counts, waits, w) = inv.once in
           let has = is_met c.parents.known.nodes in
           let has' = is_met c.await_parent.new.known.nodes in
@@ -122,3 +130,9 @@ returns-clause-awaits g c = λ honest h told.
     (λ x k. let a = of_accepted accepts xs x k in (subst (λ (ps : List ObjectId). Fresh has hides ps x) all ((w.list.each x).0 a.0), a.1))
     (λ x k. to_accepted accepts xs x ((w.list.each x).1 (subst (λ (ps : List ObjectId). Fresh has hides ps x) (sym all) k.0)) k.1)
     (waits honest h told)
+
+pub returns-clause-marks : goal.returns-clause-marks
+returns-clause-marks g c = subst (λ (ps : List ObjectId). MarksMet c.args.known.now.nodes ps c.parents.known.nodes) (take_all c.args.parents.now c.parents.parent-index c.parents-test.false) c.parents.invariant.marks
+
+pub returns-clause-behind : goal.returns-clause-behind
+returns-clause-behind g c = subst (λ (ps : List ObjectId). QueuesSome c.args.known.now ps c.parents.known) (take_all c.args.parents.now c.parents.parent-index c.parents-test.false) c.parents.invariant.behind

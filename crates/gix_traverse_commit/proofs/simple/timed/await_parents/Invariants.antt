@@ -4,10 +4,11 @@ use Rattle.gix_hash_id.specs.Id.{Id, id_of}
 use Rattle.gix_hash_id.specs.declared.object_id.ObjectId.{ObjectId}
 use Rattle.gix_traverse_commit.specs.Commits.{Commits}
 use Rattle.gix_traverse_commit.specs.Ending.{NoneGains, times_waiting}
-use Rattle.gix_traverse_commit.specs.Meeting.{Asks, CountsAll, accepted}
+use Rattle.gix_traverse_commit.specs.Meeting.{Asks, CountsAll, MarksMet, accepted}
 use Rattle.gix_traverse_commit.specs.Known.{turns_of}
 use Rattle.gix_traverse_commit.specs.Nodes.{is_hidden, is_met}
 use Rattle.gix_traverse_commit.specs.Order.{IsOpen}
+use Rattle.gix_traverse_commit.specs.Queueing.{QueuesSome}
 use Rattle.gix_traverse_commit.specs.Rows.{AllHeld}
 use Rattle.gix_traverse_commit.specs.Timely.{AllRowed, IsMetSoFar, LetsWait, keep_since}
 use Rattle.gix_traverse_commit.specs.Told.{AreTold, rows_of}
@@ -32,6 +33,8 @@ invariant-parents g l = record {
       → ((x : ObjectId) → is_met l.fn.known.nodes x ≡ false → g.P.Accept.accepts l.fn.predicate (id_of x) ≡ accepts (id_of x))
       → IsMetSoFar h (keep_since l.since h (is_hidden l.fn.known.nodes) accepts) (is_met l.fn.known.nodes) (IsOpen along tips front) listed (turns_of l.fn.known)
       → IsMetSoFar h (keep_since l.since h (is_hidden l.fn.known.nodes) accepts) (is_met l.known.nodes) (λ x. IsOpen along tips front x ⊎ Contains (take l.parent-index l.parents) x) listed (turns_of l.known);
+  behind : QueuesSome l.fn.known (take l.parent-index l.parents) l.known;
+  marks : MarksMet l.fn.known.nodes (take l.parent-index l.parents) l.known.nodes;
   once : (xs : List ObjectId) × Asks g.P.Accept.goes xs l.fn.predicate l.predicate
       × CountsAll (rows_of l.fn.source.rows) (accepted (g.P.Accept.accepts l.fn.predicate) xs) l.fn.source.lookups l.source.lookups
       × (g.F.Lookup.is_honest l.fn.source.objects → (h : Commits ObjectId) → AreTold (rows_of l.fn.source.rows) (g.F.Lookup.table l.fn.source.objects) h

@@ -10,8 +10,10 @@ use Rattle.gix_traverse_commit.proofs.Ending.{gains_met, gains_none, gains_same}
 use Rattle.gix_traverse_commit.proofs.Keeping.{met_itself, met_more}
 use Rattle.gix_traverse_commit.proofs.Timely.{both_pass, joins_same}
 use Rattle.gix_hash_id.specs.declared.object_id.ObjectId.{ObjectId}
-use Rattle.gix_traverse_commit.specs.Meeting.{fresh}
+use Rattle.gix_traverse_commit.specs.Meeting.{CountsAll, fresh}
 use Rattle.gix_traverse_commit.proofs.Awaiting.{fresh_alone, hidden_none, met_none, waits_none, waits_one}
+use Rattle.gix_traverse_commit.specs.Told.{rows_of}
+use Rattle.gix_traverse_commit.proofs.Meeting.{counts_one}
 use Rattle.gix_traverse_commit.proofs.simple.timed.await_tip.Goals as goal
 
 pub returns-then-not-marks-clause-waits : goal.returns-then-not-marks-clause-waits
@@ -62,3 +64,14 @@ returns-clause-awaits g c = λ honest commits told.
     let h : is_hidden nodes c.args.id ≡ true = search rules in
     let still = subst (λ (xs : List ObjectId). LetsWait may_fail c.args.since commits (Contains xs) turns turns) (sym (hidden_none (is_met nodes c.args.id) (is_hidden nodes c.args.id) c.args.id h)) (waits_none may_fail c.args.since commits turns) in
     subst (λ (ts : List Turn). LetsWait may_fail c.args.since commits (Contains (fresh nodes c.args.id)) turns ts) (sym c.in_ok-mark_met.ensures.turns) still
+
+pub returns-then-not-marks-clause-timed : goal.returns-then-not-marks-clause-timed
+returns-then-not-marks-clause-timed g c =
+    let nodes = c.args.known.now.nodes in
+    let rows = rows_of c.args.source.now.rows in
+    let before = c.args.source.now.lookups in
+    let after = c.wait.new.source.lookups in
+    let m : is_met nodes c.args.id ≡ false = search rules in
+    let h : is_hidden nodes c.args.id ≡ false = search rules in
+    subst (λ (xs : List ObjectId). CountsAll rows xs before after) (sym (fresh_alone (is_met nodes c.args.id) (is_hidden nodes c.args.id) c.args.id m h))
+    (counts_one rows c.args.id before after (record { stored = c.wait.ensures.asked; rowed = λ held. (c.wait.ensures.rowed held).0 }))

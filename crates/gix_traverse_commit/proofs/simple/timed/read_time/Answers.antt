@@ -3,7 +3,7 @@ use Rattle.std.proofs.lemmas.Result.{err_from_is_err_and}
 use Rattle.gix_hash_id.specs.declared.object_id.ObjectId.{ObjectId}
 use Rattle.gix_traverse_commit.specs.Nodes.{is_met}
 use Rattle.gix_traverse_commit.specs.Order.{At}
-use Rattle.gix_traverse_commit.specs.Simply.{IsReadBefore, IsUnmet, TipFault, error_of}
+use Rattle.gix_traverse_commit.specs.Giving.{IsReadBefore, IsUnmet, TipFault, error_of}
 use Rattle.gix_traverse_commit.specs.Told.{rows_of}
 use Rattle.gix_traverse_commit.proofs.Times.{tip_fault}
 use Rattle.gix_traverse_commit.proofs.simple.timed.read_time.Goals as goal

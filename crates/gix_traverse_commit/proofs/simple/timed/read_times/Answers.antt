@@ -6,7 +6,7 @@ use Rattle.gix_hash_id.specs.declared.object_id.ObjectId.{ObjectId}
 use Rattle.gix_hash_id.specs.declared.object_id.ObjectId.TheVariants.{Sha1}
 use Rattle.gix_traverse_commit.specs.Meeting.{CountsAll, unmet}
 use Rattle.gix_traverse_commit.specs.Rows.{Holds}
-use Rattle.gix_traverse_commit.specs.Simply.{IsReadBefore, IsUnmet, TipFault}
+use Rattle.gix_traverse_commit.specs.Giving.{IsReadBefore, IsUnmet, TipFault}
 use Rattle.gix_traverse_commit.specs.Fetching.{TimeIsTold}
 use Rattle.gix_traverse_commit.proofs.Chosen.{take_all}
 use Rattle.gix_traverse_commit.proofs.Simply.{in_push, take_push}
@@ -80,3 +80,10 @@ returns-clause-told g c = λ honest x k unmet.
 pub returns-clause-each : goal.returns-clause-each
 returns-clause-each g c =
     subst (λ (ts : List ObjectId). CountsAll (rows_of c.args.source.now.rows) (unmet c.args.known.now.nodes ts) c.args.source.now.lookups c.tips.source.lookups) (take_all c.args.tips.now c.tips.tip-index c.tips-test.false) c.tips.invariant.each
+
+pub returns-in_err-read_time-clause-whole : goal.returns-in_err-read_time-clause-whole
+returns-in_err-read_time-clause-whole g c = λ none.
+    let ids : List ObjectId = c.args.tips.now in
+    let id : ObjectId = get_or ids c.tips.tip-index (Sha1 []) in
+    let here = slice_get-get_or ids c.tips.tip-index (Sha1 []) c.tips-test.true in
+    absurd (in_nil id (subst (λ (zs : List ObjectId). Contains zs id) none (contains_from_at ids c.tips.tip-index id here)))

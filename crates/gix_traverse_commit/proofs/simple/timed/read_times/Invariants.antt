@@ -1,7 +1,7 @@
 use Rattle.std.proofs.Common.{◌≡◌, ◌+◌, ◌≤◌, take}
 use Rattle.gix_traverse_commit.specs.Meeting.{CountsAll, unmet}
 use Rattle.gix_traverse_commit.specs.Rows.{AllHeld}
-use Rattle.gix_traverse_commit.specs.Simply.{IsReadBefore}
+use Rattle.gix_traverse_commit.specs.Giving.{IsReadBefore}
 use Rattle.gix_traverse_commit.specs.Told.{rows_of}
 use Rattle.gix_traverse_commit.proofs.simple.timed.read_times.Given as goal
 

@@ -1,4 +1,4 @@
-use Rattle.std.proofs.Common.{rules, ◌≡◌, ◌∙◌, ap, sym, subst, List, ℤ, true, false}
+use Rattle.std.proofs.Common.{rules, ◌≡◌, ◌∙◌, ap, sym, subst, List, [], ◌∷◌, ℤ, true, false}
 use mir.Syntax.{w64}
 use mir.Val.{of_z, to_z}
 use Rattle.gix_hash_id.specs.declared.object_id.ObjectId.{ObjectId}
@@ -8,6 +8,7 @@ use Rattle.gix_traverse_commit.specs.Known.{turns_of}
 use Rattle.gix_traverse_commit.specs.Told.{rows_of}
 use Rattle.gix_traverse_commit.specs.declared.simple.waiting.Turn.{Turn}
 use Rattle.gix_traverse_commit.proofs.Timely.{joins_none, joins_rowed, joins_same}
+use Rattle.gix_traverse_commit.proofs.Queueing.{some_none, some_one}
 use Rattle.gix_traverse_commit.proofs.simple.timed.wait.Goals as goal
 
 abbrev turn : ℤ → ObjectId → Turn
@@ -45,3 +46,9 @@ returns-clause-counted_as g c = λ honest commits told.
       c.in_ok-time.ensures.counted_as honest commits told,
       joins_same true (in_time c.args.since time) (turns_of c.args.known.now) (turn (to_z w64 (of_z w64 time)) c.args.id) (turn time c.args.id) (turns_of c.wait.new.self) (sym so) (ap (λ (n : ℤ). turn n c.args.id) same) c.in_ok-wait.ensures.joins,
     )
+
+pub returns-then-not-is_in_time-clause-behind : goal.returns-then-not-is_in_time-clause-behind
+returns-then-not-is_in_time-clause-behind g c = some_none c.args.known.now c.mark_met.new.known (c.args.id ∷ []) c.in_ok-mark_met.ensures.behind
+
+pub returns-clause-behind : goal.returns-clause-behind
+returns-clause-behind g c = some_one c.args.known.now c.wait.new.self c.args.id c.in_ok-wait.ensures.behind

@@ -1,0 +1,386 @@
+-- What a walk gives next, and why it ends early.
+use Rattle.std.specs.Prelude.{◌≡◌, ◌⊎◌, ◌<◌, ◌≤◌, ◌+◌, ℕ, IfOk, IfErr, IfSome, IfNone, IsNone, OnErr, Bool, true, false, List, [], ◌∷◌, ◌++◌, length, Option, None, Some, IsSome, ℤ, Result, Contains, take, ⊤, OnOk}
+use Rattle.gix_hash_id.specs.Id.{Id, id_of}
+use Rattle.gix_hash_id.specs.declared.object_id.ObjectId.{ObjectId}
+use Rattle.gix_object_find.specs.Existing as object
+use Rattle.gix_object_find.specs.Table.{Table}
+use Rattle.gix_object_lines.specs.declared.kind.Kind.TheVariants as kinds
+use Rattle.gix_traverse_commit.specs.Commits.{Commit, Commits, asked_parents}
+use Rattle.gix_traverse_commit.specs.Fetching.{ReadFault, TimeFault, TimeIsTold, HasRowsGeneration, one_more}
+use Rattle.gix_traverse_commit.specs.Known.{KnownCommits, turns_of}
+use Rattle.gix_traverse_commit.specs.Meeting.{Asks, CountsAll, CountsOne, CountsTimes, IsFresh, MarksMet, accepted}
+use Rattle.gix_traverse_commit.specs.Nodes.{is_met}
+use Rattle.gix_traverse_commit.specs.Painting.{Paints, ReachedFrom, StaysPainted, StopsPainting}
+use Rattle.gix_traverse_commit.specs.Queueing.{QueuesSome}
+use Rattle.gix_traverse_commit.specs.Rows.{AllHeld, Holds}
+use Rattle.gix_traverse_commit.specs.Told.{AreTold, rows_of}
+use Rattle.gix_traverse_commit.specs.Order.{At, IsListOf}
+use Rattle.gix_traverse_commit.specs.Sorting.{IsNextIn, timing_of}
+use Rattle.gix_traverse_commit.specs.Timely.{AllRowed, LetsWaitIn, TakesTurn}
+use Rattle.gix_traverse_commit.specs.declared.fetch.FetchError.{FetchError}
+use Rattle.gix_traverse_commit.specs.declared.fetch.FetchError.TheVariants as fetch
+use Rattle.gix_traverse_commit.specs.declared.info.Info.{Info}
+use Rattle.gix_traverse_commit.specs.Nodes.{Node}
+use Rattle.gix_traverse_commit.specs.declared.parents.Parents.{Parents}
+use Rattle.gix_traverse_commit.specs.declared.rows.Row.{Row}
+use Rattle.gix_traverse_commit.specs.declared.simple.faults.Error.{Error}
+use Rattle.gix_traverse_commit.specs.declared.simple.faults.Error.TheVariants as fault
+use Rattle.gix_traverse_commit.specs.declared.simple.faults.HiddenGraphError.TheVariants as hidden_fault
+use Rattle.gix_traverse_commit.specs.declared.simple.Simple.{Simple}
+use Rattle.gix_traverse_commit.specs.declared.simple.sorting.Sorting.{Sorting}
+use Rattle.gix_traverse_commit.specs.declared.simple.sorting.Timing.{Timing}
+use Rattle.gix_traverse_commit.specs.declared.simple.waiting.Turn.{Turn}
+use Rattle.gix_traverse_commit.specs.Simply.{GainsNone, StaysAsked, TakesOne, left_of, Asked, timing, request_in, Answers, IsSure, IsMade, IsUnderWay, Stands, IsOver}
+
+-- the commit's time, where the walk goes by time
+abbrev pub IsTime : Option Timing → Commit ObjectId → Option ℤ → Type 0
+IsTime None commit time = time ≡ None
+IsTime (Some _) commit time = time ≡ Some commit.time
+
+-- what is given of a commit
+pub record IsInfo (g : Commits ObjectId) (rows : List Row) (parents : Parents) (sorting : Sorting)
+    (info : Info) : Type 0 where
+  pub parents_asked : info.parent_ids.items ≡ asked_parents parents g info.id
+  pub by_row : HasRowsGeneration rows info.id info.generation
+  pub timed : IsTime (timing_of parents sorting) (g info.id) info.commit_time
+
+abbrev pub error_of : FetchError → Error
+error_of (fetch.Find error) = fault.Find error
+error_of (fetch.ObjectDecode error) = fault.ObjectDecode error
+error_of fetch.Memory = fault.Memory
+
+abbrev pub hidden_error : FetchError → Error
+hidden_error (fetch.Find error) = fault.HiddenGraph (hidden_fault.Find error)
+hidden_error (fetch.ObjectDecode error) = fault.HiddenGraph (hidden_fault.ObjectDecode error)
+hidden_error fetch.Memory = fault.Memory
+
+-- a commit whose turn it is isn't read, for this cause
+abbrev pub StopsAt : (ObjectId → Type 0) → Parents → Type 0 → Type 0 → List Row → Table → FetchError
+    → Type 0
+StopsAt Turn along honest may_fail rows table error =
+    (id : ObjectId) × Turn id × ReadFault along honest may_fail rows table id error
+
+-- this commit isn't read, for this cause
+abbrev pub StopsFetch : Parents → Type 0 → Type 0 → List Row → Table → ObjectId → Error → Type 0
+StopsFetch along honest may_fail rows table id (fault.Find error) =
+    ReadFault along honest may_fail rows table id (fetch.Find error)
+StopsFetch along honest may_fail rows table id (fault.ObjectDecode error) =
+    ReadFault along honest may_fail rows table id (fetch.ObjectDecode error)
+StopsFetch along honest may_fail rows table id (fault.HiddenGraph error) = ⊥
+StopsFetch along honest may_fail rows table id fault.Memory = ⊤
+
+-- why the walk ends: a commit whose turn it is, or one that the hidden commits reach, isn't read
+abbrev pub SimpleFault : (ObjectId → Type 0) → Parents → Type 0 → Type 0 → List Row → Table
+    → List ObjectId → Error → Type 0
+SimpleFault Turn along honest may_fail rows table hidden (fault.Find error) =
+    StopsAt Turn along honest may_fail rows table (fetch.Find error)
+SimpleFault Turn along honest may_fail rows table hidden (fault.ObjectDecode error) =
+    StopsAt Turn along honest may_fail rows table (fetch.ObjectDecode error)
+SimpleFault Turn along honest may_fail rows table hidden
+    (fault.HiddenGraph (hidden_fault.Find error)) =
+    StopsPainting honest may_fail rows table hidden (fetch.Find error)
+SimpleFault Turn along honest may_fail rows table hidden
+    (fault.HiddenGraph (hidden_fault.ObjectDecode error)) =
+    StopsPainting honest may_fail rows table hidden (fetch.ObjectDecode error)
+SimpleFault Turn along honest may_fail rows table hidden fault.Memory = ⊤
+
+-- its turn is next
+abbrev pub IsTurn : Commits ObjectId → Asked → List ObjectId → ObjectId → Type 0
+IsTurn g a listed id = IsNextIn (timing a) g (request_in (timing a) a) listed id
+
+-- the first of the wanted tips whose time isn't read, for this cause
+pub record IsFirstUnread (honest may_fail : Type 0) (rows : List Row) (table : Table)
+    (tips : List ObjectId) (wanted : ObjectId → Type 0) (error : FetchError) : Type 0 where
+  pub id : ObjectId
+  pub place : ℕ
+  pub at : At tips place id
+  pub is_wanted : wanted id
+  pub cause : TimeFault honest may_fail rows table id error
+  pub before : honest → (x : ObjectId) → Contains (take place tips) x → wanted x
+      → TimeIsTold rows table x
+
+-- why the time of one of these tips isn't read
+abbrev pub TipFault : Type 0 → Type 0 → List Row → Table → List ObjectId → (ObjectId → Type 0)
+    → Error → Type 0
+TipFault honest may_fail rows table tips wanted (fault.Find error) =
+    IsFirstUnread honest may_fail rows table tips wanted (fetch.Find error)
+TipFault honest may_fail rows table tips wanted (fault.ObjectDecode error) =
+    IsFirstUnread honest may_fail rows table tips wanted (fetch.ObjectDecode error)
+TipFault honest may_fail rows table tips wanted (fault.HiddenGraph error) = ⊥
+TipFault honest may_fail rows table tips wanted fault.Memory = ⊤
+
+-- the commit isn't met
+abbrev pub IsUnmet : List Node → ObjectId → Type 0
+IsUnmet nodes x = is_met nodes x ≡ false
+
+-- of the tips before this place the times are told
+abbrev pub IsReadBefore : Type 0 → List Row → Table → List Node → List ObjectId → ℕ → Type 0
+IsReadBefore honest rows table nodes tips place =
+    honest → (x : ObjectId) → Contains (take place tips) x → IsUnmet nodes x
+    → TimeIsTold rows table x
+
+-- the predicate accepts the commit
+abbrev pub IsAccepted : Asked → ObjectId → Type 0
+IsAccepted a x = a.accepts (id_of x) ≡ true
+
+-- a tip that the predicate accepts and no hidden commit reaches
+abbrev pub IsWanted : Commits ObjectId → Asked → ObjectId → Type 0
+IsWanted g a x = Contains a.tips x × IsAccepted a x × (¬ ReachedFrom g a.hidden x)
+
+-- all that the walk begins from, hides and has queued has rows
+pub record InRows {F P : Type 0} (walk : Simple F P) : Type 0 where
+  pub tips : AllHeld (rows_of walk.source.rows) walk.tips.items
+  pub hidden : AllHeld (rows_of walk.source.rows) walk.hidden.items
+  pub queue : AllHeld (rows_of walk.source.rows) walk.known.queue
+  pub waiting_rows : AllRowed (rows_of walk.source.rows) (turns_of walk.known)
+
+-- the content is the commit's where its object told it, and else nothing
+pub record IsContentOf (honest : Type 0) (rows : List Row) (table : Table) (id : ObjectId)
+    (content : List ℕ) : Type 0 where
+  pub rowed : Holds rows id → content ≡ []
+  pub stored : honest → ¬ Holds rows id → object.Stands table (id_of id) kinds.Commit content
+
+-- a walk begins: all that is hidden was asked for, each commit once, and by time the tips that are accepted and not hidden, each
+-- once, for their times
+pub record CountsBeginning (honest : Type 0) (rows : List Row) (table : Table) (a : Asked)
+    (before after : ℕ) : Type 0 where
+  pub painted : List ObjectId
+  pub behind : ℕ
+  pub each : CountsAll rows painted before behind
+  pub is_list : honest → (g : Commits ObjectId) → AreTold rows table g
+      → IsListOf (ReachedFrom g a.hidden) painted
+  pub in_breadth : timing a ≡ None → after ≡ behind
+  pub least : behind ≤ after
+  pub most : after ≤ behind + length a.tips
+  pub timed : List ObjectId
+  pub times : CountsTimes (timing a) rows timed behind after
+  pub are_timed : IsSome (timing a) → honest → (g : Commits ObjectId) → AreTold rows table g
+      → IsListOf (λ x. Contains a.tips x × IsAccepted a x × (¬ ReachedFrom g a.hidden x)) timed
+
+-- at least one was asked for where the commit has no row, and up to so many more; none where it has one
+pub record CountsUpTo (rows : List Row) (id : ObjectId) (more before after : ℕ) : Type 0 where
+  pub stored : (¬ Holds rows id) → one_more before ≤ after
+  pub rowed : Holds rows id → after ≡ before
+  pub most : after ≤ before + 1 + more
+
+-- a commit comes: it is asked for once, and its parents are met that were not met before and are not hidden; the predicate is asked
+-- of each of them once, and of no other commit, and by time those that it accepts are asked for, for their times
+pub record MeetsParents {P : Type 0} (accepts : P → Id → Bool) (goes : P → Id → P → Type 0)
+    (rows : List Row) (nodes : List Node) (t : Option Timing) (info : Info) (before : P)
+    (lookups : ℕ) (after : P) (lookups' : ℕ) : Type 0 where
+  pub met : List ObjectId
+  pub are_met : IsListOf (IsFresh nodes info.parent_ids.items) met
+  pub asked : Asks goes met before after
+  pub read : ℕ
+  pub one : CountsOne rows info.id lookups read
+  pub times : CountsTimes t rows (accepted (accepts before) met) read lookups'
+
+-- a walk gives this commit so
+abbrev pub Meets : {F P : Type 0} → (P → Id → Bool) → (P → Id → P → Type 0) → List Row
+    → Simple F P → Info → Simple F P → Type 0
+Meets accepts goes rows before info after =
+    MeetsParents accepts goes rows before.known.nodes
+    (timing_of before.parents before.sorting) info before.predicate before.source.lookups
+    after.predicate after.source.lookups
+
+-- one of these parents that is met with its child, and that the predicate accepts
+abbrev pub IsMetWith : {F P : Type 0} → (P → Id → Bool) → Simple F P → List ObjectId → ObjectId
+    → Type 0
+IsMetWith accepts before parents x =
+    IsFresh before.known.nodes parents x × (accepts before.predicate (id_of x) ≡ true)
+
+-- by time a commit comes whose turn it is, and its parents that are met with it and accepted wait then, also those whose lookups
+-- fail; no other that waits is lost
+pub record ComesInTurn {F P : Type 0} (accepts : P → Id → Bool) (may_fail : Type 0)
+    (g : Commits ObjectId) (before : Simple F P) (info : Info) (after : Simple F P) : Type 0 where
+  pub others : List Turn
+  pub taken : TakesTurn (timing_of before.parents before.sorting)
+      (turns_of before.known) info.id others
+  pub parents : LetsWaitIn (timing_of before.parents before.sorting) may_fail g
+      (IsMetWith accepts before info.parent_ids.items) others (turns_of after.known)
+
+-- by time what waits stays queued in its order, and parents that begin to wait are queued behind it, in their order
+pub record KeepsOrder {F P : Type 0} (before : Simple F P) (info : Info)
+    (after : Simple F P) : Type 0 where
+  pub between : KnownCommits
+  pub nodes : between.nodes ≡ before.known.nodes
+  pub order : between.order ≡ before.known.order
+  pub taken : TakesTurn (timing_of before.parents before.sorting)
+      (turns_of before.known) info.id (turns_of between)
+  pub behind : QueuesSome between info.parent_ids.items after.known
+
+-- by time it is the turn of a commit that isn't read, for this cause
+pub record FailsInTurn {F P : Type 0} (honest may_fail : Type 0) (rows : List Row) (table : Table)
+    (before : Simple F P) (error : Error) : Type 0 where
+  pub id : ObjectId
+  pub others : List Turn
+  pub taken : TakesTurn (timing_of before.parents before.sorting) (turns_of before.known) id others
+  pub cause : StopsFetch before.parents honest may_fail rows table id error
+
+-- the walk has begun, for which the predicate isn't asked
+pub record Begins {F P : Type 0} (accepts : P → Id → Bool) (honest may_fail : Type 0)
+    (table : Table) (ids : List Id) (a : Asked) (before begun : Simple F P) : Type 0 where
+  pub under_way : honest → (g : Commits ObjectId) → AreTold (rows_of before.source.rows) table g
+      → IsSure may_fail a → IsUnderWay accepts ids g a [] begun
+  pub unasked : begun.predicate ≡ before.predicate
+  pub beginning : CountsBeginning honest
+      (rows_of before.source.rows) table a before.source.lookups begun.source.lookups
+  pub order : timing_of begun.parents begun.sorting ≡ timing a
+  pub tips_wait : honest → (g : Commits ObjectId) → AreTold (rows_of before.source.rows) table g
+      → LetsWaitIn (timing a) may_fail g (IsWanted g a) [] (turns_of begun.known)
+  pub stays : StaysAsked before begun
+  pub painted : honest → (g : Commits ObjectId) → AreTold (rows_of before.source.rows) table g
+      → Paints g a.hidden begun.known.nodes
+  pub gains : GainsNone before begun
+
+-- the walk begins, and the first commit comes
+pub record CountsFirst {F P : Type 0} (accepts : P → Id → Bool) (goes : P → Id → P → Type 0)
+    (honest may_fail : Type 0) (table : Table) (ids : List Id) (a : Asked) (before : Simple F P)
+    (info : Info) (after : Simple F P) : Type 0 where
+  pub begun : Simple F P
+  pub begins : Begins accepts honest may_fail table ids a before begun
+  pub meets : Meets accepts goes (rows_of before.source.rows) begun info after
+  pub one : timing a ≡ None
+      → CountsOne (rows_of before.source.rows) info.id begun.source.lookups after.source.lookups
+  pub more : CountsUpTo (rows_of before.source.rows) info.id
+      (length info.parent_ids.items) begun.source.lookups after.source.lookups
+  pub in_turn : honest → (g : Commits ObjectId) → AreTold (rows_of before.source.rows) table g
+      → ComesInTurn accepts may_fail g begun info after
+  pub queues : IsSome (timing a) → KeepsOrder begun info after
+  pub marks : MarksMet begun.known.nodes info.parent_ids.items after.known.nodes
+  pub paint_stays : StaysPainted begun.known.nodes after.known.nodes
+
+-- one object was asked for where a commit isn't read; where memory is wanting none that was counted is lost
+abbrev pub CountsFault : ℕ → ℕ → Error → Type 0
+CountsFault before after (fault.Find error) = after ≡ one_more before
+CountsFault before after (fault.ObjectDecode error) = after ≡ one_more before
+CountsFault before after (fault.HiddenGraph error) = ⊥
+CountsFault before after fault.Memory = before ≤ after
+
+-- the walk begins, and by time it is the turn of a commit that isn't read, for this cause
+pub record FailsBegun {F P : Type 0} (accepts : P → Id → Bool) (honest may_fail : Type 0)
+    (table : Table) (ids : List Id) (a : Asked) (before : Simple F P) (error : Error)
+    (after : Simple F P) : Type 0 where
+  pub begun : Simple F P
+  pub begins : Begins accepts honest may_fail table ids a before begun
+  pub fails : FailsInTurn honest may_fail (rows_of before.source.rows) table begun error
+  pub counts : CountsFault begun.source.lookups after.source.lookups error
+
+-- why the first call gives no commit: one that the hidden commits reach isn't read, or the one whose turn it is
+abbrev pub FailsFirst : {F P : Type 0} → (P → Id → Bool) → Type 0 → Type 0 → Table → List Id → Asked
+    → Simple F P → Error → Simple F P → Type 0
+FailsFirst accepts honest may_fail table ids a before error after =
+    SimpleFault (λ _. ⊥) a.parents honest may_fail (rows_of before.source.rows) table a.hidden error
+    ⊎ FailsBegun accepts honest may_fail table ids a before error after
+
+-- what the next commit is, after this list
+pub record IsNext {F P : Type 0} (accepts : P → Id → Bool) (ids : List Id) (g : Commits ObjectId)
+    (a : Asked) (listed : List ObjectId) (rows : List Row) (info : Info)
+    (after : Simple F P) : Type 0 where
+  pub told : IsInfo g rows a.parents a.sorting info
+  pub fewer : length listed < length rows + length ids
+  pub stands : IsUnderWay accepts ids g a (listed ++ info.id ∷ []) after
+
+-- the answer to one that asks a walk for its next commit, of a store that is honest, may fail, has this table and finds none but these ids
+pub record GivesNext {F P : Type 0} (accepts : P → Id → Bool) (goes : P → Id → P → Type 0)
+    (honest may_fail : Type 0) (table : Table) (ids : List Id) (before : Simple F P)
+    (item : Option (Result Info Error)) (after : Simple F P) : Type 0 where
+  pub objects : after.source.objects ≡ before.source.objects
+  pub rows : after.source.rows ≡ before.source.rows
+  pub given : honest → (g : Commits ObjectId) → AreTold (rows_of before.source.rows) table g
+      → (a : Asked) (listed : List ObjectId) → IsSure may_fail a
+      → Stands accepts ids g a listed before
+      → IfSome item
+      (λ answer. IfOk answer
+      (λ info. IsNext accepts ids g a listed (rows_of before.source.rows) info after))
+  pub end : honest → (g : Commits ObjectId) → AreTold (rows_of before.source.rows) table g
+      → (a : Asked) (listed : List ObjectId) → IsSure may_fail a
+      → Stands accepts ids g a listed before
+      → IfNone item (Answers g a listed)
+  pub refused : honest → (g : Commits ObjectId) → AreTold (rows_of before.source.rows) table g
+      → (a : Asked) (listed : List ObjectId) → IsSure may_fail a
+      → Stands accepts ids g a listed before
+      → IfSome item
+      (λ answer. IfErr answer
+      (SimpleFault (IsTurn g a listed) a.parents honest may_fail
+      (rows_of before.source.rows) table a.hidden))
+  pub failed : IfSome item (λ answer. OnErr answer (IsOver after))
+  pub ended : IsOver before → IsNone item
+  pub content : IfSome item
+      (λ answer. IfOk answer
+      (λ info. IsContentOf honest
+      (rows_of before.source.rows) table info.id after.source.buffer.items
+      × (after.kind ≡ (id_of info.id).kind)))
+  pub counted : before.begun ≡ true → timing_of before.parents before.sorting ≡ None
+      → after.source.lookups ≤ before.source.lookups + 1
+  pub counted_one : before.begun ≡ true → timing_of before.parents before.sorting ≡ None
+      → IfSome item
+      (λ answer. IfOk answer
+      (λ info. CountsOne
+      (rows_of before.source.rows) info.id before.source.lookups after.source.lookups))
+  pub counted_by_time : before.begun ≡ true
+      → IfSome item
+      (λ answer. IfOk answer
+      (λ info. CountsUpTo (rows_of before.source.rows) info.id
+      (length info.parent_ids.items) before.source.lookups after.source.lookups))
+  pub rowed : InRows before
+      → IfSome item
+      (λ answer. IfOk answer (λ _. InRows after × (after.source.lookups ≡ before.source.lookups)))
+  pub meets : before.begun ≡ true
+      → IfSome item
+      (λ answer. IfOk answer
+      (λ info. Meets accepts goes (rows_of before.source.rows) before info after))
+  pub unasked : IfNone item (after.predicate ≡ before.predicate)
+  pub over : IfNone item (IsOver after)
+  pub content_end : IfNone item (after.source.buffer.items ≡ before.source.buffer.items)
+  pub content_fault : IfSome item (λ answer. OnErr answer (after.source.buffer.items ≡ []))
+  pub counted_end : before.begun ≡ true → IfNone item (after.source.lookups ≡ before.source.lookups)
+  pub counted_fault : before.begun ≡ true
+      → IfSome item
+      (λ answer. IfErr answer (CountsFault before.source.lookups after.source.lookups))
+  pub rowed_end : InRows before → IfNone item (after.source.lookups ≡ before.source.lookups)
+  pub first : (a : Asked) → IsMade accepts a before
+      → IfSome item
+      (λ answer. IfOk answer
+      (λ info. CountsFirst accepts goes honest may_fail table ids a before info after))
+  pub first_end : (a : Asked) → IsMade accepts a before
+      → IfNone item
+      (CountsBeginning honest
+      (rows_of before.source.rows) table a before.source.lookups after.source.lookups)
+  pub falls : IfSome item (λ answer. OnOk answer (left_of ids after < left_of ids before))
+  pub in_turn : before.begun ≡ true → honest → (g : Commits ObjectId)
+      → AreTold (rows_of before.source.rows) table g
+      → IfSome item
+      (λ answer. IfOk answer (λ info. ComesInTurn accepts may_fail g before info after))
+  pub in_turn_end : before.begun ≡ true → IsSome (timing_of before.parents before.sorting)
+      → IfNone item (turns_of before.known ≡ [])
+  pub tips_end : (a : Asked) → IsMade accepts a before → honest → (g : Commits ObjectId)
+      → AreTold (rows_of before.source.rows) table g
+      → IfNone item (LetsWaitIn (timing a) may_fail g (IsWanted g a) [] [])
+  pub in_turn_fault : before.begun ≡ true
+      → IfSome item
+      (λ answer. IfErr answer
+      (FailsInTurn honest may_fail (rows_of before.source.rows) table before))
+  pub told : honest → (g : Commits ObjectId) → AreTold (rows_of before.source.rows) table g
+      → IfSome item
+      (λ answer. IfOk answer
+      (IsInfo g (rows_of before.source.rows) before.parents before.sorting))
+  pub stays : IfSome item (λ answer. OnOk answer (StaysAsked before after))
+  pub paint_stays : before.begun ≡ true
+      → IfSome item (λ answer. OnOk answer (StaysPainted before.known.nodes after.known.nodes))
+  pub takes_one : IfSome item
+      (λ answer. IfOk answer (λ info. TakesOne before info.id after))
+  pub marks : before.begun ≡ true
+      → IfSome item
+      (λ answer. IfOk answer
+      (λ info. MarksMet before.known.nodes info.parent_ids.items after.known.nodes))
+  pub first_fault : (a : Asked) → IsMade accepts a before
+      → IfSome item
+      (λ answer. IfErr answer
+      (λ error. FailsFirst accepts honest may_fail table ids a before error after))
+  pub unasked_fault : IfSome item
+      (λ answer. IfErr answer
+      (λ error. (error ≡ fault.Memory) ⊎ (after.predicate ≡ before.predicate)))
+  pub kind_end : IfNone item (after.kind ≡ before.kind)
+  pub queues : before.begun ≡ true → IsSome (timing_of before.parents before.sorting)
+      → IfSome item (λ answer. IfOk answer (λ info. KeepsOrder before info after))
