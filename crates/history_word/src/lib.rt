@@ -12,6 +12,8 @@ mod stream;
 mod streams;
 mod words;
 
+pub mod laws;
+
 pub use buffer::Buffer;
 pub use command::{ActorLine, Command, CommitCommand, Edit, Expect, Field, Put, Show};
 pub use memory::{Bytes, Collected};
