@@ -5,14 +5,13 @@ mod buffer;
 mod command;
 mod draft;
 mod heading;
+pub mod laws;
 mod memory;
 mod place;
 mod reader;
 mod stream;
 mod streams;
 mod words;
-
-pub mod laws;
 
 pub use buffer::Buffer;
 pub use command::{ActorLine, Command, CommitCommand, Edit, Expect, Field, Put, Show};
