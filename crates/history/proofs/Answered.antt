@@ -14,7 +14,7 @@ use Rattle.history_model.specs.Commands.{Command, Files, Show}
 use Rattle.history_model.specs.Replies.{FilesAre, ShowsCommit, ShowsContent, reply_text}
 use Rattle.history_model.specs.Answers.{StandsForCommit, files_shown, commit_shown, content_shown}
 use Rattle.history_model.specs.Causes.{is_unknown, is_unborn, is_bad_path, word_files, first_cause}
-use Rattle.history_model.specs.Offered.{IsOffered}
+use Rattle.history_steps.specs.Offered.{IsOffered}
 use Rattle.history_model.specs.declared.FileKind.{FileKind}
 use Rattle.history_model.specs.declared.FileKind.TheVariants.{File, Exec, Link}
 use Rattle.history_files.specs.Reading.{entry_of, file_line, line_of}
@@ -24,9 +24,9 @@ use Rattle.history_files.specs.declared.listing.File.{File as FoundFile}
 use Rattle.gix_hash_id.specs.declared.kind.Kind.{Kind}
 use Rattle.history_model.specs.declared.Cause.{Cause}
 use Rattle.history_model.specs.declared.Cause.TheVariants.{UnknownWord, UnbornHead, BadPath, IsFolder, NoSuchPath}
-use Rattle.history_model.proofs.OfferedReads.{words_read_names, none_is_ambiguous, names_hold_commits}
-use Rattle.history_model.proofs.OfferedCauses.{first_offered_cause}
-use Rattle.history_model.proofs.OfferedFiles.{files_are_stored}
+use Rattle.history_steps.proofs.OfferedReads.{words_read_names, none_is_ambiguous, names_hold_commits}
+use Rattle.history_steps.proofs.OfferedCauses.{first_offered_cause}
+use Rattle.history_steps.proofs.OfferedFiles.{files_are_stored}
 use Rattle.history_model.proofs.WholeLists.{texts_differ}
 use Rattle.history_store.specs.Commits.{IsCommitOf}
 use Rattle.gix_object_commit.specs.declared.commit.owned.Commit as commits

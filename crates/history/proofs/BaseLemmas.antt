@@ -13,11 +13,11 @@ use Rattle.history_model.specs.Commands.{Commit, CommitCommand, Expect, Any, New
 use Rattle.history_model.specs.CommandParts.{at_word}
 use Rattle.history_model.specs.Meaning.{branch_or_name, name_commit, parents_of}
 use Rattle.history_model.specs.Causes.{is_new, is_at, is_elsewhere, same_id, is_unknown, is_unborn}
-use Rattle.history_model.specs.Offered.{IsOffered}
-use Rattle.history_model.specs.OfferedWords.{read_id}
+use Rattle.history_steps.specs.Offered.{IsOffered}
+use Rattle.history_steps.specs.OfferedWords.{read_id}
 use Rattle.history_model.specs.declared.Cause.{Cause}
 use Rattle.history_model.specs.declared.Cause.TheVariants.{UnknownWord, UnbornHead, NoSuchName, Taken, NotExpected}
-use Rattle.history_model.proofs.OfferedReads.{names_stand_for_theirs, words_stand_for_theirs}
+use Rattle.history_steps.proofs.OfferedReads.{names_stand_for_theirs, words_stand_for_theirs}
 use Rattle.history_word.specs.Commands.{IsExpect}
 use Rattle.history_word.specs.declared.command.Expect.TheVariants as sent
 use Rattle.gix_hash_id.specs.declared.object_id.ObjectId.{ObjectId}

@@ -12,7 +12,7 @@ use Rattle.history_model.specs.Commands.{Commit, CommitCommand}
 use Rattle.history_model.specs.Meaning.{branch_or_name}
 use Rattle.history_model.specs.Causes.{do_collide, some_collide}
 use Rattle.history_model.specs.declared.Cause.TheVariants.{Collides}
-use Rattle.history_model.proofs.OfferedFiles.{each_key}
+use Rattle.history_steps.proofs.OfferedFiles.{each_key}
 use Rattle.history_store.proofs.NameFolders.{begins_parts}
 use Rattle.history_store.specs.Stores.{IsAbove}
 use Rattle.history.specs.CommitCauses.{first_among, place_causes}

@@ -10,8 +10,8 @@ use Rattle.history_model.specs.Objects.{id_of as value_id}
 use Rattle.gix_hash_id.specs.Id.{Id, id_of}
 use Rattle.history_model.specs.Repository as plain
 use Rattle.history_model.specs.Forms.{IsWritten, is_name, is_private, is_reference}
-use Rattle.history_model.specs.Repository.{Reference, HasWholeNames, stands}
-use Rattle.history_model.specs.TreeSteps.{MovesName}
+use Rattle.history_model.specs.Repository.{Reference, HasWholeNames, stands, HaveOwnIds}
+use Rattle.history_steps.specs.TreeSteps.{MovesName}
 use Rattle.history_store.specs.Formats.{entry_of}
 use Rattle.gix_ref_file.specs.Tree.{Tree}
 use Rattle.history_store.proofs.NameFolders.{both_true}
@@ -25,13 +25,13 @@ use Rattle.history_model.specs.declared.Cause.TheVariants.{BadName, PrivateName}
 use Rattle.history_model.specs.Steps.{Accepts}
 use Rattle.history_model.specs.Places.{file_at, packed_place}
 use Rattle.history_model.specs.StandsFor.{StandsFor}
-use Rattle.history_model.specs.TreeHalves.{HoldsValues, HoldsNames, HaveOwnIds}
-use Rattle.history_model.specs.CommitSteps.{MovesToCommit}
+use Rattle.history_steps.specs.TreeHalves.{HoldsValues, HoldsNames}
+use Rattle.history_steps.specs.CommitSteps.{MovesToCommit}
 use Rattle.history_model.specs.Wholeness.{IsSound}
-use Rattle.history_model.proofs.CommitStands.{commits_stand}
-use Rattle.history_model.proofs.OfferedSteps.{offered_stays, no_collision}
-use Rattle.history_model.proofs.TreeMoves.{packed_apart, packed_no_log}
-use Rattle.history_model.proofs.TreePuts.{halves_stand}
+use Rattle.history_steps.proofs.CommitStands.{commits_stand}
+use Rattle.history_steps.proofs.OfferedSteps.{offered_stays, no_collision}
+use Rattle.history_steps.proofs.TreeMoves.{packed_apart, packed_no_log}
+use Rattle.history_steps.proofs.TreePuts.{halves_stand}
 use Rattle.history_model.proofs.WholeSteps.{steps_keep_sound}
 use Rattle.history_store.specs.Face.{ids_of_objects}
 use Rattle.history.specs.Face.{objects_part, names_part, KeepsAllButObjects, KeepsAllButNames}

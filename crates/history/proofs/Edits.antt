@@ -15,7 +15,7 @@ use Rattle.history_model.specs.Causes.{is_bad_path}
 use Rattle.gix_hash_id.specs.declared.kind.Kind.{Kind}
 use Rattle.history_files.specs.Editing.{HavePaths, Names, NameEdits}
 use Rattle.history_files.specs.declared.edits.Change.{Change}
-use Rattle.history_files.specs.declared.edits.Edit.{Edit as FileEdit}
+use Rattle.history_files.specs.declared.edits.Edit as editing
 use Rattle.history_store.specs.Stores.{AreObjectsOf}
 use Rattle.history_store.specs.declared.object.NewObject.{NewObject}
 use Rattle.history_word.specs.Commands.{AreEdits, IsEdit}
@@ -50,7 +50,7 @@ head_is e = cc
 tail_is : {X : Type 0} {x y : X} {xs ys : List X} → x ∷ xs ≡ y ∷ ys → xs ≡ ys
 tail_is e = cc
 
-pub changes_named : (kind : Kind) (edits : List FileEdit) (changes : List PathChange) (made : List model.Edit) → map edit_parts edits ≡ map change_parts changes → AreChangesOf kind changes made → NameEdits kind edits made
+pub changes_named : (kind : Kind) (edits : List editing.Edit) (changes : List PathChange) (made : List model.Edit) → map edit_parts edits ≡ map change_parts changes → AreChangesOf kind changes made → NameEdits kind edits made
 changes_named kind [] [] [] same are = tt
 changes_named kind [] [] (m ∷ made) same are = absurd are
 changes_named kind [] (change ∷ changes) made same are = absurd (cc same)
@@ -141,7 +141,7 @@ have_paths (edit ∷ edits) (line ∷ lines) are good =
 
 -- ---- changes, one after another
 
-pub parts_added : (changes : List PathChange) (i : ℕ) (change : PathChange) (old new : List FileEdit) (edit : FileEdit) → i < length changes → change ≡ get_or changes i change → edit_parts edit ≡ change_parts change
+pub parts_added : (changes : List PathChange) (i : ℕ) (change : PathChange) (old new : List editing.Edit) (edit : editing.Edit) → i < length changes → change ≡ get_or changes i change → edit_parts edit ≡ change_parts change
     → map edit_parts old ≡ map change_parts (take i changes) → new ≡ old ++ edit ∷ [] → map edit_parts new ≡ map change_parts (take (i + 1) changes)
 parts_added changes i change old new edit less is parts so_far added =
     ap (map edit_parts) added ∙ map-append edit_parts old (edit ∷ []) ∙ (λ j. so_far j ++ parts j ∷ [])

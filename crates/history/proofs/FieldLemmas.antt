@@ -5,7 +5,7 @@ use Rattle.std.proofs.lemmas.Bool.Decides.{nat_tests}
 use Rattle.history_model.specs.Bytes.{Bytes, begins, ends, has_byte, is_empty}
 use Rattle.history_model.specs.FileMap.{components, is_path}
 use Rattle.history_model.specs.Causes.{is_bad_path, is_bad_actor}
-use Rattle.history_model.specs.Forms.{is_actor_part}
+use Rattle.history_model.specs.Forms.{is_actor_part, max_path}
 use Rattle.history_model.specs.Commands as model
 use Rattle.history_word.specs.Commands.{IsActor}
 use Rattle.history_word.specs.declared.command.ActorLine.{ActorLine}
@@ -46,8 +46,8 @@ kept_whole limit (TooLong kept) bytes h small = absurd (omega (arith, h.0))
 -- ---- paths
 
 -- of a path within the limit
-pub bad_within : (path : Bytes) → length path ≤ 4096 → is_bad_path path ≡ (has_byte 0 path || list_any is_empty (components path))
-bad_within path small = ap (λ over. not (is_path path) || over) (within 4096 (length path) small) ∙ either_so (list_any is_empty (components path)) (has_byte 0 path)
+pub bad_within : (path : Bytes) → length path ≤ max_path → is_bad_path path ≡ (has_byte 0 path || list_any is_empty (components path))
+bad_within path small = ap (λ over. not (is_path path) || over) (within max_path (length path) small) ∙ either_so (list_any is_empty (components path)) (has_byte 0 path)
   where
     either_so : (c z : Bool) → (not (not c && not z) || false) ≡ (z || c)
     either_so true true = refl
@@ -55,8 +55,8 @@ bad_within path small = ap (λ over. not (is_path path) || over) (within 4096 (l
     either_so false true = refl
     either_so false false = refl
 
-pub bad_beyond : (path : Bytes) → 4096 < length path → is_bad_path path ≡ true
-bad_beyond path large = ap (λ over. not (is_path path) || over) (beyond 4096 (length path) large) ∙ either_true (not (is_path path))
+pub bad_beyond : (path : Bytes) → max_path < length path → is_bad_path path ≡ true
+bad_beyond path large = ap (λ over. not (is_path path) || over) (beyond max_path (length path) large) ∙ either_true (not (is_path path))
   where
     either_true : (a : Bool) → (a || true) ≡ true
     either_true true = refl
@@ -64,7 +64,7 @@ bad_beyond path large = ap (λ over. not (is_path path) || over) (beyond 4096 (l
 
 -- a path that isn't bad is one
 pub good_path : (path : Bytes) → is_bad_path path ≡ false → is_path path ≡ true
-good_path path good = turned_back (is_path path) (either_false (not (is_path path)) (nat_lt 4096 (length path)) good).0
+good_path path good = turned_back (is_path path) (either_false (not (is_path path)) (nat_lt max_path (length path)) good).0
   where
     turned_back : (b : Bool) → not b ≡ false → b ≡ true
     turned_back true e = refl
@@ -126,8 +126,8 @@ part_within part small clean front = sym (
 -- ---- fields that are kept whole
 
 -- a path that isn't bad is kept whole
-pub whole_path : (field : Field) (path : Bytes) → Keeps 4096 field path → is_bad_path path ≡ false → kept_bytes field ≡ path
-whole_path field path keeps good = kept_whole 4096 field path keeps (not_beyond 4096 (length path) (either_false (not (is_path path)) (nat_lt 4096 (length path)) good).1)
+pub whole_path : (field : Field) (path : Bytes) → Keeps max_path field path → is_bad_path path ≡ false → kept_bytes field ≡ path
+whole_path field path keeps good = kept_whole max_path field path keeps (not_beyond max_path (length path) (either_false (not (is_path path)) (nat_lt max_path (length path)) good).1)
 
 -- and so is a content within its limit
 pub whole_content : (limit : ℕ) (field : Field) (content : Bytes) → Keeps limit field content → nat_lt limit (length content) ≡ false → kept_bytes field ≡ content

@@ -13,10 +13,10 @@ use Rattle.history_model.specs.Commands.{Commit, CommitCommand}
 use Rattle.history_model.specs.CommandParts.{paths_in, contents_in}
 use Rattle.history_model.specs.Meaning.{new_commit, stored_by, put_bytes, edits_of}
 use Rattle.history_model.specs.Causes.{holds, first_cause, is_bad_path, is_bad_actor, is_too_large}
-use Rattle.history_model.specs.Offered.{IsOffered}
+use Rattle.history_steps.specs.Offered.{IsOffered}
 use Rattle.history_model.specs.declared.Cause.{Cause}
 use Rattle.history_model.specs.declared.Cause.TheVariants.{BadPath, IsFolder, NoSuchPath, BadActor, BadTime, BadMessage, TooLarge}
-use Rattle.history_model.proofs.OfferedCauses.{first_offered_cause}
+use Rattle.history_steps.proofs.OfferedCauses.{first_offered_cause}
 use Rattle.history.specs.CommitCauses.{first_among, name_causes, form_causes, is_long}
 use Rattle.history.proofs.FieldLemmas.{beyond, either_false}
 

@@ -16,7 +16,7 @@ use Rattle.history_model.specs.Places.{Pair, file_at, packed_place, head_place, 
 use Rattle.history_model.specs.Readings.{Reading, Holds, Symbolic, Absent, Faulty, reading, loose_reading, loose_line, packed_text_reading}
 use Rattle.history_model.specs.StandsFor.{StandsFor}
 use Rattle.gix_hash_id.specs.declared.kind.Kind.{Kind}
-use Rattle.history_model.proofs.TreePlaces.{one_text, texts_apart}
+use Rattle.history_model.proofs.PlaceLemmas.{one_text, texts_apart}
 use Rattle.history_store.specs.References.{SpellsId, NameHolds}
 use Rattle.gix_hash_id.specs.declared.object_id.ObjectId.{ObjectId}
 use Rattle.history.specs.Stands.{Serves, pair_of}

@@ -15,8 +15,8 @@ use Rattle.history_model.specs.Objects.{Value, StoredCommit, StoredBytes, Stored
 use Rattle.history_model.specs.Repository.{Repository, HoldsCommit, IsStored, IsWholeStore, file_values}
 use Rattle.history_model.specs.Commands.{Commit, CommitCommand}
 use Rattle.history_model.specs.Meaning.{edits_of, first_files, new_commit, parents_of, some_taken, stored_by, takes_id}
-use Rattle.history_model.specs.Passing.{AreNewFolders}
-use Rattle.history_model.specs.TreeSteps.{HasText}
+use Rattle.history_steps.specs.Passing.{AreNewFolders}
+use Rattle.history_steps.specs.TreeSteps.{HasText}
 use Rattle.history_model.specs.Wholeness.{IsSound}
 use Rattle.history_model.proofs.IdLemmas.{digest_is_id, has_kind}
 use Rattle.history_model.proofs.WholeLists.{In, all_in, in_left, in_either, in_map, of_map, none_or, none_passes, one_passes, passes_one, clash}

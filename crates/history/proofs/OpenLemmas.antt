@@ -3,13 +3,13 @@ use Rattle.std.proofs.Common.{◌≡◌, false, is_some, sym, ap, ◌∙◌}
 use Rattle.gix_ref_file.specs.History.{History}
 use Rattle.gix_ref_file.specs.Tree.{Tree}
 use Rattle.std.specs.FinMap.{contains_key, empty, get-empty}
-use Rattle.history_model.specs.Offered.{IsOfStage}
+use Rattle.history_steps.specs.Offered.{IsOfStage}
 use Rattle.gix_hash_id.specs.Id.{Id}
 use Rattle.history_model.specs.Objects.{by_id}
 use Rattle.history_model.specs.Places.{packed_place}
 use Rattle.history_model.specs.Repository.{fresh, first_branch}
 use Rattle.gix_hash_id.specs.declared.kind.Kind.{Kind}
-use Rattle.history_model.proofs.OfferedSteps.{fresh_is_offered}
+use Rattle.history_steps.proofs.OfferedSteps.{fresh_is_offered}
 use Rattle.history_store.proofs.FreshParts.{new_stands_whole}
 use Rattle.history_store.specs.Creation.{IsNew}
 use Rattle.history.specs.declared.repository.Repository.{Repository}

@@ -14,7 +14,7 @@ use Rattle.history_model.specs.Commands.{Commit, CommitCommand}
 use Rattle.history_model.specs.Meaning.{branch_or_name}
 use Rattle.history_model.specs.Causes.{do_collide, some_collide}
 use Rattle.history_model.specs.Places.{file_at}
-use Rattle.history_model.proofs.OfferedFiles.{all_keys}
+use Rattle.history_steps.proofs.OfferedFiles.{all_keys}
 use Rattle.history_store.specs.Stores.{IsAbove}
 use Rattle.history_store.specs.References.{HasWay, TellsCollision}
 use Rattle.history.specs.Face.{names_part}

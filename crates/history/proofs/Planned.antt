@@ -18,10 +18,10 @@ use Rattle.history_model.specs.CommandParts.{paths_in, contents_in}
 use Rattle.history_model.specs.Meaning.{branch_or_name, first_files, parents_of, edits_of, new_commit, put_bytes, read_actor, stored_by, takes_id}
 use Rattle.history_model.specs.Causes.{first_cause, is_bad_path, is_too_large}
 use Rattle.history_model.specs.Stage.{is_spoken}
-use Rattle.history_model.specs.Offered.{IsOffered}
-use Rattle.history_model.specs.Passing.{AreNewFolders, commit_puts}
+use Rattle.history_steps.specs.Offered.{IsOffered}
+use Rattle.history_steps.specs.Passing.{AreNewFolders, commit_puts}
 use Rattle.history_model.specs.Steps.{MayTake}
-use Rattle.history_model.specs.TreeSteps.{HasText, move_entry}
+use Rattle.history_steps.specs.TreeSteps.{HasText, move_entry}
 use Rattle.history_model.specs.Wholeness.{IsSound}
 use Rattle.history_model.specs.declared.Cause.{Cause}
 use Rattle.history_model.specs.declared.Cause.TheVariants.{BadPath, IsFolder, TooLarge}
@@ -29,9 +29,9 @@ use Rattle.history_model.specs.declared.Fault.{Fault}
 use Rattle.history_model.specs.declared.Fault.TheVariants.{Memory, File, IdTaken}
 use Rattle.gix_hash_id.specs.declared.kind.Kind.{Kind}
 use Rattle.history_model.proofs.IdLemmas.{digest_is_id}
-use Rattle.history_model.proofs.OfferedReads.{parents_are_commits}
-use Rattle.history_model.proofs.PassedStops.{commits_store_whole}
-use Rattle.history_model.proofs.TreePlaces.{values_have_ids}
+use Rattle.history_steps.proofs.OfferedReads.{parents_are_commits}
+use Rattle.history_steps.proofs.PassedStops.{commits_store_whole}
+use Rattle.history_model.proofs.PlaceLemmas.{values_have_ids}
 use Rattle.history_model.proofs.WholeLists.{In, in_left, in_right, in_either, in_map, of_map}
 use Rattle.history_model.proofs.WholeSteps.{contains_in, in_contains}
 use Rattle.history_files.specs.Editing.{AreEdited, AreTreesOf, HaveNull}

@@ -13,7 +13,7 @@ use Rattle.history_store.specs.Formats.{actor_of}
 use Rattle.history_store.specs.declared.actor.Actor.{Actor}
 use Rattle.history.specs.CommitCauses.{IsTime, ReadsTime}
 use Rattle.history_model.specs.Forms.{is_seconds, is_offset, is_actor, is_actor_part, max_seconds}
-use Rattle.history_model.specs.LineTable.{number_of}
+use Rattle.history_word.specs.LineTable.{number_of}
 
 -- a word that spells a number has its form and its value
 told : (decimal : Bool) (value n : ℕ) → cond (decimal && nat_lt value (2 ^ 64)) (Some value) None ≡ Some n → (decimal ≡ true) × (value ≡ n)

@@ -5,7 +5,7 @@ use Rattle.std.specs.List.{list_all, list_any, AllZip}
 use Rattle.std.specs.FinMap.{keys, contains_key, get, insert, retain_keys}
 use Rattle.history_model.specs.Bytes.{Bytes}
 use Rattle.history_model.specs.FileMap.{FileMap, Content, Edit, Put, Remove, RemoveFile, edited, is_below, has_below, is_refused, is_within, some_refused}
-use Rattle.history_model.proofs.OfferedFiles.{all_keys, each_key}
+use Rattle.history_steps.proofs.OfferedFiles.{all_keys, each_key}
 use Rattle.history_model.proofs.WholeStores.{get_inserted, get_retained}
 
 -- the edits are made at one path, and do the same there but for the bytes that are put

@@ -18,7 +18,7 @@ use Rattle.history_files.specs.Laws as laws
 use Rattle.history_files.specs.Reading.{IsRootOf, OwnFault}
 use Rattle.history_files.specs.Unfolding.{HasTrees}
 use Rattle.history_files.specs.declared.trees.EditedFiles.{EditedFiles}
-use Rattle.history_files.specs.declared.edits.Edit.{Edit as FileEdit}
+use Rattle.history_files.specs.declared.edits.Edit as editing
 use Rattle.history_files.specs.declared.edits.EditError.{EditError}
 use Rattle.history_files.specs.declared.edits.EditError.TheVariants as refused
 use Rattle.history_files.specs.declared.error.ReadError.{ReadError}
@@ -100,7 +100,7 @@ module _ {F : Type 0} (IsHonest : F → Type 0) (history : F → History) (repos
 
 -- What edits of these files come to, by the contract of the call that makes them.
 module _ {F : Type 0} (IsHonest : F → Type 0) (history : F → History) (repository : Repository F) (r : plain.Repository) (stands : Stands IsHonest history repository r) (MayFail : Type 0)
-    (ids : List Id) (tree : Option ObjectId) (before : IsTreeBefore r ids tree) (edits : List FileEdit) (made : List model.Edit) (named : NameEdits r.kind edits made) (kind : Kind) (same : kind ≡ r.kind)
+    (ids : List Id) (tree : Option ObjectId) (before : IsTreeBefore r ids tree) (edits : List editing.Edit) (made : List model.Edit) (named : NameEdits r.kind edits made) (kind : Kind) (same : kind ≡ r.kind)
     (root : Option Id) (is_root : root ≡ option_map id_of tree) (result : Result EditedFiles EditError) where
   abbrev Of : (Kind → Option Id → FileMap → List model.Edit → Type 0) → Kind → Option Id → Type 0
   Of P k o = OfEdits (HoldsKnown IsHonest history repository.objects) (table_of history repository.objects) k o edits (P k o)

@@ -5,9 +5,9 @@ use Rattle.std.proofs.lemmas.List.{take_all}
 use Rattle.std.proofs.lemmas.List.Sums.{take_while-cons}
 use borrow.Author.Tests.{ltb-true, ltb-false}
 use Rattle.history_model.specs.Bytes.{Bytes, has_byte, is_empty}
-use Rattle.history_model.specs.Forms.{title}
+use Rattle.history_model.specs.Forms.{title, max_title}
 use Rattle.history_model.specs.Causes.{is_bad_title}
-use Rattle.history_word.specs.Fields.{Keeps}
+use Rattle.history_word.specs.Fields.{Keeps, max_kept}
 use Rattle.history_word.specs.declared.command.Field.{Field}
 use Rattle.history_word.specs.declared.command.Field.TheVariants.{Whole, TooLong}
 use Rattle.history.specs.Fields.{kept_bytes}
@@ -43,24 +43,24 @@ title_front (suc k) (b ∷ message) =
     by_test true e = ap (λ rest. b ∷ rest) e
     by_test false e = refl
 
-too_long : (text : Bytes) → 1024 < length text → is_bad_title text ≡ true
-too_long text large = ap (λ over. (((is_empty text || over) || has_byte 9 text) || has_byte 13 text) || has_byte 0 text) (beyond 1024 (length text) large) ∙ so (is_empty text)
+too_long : (text : Bytes) → max_title < length text → is_bad_title text ≡ true
+too_long text large = ap (λ over. (((is_empty text || over) || has_byte 9 text) || has_byte 13 text) || has_byte 0 text) (beyond max_title (length text) large) ∙ so (is_empty text)
   where
     so : (e : Bool) → ((((e || true) || has_byte 9 text) || has_byte 13 text) || has_byte 0 text) ≡ true
     so true = refl
     so false = refl
 
-bad_front : (text : Bytes) → is_bad_title (take 1025 text) ≡ is_bad_title text
-bad_front text = by_test (nat_lt 1025 (length text)) refl
+bad_front : (text : Bytes) → is_bad_title (take max_kept text) ≡ is_bad_title text
+bad_front text = by_test (nat_lt max_kept (length text)) refl
   where
-    by_test : (b : Bool) → nat_lt 1025 (length text) ≡ b → is_bad_title (take 1025 text) ≡ is_bad_title text
-    by_test true large = too_long (take 1025 text) (omega (arith, length-take 1025 text, ltb-true _ _ large)) ∙ sym (too_long text (omega (arith, ltb-true _ _ large)))
-    by_test false small = ap is_bad_title (take_all 1025 text (omega (arith, ltb-false _ _ small)))
+    by_test : (b : Bool) → nat_lt max_kept (length text) ≡ b → is_bad_title (take max_kept text) ≡ is_bad_title text
+    by_test true large = too_long (take max_kept text) (omega (arith, length-take max_kept text, ltb-true _ _ large)) ∙ sym (too_long text (omega (arith, ltb-true _ _ large)))
+    by_test false small = ap is_bad_title (take_all max_kept text (omega (arith, ltb-false _ _ small)))
 
 -- What is kept of a message tells whether its title is bad.
 pub bad_kept : (limit : ℕ) (field : Field) (message : Bytes) → Keeps limit field message → is_bad_title (title (kept_bytes field)) ≡ is_bad_title (title message)
 bad_kept limit (Whole kept) message h = ap (λ m. is_bad_title (title m)) h.1
-bad_kept limit (TooLong kept) message h = ap (λ m. is_bad_title (title m)) h.1 ∙ ap is_bad_title (title_front 1025 message) ∙ bad_front (title message)
+bad_kept limit (TooLong kept) message h = ap (λ m. is_bad_title (title m)) h.1 ∙ ap is_bad_title (title_front max_kept message) ∙ bad_front (title message)
 
 -- ---- bytes that stand in no title
 
@@ -83,7 +83,7 @@ barred_in_title (b ∷ text) =
     turned false false false u v w = refl
 
 -- a title that is neither empty nor over its limit is bad for a byte
-pub bad_for_a_byte : (text : Bytes) → (length text == 0) ≡ false → nat_lt 1024 (length text) ≡ false → ((has_byte 9 text || has_byte 13 text) || has_byte 0 text) ≡ is_bad_title text
+pub bad_for_a_byte : (text : Bytes) → (length text == 0) ≡ false → nat_lt max_title (length text) ≡ false → ((has_byte 9 text || has_byte 13 text) || has_byte 0 text) ≡ is_bad_title text
 bad_for_a_byte text some short = sym (
-    ap (λ e. (((e || nat_lt 1024 (length text)) || has_byte 9 text) || has_byte 13 text) || has_byte 0 text) (not_empty text some)
+    ap (λ e. (((e || nat_lt max_title (length text)) || has_byte 9 text) || has_byte 13 text) || has_byte 0 text) (not_empty text some)
     ∙ ap (λ over. ((over || has_byte 9 text) || has_byte 13 text) || has_byte 0 text) short)

@@ -18,7 +18,7 @@ use Rattle.history_model.specs.declared.End.TheVariants.{Input, Refused as ByRef
 use Rattle.history_word.specs.Progress.{IsCauseOf}
 use Rattle.history.specs.declared.running.RunError.{RunError}
 use Rattle.history.specs.declared.running.RunError.TheVariants.{Read, Write}
-use Rattle.history.specs.declared.reply.Reply.{Reply as Answer}
+use Rattle.history.specs.declared.reply.Reply as own
 use Rattle.gix_ref_file.specs.History.{History, HasRisen}
 use Rattle.history_model.specs.Moments.{Moment, Traces, HasFailedCall as Failed}
 use Rattle.history.specs.Acts.{IsAnswer}
@@ -55,7 +55,7 @@ no_goes failed true e f = absurd (cc (sym f ∙ e))
 no_goes failed false e f = refl
 
 -- ---- of a command that was answered
-module _ (objects names : History) (MayFail : Type 0) (StandsNow RecoversNow : Repository → Type 0) (start finish : Moment) (r : Repository) (order : Command) (answer : Answer) (failed : Bool)
+module _ (objects names : History) (MayFail : Type 0) (StandsNow RecoversNow : Repository → Type 0) (start finish : Moment) (r : Repository) (order : Command) (answer : own.Reply) (failed : Bool)
     (a : IsAnswer objects names MayFail StandsNow RecoversNow start finish failed r order answer) where
   abbrev CallFailed : Type 0
   CallFailed = HasRisen start.object_failures finish.object_failures ⊎ HasRisen start.name_failures finish.name_failures ⊎ MayFail

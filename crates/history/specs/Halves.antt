@@ -4,14 +4,14 @@ use Rattle.gix_ref_file.specs.History.{History}
 use Rattle.gix_ref_file.specs.Tree.{Tree}
 use Rattle.history_model.specs.Objects.{Value}
 use Rattle.history_model.specs.Repository as plain
-use Rattle.history_model.specs.Repository.{stands}
+use Rattle.history_model.specs.Repository.{stands, Values, HaveOwnIds}
 use Rattle.history_model.specs.Bytes.{Bytes}
 use Rattle.history_model.specs.Forms.{is_name}
 use Rattle.history_model.specs.Causes.{do_collide}
 use Rattle.history_model.specs.Meaning.{some_taken, store_all}
 use Rattle.history_model.specs.Places.{file_at, packed_place}
-use Rattle.history_model.specs.TreeHalves.{Values, HoldsValues, HoldsNames, HaveOwnIds}
-use Rattle.history_model.specs.TreeSteps.{MovesName}
+use Rattle.history_steps.specs.TreeHalves.{HoldsValues, HoldsNames}
+use Rattle.history_steps.specs.TreeSteps.{MovesName}
 use Rattle.gix_hash_id.specs.declared.kind.Kind.{Kind}
 use Rattle.history_model.specs.declared.Fault.TheVariants.{Memory, File, IdTaken}
 use Rattle.std.specs.FinMap.{contains_key}

@@ -18,9 +18,9 @@ use Rattle.history_model.specs.Commands.{CommitCommand, Commit}
 use Rattle.history_model.specs.Meaning.{after, branch_or_name, edits_of, first_files, new_commit, parents_of, put_bytes, read_actor, stored_by, takes_id}
 use Rattle.history_model.specs.Causes.{first_cause}
 use Rattle.history_model.specs.Steps.{MayTake}
-use Rattle.history_model.specs.TreeSteps.{HasText, move_entry}
-use Rattle.history_model.specs.Passing.{StoresWhole}
-use Rattle.history_model.specs.TreeHalves.{HoldsValues}
+use Rattle.history_steps.specs.TreeSteps.{HasText, move_entry}
+use Rattle.history_steps.specs.Passing.{StoresWhole}
+use Rattle.history_steps.specs.TreeHalves.{HoldsValues}
 use Rattle.history_model.specs.declared.Cause.{Cause}
 use Rattle.history_model.specs.declared.Cause.TheVariants.{TooLarge}
 use Rattle.history_model.specs.declared.Fault.TheVariants.{Memory, File, IdTaken}

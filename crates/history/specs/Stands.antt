@@ -5,7 +5,7 @@ use Rattle.history_model.specs.Repository as plain
 use Rattle.history_model.specs.Places.{Pair}
 use Rattle.history_model.specs.StandsFor.{StandsWhole}
 use Rattle.history_model.specs.Recovery.{recovered}
-use Rattle.history_model.specs.Offered.{IsOfStage}
+use Rattle.history_steps.specs.Offered.{IsOfStage}
 use Rattle.history.specs.declared.repository.Repository.{Repository}
 use Rattle.std.specs.FinMap.{contains_key}
 use Rattle.gix_hash_id.specs.Id.{Id}

@@ -13,7 +13,7 @@ use gix_object::lines::is_full_name;
 use gix_ref_file::Files;
 use history_model::Cause;
 use history_model::limits::MAX_NAME;
-use history_store::HEAD;
+use history_model::names::{HEAD, REFS};
 use std::alloc::Global;
 
 /// Whether a repository may hold the name, or one working tree may: a full name below `refs/`, in UTF-8.
@@ -21,7 +21,7 @@ fn is_name(name: &[u8]) -> bool
     ensures { result ≡ is_name name.now }
 {
     is_full_name(name)
-        && name.starts_with(b"refs/")
+        && name.starts_with(REFS)
         && str::from_utf8(name).is_ok()
         && name.len() <= MAX_NAME
 }

@@ -1,7 +1,7 @@
 //! Opening a repository.
 
 ghost use Rattle.std.specs.Prelude.{◌≡◌, false, IfOk, OnOk, IfErr};
-ghost use Rattle.history_model.specs.Offered.{IsOfStage};
+ghost use Rattle.history_steps.specs.Offered.{IsOfStage};
 ghost use Rattle.history_model.specs.Repository as plain;
 ghost use Rattle.history_store.specs.Creation.{IsNew};
 ghost use Rattle.history_store.specs.Opening.{IsNotNew};

@@ -1,9 +1,9 @@
 //! What a word of a command stands for.
 
-ghost use Rattle.std.specs.Prelude.{◌≡◌, ◌++◌, ◌&&◌, not, Some, None, IfOk, MatchResult, codes};
+ghost use Rattle.std.specs.Prelude.{◌≡◌, ◌++◌, ◌&&◌, not, Some, None, IfOk, MatchResult};
 ghost use Rattle.history_model.specs.Bytes.{begins};
 ghost use Rattle.history_model.specs.Causes.{is_unborn, is_unknown};
-ghost use Rattle.history_model.specs.Forms.{is_private};
+ghost use Rattle.history_model.specs.Forms.{is_private, refs_front};
 ghost use Rattle.history_model.specs.Words.{word_reading, ReadsAs};
 ghost use Rattle.history.specs.Acts.{word_cause};
 ghost use Rattle.history.specs.Bases.{reads_as};
@@ -16,7 +16,7 @@ use crate::stopped::Stopped;
 use gix_hash::ObjectId;
 use gix_ref_file::Files;
 use history_model::Cause;
-use history_store::HEAD;
+use history_model::names::{HEAD, HEADS, REFS, TAGS};
 use std::alloc::{AllocError, Global};
 
 /// What a word reads as.
@@ -33,9 +33,9 @@ pub(crate) enum WordReading {
 /// What stands before and behind a word in the names that it may mean, in the order of the search.
 const CANDIDATES: [(&[u8], &[u8]); 6] = [
     (b"", b""),
-    (b"refs/", b""),
-    (b"refs/tags/", b""),
-    (b"refs/heads/", b""),
+    (REFS, b""),
+    (TAGS, b""),
+    (HEADS, b""),
     (b"refs/remotes/", b""),
     (b"refs/remotes/", b"/HEAD"),
 ];
@@ -52,9 +52,9 @@ fn joined(alloc: Global, front: &[u8], word: &[u8], back: &[u8]) -> Result<Vec<u
 
 /// Whether a word may mean this name.
 fn is_candidate(name: &[u8]) -> bool
-    ensures { result ≡ (begins (codes "refs/") name.now && not (is_private name.now)) }
+    ensures { result ≡ (begins refs_front name.now && not (is_private name.now)) }
 {
-    name.starts_with(b"refs/") && !is_private(name)
+    name.starts_with(REFS) && !is_private(name)
 }
 
 impl WordReading {

@@ -34,7 +34,7 @@ use Rattle.history_model.specs.declared.FileKind.TheVariants.{File as PlainFile,
 use Rattle.history_files.specs.Unfolding.{HasTrees}
 use Rattle.history_files.specs.declared.error.ReadError.{ReadError}
 use Rattle.history_files.specs.declared.error.ReadError.TheVariants.{Failed, Broken, Memory}
-use Rattle.history_files.specs.declared.listing.File.{File as BelowFile}
+use Rattle.history_files.specs.declared.listing.File as listing
 use Rattle.history_files.specs.declared.found.Found.{Found}
 use Rattle.history_files.specs.declared.found.Found.TheVariants.{File, Folder}
 
@@ -119,7 +119,7 @@ StepsBelow table (Folder id) name next =
 -- ---- all files below a root
 
 -- what is told of a file
-abbrev pub line_of : BelowFile → FileLine
+abbrev pub line_of : listing.File → FileLine
 line_of file = record { kind = file.kind; id = id_of file.id; path = file.path.items }
 
 abbrev pub file_line : Kind → Bytes × Content → FileLine

@@ -1,7 +1,7 @@
 //! A stream of commands and what it is answered with.
 
 ghost use Rattle.std.specs.Prelude.{◌≡◌, IfOk};
-ghost use Rattle.history_model.specs.Bytes.{Bytes as Text};
+ghost use Rattle.history_model.specs.Bytes as model;
 ghost use Rattle.history_in_memory.specs.Answered.{Answers, AreOrTellFault, IsMeant};
 ghost use Rattle.history_in_memory.specs.declared.answer.AnswerError.TheVariants as why;
 
@@ -53,7 +53,7 @@ pub fn answer_stream(alloc: Global, kind: Kind, input: &[u8]) -> Result<Answer, 
     ensures answers { IfOk result (λ answer.
         Answers kind input.now (⟦<Collected as Sink>⟧.contents answer.written) answer.end) }
     // What the plain repository answers the whole input with is what is written; or the run told a fault.
-    ensures meant { (output : Text) → IsMeant kind input.now output
+    ensures meant { (output : model.Bytes) → IsMeant kind input.now output
         → IfOk result (λ answer. AreOrTellFault kind input.now
         (⟦<Collected as Sink>⟧.contents answer.written) answer.end output) }
 {

@@ -1,7 +1,7 @@
 //! A new repository in memory.
 
 ghost use Rattle.std.specs.Prelude.{◌≡◌, false, IfOk};
-ghost use Rattle.history_model.specs.Offered.{IsOfStage};
+ghost use Rattle.history_steps.specs.Offered.{IsOfStage};
 ghost use Rattle.history_model.specs.Repository.{fresh};
 ghost use Rattle.history.specs.Face.{has_failed};
 ghost use Rattle.history.specs.Stands.{Stands, pair_of};

@@ -11,7 +11,7 @@ use Rattle.history_model.specs.Places.{Pair, object_place}
 use Rattle.history_model.specs.StandsFor.{StandsWhole, object_files, head_text}
 use Rattle.gix_hash_id.specs.declared.kind.Kind.{Kind}
 use Rattle.history_model.proofs.IdLemmas.{one_by_ids}
-use Rattle.history_model.proofs.TreePlaces.{file_at_id}
+use Rattle.history_model.proofs.PlaceLemmas.{file_at_id}
 use Rattle.history_model.proofs.WholeLists.{texts_differ, some_inside, none_is_some}
 use Rattle.history_model.proofs.WholeTexts.{text_same, cut_same, is_id-digest}
 use Rattle.history_model.proofs.WholeRoots.{HasAll, one_map}

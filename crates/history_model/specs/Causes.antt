@@ -1,5 +1,5 @@
 -- When a command is refused. Each test may take for granted that no earlier cause holds.
-use Rattle.std.specs.Prelude.{Bool, true, false, not, ◌&&◌, ◌||◌, List, [], ◌∷◌, ◌++◌, length, map, find, filter, nat_lt, Option, Some, None, option_map, option_to_list, unwrap_or, is_none, bytes_eq, codes}
+use Rattle.std.specs.Prelude.{Bool, true, false, not, ◌&&◌, ◌||◌, List, [], ◌∷◌, ◌++◌, length, map, find, filter, nat_lt, Option, Some, None, option_map, option_to_list, unwrap_or, is_none, bytes_eq}
 use Rattle.std.specs.List.{list_any}
 use Rattle.std.specs.FinMap.{keys, get}
 use Rattle.history_model.specs.Bytes.{Bytes, begins, has_byte, has_twice, is_empty}
@@ -8,7 +8,7 @@ use Rattle.history_model.specs.Objects.{content_of, id_of, StoredTag}
 use Rattle.gix_hash_id.specs.Id.{Id}
 use Rattle.gix_hash_id.specs.Order.{id_eq}
 use Rattle.history_model.specs.Repository.{Repository, id_at, stands, is_tag, peeled}
-use Rattle.history_model.specs.Forms.{is_name, is_private, is_tag_name, is_actor_part, is_seconds, is_offset, title, max_title, max_path, max_content, max_parents}
+use Rattle.history_model.specs.Forms.{heads_front, tags_front, is_name, is_private, is_tag_name, is_actor_part, is_seconds, is_offset, title, max_title, max_path, max_content, max_parents}
 use Rattle.history_model.specs.Words.{WordReading, ReadsAs, Unborn, Unknown, Ambiguous, word_reading, commit_of}
 use Rattle.history_model.specs.Commands.{Command, Commit, Tag, Move, Rename, Delete, Switch, Past, Log, Show, Expect, New, At, ActorLine, Order, Breadth, Date, Topological, LogItem, Tip, Hidden}
 use Rattle.history_model.specs.CommandParts.{names_in, words_in, expected, targets, paths_in, actors_in, since_words, contents_in}
@@ -17,8 +17,8 @@ use Rattle.history_model.specs.declared.Cause.{Cause}
 use Rattle.history_model.specs.declared.Cause.TheVariants.{Syntax, Truncated, LineTooLong, BadName, PrivateName, NameTwice, UnknownWord, AmbiguousWord, UnbornHead, NotACommit, NoSuchName, Taken, NotExpected, Collides, HoldsTag, TooManyParents, DuplicateParent, BadPath, IsFolder, NoSuchPath, BadActor, BadTime, BadMessage, TooLarge, NothingMoves, OrderWithParents}
 
 abbrev pub is_bad_place : Command → Bool
-is_bad_place (Tag c) = not (begins (codes "refs/tags/") c.name && is_tag_name (tag_rest c.name))
-is_bad_place (Switch name) = not (begins (codes "refs/heads/") name)
+is_bad_place (Tag c) = not (begins tags_front c.name && is_tag_name (tag_rest c.name))
+is_bad_place (Switch name) = not (begins heads_front name)
 is_bad_place _ = false
 
 abbrev pub is_name_twice : Command → Bool

@@ -1,5 +1,5 @@
 -- What the laws on the files of names and logs say: they are in the formats that gix_ref_format reads, which knows more spellings.
-use Rattle.std.specs.Prelude.{◌≡◌, not, ◌&&◌, ◌∷◌, filter, codes, Option, Some, None, if◌then◌else◌, IsTrue}
+use Rattle.std.specs.Prelude.{◌≡◌, not, ◌&&◌, ◌∷◌, filter, Option, Some, None, if◌then◌else◌, IsTrue}
 use Rattle.gix_hash_id.specs.Id.{Id}
 use Rattle.gix_hash_id.specs.declared.kind.Kind.{Kind}
 use Rattle.gix_ref_name.specs.Targets.{ToObject, ToName}
@@ -7,7 +7,7 @@ use Rattle.gix_ref_format.specs.LogLine.{line_text}
 use Rattle.gix_ref_format.specs.Lookup.{packed_key, word_names}
 use Rattle.gix_ref_format.specs.Loose.{loose_target}
 use Rattle.history_model.specs.Bytes.{Bytes, begins, line}
-use Rattle.history_model.specs.Forms.{is_name, is_private}
+use Rattle.history_model.specs.Forms.{refs_front, is_name, is_private}
 use Rattle.history_model.specs.Logs.{log_line}
 use Rattle.history_model.specs.Objects.{hex, actor_text}
 use Rattle.history_model.specs.Readings.{Holds, Symbolic, loose_reading}
@@ -32,7 +32,7 @@ abbrev pub CandidatesAlike : Type 0
 CandidatesAlike =
     (word : Bytes)
     → candidates word
-    ≡ filter (λ name. begins (codes "refs/") name && not (is_private name))
+    ≡ filter (λ name. begins refs_front name && not (is_private name))
     (word ∷ word_names word)
 
 -- A log's line has the two ids, who moved the name, and the message.

@@ -39,10 +39,20 @@ max_parents = 64
 
 -- ---- names of references (git-check-ref-format)
 
+-- how names begin, those of branches, and those of tags
+abbrev pub refs_front : Bytes
+refs_front = codes "refs/"
+
+abbrev pub heads_front : Bytes
+heads_front = codes "refs/heads/"
+
+abbrev pub tags_front : Bytes
+tags_front = codes "refs/tags/"
+
 -- a name that a repository may hold, or a private one: by the rules of names, below `refs/`, in UTF-8, and within the limit
 abbrev pub is_name : Bytes → Bool
 is_name name =
-    is_partial_name name && begins (codes "refs/") name && is_utf8 name
+    is_partial_name name && begins refs_front name && is_utf8 name
     && nat_le (length name) max_name
 
 -- a name of one worktree alone (git-worktree)
@@ -52,12 +62,12 @@ is_private name =
     || begins (codes "refs/rewritten/") name
 
 abbrev pub is_branch : Bytes → Bool
-is_branch name = is_name name && begins (codes "refs/heads/") name
+is_branch name = is_name name && begins heads_front name
 
 -- A tag's name, behind `refs/tags/`, is not `@` and does not begin with `-`.
 abbrev pub is_tag_name : Bytes → Bool
 is_tag_name rest =
-    is_name (codes "refs/tags/" ++ rest) && not (bytes_eq rest (codes "@"))
+    is_name (tags_front ++ rest) && not (bytes_eq rest (codes "@"))
     && not (begins (codes "-") rest)
 
 -- ---- actors

@@ -1,5 +1,5 @@
 -- What the laws say.
-use Rattle.std.specs.Prelude.{ℕ, ⊤, take, true, not, MatchBool, ◌≡◌, ◌⊎◌, Bool, false, List, [], ◌∷◌, ◌++◌, map, Some, None, option_map, IsTrue, IsFalse, ◌↔◌, Contains, bytes_eq, if◌then◌else◌}
+use Rattle.std.specs.Prelude.{ℕ, ⊤, take, true, not, MatchBool, ◌≡◌, ◌≢◌, ◌⊎◌, Bool, false, List, [], ◌∷◌, ◌++◌, map, Some, None, option_map, IsSome, IsTrue, IsFalse, ◌↔◌, Contains, bytes_eq, if◌then◌else◌}
 use Rattle.std.specs.List.{list_all, flat_map}
 use Rattle.std.specs.List.Sorted.{IsStrictlySortedBy}
 use Rattle.std.specs.FinMap.{get, empty, insert}
@@ -9,21 +9,21 @@ use Rattle.history_model.specs.Bytes.{Bytes, by_bytes}
 use Rattle.history_model.specs.FileMap.{FileMap, Edit, cut_to, IsFileMap, edited_by, edit_path, is_path}
 use Rattle.history_model.specs.Objects.{StoredFolder, entry_at}
 use Rattle.gix_hash_id.specs.Id.{Id}
-use Rattle.history_model.specs.Repository.{Repository, IsWhole, id_at, moves_at, first_branch, fresh}
+use Rattle.history_model.specs.Repository.{Repository, IsWhole, id_at, moves_at, peeled, first_branch, fresh}
 use Rattle.history_model.specs.Commands.{Command, Rename, Pack, Files, Log, LogCommand, Order, Breadth, Topological}
 use Rattle.history_model.specs.Answers.{commits_of, walk_request, IsWalk, kept, time_at}
 use Rattle.gix_traverse_commit.specs.Order.{At}
 use Rattle.history_model.specs.Replies.{Reply, FileLine, FilesAre, LogIs, reply_text}
 use Rattle.history_model.specs.Causes.{first_cause}
-use Rattle.history_model.specs.Places.{Pair, file_at, head_place, is_log_place, is_object_folder, is_name_folder}
-use Rattle.history_model.specs.StandsFor.{StandsFor, StandsWhole, head_text}
-use Rattle.history_model.specs.Readings.{reading}
+use Rattle.history_model.specs.Places.{Pair, file_at, head_place, is_log_place, unfinished_place, is_object_folder, is_name_folder}
+use Rattle.history_model.specs.StandsFor.{StandsFor, StandsWhole, object_files, head_text}
+use Rattle.history_model.specs.Readings.{Holds, reading}
 use Rattle.history_model.specs.Recovery.{recovered, recovered_names, is_leftover}
 use Rattle.history_model.specs.Logs.{whole_lines}
 use Rattle.history_model.specs.Stops.{LeftByStop}
 use Rattle.history_model.specs.Steps.{Step, goes_on, is_faulted, next}
 use Rattle.history_model.specs.Runs.{BeginsWith, Runs, EndsReading, EndsWriting}
-use Rattle.history_model.specs.Moments.{Moment, IsPairAt, IsRunPair, Traces}
+use Rattle.history_model.specs.Moments.{Moment, IsPairAt, IsRunPair, LeavesStopped, Traces}
 use Rattle.history_model.specs.Rounds.{HasWritten, Round, IsRunOf, AreRounds, last_left, Outcomes}
 use Rattle.gix_hash_id.specs.declared.kind.Kind.{Kind}
 use Rattle.history_model.specs.declared.End.{End}
@@ -184,6 +184,22 @@ pub record HoldsTheSame (old x : Repository) : Type 0 where
 abbrev pub PacksChangeNothing : Type 0
 PacksChangeNothing = (old x : Repository) → LeftByStop old Pack x → HoldsTheSame old x
 
+-- Each object file but the unfinished one holds the text of what a whole repository stores there, and each name that holds an id
+-- holds that of a commit or a tag in it.
+pub record IsClosed (kind : Kind) (pair : Pair) : Type 0 where
+  pub repository : Repository
+  pub whole : IsWhole repository
+  pub objects : (path : Bytes) → path ≢ unfinished_place
+      → file_at pair.objects path ≡ get (object_files repository) path
+  pub names : (name : Bytes) (id : Id) → reading kind pair.names name ≡ Holds id
+      → IsSome (peeled repository id)
+
+-- What a stop in a command leaves is so, before any recovery.
+abbrev pub StopsAreClosed : Type 0
+StopsAreClosed =
+    (old : Repository) (command : Command) (pair : Pair) → LeavesStopped old command pair
+    → IsClosed old.kind pair
+
 -- ---- rounds
 
 -- Where each round's run and recovery do what they promise, the pair that the last one left stands for a whole repository,
@@ -218,6 +234,15 @@ TracesStop =
     → (pair : Pair) → IsRunPair objects names begin traces.moments pair
     → (made more : List Reply) × (replies ≡ made ++ more)
     × IsRunOf old (stopped_round old.kind objects names begin input made pair)
+
+-- What commands did they did also where it isn't told whether a reading may fail: a run's trace is then that of a round.
+abbrev pub TracesWeaken : Type 0 → Type 0
+TracesWeaken MayFail =
+    (objects names : History) (old : Repository) (begin : Moment) (commands : List Command)
+    (replies : List Reply) (finish : Moment) (new : Repository)
+    → (traces : Traces objects names MayFail old begin commands replies finish new)
+    → (weaker : Traces objects names (Unit {0}) old begin commands replies finish new)
+    × (weaker.moments ≡ traces.moments)
 
 -- A run over the input that ended at a pair, which stayed as it was.
 abbrev pub ended_round : History → History → Moment → Bytes → List Reply → Bytes → Pair → Round

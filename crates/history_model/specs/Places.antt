@@ -7,6 +7,7 @@ use Rattle.history_model.specs.FileMap.{is_within}
 use Rattle.history_model.specs.Objects.{hex}
 use Rattle.gix_hash_id.specs.Id.{Id}
 use Rattle.history_model.specs.Repository.{Repository, stands}
+use Rattle.history_model.specs.Words.{head_word}
 
 -- The objects part, all below `objects`, and the names part, all else. Paths in both are whole.
 pub record Pair : Type 0 where
@@ -38,7 +39,7 @@ is_object_folder path = bytes_eq path (codes "objects")
 -- ---- the names part
 
 abbrev pub head_place : Bytes
-head_place = codes "HEAD"
+head_place = head_word
 
 abbrev pub packed_place : Bytes
 packed_place = codes "packed-refs"

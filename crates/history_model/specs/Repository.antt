@@ -21,12 +21,16 @@ pub record Reference : Type 0 where
   pub id : Id
   pub moves : List LogEntry
 
+-- what is stored under each id
+abbrev pub Values : Type 0
+Values = FinMap by_id Value
+
 -- A kind of digest, the names that stand, HEAD's branch, which need not stand, and what is stored under each id.
 pub record Repository : Type 0 where
   pub kind : Kind
   pub names : FinMap by_bytes Reference
   pub branch : Bytes
-  pub objects : FinMap by_id Value
+  pub objects : Values
 
 -- ---- what it answers
 
@@ -105,10 +109,15 @@ pub data Reaches (r : Repository) : Id → Id → Type 0 where
       → IsTrue (list_any (id_eq to) (named_ids r.kind value)) → Reaches r from to
   by_way_of : {from to : Id} (mid : Id) → Reaches r from mid → Reaches r mid to → Reaches r from to
 
+-- each value is stored under its own id
+abbrev pub HaveOwnIds : Kind → Values → Type 0
+HaveOwnIds kind values =
+    (id : Id) (value : Value) → get values id ≡ Some value → id ≡ id_of kind value
+
 -- Each id is its value's, what a value names is stored, and no object reaches itself. Nothing is stored under the null id,
 -- and under the empty tree's id the empty folder alone.
 pub record IsWholeStore (r : Repository) : Type 0 where
-  pub own_ids : (id : Id) (value : Value) → get r.objects id ≡ Some value → id ≡ id_of r.kind value
+  pub own_ids : HaveOwnIds r.kind r.objects
   pub closed : (id : Id) (value : Value) → get r.objects id ≡ Some value → NamesAreStored r value
   pub acyclic : (id : Id) → Reaches r id id → ⊥
   pub null : get r.objects (null_id r.kind) ≡ None

@@ -5,7 +5,7 @@ use Rattle.std.specs.FinMap.{empty}
 use Rattle.history_model.specs.Bytes.{Bytes, line}
 use Rattle.history_model.specs.FileMap.{Content}
 use Rattle.history_model.specs.Objects.{Actor, CommitValue}
-use Rattle.history_model.specs.Repository.{Repository, fresh}
+use Rattle.history_model.specs.Repository.{Repository, first_branch, fresh}
 use Rattle.history_model.specs.Commands.{ActorLine, Command, CommitCommand, New}
 use Rattle.history_model.specs.Replies.{Reply}
 use Rattle.history_model.specs.Runs.{Runs}
@@ -43,7 +43,7 @@ sample_actor = record { name = codes "A"; email = codes "a@b"; seconds = 1; offs
 -- a commit without files
 abbrev pub first_command : CommitCommand
 first_command = record {
-  name = codes "refs/heads/main";
+  name = first_branch;
   expect = New;
   parents = [];
   edits = [];

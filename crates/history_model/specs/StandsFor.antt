@@ -5,7 +5,7 @@ use Rattle.gix_ref_file.specs.Tree.{folder}
 use Rattle.history_model.specs.Bytes.{Bytes, by_bytes, line}
 use Rattle.history_model.specs.Objects.{value_text}
 use Rattle.gix_hash_id.specs.Id.{Id}
-use Rattle.history_model.specs.Repository.{Repository, IsWhole, id_at, moves_at}
+use Rattle.history_model.specs.Repository.{Repository, Values, IsWhole, id_at, moves_at}
 use Rattle.history_model.specs.Forms.{IsWritten}
 use Rattle.history_model.specs.Places.{Pair, file_at, object_place, is_object_folder, head_place, packed_place, log_place, is_name_place, is_name_folder}
 use Rattle.history_model.specs.PackedNames.{packed_file, PackedAgrees}
@@ -13,10 +13,13 @@ use Rattle.history_model.specs.Logs.{log_text}
 use Rattle.history_model.specs.Readings.{Holds, reading}
 use Rattle.gix_hash_id.specs.declared.kind.Kind.{Kind}
 
--- each object's text at its place
+-- each value's text at its place
+abbrev pub value_files : Kind → Values → FinMap by_bytes Bytes
+value_files kind values =
+    from_entries (map (λ e. (object_place e.0, value_text kind e.1)) (entries values))
+
 abbrev pub object_files : Repository → FinMap by_bytes Bytes
-object_files r =
-    from_entries (map (λ e. (object_place e.0, value_text r.kind e.1)) (entries r.objects))
+object_files r = value_files r.kind r.objects
 
 -- what HEAD holds, a symbolic reference to its branch
 abbrev pub head_text : Bytes → Bytes

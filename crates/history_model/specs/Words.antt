@@ -7,7 +7,7 @@ use Rattle.history_model.specs.Bytes.{Bytes, begins, lower}
 use Rattle.history_model.specs.Objects.{hex}
 use Rattle.gix_hash_id.specs.Id.{Id}
 use Rattle.gix_hash_id.specs.Kind.{hex_len}
-use Rattle.history_model.specs.Forms.{is_private}
+use Rattle.history_model.specs.Forms.{refs_front, heads_front, tags_front, is_private}
 use Rattle.history_model.specs.Stage.{offers_short_ids}
 use Rattle.history_model.specs.Repository.{Repository, id_at, stands, peeled}
 
@@ -16,8 +16,8 @@ head_word = codes "HEAD"
 
 -- the names that a word may mean, in the order of the search; the word itself only where it begins with `refs/`
 abbrev pub candidates : Bytes → List Bytes
-candidates word = filter (λ name. begins (codes "refs/") name && not (is_private name))
-    (word ∷ (codes "refs/" ++ word) ∷ (codes "refs/tags/" ++ word) ∷ (codes "refs/heads/" ++ word)
+candidates word = filter (λ name. begins refs_front name && not (is_private name))
+    (word ∷ (refs_front ++ word) ∷ (tags_front ++ word) ∷ (heads_front ++ word)
     ∷ (codes "refs/remotes/" ++ word) ∷ (codes "refs/remotes/" ++ word ++ codes "/HEAD") ∷ [])
 
 -- what a word reads as, before a tag stands for its commit

@@ -67,4 +67,5 @@ pub enum End {
 
 pub mod laws;
 pub mod limits;
+pub mod names;
 pub mod rows;

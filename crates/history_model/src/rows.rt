@@ -1,8 +1,9 @@
 //! Worked examples, computed on the definitions: each is the contract of a function that does nothing.
 
-ghost use Rattle.std.specs.Prelude.{◌≡◌, ◌++◌, ◌∷◌, [], length, codes};
+ghost use Rattle.std.specs.Prelude.{◌≡◌, ◌+◌, ◌++◌, ◌∷◌, [], length, codes};
 ghost use Rattle.history_model.specs.Bytes.{line};
 ghost use Rattle.history_model.specs.Objects.{hex, blob_id, blob_text, digest, tree_text, root_within, empty_tree_id, commit_content, id_of, StoredCommit};
+ghost use Rattle.history_model.specs.Spelling.{max_line};
 ghost use Rattle.history_model.specs.Rows.{Gives, Refuses, first_commit, first_stream, first_output, empty_file_stream, empty_file_output};
 ghost use Rattle.history_model.specs.Rows.{hello_stream, hello_output, three_files, xs};
 ghost use Rattle.gix_hash_id.specs.declared.kind.Kind.TheVariants.{Sha1, Sha256};
@@ -46,8 +47,8 @@ pub fn hello_file()
 /// What begins with no command: a word that is none, the longest line, a line that is longer, and a command that is cut short.
 pub fn refusals()
     ensures hello { Refuses (line (codes "hello")) (line (codes "refused Syntax")) }
-    ensures longest { Refuses (line (xs 4096)) (line (codes "refused Syntax")) }
-    ensures too_long { Refuses (xs 4097) (line (codes "refused LineTooLong")) }
+    ensures longest { Refuses (line (xs max_line)) (line (codes "refused Syntax")) }
+    ensures too_long { Refuses (xs (max_line + 1)) (line (codes "refused LineTooLong")) }
     ensures cut_short { Refuses (line (codes "commit refs/heads/main new"))
         (line (codes "refused Truncated")) }
 {}

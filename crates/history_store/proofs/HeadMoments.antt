@@ -1,13 +1,15 @@
 -- What stands while a repository is made.
 use Rattle.std.proofs.Common.{◌≡◌, ◌⊎◌, inl, inr, ◌∙◌, ap, take}
-use Rattle.std.specs.Prelude.{IsTrue, codes}
+use Rattle.std.specs.Prelude.{IsTrue}
 use Rattle.std.specs.FinMap.{get}
 use Rattle.gix_ref_file.specs.Tree.{Tree, file, is_folder}
 use Rattle.gix_ref_file.specs.Changes.{to_write, to_rename, to_remove_file, allows, after, MayLeave}
 use Rattle.gix_ref_file.specs.History.{History, Adds}
 use Rattle.gix_ref_file.proofs.Histories.{adds_weaker, adds_joined}
 use Rattle.gix_ref_file.proofs.Rooted.{adds_now}
-use Rattle.history_model.specs.Bytes.{Bytes, line}
+use Rattle.history_model.specs.Bytes.{Bytes}
+use Rattle.history_model.specs.Repository.{first_branch}
+use Rattle.history_model.specs.StandsFor.{head_text}
 use Rattle.history_model.specs.Places.{file_at, head_place, unfinished_place}
 use Rattle.history_store.specs.Creation.{head_lock, HasHead, IsCleared, IsNew, LeftoverMayGo, SameFolders, HeadMayStand}
 use Rattle.history_store.specs.Parts.{IsClear}
@@ -28,7 +30,7 @@ while_locked text t x (inr (n, may, is)) = record {
   folders = written_folders t x head_lock (take n text) may is;
 }
 
-while_renamed : (text : Bytes) (t locked x : Tree) → text ≡ line (codes "ref: refs/heads/main") → IsTrue (allows t (to_write head_lock text)) → locked ≡ after (to_write head_lock text) t
+while_renamed : (text : Bytes) (t locked x : Tree) → text ≡ head_text first_branch → IsTrue (allows t (to_write head_lock text)) → locked ≡ after (to_write head_lock text) t
     → MayLeave (to_rename head_lock head_place) locked x → HeadMayStand t x
 while_renamed text t locked x is_text may is_locked (inl same) = record {
   head = inl (ap (λ y. file_at y head_place) (same ∙ is_locked) ∙ apart_from_inserted t head_lock (file text) head_place (λ here. cc));
@@ -47,7 +49,7 @@ while_renamed text t locked x is_text may is_locked (inr (n, may_move, made)) =
 pub lock_moments : (text : Bytes) (old locked : History) → Adds (MayLeave (to_write head_lock text) old.tree) old locked → Adds (HeadMayStand old.tree) old locked
 lock_moments text old locked adds = adds_weaker old locked adds (λ x left. while_locked text old.tree x left)
 
-pub head_moments : (text : Bytes) (old locked new : History) → text ≡ line (codes "ref: refs/heads/main") → IsTrue (allows old.tree (to_write head_lock text)) → locked.tree ≡ after (to_write head_lock text) old.tree
+pub head_moments : (text : Bytes) (old locked new : History) → text ≡ head_text first_branch → IsTrue (allows old.tree (to_write head_lock text)) → locked.tree ≡ after (to_write head_lock text) old.tree
     → Adds (MayLeave (to_write head_lock text) old.tree) old locked → Adds (MayLeave (to_rename head_lock head_place) locked.tree) locked new → Adds (HeadMayStand old.tree) old new
 head_moments text old locked new is_text may is_locked first second =
     adds_joined old locked new (lock_moments text old locked first)

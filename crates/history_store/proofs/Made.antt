@@ -1,12 +1,14 @@
 -- What the changes of making a repository leave.
 use Rattle.std.proofs.Common.{◌≡◌, refl, ◌∙◌, ap, cond, []}
-use Rattle.std.specs.Prelude.{Option, Some, None, unwrap_or, codes}
+use Rattle.std.specs.Prelude.{Option, Some, None, unwrap_or}
 use Rattle.std.specs.FinMap.{get, remove}
 use Rattle.gix_ref_file.specs.Tree.{Tree, Node, file, folder, node_at, place_of, bytes_of, bytes_at}
 use Rattle.gix_ref_file.specs.Changes.{to_write, to_rename, to_remove_file, after}
 use Rattle.gix_ref_file.specs.declared.files.Place.TheVariants.{Absent}
 use Rattle.gix_ref_file.proofs.Trees.{get-removed, get_inserted, same_path_itself}
-use Rattle.history_model.specs.Bytes.{Bytes, line}
+use Rattle.history_model.specs.Bytes.{Bytes}
+use Rattle.history_model.specs.Repository.{first_branch}
+use Rattle.history_model.specs.StandsFor.{head_text}
 use Rattle.history_model.specs.Places.{file_at, head_place, unfinished_place}
 use Rattle.history_store.specs.Creation.{head_lock, IsCleared, HasHead}
 use Rattle.history_store.proofs.Stored.{apart_from_inserted, apart_from_removed}
@@ -28,7 +30,7 @@ cleared old new is = record {
   others = λ path apart. ap (λ t. file_at t path) is ∙ apart_from_removed old unfinished_place path apart;
 }
 
-pub head_written : (text : Bytes) (old mid new : Tree) → text ≡ line (codes "ref: refs/heads/main") → mid ≡ after (to_write head_lock text) old → new ≡ after (to_rename head_lock head_place) mid → HasHead old new
+pub head_written : (text : Bytes) (old mid new : Tree) → text ≡ head_text first_branch → mid ≡ after (to_write head_lock text) old → new ≡ after (to_rename head_lock head_place) mid → HasHead old new
 head_written text old mid new is_text is_mid is_new =
     let locked : bytes_at mid head_lock ≡ text = ap (λ t. bytes_at t head_lock) is_mid ∙ ap (λ node. unwrap_or (bytes_of node) []) (get_inserted old head_lock (file text)) in
     record {

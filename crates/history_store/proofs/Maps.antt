@@ -13,7 +13,7 @@ use Rattle.history_model.specs.Bytes.{Bytes}
 use Rattle.history_model.specs.Objects.{object_text}
 use Rattle.history_model.specs.Places.{file_at, object_place, unfinished_place}
 use Rattle.history_model.proofs.IdLemmas.{id_itself, ids_apart, one_id}
-use Rattle.history_model.proofs.TreePuts.{unfinished_apart}
+use Rattle.history_steps.proofs.TreePuts.{unfinished_apart}
 use Rattle.history_store.specs.Ids.{IdSet, with_id}
 use Rattle.history_store.specs.KnownObjects.{object_at}
 use Rattle.history_store.specs.ObjectTexts.{object_in}

@@ -13,10 +13,11 @@ use Rattle.gix_hash_id.specs.Id.{Id}
 use Rattle.gix_hash_id.specs.Kind.{hex_len}
 use Rattle.history_model.specs.Forms.{is_id}
 use Rattle.history_model.specs.Places.{file_at, object_place, unfinished_place, is_lower_hex, is_object_folder}
-use Rattle.history_model.specs.TreeHalves.{Values, HoldsValues, HaveOwnIds}
+use Rattle.history_steps.specs.TreeHalves.{HoldsValues}
+use Rattle.history_model.specs.Repository.{Values, HaveOwnIds}
 use Rattle.gix_hash_id.specs.declared.kind.Kind.{Kind}
 use Rattle.gix_hash_id.specs.declared.kind.Kind.TheVariants.{Sha1, Sha256}
-use Rattle.history_model.proofs.TreePlaces.{length_hex, id_length, file_has_id}
+use Rattle.history_model.proofs.PlaceLemmas.{length_hex, id_length, file_has_id}
 use Rattle.history_store.specs.Stores.{IsAbove, NoFileAbove, HasFoldersAbove, FoldersAbove, IsObjectPlace, IsObjectPart}
 use Rattle.history_store.proofs.FolderPlaces.{behind, none_above, object_above, two_digits, hex_lower}
 use Rattle.history_store.proofs.FoldersMade.{split_joined}

@@ -7,7 +7,7 @@ use Rattle.std.specs.Fmt.{digits}
 use Rattle.gix_object_lines.specs.Time.{SpellsTime, SpellsSeconds, SpellsOffset, Ahead, Behind, IsSpellableOffset, two_digits, offset_text}
 use Rattle.history_model.specs.Bytes.{Bytes}
 use Rattle.history_model.specs.Forms.{is_offset}
-use Rattle.history_model.proofs.TreePlaces.{one_text, text_itself}
+use Rattle.history_model.proofs.PlaceLemmas.{one_text, text_itself}
 use Rattle.gix_object_lines.specs.declared.lines.time.Time.{Time}
 use Rattle.gix_object_lines.proofs.TimeLemmas.{front_is, five_reads, offset_length, offset_once, seconds_written, two_spelled}
 use Rattle.history_store.specs.Actors.{IsOffsetOf}

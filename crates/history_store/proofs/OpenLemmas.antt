@@ -7,6 +7,7 @@ use Rattle.gix_ref_file.specs.History.{History}
 use Rattle.gix_ref_file.specs.declared.files.Place.{Place}
 use Rattle.gix_ref_file.specs.declared.files.Place.TheVariants.{File}
 use Rattle.std.specs.FinMap.{get}
+use Rattle.history_model.specs.Forms.{heads_front}
 use Rattle.history_model.specs.Bytes.{Bytes, begins}
 use Rattle.history_model.specs.Places.{file_at, head_place}
 use Rattle.history_model.specs.StandsFor.{head_text}
@@ -40,10 +41,10 @@ HeadSpells o branch = MatchOption o (branch ≡ None) (λ t. SpellsBranch t bran
 
 -- HEAD was read as no branch's
 pub no_branch : (o : Option Bytes) (text : Bytes) → o ≡ Some text → HeadSpells o None
-    → (rest : Bytes) → rest ≢ [] → text ≢ head_text (codes "refs/heads/" ++ rest)
+    → (rest : Bytes) → rest ≢ [] → text ≢ head_text (heads_front ++ rest)
 no_branch o text e h =
     let spells = subst (λ x. HeadSpells x None) e h in
-    λ rest some. spells (codes "refs/heads/" ++ rest)
+    λ rest some. spells (heads_front ++ rest)
 
 -- or as this one's
 pub branch_read : (o : Option Bytes) (branch : Bytes) → HeadSpells o (Some branch) → o ≡ Some (head_text branch)
@@ -68,28 +69,28 @@ begins_parts (b ∷ front) (c ∷ text) e =
     ap (λ x. x ∷ text) (sym (same_byte b c tests.0)) ∙ ap (λ xs. b ∷ xs) (begins_parts front text tests.1)
 
 -- HEAD names a branch that isn't a new repository's
-pub other_branch : (names : Tree) (branch : Bytes) → (nat_lt 11 (length branch) && begins (codes "refs/heads/") branch) ≡ true → branch ≢ first_branch → HeadIs names branch
-    → (rest : Bytes) × (rest ≢ []) × (rest ≢ codes "main") × HeadIs names (codes "refs/heads/" ++ rest)
+pub other_branch : (names : Tree) (branch : Bytes) → (nat_lt (length heads_front) (length branch) && begins heads_front branch) ≡ true → branch ≢ first_branch → HeadIs names branch
+    → (rest : Bytes) × (rest ≢ []) × (rest ≢ codes "main") × HeadIs names (heads_front ++ rest)
 other_branch names branch e other head =
-    let tests = either_test (nat_lt 11 (length branch)) (begins (codes "refs/heads/") branch) e in
-    let long : 11 < length branch = grind (arith, nat_tests, tests.0) in
-    let whole = begins_parts (codes "refs/heads/") branch tests.1 in (
-      drop 11 branch,
-      λ none. omega (arith, ap length none, length-drop 11 branch),
-      λ main. other (whole ∙ ap (λ rest. codes "refs/heads/" ++ rest) main),
+    let tests = either_test (nat_lt (length heads_front) (length branch)) (begins heads_front branch) e in
+    let long : length heads_front < length branch = grind (arith, nat_tests, tests.0) in
+    let whole = begins_parts heads_front branch tests.1 in (
+      drop (length heads_front) branch,
+      λ none. omega (arith, ap length none, length-drop (length heads_front) branch),
+      λ main. other (whole ∙ ap (λ rest. heads_front ++ rest) main),
       subst (HeadIs names) whole head,
     )
 
 -- or none
-pub bad_branch : (names : Tree) (branch : Bytes) → (nat_lt 11 (length branch) && begins (codes "refs/heads/") branch) ≡ false → HeadIs names branch
-    → (text : Bytes) × (file_at names head_place ≡ Some text) × ((rest : Bytes) → rest ≢ [] → text ≢ head_text (codes "refs/heads/" ++ rest))
+pub bad_branch : (names : Tree) (branch : Bytes) → (nat_lt (length heads_front) (length branch) && begins heads_front branch) ≡ false → HeadIs names branch
+    → (text : Bytes) × (file_at names head_place ≡ Some text) × ((rest : Bytes) → rest ≢ [] → text ≢ head_text (heads_front ++ rest))
 bad_branch names branch e head =
-    (head_text branch, head, λ rest some same. absurd (cc (e, is_branch rest some, ap (λ b. nat_lt 11 (length b) && begins (codes "refs/heads/") b) (same_head branch (codes "refs/heads/" ++ rest) same))))
+    (head_text branch, head, λ rest some same. absurd (cc (e, is_branch rest some, ap (λ b. nat_lt (length heads_front) (length b) && begins heads_front b) (same_head branch (heads_front ++ rest) same))))
   where
-    is_branch : (rest : Bytes) → rest ≢ [] → (nat_lt 11 (length (codes "refs/heads/" ++ rest)) && begins (codes "refs/heads/") (codes "refs/heads/" ++ rest)) ≡ true
+    is_branch : (rest : Bytes) → rest ≢ [] → (nat_lt (length heads_front) (length (heads_front ++ rest)) && begins heads_front (heads_front ++ rest)) ≡ true
     is_branch [] some = absurd (some refl)
     is_branch (b ∷ rest) some =
-        let long : nat_lt 11 (length (codes "refs/heads/" ++ b ∷ rest)) ≡ true = grind (arith, nat_tests) in
+        let long : nat_lt (length heads_front) (length (heads_front ++ b ∷ rest)) ≡ true = grind (arith, nat_tests) in
         ap (λ t. t && true) long
 
 -- ---- the two parts

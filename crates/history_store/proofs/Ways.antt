@@ -12,7 +12,7 @@ use Rattle.gix_object_lines.specs.NameTest.{is_barred}
 use Rattle.history_model.proofs.NameTests.{is_name_component, components_of, unbarred_of}
 use Rattle.history_model.specs.Places.{file_at, head_place, packed_place, log_place, is_log_place, log_name}
 use Rattle.history_model.specs.Repository.{Repository, stands}
-use Rattle.history_model.specs.TreeHalves.{HoldsNames}
+use Rattle.history_steps.specs.TreeHalves.{HoldsNames}
 use Rattle.history_store.specs.Stores.{IsAbove}
 use Rattle.history_store.specs.References.{HasWay, Logs}
 use Rattle.history_store.specs.declared.log_entry.LogEntry.{LogEntry}

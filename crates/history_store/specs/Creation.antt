@@ -4,8 +4,10 @@ use Rattle.std.specs.FinMap.{get}
 use Rattle.gix_ref_file.specs.Tree.{Tree, is_folder}
 use Rattle.gix_ref_file.specs.declared.files.FileError.{FileError}
 use Rattle.gix_ref_file.specs.declared.files.FileError.TheVariants as files
-use Rattle.history_model.specs.Bytes.{Bytes, line}
+use Rattle.history_model.specs.Bytes.{Bytes}
+use Rattle.history_model.specs.Repository.{first_branch}
 use Rattle.history_model.specs.Places.{file_at, head_place, unfinished_place, is_object_folder, is_name_folder}
+use Rattle.history_model.specs.StandsFor.{head_text}
 use Rattle.history_store.specs.Stores.{KeepsFiles}
 use Rattle.history_store.specs.declared.creation.CreateError.{CreateError}
 use Rattle.history_store.specs.declared.creation.CreateError.TheVariants as errors
@@ -21,7 +23,7 @@ pub record IsCleared (old new : Tree) : Type 0 where
 
 -- HEAD names the branch main, `HEAD.lock` is gone, and each other file as before
 pub record HasHead (old new : Tree) : Type 0 where
-  pub head : file_at new head_place ≡ Some (line (codes "ref: refs/heads/main"))
+  pub head : file_at new head_place ≡ Some (head_text first_branch)
   pub lock : file_at new head_lock ≡ None
   pub others : (path : Bytes) → path ≢ head_place → path ≢ head_lock
       → file_at new path ≡ file_at old path
@@ -50,7 +52,7 @@ pub record IsNew (objects names : Tree) : Type 0 where
   pub no_object : (path : Bytes) → file_at objects path ≡ None
   pub object_folders : (path : Bytes) → IsTrue (is_folder (get objects path))
       → IsTrue (is_object_folder path)
-  pub head : file_at names head_place ≡ Some (line (codes "ref: refs/heads/main"))
+  pub head : file_at names head_place ≡ Some (head_text first_branch)
   pub no_other : (path : Bytes) → path ≢ head_place → file_at names path ≡ None
   pub name_folders : (path : Bytes) → IsTrue (is_folder (get names path))
       → IsTrue (is_name_folder path)

@@ -4,12 +4,13 @@ use Rattle.gix_ref_file.specs.Tree.{Tree}
 use Rattle.gix_ref_file.specs.declared.files.FileError.{FileError}
 use Rattle.gix_ref_file.specs.declared.files.FileError.TheVariants as files
 use Rattle.history_model.specs.Bytes.{Bytes}
+use Rattle.history_model.specs.Forms.{heads_front}
 use Rattle.history_model.specs.Places.{file_at, head_place}
 use Rattle.history_model.specs.StandsFor.{head_text}
 use Rattle.history_store.specs.Parts.{IsStray}
 use Rattle.history_store.specs.declared.parts.Part.{Part}
 use Rattle.history_store.specs.declared.parts.Part.TheVariants.{Objects, Names}
-use Rattle.history_store.specs.declared.parts.Stray.{Stray as AnyStray}
+use Rattle.history_store.specs.declared.parts.Stray as parts
 use Rattle.history_store.specs.declared.parts.Stray.TheVariants as strays
 use Rattle.history_store.specs.declared.opening.OpenError.{OpenError}
 use Rattle.history_store.specs.declared.opening.OpenError.TheVariants.{NoHead, BadHead, Stray, NotYet, File, Memory}
@@ -18,7 +19,7 @@ abbrev pub open_fault : FileError → OpenError
 open_fault files.Failed = File
 open_fault files.Memory = Memory
 
-abbrev pub stray_error : AnyStray → OpenError
+abbrev pub stray_error : parts.Stray → OpenError
 stray_error (strays.Folder path) = Stray path
 stray_error (strays.File path) = NotYet path
 
@@ -42,11 +43,11 @@ abbrev pub IsWrongHead : Type 0 → Tree → OpenError → Type 0
 IsWrongHead MayFail names NoHead = file_at names head_place ≡ None
 IsWrongHead MayFail names BadHead =
     (text : Bytes) × (file_at names head_place ≡ Some text)
-    × ((rest : Bytes) → rest ≢ [] → text ≢ head_text (codes "refs/heads/" ++ rest))
+    × ((rest : Bytes) → rest ≢ [] → text ≢ head_text (heads_front ++ rest))
 IsWrongHead MayFail names (NotYet path) =
     (path.items ≡ head_place)
     × ((rest : Bytes) × (rest ≢ []) × (rest ≢ codes "main")
-    × HeadIs names (codes "refs/heads/" ++ rest))
+    × HeadIs names (heads_front ++ rest))
 IsWrongHead MayFail names File = MayFail
 IsWrongHead MayFail names Memory = ⊤
 IsWrongHead MayFail names (Stray path) = ⊥

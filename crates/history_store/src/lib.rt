@@ -24,7 +24,7 @@ pub use gix_object::Kind as ObjectKind;
 pub use id_text::hex_digits;
 pub use ids::IdIter;
 pub use log_entry::LogEntry;
-pub use names::{HEAD, Names};
+pub use names::Names;
 pub use object::NewObject;
 pub use objects::{Object, Objects, PutMadeError};
 pub use opening::{ObjectsRefusal, OpenError, new_branch};

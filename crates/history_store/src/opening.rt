@@ -1,8 +1,9 @@
 //! What the two parts of a folder must hold to be opened: those of a new repository.
 
-ghost use Rattle.std.specs.Prelude.{◌≡◌, ◌&&◌, nat_lt, length, [], codes, IfOk, OnOk, IfErr};
+ghost use Rattle.std.specs.Prelude.{◌≡◌, ◌&&◌, nat_lt, length, [], IfOk, OnOk, IfErr};
 ghost use Rattle.gix_ref_file.specs.Calls.{Finds};
 ghost use Rattle.history_model.specs.Bytes.{begins};
+ghost use Rattle.history_model.specs.Forms.{heads_front};
 ghost use Rattle.history_model.specs.Repository.{first_branch};
 ghost use Rattle.history_model.specs.Places.{head_place};
 ghost use Rattle.history_store.specs.Creation.{IsNew};
@@ -11,11 +12,12 @@ ghost use Rattle.history_store.specs.Opening.{open_fault, stray_error, HeadIs, I
 ghost use Rattle.history_store.specs.declared.opening.OpenError.TheVariants.{Memory};
 ghost use Rattle.history_store.specs.declared.parts.Part.TheVariants as parts;
 
-use crate::names::{HEAD, Names};
+use crate::names::Names;
 use crate::objects::Objects;
 use crate::parts::{Part, Stray, survey};
 use gix_hash::Kind;
 use gix_ref_file::{FileError, Files, Place};
+use history_model::names::{FIRST_BRANCH, HEAD, HEADS};
 use std::alloc::{AllocError, Global};
 use thiserror::Error;
 
@@ -57,12 +59,6 @@ impl From<AllocError> for OpenError {
     }
 }
 
-// Where branches stand.
-const BRANCHES: &[u8] = b"refs/heads/";
-
-// HEAD's branch in a new repository.
-const FIRST_BRANCH: &[u8] = b"refs/heads/main";
-
 // What stands here and shouldn't.
 fn refusal_of(stray: Stray) -> OpenError
     ensures { result ≡ stray_error stray }
@@ -94,9 +90,9 @@ fn refuse_stray<F: Files>(
 
 // Whether the name is a branch's: it lies below `refs/heads/`.
 fn is_branch(name: &[u8]) -> bool
-    ensures { result ≡ (nat_lt 11 (length name.now) && begins (codes "refs/heads/") name.now) }
+    ensures { result ≡ (nat_lt (length heads_front) (length name.now) && begins heads_front name.now) }
 {
-    name.len() > BRANCHES.len() && name.starts_with(BRANCHES)
+    name.len() > HEADS.len() && name.starts_with(HEADS)
 }
 
 // HEAD's branch, where that is a new repository's.

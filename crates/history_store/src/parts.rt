@@ -5,14 +5,13 @@ ghost use Rattle.gix_ref_file.specs.Calls.{Finds};
 ghost use Rattle.gix_ref_file.specs.declared.files.FileError.TheVariants.{Failed};
 ghost use Rattle.gix_ref_file.specs.Tree.{under};
 ghost use Rattle.history_model.specs.FileMap.{is_within};
+ghost use Rattle.history_model.specs.Forms.{max_path};
 ghost use Rattle.history_model.specs.Places.{is_lower_hex, is_object_folder, is_name_folder};
 ghost use Rattle.history_store.specs.Parts.{may_hold_folder, IsClear, IsClearBelow, IsStray};
 
 use gix_ref_file::{FileError, Files, Place};
+use history_model::limits::MAX_PATH;
 use std::alloc::{AllocError, Global};
-
-// The most bytes of a path of files.
-const MAX_PATH: usize = 4_096;
 
 /// One of the two parts that a repository is kept in.
 #[derive(Clone, Copy, PartialEq, Eq, Debug)]
@@ -92,7 +91,7 @@ fn survey_folder<F: Files>(
 /// Whether the path is longer than the folder's, and within the limit.
 pub fn is_deeper(path: &[u8], folder: &[u8]) -> bool
     ensures { result ≡ nat_lt (length folder.now) (length path.now)
-        && nat_le (length path.now) 4096 }
+        && nat_le (length path.now) max_path }
 {
     folder.len() < path.len() && path.len() <= MAX_PATH
 }

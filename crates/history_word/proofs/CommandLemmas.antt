@@ -5,9 +5,9 @@ use Rattle.history_model.specs.Commands as model
 use Rattle.history_model.specs.Spelling.{Part, parts_of, parts_text, is_part, has_enough}
 use Rattle.history_model.specs.Stage.{opens, is_spoken}
 use Rattle.history_model.specs.Grammar.{Spells}
-use Rattle.history_model.specs.LineTable as table
-use Rattle.history_model.specs.TableRuns.{at, reached}
-use Rattle.history_model.proofs.TableLaws.{parts_fit}
+use Rattle.history_word.specs.LineTable as table
+use Rattle.history_word.specs.TableRuns.{at, reached}
+use Rattle.history_word.proofs.TableLaws.{parts_fit}
 use Rattle.history_word.specs.Drafts.{IsDraft, place_of}
 use Rattle.history_word.specs.declared.place.Place.{Place}
 use Rattle.history_word.specs.declared.place.Place.TheVariants as place

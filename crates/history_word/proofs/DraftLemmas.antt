@@ -6,8 +6,8 @@ use Rattle.history_model.specs.Bytes.{Bytes, line}
 use Rattle.history_model.specs.Commands as model
 use Rattle.history_model.specs.Spelling as spelling
 use Rattle.history_model.specs.Lines as lines
-use Rattle.history_model.specs.LineTable as table
-use Rattle.history_model.specs.TableRuns.{at, run_from, next_offered}
+use Rattle.history_word.specs.LineTable as table
+use Rattle.history_word.specs.TableRuns.{at, run_from, next_offered}
 use Rattle.history_word.specs.Drafts.{place_of, edit_heading, to_parents, HasCome, TakesLine, TakesParts}
 use Rattle.history_word.specs.declared.heading.Heading.{Heading}
 use Rattle.history_word.specs.declared.place.Place.{Place}

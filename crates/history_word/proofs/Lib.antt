@@ -1,3 +1,10 @@
+mod TableLines
+mod TableRunLemmas
+mod TableReaches
+mod TableRests
+mod TableStops
+mod TableWords
+pub mod TableLaws
 pub mod HeldLemmas
 pub mod UnbrokenLemmas
 pub mod TakingLemmas

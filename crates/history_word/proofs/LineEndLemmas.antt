@@ -7,8 +7,8 @@ use Rattle.history_model.specs.Bytes.{Bytes, line}
 use Rattle.history_model.specs.Commands as model
 use Rattle.history_model.specs.Spelling as spelling
 use Rattle.history_model.specs.Lines as lines
-use Rattle.history_model.specs.LineTable as table
-use Rattle.history_model.specs.TableRuns.{at, run_from}
+use Rattle.history_word.specs.LineTable as table
+use Rattle.history_word.specs.TableRuns.{at, run_from}
 use Rattle.history_model.specs.declared.Cause.{Cause}
 use Rattle.history_word.specs.Commands.{IsExpect}
 use Rattle.history_word.specs.Progress.{IsNoField, StopsFrom}

@@ -9,11 +9,11 @@ use Rattle.std.proofs.lemmas.List.Splits.{slice_split_none, slice_split_at, leng
 use Rattle.history_model.specs.Bytes.{Bytes, has_byte, is_empty}
 use Rattle.history_model.specs.Spelling.{Line, is_word, is_part, max_line}
 use Rattle.history_model.specs.Lines as lines
-use Rattle.history_model.specs.LineTable as table
+use Rattle.history_word.specs.LineTable as table
 use Rattle.history_model.specs.Lines.{words_of}
-use Rattle.history_model.specs.LineTable.{heading_of, number_of}
-use Rattle.history_model.specs.TableRuns.{IsLineAt}
-use Rattle.history_model.proofs.TableLaws.{number_decimal, decimal_number, heading_told, heading_reads, heading_words, some_words}
+use Rattle.history_word.specs.LineTable.{heading_of, number_of}
+use Rattle.history_word.specs.TableRuns.{IsLineAt}
+use Rattle.history_word.proofs.TableLaws.{number_decimal, decimal_number, heading_told, heading_reads, heading_words, some_words}
 use Rattle.history_word.specs.declared.heading.Heading.{Heading}
 use Rattle.history_word.specs.Held.{IsUnbroken}
 use Rattle.history_word.specs.Lines.{split_words, words_left, are_nonempty, IsCut}

@@ -8,11 +8,11 @@ use Rattle.history_model.specs.Bytes.{Bytes, line}
 use Rattle.history_model.specs.Spelling.{Part, Line, Field, part_text, parts_text, is_part}
 use Rattle.history_model.specs.Stage.{opens}
 use Rattle.history_model.specs.Lines.{Heading, words_of, sizes, are_sizes}
-use Rattle.history_model.specs.LineTable.{heading_of, Place, Start, Done}
-use Rattle.history_model.specs.TableRuns.{at, run_from, next_offered, StopsAt, IsLineAt}
+use Rattle.history_word.specs.LineTable.{heading_of, Place, Start, Done}
+use Rattle.history_word.specs.TableRuns.{at, run_from, next_offered, StopsAt, IsLineAt}
 use Rattle.history_model.specs.declared.Cause.{Cause}
 use Rattle.history_model.specs.declared.Cause.TheVariants.{Syntax, Truncated, LineTooLong}
-use Rattle.history_model.proofs.TableLaws.{line_goes, field_goes, run_append, heading_reads, heading_words, some_words, line_words, table_tells_stops}
+use Rattle.history_word.proofs.TableLaws.{line_goes, field_goes, run_append, heading_reads, heading_words, some_words, line_words, table_tells_stops}
 use Rattle.history_word.specs.Held.{IsLineOf}
 use Rattle.history_word.specs.Progress.{IsEndless, IsNoField, StopsFrom, IsCauseOf}
 

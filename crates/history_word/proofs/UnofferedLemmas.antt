@@ -4,9 +4,9 @@ use Rattle.std.proofs.lemmas.Slice.Eq.{bytes_eq-Decides}
 use Rattle.history_model.specs.Bytes.{Bytes}
 use Rattle.history_model.specs.Commands.{Expect, Order}
 use Rattle.history_model.specs.Lines as lines
-use Rattle.history_model.specs.LineTable as table
-use Rattle.history_model.specs.LineTable.{expect_of, number_of, end_of_words, word_of_words, actor_of_words, target_of_words, rename_of_words, delete_of_words, names_of_words, order_of, first_parents_of, items_of, walk_of_words, log_of_words, name_heading_of, heading_of}
-use Rattle.history_model.specs.TableRuns.{next_offered}
+use Rattle.history_word.specs.LineTable as table
+use Rattle.history_word.specs.LineTable.{expect_of, number_of, end_of_words, word_of_words, actor_of_words, target_of_words, rename_of_words, delete_of_words, names_of_words, order_of, first_parents_of, items_of, walk_of_words, log_of_words, name_heading_of, heading_of}
+use Rattle.history_word.specs.TableRuns.{next_offered}
 use Rattle.history_word.specs.declared.place.Place.{Place}
 use Rattle.history_word.specs.declared.place.Place.TheVariants as place
 use Rattle.history_word.specs.Drafts.{place_of, Says}

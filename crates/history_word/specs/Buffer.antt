@@ -1,6 +1,6 @@
 -- What a buffer holds.
 use Rattle.std.specs.Prelude.{ℕ, ◌+◌, ◌-◌, ◌*◌, ◌^◌, List}
-use Rattle.history_word.specs.Held.{held}
+use Rattle.history_word.specs.Held.{room, held}
 use Rattle.history_word.specs.declared.buffer.Buffer.{Buffer}
 
 -- the bytes that were read and not taken yet
@@ -13,4 +13,4 @@ readings_made b = b.readings
 
 -- a bound on the bytes that can still be taken
 abbrev pub work : Buffer → ℕ
-work b = (2 ^ 64 - 1 - b.readings) * 8193 + (b.end - b.start)
+work b = (2 ^ 64 - 1 - b.readings) * (room + 1) + (b.end - b.start)

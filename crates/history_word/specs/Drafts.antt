@@ -5,8 +5,8 @@ use Rattle.history_model.specs.Bytes.{Bytes, line}
 use Rattle.history_model.specs.Commands as model
 use Rattle.history_model.specs.Spelling as spelling
 use Rattle.history_model.specs.Lines as lines
-use Rattle.history_model.specs.LineTable as table
-use Rattle.history_model.specs.TableRuns as runs
+use Rattle.history_word.specs.LineTable as table
+use Rattle.history_word.specs.TableRuns as runs
 use Rattle.history_word.specs.Fields.{Keeps}
 use Rattle.history_word.specs.Commands.{IsExpect, IsEdit, AreEdits, IsActor, IsPath}
 use Rattle.history_model.specs.Forms.{max_content}

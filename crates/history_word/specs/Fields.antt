@@ -1,13 +1,18 @@
 -- What is kept of a field.
-use Rattle.std.specs.Prelude.{◌≡◌, ℕ, ◌<◌, ◌≤◌, length, take}
+use Rattle.std.specs.Prelude.{◌≡◌, ℕ, ◌+◌, ◌<◌, ◌≤◌, length, take}
 use Rattle.history_model.specs.Bytes.{Bytes}
+use Rattle.history_model.specs.Forms.{max_title}
 use Rattle.history_word.specs.declared.command.Field.{Field}
 use Rattle.history_word.specs.declared.command.Field.TheVariants.{Whole, TooLong}
 
--- Of a field of this size, of which this front has come, all of it is kept, or its first 1,025 bytes where it is over its limit.
+-- how many bytes are kept of a field over its limit: they tell whether a title is one
+abbrev pub max_kept : ℕ
+max_kept = max_title + 1
+
+-- Of a field of this size, of which this front has come, all of it is kept, or its first bytes where it is over its limit.
 abbrev pub KeepsFront : ℕ → ℕ → Field → Bytes → Type 0
 KeepsFront limit size (Whole kept) front = (size ≤ limit) × (kept.items ≡ front)
-KeepsFront limit size (TooLong kept) front = (limit < size) × (kept.items ≡ take 1025 front)
+KeepsFront limit size (TooLong kept) front = (limit < size) × (kept.items ≡ take max_kept front)
 
 -- the same of a whole field
 abbrev pub Keeps : ℕ → Field → Bytes → Type 0

@@ -3,6 +3,10 @@ use Rattle.std.specs.Prelude.{◌≡◌, ℕ, ◌-◌, ◌<◌, ◌≤◌, List,
 use Rattle.history_model.specs.Bytes.{has_byte}
 use Rattle.history_model.specs.Spelling.{max_line}
 
+-- how many bytes a buffer has room for
+abbrev pub room : ℕ
+room = 8_192
+
 -- what stands from start to end
 unfoldable pub held : ℕ → ℕ → List ℕ → List ℕ
 held start end bytes = take (end - start) (drop start bytes)

@@ -1,3 +1,5 @@
+pub mod LineTable
+pub mod TableRuns
 pub mod Held
 pub mod Buffer
 pub mod Taking

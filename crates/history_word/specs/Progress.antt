@@ -3,8 +3,8 @@ use Rattle.std.specs.Prelude.{◌≡◌, ◌≢◌, ℕ, ◌<◌, ◌≤◌, Lis
 use Rattle.history_model.specs.Bytes.{Bytes}
 use Rattle.history_model.specs.Spelling.{Part, parts_text, max_line}
 use Rattle.history_model.specs.Grammar.{HasRestCause}
-use Rattle.history_model.specs.LineTable.{Place}
-use Rattle.history_model.specs.TableRuns.{Progress, run_from, StopsAt}
+use Rattle.history_word.specs.LineTable.{Place}
+use Rattle.history_word.specs.TableRuns.{Progress, run_from, StopsAt}
 use Rattle.history_model.specs.declared.Cause.{Cause}
 use Rattle.history_model.specs.declared.Cause.TheVariants.{Syntax, Truncated, LineTooLong}
 use Rattle.history_word.specs.Held.{IsUnbroken}

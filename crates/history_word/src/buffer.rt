@@ -4,7 +4,7 @@ ghost use Rattle.std.specs.Prelude.{◌≡◌, ◌≢◌, ◌-◌, ◌^◌, ◌+
 ghost use Rattle.std.specs.Bool.{MatchBool};
 ghost use Rattle.std.specs.Io.KnownBytes.{IsAtEnd};
 ghost use Rattle.history_model.specs.Spelling.{max_line};
-ghost use Rattle.history_word.specs.Held.{held, IsUnbroken, IsLineOf};
+ghost use Rattle.history_word.specs.Held.{room, held, IsUnbroken, IsLineOf};
 
 use crate::streams::{Broken, Source};
 use history_model::limits::MAX_LINE;
@@ -38,8 +38,8 @@ pub struct Buffer {
     /// How many readings gave a byte; and the last that a `u64` counts, whatever it gave.
     readings: u64,
     ghost ordered: { start + scanned ≤ end },
-    ghost within: { end ≤ 8192 },
-    ghost sized: { length bytes ≡ 8192 },
+    ghost within: { end ≤ room },
+    ghost sized: { length bytes ≡ room },
     ghost unbroken: { IsUnbroken (take scanned (held start end bytes)) },
 }
 
@@ -83,7 +83,7 @@ impl Buffer {
     fn make_room(&mut self)
         ensures same { unread self.new ≡ unread self.old }
         ensures size { self.new.end - self.new.start ≡ self.old.end - self.old.start }
-        ensures room { self.new.end - self.new.start < 8192 → self.new.end < 8192 }
+        ensures room { self.new.end - self.new.start < room → self.new.end < room }
         ensures readings { readings_made self.new ≡ readings_made self.old }
     {
         if self.start == self.end || self.end == ROOM {
@@ -118,7 +118,7 @@ impl Buffer {
 
     /// Reads once more. `false` is the end of the source.
     pub(crate) fn fill<R: Source>(&mut self, source: &mut R) -> Result<bool, Broken>
-        requires { length (unread self.old) < 8192 }
+        requires { length (unread self.old) < room }
         ensures took { Took R.left R.readings source.old self.old source.new self.new [] }
         ensures ok { IfOk result (λ is_more. MatchBool is_more
             (length (unread self.old) < length (unread self.new))

@@ -2,9 +2,9 @@
 
 ghost use Rattle.std.specs.Prelude.{◌≡◌, ◌∷◌, ◌≤◌, length, IfSome, IfNone, OnSome, IsTrue};
 ghost use Rattle.history_model.specs.Lines.{ParentHeading, RemoveHeading, RemoveFileHeading, MessageHeading, EndHeading, FilesHeading};
-ghost use Rattle.history_model.specs.LineTable.{heading_of, expect_of, end_of_words, word_of_words, size_of_words, commit_of_words, put_of_words, actor_of_words, show_of_words};
+ghost use Rattle.history_word.specs.LineTable.{heading_of, expect_of, end_of_words, word_of_words, size_of_words, commit_of_words, put_of_words, actor_of_words, show_of_words};
 ghost use Rattle.history_model.specs.Spelling.{max_line};
-ghost use Rattle.history_model.specs.TableRuns.{IsLineAt};
+ghost use Rattle.history_word.specs.TableRuns.{IsLineAt};
 ghost use Rattle.history_word.specs.Held.{IsUnbroken};
 ghost use Rattle.history_word.specs.Lines.{split_words};
 ghost use Rattle.history_word.specs.Words.{left};

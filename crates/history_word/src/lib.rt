@@ -5,6 +5,7 @@ mod buffer;
 mod command;
 mod draft;
 mod heading;
+pub mod laws;
 mod memory;
 mod place;
 mod reader;

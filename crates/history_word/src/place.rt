@@ -2,7 +2,7 @@
 
 ghost use Rattle.std.specs.Prelude.{◌≡◌, option_map};
 ghost use Rattle.history_model.specs.Lines as lines;
-ghost use Rattle.history_model.specs.TableRuns.{next_offered};
+ghost use Rattle.history_word.specs.TableRuns.{next_offered};
 ghost use Rattle.history_word.specs.Drafts.{place_of, IsHeading};
 
 use crate::heading::{Heading, Role};

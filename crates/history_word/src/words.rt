@@ -3,7 +3,7 @@
 ghost use Rattle.std.specs.Prelude.{◌≡◌, ◌↔◌, ℕ, [], ◌∷◌, Bool, true, IsTrue, MatchOption, IfSome, IfNone};
 ghost use Rattle.std.specs.Option.{option_copied};
 ghost use Rattle.history_model.specs.Bytes.{Bytes};
-ghost use Rattle.history_model.specs.LineTable.{number_of, kind_of};
+ghost use Rattle.history_word.specs.LineTable.{number_of, kind_of};
 ghost use Rattle.history_word.specs.Lines.{IsCut, split_words, are_nonempty};
 
 use gix_object_lines::decimal::read_unsigned;

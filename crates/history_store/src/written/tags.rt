@@ -14,10 +14,8 @@ use gix_object::Kind as ObjectKind;
 use gix_object::lines::is_partial_name;
 use gix_object_lines::cut::{split_once, strip_prefix};
 use history_model::limits::{MAX_NAME, MAX_TITLE};
+use history_model::names::{REFS, TAGS};
 use std::alloc::{AllocError, Global};
-
-// Where tags stand.
-const TAGS: &[u8] = b"refs/tags/";
 
 /// The objects that a tag's content names; `None` where it isn't in written form.
 pub(crate) fn named_by_tag(
@@ -123,7 +121,7 @@ fn is_name(name: &[u8]) -> bool
     if !is_partial_name(name) {
         return false;
     }
-    if !name.starts_with(b"refs/") {
+    if !name.starts_with(REFS) {
         return false;
     }
     if !is_utf8(name) {

@@ -2,7 +2,7 @@ use Rattle.std.proofs.Common.{◌≡◌, ◌∷◌, None, sym, ap, subst, ◌∙
 use Rattle.std.specs.Prelude.{codes}
 use Rattle.std.proofs.lemmas.Slice.Eq.{slice_eq-Decides}
 use Rattle.std.proofs.lemmas.Bool.Decides.{Decides-eqb}
-use Rattle.history_model.specs.LineTable.{heading_of}
+use Rattle.history_word.specs.LineTable.{heading_of}
 use Rattle.history_word.specs.Lines.{split_words}
 use Rattle.history_word.specs.Words.{left}
 use Rattle.history_word.specs.Drafts.{Says}

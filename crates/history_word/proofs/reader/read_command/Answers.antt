@@ -1,10 +1,10 @@
 use Rattle.std.proofs.Common.{◌≡◌, ◌++◌, [], refl, sym, ap, subst, ◌∙◌, rules}
 use Rattle.std.proofs.lemmas.Result.{err_from_is_err_and}
-use Rattle.history_model.specs.TableRuns.{at}
-use Rattle.history_model.specs.LineTable as table
+use Rattle.history_word.specs.TableRuns.{at}
+use Rattle.history_word.specs.LineTable as table
 use Rattle.history_model.specs.Spelling.{parts_text}
 use Rattle.history_model.specs.Stage.{opens}
-use Rattle.history_model.proofs.TableLaws.{run_on}
+use Rattle.history_word.proofs.TableLaws.{run_on}
 use Rattle.history_word.specs.Taking.{Took, AsksForMore}
 use Rattle.history_word.specs.Progress.{StopsFrom, IsCauseOf}
 use Rattle.history_word.specs.Drafts.{place_of, HasCome}

@@ -1,6 +1,6 @@
 use Rattle.std.proofs.Common.{◌≡◌, List, [], Some}
 use Rattle.history_model.specs.Spelling.{Part, parts_text}
-use Rattle.history_model.specs.TableRuns.{at, reached}
+use Rattle.history_word.specs.TableRuns.{at, reached}
 use Rattle.history_word.specs.Buffer.{work}
 use Rattle.history_word.specs.Taking.{Took, AsksForMore}
 use Rattle.history_word.specs.Drafts.{place_of, HasCome}

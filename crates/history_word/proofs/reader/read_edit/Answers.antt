@@ -2,7 +2,7 @@ use Rattle.std.proofs.Common.{◌≡◌, ◌++◌, [], ◌∷◌, Option, Some, 
 use Rattle.std.specs.Prelude.{IfSome, MatchOption, IsSomeAnd}
 use Rattle.std.proofs.lemmas.Result.{err_from_is_err_and}
 use Rattle.history_model.specs.Commands as model
-use Rattle.history_model.specs.LineTable as table
+use Rattle.history_word.specs.LineTable as table
 use Rattle.history_model.specs.Bytes.{Bytes}
 use Rattle.history_word.specs.Fields.{Keeps}
 use Rattle.history_word.specs.Commands.{IsEdit}

@@ -2,7 +2,7 @@ use Rattle.std.proofs.Common.{◌≡◌, ◌+◌, ◌++◌, take, None, subst, a
 use Rattle.std.specs.Option.{option_map}
 use Rattle.std.proofs.lemmas.List.{length-append, length-take}
 use Rattle.history_model.specs.Bytes.{line}
-use Rattle.history_model.specs.TableRuns.{next_offered, IsLineAt}
+use Rattle.history_word.specs.TableRuns.{next_offered, IsLineAt}
 use Rattle.history_word.specs.Buffer.{unread}
 use Rattle.history_word.specs.Drafts.{place_of}
 use Rattle.history_word.proofs.TakingLemmas.{took_then, skipped, came_unread}

@@ -1,7 +1,7 @@
 use Rattle.std.proofs.Common.{◌++◌, [], ◌∷◌}
 use Rattle.std.proofs.lemmas.Result.{err_from_is_err_and}
-use Rattle.history_model.specs.LineTable as table
-use Rattle.history_model.specs.TableRuns.{StopsAt}
+use Rattle.history_word.specs.LineTable as table
+use Rattle.history_word.specs.TableRuns.{StopsAt}
 use Rattle.std.specs.Prelude.{IfSome}
 use Rattle.history_word.specs.Fields.{Keeps}
 use Rattle.history_word.specs.Progress.{IsNoField, StopsFrom}

@@ -4,7 +4,7 @@ use Rattle.std.proofs.lemmas.Result.{err_from_is_err_and}
 use Rattle.std.proofs.lemmas.Slice.Eq.{slice_eq-Decides}
 use Rattle.history_model.specs.Forms.{is_name}
 use Rattle.history_model.specs.Words.{head_word}
-use Rattle.history_model.proofs.TreePlaces.{text_itself, texts_apart}
+use Rattle.history_model.proofs.PlaceLemmas.{text_itself, texts_apart}
 use Rattle.history.specs.CommitCauses.{IsNamed, name_form_causes, form_cause}
 use Rattle.history.specs.declared.stopped.Stopped.TheVariants.{Refused}
 use Rattle.history.proofs.NamesTold.{head_named, other_named, head_means, other_means, branch_formed, formed_of}

@@ -2,7 +2,7 @@ use Rattle.std.proofs.Common.{◌∙◌, sym, ap, refl, bytes_eq, option_map, is
 use Rattle.std.proofs.lemmas.Bool.Decides.{Decides-eqb}
 use Rattle.std.proofs.lemmas.Slice.Eq.{slice_eq-Decides}
 use Rattle.history_model.specs.Words.{head_word, name_reading}
-use Rattle.history_model.proofs.TreePlaces.{text_itself, texts_apart}
+use Rattle.history_model.proofs.PlaceLemmas.{text_itself, texts_apart}
 use Rattle.history.proofs.WordReads.{may_mean, all_left, next_passed, next_absent, next_found, found_reads, none_reads, stands_so, candidate_held, branch_reads}
 use Rattle.history.proofs.repository.Repository.read_word.Goals as goal
 use Rattle.history.proofs.repository.Repository.read_word.Goals.{then-is_candidate+in_ok-id-2+in_default, else-is_candidate}

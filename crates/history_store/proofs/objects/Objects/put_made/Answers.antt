@@ -4,7 +4,7 @@ use Rattle.gix_ref_file.specs.declared.files.FileError.{FileError}
 use Rattle.gix_ref_file.specs.declared.files.FileError.TheVariants as files
 use Rattle.history_model.specs.Objects.{object_text}
 use Rattle.history_model.specs.Forms.{is_id}
-use Rattle.history_model.proofs.TreePlaces.{digest_is_id}
+use Rattle.history_model.proofs.PlaceLemmas.{digest_is_id}
 use Rattle.history_store.specs.Stores.{FoldersAbove, KeepsFolders, IsObjectPlace, MayPut, MayStand, place_of, text_of, put_fault}
 use Rattle.history_store.specs.declared.object.NewObject.{NewObject}
 use Rattle.history_store.specs.declared.objects.PutMadeError.TheVariants as errors

@@ -1,5 +1,0 @@
-use Rattle.history_model.proofs.OfferedReads.{names_stand_for_theirs as lemma}
-use Rattle.history_model.proofs.laws.offered.names_stand_for_theirs.Goals as goal
-
-pub returns : goal.returns
-returns c = lemma

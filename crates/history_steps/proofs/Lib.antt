@@ -1,0 +1,15 @@
+pub mod TreePuts
+pub mod TreeTexts
+pub mod TreeMoves
+pub mod CommitStands
+pub mod AnyOrder
+pub mod OfferedFiles
+pub mod OfferedSteps
+pub mod OfferedCauses
+pub mod OfferedReads
+pub mod PassedObjects
+pub mod PassedStops
+pub mod PassedMoves
+pub mod PassedNames
+pub mod PassedReadings
+pub mod PassedMoments

@@ -1,0 +1,181 @@
+-- What a stop leaves while a command's names move, and that a commit's name passes so.
+use Rattle.std.proofs.Common.{◌≡◌, ◌≢◌, inl, inr, Bool, true, false, cond, not, ◌&&◌, ◌||◌, ◌∷◌, refl, sym, ◌∙◌, ap, subst, Option, Some, None, option_map, is_some, bytes_eq, MatchBool}
+use Rattle.std.specs.List.{list_all}
+use Rattle.std.specs.FinMap.{get}
+use Rattle.gix_ref_file.specs.Tree.{Tree}
+use Rattle.history_model.specs.Bytes.{Bytes}
+use Rattle.history_model.specs.Objects.{StoredCommit, StoredFolder, id_of, value_text}
+use Rattle.gix_hash_id.specs.Id.{Id}
+use Rattle.history_model.specs.Repository.{Repository, Reference, LogEntry, IsWhole, id_at, moves_at, stands, peeled, Values, HaveOwnIds}
+use Rattle.history_model.specs.Forms.{is_log_entry, is_name, title}
+use Rattle.history_model.specs.Commands.{Command, Commit, CommitCommand}
+use Rattle.history_model.specs.Meaning.{after, branch_or_name, new_commit, read_actor, stored_by, takes_id}
+use Rattle.history_model.specs.Causes.{first_cause}
+use Rattle.history_model.specs.PackedNames.{packed_file}
+use Rattle.history_model.specs.Places.{Pair, file_at, packed_place}
+use Rattle.history_model.specs.Recovery.{recovered, recovered_objects, recovered_names}
+use Rattle.history_model.specs.StandsFor.{StandsFor, StandsWhole}
+use Rattle.history_steps.specs.TreeHalves.{HoldsValues, HoldsNames}
+use Rattle.history_steps.specs.TreeSteps.{move_entry}
+use Rattle.history_model.specs.Stops.{LeftByStop, Between, NameBetween, deletes, made, is_changing}
+use Rattle.history_model.specs.Moments.{LeavesStopped}
+use Rattle.history_model.specs.Wholeness.{IsSound}
+use Rattle.history_steps.specs.Passing.{HoldsBetween, MayMove, MovesPass, MovingStops, passing}
+use Rattle.history_model.specs.declared.Cause.{Cause}
+use Rattle.gix_hash_id.specs.declared.kind.Kind.{Kind}
+use Rattle.history_model.proofs.StepLemmas.{stops_may_leave_all}
+use Rattle.history_model.proofs.RecoveredLemmas.{recovered_stands}
+use Rattle.history_steps.proofs.PassedObjects.{still_holds}
+use Rattle.history_model.proofs.IdLemmas.{ids_apart}
+use Rattle.history_model.proofs.PartLemmas.{both_true}
+use Rattle.history_steps.proofs.TreeMoves.{moves_moved, stands_moved}
+use Rattle.history_model.proofs.PlaceLemmas.{digest_is_id, text_itself}
+use Rattle.history_steps.proofs.TreePuts.{halves_stand}
+use Rattle.history_model.proofs.WholeCommands.{all_fits}
+use Rattle.history_model.proofs.WholeForms.{after_written, moves_formed}
+use Rattle.history_model.proofs.WholeGrowth.{grown_whole}
+use Rattle.history_model.proofs.WholeNames.{after_whole}
+use Rattle.history_model.proofs.WholeReads.{plain_written}
+use Rattle.history_model.proofs.WholeSteps.{stops_keep_sound}
+use Rattle.history_model.proofs.WholeStored.{accepted_store_exactly}
+use Rattle.history_model.proofs.WholeStores.{all_keep}
+use Rattle.history_steps.proofs.PassedStops.{held_more, packed_more}
+use Rattle.history_steps.proofs.PassedMoves.{Passed, passed}
+
+some_id : (o : Option Reference) → is_some (option_map (λ (ref : Reference). ref.id) o) ≡ is_some o
+some_id None = refl
+some_id (Some ref) = refl
+
+or_true : (a b : Bool) → b ≡ true → (a || b) ≡ true
+or_true true b e = refl
+or_true false b e = e
+
+-- ---- a commit's name
+
+module _ (pair : Pair) (tree : Tree) (r : Repository) (c : CommitCommand) (sound : IsSound r) (s : StandsFor r.kind pair r) (is_one : is_name (branch_or_name r c.name) ≡ true)
+    (none : first_cause r (Commit c) ≡ None) (free : takes_id r (Commit c) ≡ false) (unpacked : file_at pair.names packed_place ≡ None)
+    (may : MayMove (branch_or_name r c.name) (move_entry r (branch_or_name r c.name) (id_of r.kind (StoredCommit (new_commit r c))) (read_actor c.committer) (title c.message)) pair.names tree) where
+  abbrev name : Bytes
+  name = branch_or_name r c.name
+
+  abbrev id : Id
+  id = id_of r.kind (StoredCommit (new_commit r c))
+
+  abbrev entry : LogEntry
+  entry = move_entry r name id (read_actor c.committer) (title c.message)
+
+  abbrev new : Repository
+  new = after r (Commit c)
+
+  entry_formed : entry.before ≢ id → is_log_entry r.kind entry ≡ true
+  entry_formed differ =
+      let moves : moves_at new name ≡ entry ∷ moves_at r name =
+      moves_moved r name id (read_actor c.committer) (title c.message) name ∙ (λ j. cond (text_itself name j) (cond (ids_apart entry.before id differ j) (moves_at r name) (entry ∷ moves_at r name)) (moves_at r name)) in
+      (both_true (is_log_entry r.kind entry) (list_all (is_log_entry r.kind) (moves_at r name))
+      (subst (λ ms. list_all (is_log_entry r.kind) ms ≡ true) moves (moves_formed new (after_written r sound.whole sound.written (Commit c) none) name))).0
+
+  went : Passed r name id (read_actor c.committer) (title c.message) tree
+  went = passed r name id (read_actor c.committer) (title c.message) pair tree s is_one (digest_is_id r.kind (value_text r.kind (StoredCommit (new_commit r c)))) unpacked may entry_formed
+
+  abbrev x : Repository
+  x = passing r (Commit c) went.names r.branch
+
+  stood_then : (a : Bytes) → stands x a ≡ true → stands new a ≡ true
+  stood_then a at = elim ((went.each a).id) [
+    | inl e ↦
+        let stood : stands r a ≡ true = sym (some_id (get r.names a)) ∙ ap is_some (sym e) ∙ some_id (get went.names a) ∙ at in
+        stands_moved r name id (read_actor c.committer) (title c.message) a ∙ or_true (bytes_eq a name) (stands r a) stood
+    | inr e ↦ sym (some_id (get new.names a)) ∙ ap is_some (sym e) ∙ some_id (get went.names a) ∙ at
+  ]
+
+  pub went_between : HoldsBetween r (Commit c) tree
+  went_between = record {
+    names = went.names;
+    branch = r.branch;
+    holds = record {
+      head = (went.holds_now).head;
+      names = (went.holds_now).names;
+      logs = (went.holds_now).logs;
+      packed = λ text at. packed_more (record r { names = went.names }) x (λ q v h. all_keep r.kind r.objects (stored_by r (Commit c)) q v h) (packed_file r.kind text) ((went.holds_now).packed text at);
+      places = (went.holds_now).places;
+      folders = (went.holds_now).folders;
+    };
+    each = λ q. record { id = (went.each q).id; moves = (went.each q).moves; log_follows_name = (went.each q).log_follows_name };
+    apart = λ a b at_a at_b. ((after_whole r sound.whole sound.written (Commit c) none free).names).apart a b (stood_then a at_a) (stood_then b at_b);
+    branch_is = inl refl;
+    not_lost = tt;
+  }
+
+pub moves_pass : MovesPass
+moves_pass pair tree r c sound s is_one none free unpacked may = went_between pair tree r c sound s is_one none free unpacked may
+
+-- ---- a stop
+
+module _ (old : Repository) (command : Command) (pair : Pair) (sound : IsSound old) (changing : is_changing command ≡ true) (none : first_cause old command ≡ None) (free : takes_id old command ≡ false)
+    (values : HoldsValues old.kind (recovered_objects pair.objects) (after old command).objects) (held : HoldsBetween old command pair.names) where
+  abbrev left_so : Repository
+  left_so = passing old command held.names held.branch
+
+  made_is : made old command ≡ after old command
+  made_is = ap (λ b. cond b old (after old command)) free
+
+  whole_after : IsWhole (after old command)
+  whole_after = after_whole old sound.whole sound.written command none free
+
+  held_id : (name : Bytes) (id : Id) → id_at left_so name ≡ Some id → is_some (peeled left_so id) ≡ true
+  held_id name id at = elim ((held.each name).id) [
+    | inl e ↦ held_more old left_so (λ q v h. all_keep old.kind old.objects (stored_by old command) q v h) id (((sound.whole).names).held name id (sym e ∙ at))
+    | inr e ↦ (whole_after.names).held name id (sym e ∙ at)
+  ]
+
+  whole_left : IsWhole left_so
+  whole_left = record {
+    store = grown_whole old (sound.whole).store (λ q m at. plain_written m (((sound.written).values q (StoredFolder m) at).0)) (stored_by old command) free
+        (all_fits old (sound.whole).store sound.written command none) held.names held.branch;
+    names = record { held = held_id; apart = held.apart };
+  }
+
+  between : Between old command left_so
+  between =
+      let exactly = (accepted_store_exactly old command sound none free).between in
+      record {
+        kind = refl;
+        stored = record { keeps = exactly.keeps; no_more = exactly.no_more };
+        names = λ name. subst (λ m. NameBetween old m left_so (deletes command name) name) (sym made_is) (held.each name);
+        branch = elim held.branch_is [ inl e ↦ inl e | inr e ↦ inr (e ∙ ap (λ (m : Repository). m.branch) (sym made_is)) ];
+        not_lost = held.not_lost;
+      }
+
+  matched : (b : Bool) (o : Option Cause) → b ≡ true → o ≡ None → MatchBool (b && not (is_some o)) (Between old command left_so) (left_so ≡ old)
+  matched true None e f = between
+  matched true (Some cause) e f = cc
+  matched false o e f = cc
+
+  left : LeftByStop old command left_so
+  left = (whole_left, matched (is_changing command) (first_cause old command) changing none)
+
+  stopped : LeavesStopped old command pair
+  stopped = (
+    left_so,
+    left,
+    record {
+      stands = (halves_stand old.kind (recovered old.kind pair) left_so).1 (refl, values, held.holds);
+      written = (stops_keep_sound old left_so command left sound).written;
+      whole = whole_left;
+    },
+  )
+
+pub moving_stops : MovingStops
+moving_stops old command pair sound changing none free values held = stopped old command pair sound changing none free values held
+
+-- ---- what stood before
+
+-- a stop before any change leaves all as it was
+pub nothing_stops : (old : Repository) (command : Command) (pair : Pair) → StandsWhole old.kind pair old → LeavesStopped old command pair
+nothing_stops old command pair h = (old, stops_may_leave_all old command h.whole, record { stands = recovered_stands old.kind pair old h.stands; written = h.written; whole = h.whole })
+
+pub names_recover : (r : Repository) (pair : Pair) → StandsFor r.kind pair r → HoldsNames (recovered_names r.kind pair.names) r
+names_recover r pair s = ((halves_stand r.kind (recovered r.kind pair) r).0 (recovered_stands r.kind pair r s)).2
+
+pub values_recover : (kind : Kind) (tree : Tree) (values : Values) → HaveOwnIds kind values → HoldsValues kind tree values → HoldsValues kind (recovered_objects tree) values
+values_recover kind tree values own h = still_holds tree kind tree values own h (λ path away. refl) h.folders

@@ -1,0 +1,59 @@
+//! Laws on what the two parts pass through while a command is acted on, over the definitions alone.
+
+ghost use Rattle.history_steps.specs.Passing.{PutsPass, CommitsStoreWhole, StoringStops, MovesPass, MovingStops, ActsLater, ActsThen, SomeStops, FirstAreSome, NamesPass, NamesBegin};
+
+/// While a value is put that takes no id, the values that stood are there once recovered, and the value whole or not at all.
+pub fn puts_pass()
+    ensures { PutsPass }
+{}
+
+/// The bytes of a commit's `put`s, its new folders, children first, and the commit stand in an order in which each beginning leaves a
+/// whole store.
+pub fn commits_store_whole()
+    ensures { CommitsStoreWhole }
+{}
+
+/// Stopped while its values are stored, a command leaves a repository before its names move.
+pub fn storing_stops()
+    ensures { StoringStops }
+{}
+
+/// While a commit's name moves, it is as before or moved, and its log tells of each move that was made.
+pub fn moves_pass()
+    ensures { MovesPass }
+{}
+
+/// Stopped while its names move, a command leaves each name before the command or after it.
+pub fn moving_stops()
+    ensures { MovingStops }
+{}
+
+/// What commands did to the files they did also where the files went on since.
+pub fn acts_later()
+    ensures { ActsLater (Unit {0}) }
+{}
+
+/// Commands after others, of which none failed, are commands in a row.
+pub fn acts_then()
+    ensures { ActsThen (Unit {0}) }
+{}
+
+/// Stopped while its values are stored in any order that leaves whole stores, a command leaves a repository before its names move.
+pub fn some_stops()
+    ensures { SomeStops }
+{}
+
+/// The first of values that leave whole stores are some of them.
+pub fn first_are_some()
+    ensures { FirstAreSome }
+{}
+
+/// While names move, each reading as before the command or as after it, recovery leaves each name and HEAD as before or after.
+pub fn names_pass()
+    ensures { NamesPass }
+{}
+
+/// Files that stand for a repository are at the beginning of the way of each command.
+pub fn names_begin()
+    ensures { NamesBegin }
+{}

@@ -1,0 +1,102 @@
+//! Laws of the trees that stand for a repository, over the definitions alone.
+
+ghost use Rattle.history_steps.specs.TreeHalves.{HalvesStand, NamesSpeakOfNoValues, PlacesTellIds, PlacesTellValues, ValuesHaveIds};
+ghost use Rattle.history_steps.specs.TreeSteps.{PutsStore, StandingIsStored, StoredStands, TreesTellTaken, OwnIdsStay, StoresInAnyOrder, MovesMove, NoneUnfinished, RenamesPut};
+ghost use Rattle.history_steps.specs.CommitSteps.{CommitsStand};
+ghost use Rattle.history_steps.specs.TreeReads.{ObjectsTellValues, CommitsAreRead, FoldersAreRead, BytesAreRead};
+
+/// A pair stands for a repository exactly where each of its trees holds its half.
+pub fn halves_stand()
+    ensures { HalvesStand }
+{}
+
+/// Where no names are packed, what the tree of names holds speaks of no values.
+pub fn names_speak_of_no_values()
+    ensures { NamesSpeakOfNoValues }
+{}
+
+/// Different ids have different places.
+pub fn places_tell_ids()
+    ensures { PlacesTellIds }
+{}
+
+/// At the place of an id stands the text of what is stored under it, or no file.
+pub fn places_tell_values()
+    ensures { PlacesTellValues }
+{}
+
+/// What a value is stored under is an id.
+pub fn values_have_ids()
+    ensures { ValuesHaveIds }
+{}
+
+/// A put of a value whose id is not taken stores it.
+pub fn puts_store()
+    ensures { PutsStore }
+{}
+
+/// Where the text of a value stands at its place, to store it changes nothing.
+pub fn standing_is_stored()
+    ensures { StandingIsStored }
+{}
+
+/// Under an id that is not taken stands the text of the value, if anything.
+pub fn stored_stands()
+    ensures { StoredStands }
+{}
+
+/// The tree tells whether the id of a value is taken.
+pub fn trees_tell_taken()
+    ensures { TreesTellTaken }
+{}
+
+/// To store a value keeps each value under its own id.
+pub fn own_ids_stay()
+    ensures { OwnIdsStay }
+{}
+
+/// A move of the files of a name moves the name.
+pub fn moves_move()
+    ensures { MovesMove }
+{}
+
+/// The objects after a commit and the move of its name make what stands for the repository after it.
+pub fn commits_stand()
+    ensures { CommitsStand }
+{}
+
+/// Where an object stands, a value of its type and content is stored.
+pub fn objects_tell_values()
+    ensures { ObjectsTellValues }
+{}
+
+/// Where a commit stands, one of its content is stored.
+pub fn commits_are_read()
+    ensures { CommitsAreRead }
+{}
+
+/// Where a tree stands, a folder of its content is stored.
+pub fn folders_are_read()
+    ensures { FoldersAreRead }
+{}
+
+/// Where a blob stands, its bytes are stored.
+pub fn bytes_are_read()
+    ensures { BytesAreRead }
+{}
+
+/// Values may be stored in any order, and those may be left out whose text is stored: this tells neither whether an id is taken, nor
+/// the files, nor the ids that are known.
+pub fn stores_in_any_order()
+    ensures { StoresInAnyOrder }
+{}
+
+/// No file stands where an object is written before it is renamed to its place.
+pub fn none_unfinished()
+    ensures { NoneUnfinished }
+{}
+
+/// A text that was written there and renamed to its place is put.
+pub fn renames_put()
+    ensures { RenamesPut }
+{}
