@@ -4,13 +4,12 @@ use Rattle.std.specs.Prelude.{Option, Some, None, option_map, option_and_then, o
 use Rattle.std.specs.FinMap.{get, empty, entries, len-entries, len-empty}
 use Rattle.history_model.specs.Bytes.{Bytes, by_bytes}
 use Rattle.history_model.specs.FileMap.{Content}
-use Rattle.history_model.specs.Objects.{Value, CommitValue, StoredCommit, StoredTag, StoredBytes, StoredFolder}
+use Rattle.history_model.specs.Objects.{Value, CommitValue, StoredCommit, StoredTag, StoredBytes, StoredFolder, folder_id}
 use Rattle.gix_hash_id.specs.Id.{Id, id_of}
 use Rattle.history_model.specs.Repository as plain
 use Rattle.history_model.specs.Meaning.{files_at}
 use Rattle.history_model.specs.Repository.{HoldsCommit, IsWholeStore, as_commit}
-use Rattle.history_store.specs.Commits.{IsCommitOf}
-use Rattle.gix_object_commit.specs.declared.commit.owned.Commit.{Commit}
+use Rattle.gix_hash_id.specs.declared.object_id.ObjectId.{ObjectId}
 use Rattle.history.specs.Acts.{IsReadingFault, Gives}
 use Rattle.history.specs.declared.stopped.Stopped.{Stopped}
 
@@ -59,5 +58,5 @@ module _ (r : plain.Repository) (store : IsWholeStore r) (id : Id) (holds : Hold
   pub held_files : files_at r id ≡ (held_commit.0).files
   held_files = ap (λ (found : Option Value). unwrap_or (option_map (λ (commit : CommitValue). commit.files) (option_and_then as_commit found)) empty) held_commit.1
 
-  pub held_folder : (commit : Commit) → IsCommitOf r.kind commit held_commit.0 → get r.objects (id_of commit.tree) ≡ Some (StoredFolder (held_commit.0).files)
-  held_folder commit is = ap (get r.objects) is.tree ∙ (store.closed id (StoredCommit held_commit.0) held_commit.1).1
+  pub held_root : (root : ObjectId) → id_of root ≡ folder_id r.kind (held_commit.0).files → get r.objects (id_of root) ≡ Some (StoredFolder (held_commit.0).files)
+  held_root root is = ap (get r.objects) is ∙ (store.closed id (StoredCommit held_commit.0) held_commit.1).1

@@ -118,10 +118,7 @@ impl<F: Files> Repository<F> {
             → Gives F.reading_may_fail (IsTreeBefore r (map id_of parents.now)) result }
     {
         match parents.first() {
-            Some(id) => {
-                let commit = self.read_commit(alloc, id)?;
-                Ok(Some(commit.tree))
-            }
+            Some(id) => Ok(Some(self.root_of(alloc, id)?)),
             None => Ok(None),
         }
     }

@@ -5,7 +5,7 @@ ghost use Rattle.std.specs.FinMap.{entries, get};
 ghost use Rattle.history_files.specs.Reading.{entry_of, file_line, line_of};
 ghost use Rattle.history_model.specs.FileMap.{FileMap};
 ghost use Rattle.history_model.specs.Objects as model;
-ghost use Rattle.history_model.specs.Objects.{CommitValue, Value, StoredCommit, StoredFolder, content_of, object_kind};
+ghost use Rattle.history_model.specs.Objects.{CommitValue, Value, StoredCommit, StoredFolder, content_of, folder_id, object_kind};
 ghost use Rattle.history_store.specs.Commits.{IsCommitOf};
 ghost use Rattle.gix_hash_id.specs.Id.{id_of};
 
@@ -16,7 +16,7 @@ use gix_object::Commit;
 use gix_ref_file::Files;
 use history_files::{File, Found, entry_at, files};
 use history_model::Fault;
-use history_store::parse_commit;
+use history_store::{commit_tree, parse_commit};
 use std::alloc::Global;
 
 // In a whole repository each id that is read names an object of its kind, so only a failed call leads to `fault File`.
@@ -51,6 +51,17 @@ impl<F: Files> Repository<F> {
     {
         let content = self.content(alloc, gix_object::Kind::Commit, id)?;
         Ok(parse_commit(alloc, self.objects.kind(), &content)?.ok_or(Fault::File)?)
+    }
+
+    /// The root of a stored commit, which its first line names. Nothing behind that line is taken apart.
+    pub(crate) fn root_of(&self, alloc: Global, id: &ObjectId) -> Result<ObjectId, Stopped>
+        ensures { (r : plain.Repository) (value : CommitValue)
+            → Stands F.is_honest F.history self.now r
+            → get r.objects (id_of id.now) ≡ Some (StoredCommit value)
+            → Gives F.reading_may_fail (λ root. id_of root ≡ folder_id r.kind value.files) result }
+    {
+        let content = self.content(alloc, gix_object::Kind::Commit, id)?;
+        Ok(commit_tree(self.objects.kind(), &content).ok_or(Fault::File)?)
     }
 
     /// The files below a stored tree, their paths ascending. No content of theirs is read.

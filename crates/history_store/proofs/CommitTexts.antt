@@ -35,7 +35,7 @@ hex_is_hex (d ∷ digits) are =
     let parts = and_of (nat_lt d 16) (list_all (λ d. nat_lt d 16) digits) are in
     and_from (is_ascii_hexdigit (hex_character d)) (is_hex (hex_text digits)) (in_table (codes "0123456789abcdef") refl d (low_digit d parts.0)) (hex_is_hex digits parts.1)
 
-id_formed : (kind : Kind) (id : Id) → IsTrue (is_id kind id) → IsHex (hex_len kind) (hex id)
+pub id_formed : (kind : Kind) (id : Id) → IsTrue (is_id kind id) → IsHex (hex_len kind) (hex id)
 id_formed kind id formed = (length-hex id ∙ (has_kind kind id formed).whole, hex_is_hex id.digits (id_digits kind id formed))
 
 pub ids_formed : (kind : Kind) (ids : List Id) → IsTrue (list_all (is_id kind) ids) → All (IsHex (hex_len kind)) (map hex ids)

@@ -1,15 +1,16 @@
 //! Commits of the store, which are `gix_object`'s: what they hold, and their contents.
-ghost use Rattle.std.specs.Prelude.{◌≡◌, ◌≢◌, ◌↔◌, List, None, map, IfOk, IfSome, IfNone, MatchOption, IsTrue, IsFalse};
+ghost use Rattle.std.specs.Prelude.{◌≡◌, ◌≢◌, ◌↔◌, ℕ, List, codes, None, map, IfOk, IfSome, IfNone, MatchOption, IsTrue, IsFalse};
 ghost use Rattle.std.specs.List.{list_all};
 ghost use Rattle.bstr.specs.BStr.{bstr_bytes};
 ghost use Rattle.gix_hash_id.specs.Id.{Id, id_of};
 ghost use Rattle.gix_hash_id.specs.Kind.{hex_len};
 ghost use Rattle.gix_hash_id.specs.declared.kind.Kind as hash;
 ghost use Rattle.gix_object_commit_lines.specs.Commit.{Parts, SpellsCommit, commit_text};
+ghost use Rattle.gix_object_commit_tokens.specs.Tokens.{IsIdLine};
 ghost use Rattle.gix_object_commit.specs.OwnedText.{own_parts, own_refusal};
 ghost use Rattle.gix_object_commit.specs.Views as views;
 ghost use Rattle.history_model.specs.Forms.{is_id, is_commit_form};
-ghost use Rattle.history_model.specs.Objects.{CommitValue, hex, commit_content};
+ghost use Rattle.history_model.specs.Objects.{CommitValue, hex, commit_content, folder_id};
 ghost use Rattle.history_store.specs.Commits.{IsCommitOf, IsPlain, IsPlainCommit, TellsNoMore, has_ids_of};
 ghost use Rattle.history_store.specs.Formats.{actor_of, own_actor, parts_of};
 
@@ -18,7 +19,7 @@ use crate::id_text::parse_lower_hex;
 use bstr::BStr;
 use gix_hash::{Kind, ObjectId};
 use gix_object::decode::Error;
-use gix_object::{ByteString, Commit, CommitRef, WriteTo, WriteToError};
+use gix_object::{ByteString, Commit, CommitRef, CommitRefIter, WriteTo, WriteToError};
 use smallvec::SmallVec;
 use std::alloc::{AllocError, Global};
 
@@ -87,6 +88,19 @@ pub fn parse_commit(alloc: Global, kind: Kind, content: &[u8]) -> Result<Option<
             _ => Ok(None),
         },
     }
+}
+
+/// The tree that the first line of a commit's content names, in digits of either letter case; `None` where no such line stands there.
+/// It takes no memory, and nothing behind that line is read.
+pub fn commit_tree(kind: Kind, content: &[u8]) -> Option<ObjectId>
+    ensures told { MatchOption result
+        ((id : Id) (rest : List ℕ) → ¬ IsIdLine kind (codes "tree") content.now id rest)
+        (λ tree. (rest : List ℕ) × IsIdLine kind (codes "tree") content.now (id_of tree) rest) }
+    ensures read { (value : CommitValue) → IsTrue (is_commit_form kind value)
+        → content.now ≡ commit_content kind value
+        → MatchOption result ⊥ (λ tree. id_of tree ≡ folder_id kind value.files) }
+{
+    CommitRefIter::from_bytes(content, kind).tree_id().ok()
 }
 
 // The commit of these parts; `None` where they aren't all as this crate writes them.

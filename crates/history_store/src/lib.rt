@@ -18,7 +18,7 @@ mod way;
 mod written;
 
 pub use actor::{Actor, is_actor_part, parse_time};
-pub use commit::{commit_bytes, parse_commit, plain_commit};
+pub use commit::{commit_bytes, commit_tree, parse_commit, plain_commit};
 pub use creation::{CreateError, create};
 pub use gix_object::Kind as ObjectKind;
 pub use id_text::hex_digits;

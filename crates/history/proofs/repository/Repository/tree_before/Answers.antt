@@ -8,15 +8,15 @@ use Rattle.history_model.specs.FileMap.{FileMap}
 use Rattle.history_model.specs.Objects.{StoredFolder}
 use Rattle.history_model.specs.Repository.{HoldsCommit}
 use Rattle.history.specs.Files.{IsTreeBefore}
-use Rattle.history.proofs.Befores.{first_of, held_commit, held_files, held_folder}
+use Rattle.history.proofs.Befores.{first_of, held_commit, held_files, held_root}
 use Rattle.history.proofs.repository.Repository.tree_before.Goals as goal
 
-pub returns-in_ok-commit-in-Some : goal.returns-in_ok-commit-in-Some
-returns-in_ok-commit-in-Some g c = λ r h all.
+pub returns-in_ok-root_of-in-Some : goal.returns-in_ok-root_of-in-Some
+returns-in_ok-root_of-in-Some g c = λ r h all.
     let first = first_of c.args.parents.now c.first.result c.in-Some.id c.in-Some.is c.first.ensures.value in
     let holds = (subst (λ (ids : List ObjectId). AllByRecursion (HoldsCommit r) (map id_of ids)) first.1 all).0 in
     let held = held_commit r h.stands.whole.whole.store (id_of (c.in-Some.id).now) holds in
-    let read = c.in_ok-commit-in-Some.ensures r held.0 h.stands held.1 in
-    let folder = held_folder r h.stands.whole.whole.store (id_of (c.in-Some.id).now) holds c.in_ok-commit-in-Some.commit read in
-    subst (λ (ids : List ObjectId). IsTreeBefore r (map id_of ids) (Some c.in_ok-commit-in-Some.commit.tree)) (sym first.1)
-    (subst (λ (files : FileMap). get r.objects (id_of c.in_ok-commit-in-Some.commit.tree) ≡ Some (StoredFolder files)) (sym (held_files r h.stands.whole.whole.store (id_of (c.in-Some.id).now) holds)) folder)
+    let read = c.in_ok-root_of-in-Some.ensures r held.0 h.stands held.1 in
+    let folder = held_root r h.stands.whole.whole.store (id_of (c.in-Some.id).now) holds c.in_ok-root_of-in-Some.field-0 read in
+    subst (λ (ids : List ObjectId). IsTreeBefore r (map id_of ids) (Some c.in_ok-root_of-in-Some.field-0)) (sym first.1)
+    (subst (λ (files : FileMap). get r.objects (id_of c.in_ok-root_of-in-Some.field-0) ≡ Some (StoredFolder files)) (sym (held_files r h.stands.whole.whole.store (id_of (c.in-Some.id).now) holds)) folder)
