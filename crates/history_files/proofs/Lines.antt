@@ -22,7 +22,8 @@ use Rattle.gix_traverse_tree.specs.declared.error.Error.TheVariants as walked
 use Rattle.gix_traverse_tree.specs.declared.recorder.Location.TheVariants.{Path}
 use Rattle.gix_traverse_tree.specs.declared.recorder.Entry.{Entry as RecorderEntry}
 use Rattle.gix_traverse_tree.specs.declared.recorder.Recorder.{Recorder}
-use Rattle.gix_traverse_tree.proofs.Recording.{is_after, records_in_depth}
+use Rattle.gix_traverse_tree.proofs.Recording.{is_after}
+use Rattle.gix_traverse_tree.proofs.RecordingInDepth.{records_in_depth}
 use Rattle.gix_object_find.specs.declared.find.Error.TheVariants as looked_up
 use Rattle.gix_object_find.specs.declared.find.existing_iter.Error.TheVariants as not_given
 use Rattle.history_model.specs.Bytes.{Bytes}
