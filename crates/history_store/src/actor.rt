@@ -30,7 +30,7 @@ impl Actor {
     ghost use Rattle.history_model.specs.Objects as model;
     ghost use Rattle.history_store.specs.Actors.{HasForm, plain_actor};
     ghost use Rattle.history_store.specs.Formats.{actor_of, own_actor, person_of};
-    ghost use Rattle.gix_object_commit_lines.specs.Views as views;
+    ghost use Rattle.gix_object_lines.specs.Person as lines;
 
     /// The actor of these parts; `None` where one of them is against the written form or its limit.
     pub fn new(name: Vec<u8>, email: Vec<u8>, time: Time) -> Option<Actor>
@@ -92,8 +92,8 @@ impl Actor {
     pub(crate) fn from_ref(alloc: Global, parts: ActorRef<'_>) -> Result<Option<Actor>, AllocError>
         ensures { IfOk result (λ found. MatchOption found
             ((actor : model.Actor) → IsTrue (is_actor actor)
-            → views.person_of parts.entry ≢ person_of actor)
-            (λ actor. (views.person_of parts.entry ≡ person_of (actor_of actor))
+            → lines.person_of parts.entry ≢ person_of actor)
+            (λ actor. (lines.person_of parts.entry ≡ person_of (actor_of actor))
             × IsTrue (is_actor (actor_of actor)))) }
     {
         let Some((seconds, offset)) = split_once(parts.time.as_bytes(), b' ') else {
