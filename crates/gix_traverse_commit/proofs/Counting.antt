@@ -9,7 +9,7 @@ use Rattle.gix_traverse_commit.specs.Fetching.{FetchFault, one_more}
 use Rattle.gix_traverse_commit.specs.Keeping.{KeptAll}
 use Rattle.gix_traverse_commit.specs.Nodes.{is_hidden}
 use Rattle.gix_traverse_commit.specs.Order.{At, IsListOf}
-use Rattle.gix_traverse_commit.specs.Painting.{CountsUnread, IsPainted, IsPartOf, PaintsSome, ReachedFrom, every}
+use Rattle.gix_traverse_commit.specs.Painting.{CountsUnread, IsPainted, PaintsSome, ReachedFrom, every}
 use Rattle.gix_traverse_commit.specs.Rows.{Holds}
 use Rattle.gix_traverse_commit.specs.Meeting.{CountsAll, CountsOne}
 use Rattle.gix_traverse_commit.specs.Giving.{CountsFault, MeetsParents, error_of}

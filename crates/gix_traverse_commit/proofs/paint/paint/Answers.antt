@@ -15,10 +15,7 @@ use Rattle.gix_traverse_commit.proofs.Keeping.{kept_next}
 use Rattle.gix_traverse_commit.proofs.Lists.{contains_from_at}
 use Rattle.gix_traverse_commit.proofs.Painting.{painted_all, painted_reached, known_longer, read_fit, paint_fault, shorter}
 use Rattle.gix_traverse_commit.proofs.RowLemmas.{at_item}
-use Rattle.gix_traverse_commit.specs.Painting.{CountsUnpainted, CountsUnread, PaintsSome}
-use Rattle.gix_traverse_commit.specs.Rows.{Holds}
-use Rattle.gix_traverse_commit.specs.declared.fetch.FetchError.{FetchError}
-use Rattle.gix_traverse_commit.specs.declared.fetch.FetchError.TheVariants as fault
+use Rattle.gix_traverse_commit.specs.Painting.{PaintsSome}
 use Rattle.gix_traverse_commit.proofs.Counting.{paints_none, paints_some, unread_counts}
 use Rattle.gix_traverse_commit.proofs.paint.paint.Goals as goal
 
@@ -150,7 +147,7 @@ returns-in_err-commit-clause-counted_fault g c = λ unpainted.
 
 pub returns-in_err-paint_tips-clause-counted_fault : goal.returns-in_err-paint_tips-clause-counted_fault
 returns-in_err-paint_tips-clause-counted_fault g c = λ unpainted.
-    let p = err_from_is_err_and c.from_residual-in_err-paint_tips.result c.from_residual-in_err-paint_tips.ensures.1 in
+    let p = err_from_is_err_and c.from_residual.result c.from_residual.ensures.1 in
     let before = c.args.source.now.lookups in
     let least : before ≤ before = omega arith in
     rw (p.1, p.2) (before, paints_none (g.F.Lookup.is_honest c.args.source.now.objects) (rows_of c.args.source.now.rows) (g.F.Lookup.table c.args.source.now.objects) c.args.hidden.now before, least)

@@ -8,7 +8,7 @@ use Rattle.gix_traverse_commit.specs.Rows.{AllHeld}
 use Rattle.std.specs.Prelude.{Contains, IsSome}
 use Rattle.gix_traverse_commit.specs.Meeting.{CountsAll, CountsTimes, IsFresh}
 use Rattle.gix_traverse_commit.specs.Known.{turns_of}
-use Rattle.gix_traverse_commit.specs.Nodes.{is_hidden, is_met}
+use Rattle.gix_traverse_commit.specs.Nodes.{is_hidden}
 use Rattle.gix_traverse_commit.specs.Sorting.{timing_of}
 use Rattle.gix_traverse_commit.specs.Simply.{IsNew, IsSure, times_queued, timing}
 use Rattle.gix_traverse_commit.specs.Giving.{CountsHiddenFault, CountsUnbegun, IsAccepted, SimpleFault, hidden_error, IsWanted}
@@ -226,7 +226,7 @@ returns-in-Err-clause-counted_fault g c = λ a m.
 
 pub returns-in_err-gather-clause-counted_fault : goal.returns-in_err-gather-clause-counted_fault
 returns-in_err-gather-clause-counted_fault g c = λ a m.
-    let p = err_from_is_err_and c.from_residual-in_err-gather.result c.from_residual-in_err-gather.ensures.1 in
+    let p = err_from_is_err_and c.from_residual.result c.from_residual.ensures.1 in
     let before = c.args.self.now.source.lookups in
     let e = ap (λ s. s.lookups) c.gather.ensures.source in
     let least : before ≤ c.gather.new.self.source.lookups = omega (arith, e) in
