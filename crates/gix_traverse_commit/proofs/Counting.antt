@@ -9,7 +9,7 @@ use Rattle.gix_traverse_commit.specs.Fetching.{FetchFault, one_more}
 use Rattle.gix_traverse_commit.specs.Keeping.{KeptAll}
 use Rattle.gix_traverse_commit.specs.Nodes.{is_hidden}
 use Rattle.gix_traverse_commit.specs.Order.{At, IsListOf}
-use Rattle.gix_traverse_commit.specs.Painting.{ReachedFrom, every}
+use Rattle.gix_traverse_commit.specs.Painting.{CountsUnread, IsPainted, PaintsSome, ReachedFrom, every}
 use Rattle.gix_traverse_commit.specs.Rows.{Holds}
 use Rattle.gix_traverse_commit.specs.Meeting.{CountsAll, CountsOne}
 use Rattle.gix_traverse_commit.specs.Giving.{CountsFault, MeetsParents, error_of}
@@ -20,7 +20,10 @@ use Rattle.gix_traverse_commit.specs.declared.fetch.FetchError.TheVariants as fe
 use Rattle.gix_traverse_commit.specs.Nodes.{Node}
 use Rattle.gix_traverse_commit.specs.declared.rows.Row.{Row}
 use Rattle.gix_traverse_commit.proofs.Frontier.{read_all}
-use Rattle.gix_traverse_commit.proofs.Lists.{none_at_nil}
+use Rattle.gix_traverse_commit.proofs.Lists.{at_from_contains, at_from_take, none_at_nil}
+use Rattle.gix_traverse_commit.specs.Told.{AreTold}
+use Rattle.gix_traverse_commit.proofs.Painting.{painted_reached}
+use Rattle.gix_traverse_commit.proofs.Timely.{in_nil}
 
 counts_push : (rows : List Row) (xs : List ObjectId) (x : ObjectId) (a b c : ℕ) → CountsAll rows xs a b → CountsOne rows x b c → CountsAll rows (xs ++ x ∷ []) a c
 counts_push rows [] x a b c e one = (c, subst (λ (n : ℕ). CountsOne rows x n c) e one, refl)
@@ -59,6 +62,32 @@ painted_list g hidden nodes xs p w l = go (omega (arith, w.kept.read.within))
         from : (x : ObjectId) → Reached (λ y. (g y).parents) (λ q. IsTrue (every q)) hidden x → ReachedFrom g hidden x
         from x (tip t k) = tip t tt
         from x (parent {x = c} r n k) = parent (from c r) n tt
+
+-- nothing is asked for yet
+pub paints_none : (honest : Type 0) (rows : List Row) (table : Table) (hidden : List ObjectId) (before : ℕ) → PaintsSome honest rows table hidden before before
+paints_none honest rows table hidden before = record {
+  painted = [];
+  each = refl;
+  are_reached = λ h g told. record { each = λ x k. absurd (in_nil x k); once = λ j k x a b. absurd (none_at_nil j x a) };
+}
+
+-- what was asked for at the first places of the painted commits
+pub paints_some : (honest : Type 0) (rows : List Row) (table : Table) (hidden : List ObjectId) (nodes : List Node) (xs : List ObjectId) (p before after : ℕ) → CountsAll rows (take p xs) before after → IsPainted nodes xs
+    → (honest → (g : Commits ObjectId) → AreTold rows table g → KeptAll (λ y. (g y).parents) hidden every (is_hidden nodes) xs p) → PaintsSome honest rows table hidden before after
+paints_some honest rows table hidden nodes xs p before after each painted walked = record {
+  painted = take p xs;
+  each = each;
+  are_reached = λ h g told. record {
+    each = λ x c. (let (k, a) = at_from_contains (take p xs) x c in painted_reached g hidden nodes xs p k x (walked h g told) (at_from_take xs p k x a).1);
+    once = λ j k x a b. painted.once j k x (at_from_take xs p j x a).1 (at_from_take xs p k x b).1;
+  };
+}
+
+-- one that isn't read
+pub unread_counts : (honest may_fail : Type 0) (rows : List Row) (table : Table) (id : ObjectId) (error : FetchError) (before after : ℕ) → FetchFault honest may_fail rows table id error → ((¬ Holds rows id) → after ≡ one_more before) → before ≤ after → CountsUnread before after error
+unread_counts honest may_fail rows table id (fetch.Find error) before after f one l = one f.0
+unread_counts honest may_fail rows table id (fetch.ObjectDecode error) before after f one l = one f.0
+unread_counts honest may_fail rows table id fetch.Memory before after f one l = l
 
 -- a commit that isn't read
 pub fault_counts : (honest may_fail : Type 0) (rows : List Row) (table : Table) (id : ObjectId) (error : FetchError) (before after : ℕ) → FetchFault honest may_fail rows table id error → ((¬ Holds rows id) → after ≡ one_more before) → before ≤ after → CountsFault before after (error_of error)

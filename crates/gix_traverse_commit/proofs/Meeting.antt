@@ -4,12 +4,12 @@ use Rattle.std.specs.Prelude.{Contains, filter, not}
 use Rattle.std.proofs.lemmas.List.Elements.{Contains-append_left, Contains-push, filter-append}
 use Rattle.gix_hash_id.specs.Id.{Id, id_of}
 use Rattle.gix_hash_id.specs.declared.object_id.ObjectId.{ObjectId}
-use Rattle.gix_traverse_commit.specs.Meeting.{Asks, CountsAll, CountsOne, accepted, unmet}
+use Rattle.gix_traverse_commit.specs.Meeting.{Asks, CountsAll, CountsOne, MarksAll, accepted, unmet}
 use Rattle.gix_traverse_commit.specs.Nodes.{Node, is_met}
 use Rattle.gix_traverse_commit.specs.Numbered.{same_id}
 use Rattle.gix_traverse_commit.specs.Order.{At, IsListOf}
 use Rattle.gix_traverse_commit.specs.declared.rows.Row.{Row}
-use Rattle.gix_traverse_commit.proofs.Keeping.{Meets, met_itself, met_other, stays_met, unmet_before}
+use Rattle.gix_traverse_commit.proofs.Keeping.{Meets, met_itself, met_more, met_other, stays_met, unmet_before}
 use Rattle.gix_traverse_commit.proofs.Lists.{at_from_contains, contains_from_at, none_at_nil, once_push}
 use Rattle.gix_traverse_commit.proofs.Simply.{in_push, take_push}
 use Rattle.gix_traverse_commit.proofs.Timely.{in_nil}
@@ -229,3 +229,32 @@ module _ (has hides mid has' : ObjectId → Bool) (hidden : Bool) (xs : List Obj
 
   pub marks_step : Marks has hides has' (take (i + 1) xs)
   marks_step = λ x. (to_marks x, from_marks x)
+
+-- ---- all are met
+
+pub all_none : (nodes : List Node) → MarksAll nodes [] nodes
+all_none nodes = λ x. ((λ h. inl h), (λ d. elim d [ inl h ↦ h | inr k ↦ absurd (in_nil x k) ]))
+
+pub all_step : (nodes mid nodes' : List Node) (xs : List ObjectId) (i : ℕ) (y : ObjectId) → At xs i y → MarksAll nodes (take i xs) mid → Meets (is_met mid) (is_met nodes') y → MarksAll nodes (take (i + 1) xs) nodes'
+all_step nodes mid nodes' xs i y here w new = λ x. (to x, from x)
+  where
+    more : take (i + 1) xs ≡ take i xs ++ y ∷ []
+    more = take_push xs i y here
+
+    to : (x : ObjectId) → is_met nodes' x ≡ true → (is_met nodes x ≡ true) ⊎ Contains (take (i + 1) xs) x
+    to x t = elim (tip_or_met (is_met mid) (is_met nodes') y new x t) [
+      | inl e ↦ inr (subst (λ (z : ObjectId). Contains (take (i + 1) xs) z) (sym e) (subst (λ (zs : List ObjectId). Contains zs y) (sym more) (Contains-push (take i xs) y)))
+      | inr m ↦ elim ((w x).0 m) [
+        | inl h ↦ inl h
+        | inr k ↦ inr (subst (λ (zs : List ObjectId). Contains zs x) (sym more) (Contains-append_left (take i xs) (y ∷ []) x k))
+      ]
+    ]
+
+    from : (x : ObjectId) → (is_met nodes x ≡ true) ⊎ Contains (take (i + 1) xs) x → is_met nodes' x ≡ true
+    from x d = elim d [
+      | inl h ↦ met_more (is_met mid) (is_met nodes') y x new ((w x).1 (inl h))
+      | inr k ↦ elim (in_push (take i xs) y x (subst (λ (zs : List ObjectId). Contains zs x) more k)) [
+        | inl b ↦ met_more (is_met mid) (is_met nodes') y x new ((w x).1 (inr b))
+        | inr e ↦ subst (λ (z : ObjectId). is_met nodes' z ≡ true) (sym e) (met_itself (is_met mid) (is_met nodes') y new)
+      ]
+    ]

@@ -8,9 +8,9 @@ use Rattle.gix_object_lines.specs.declared.kind.Kind.TheVariants as kinds
 use Rattle.gix_traverse_commit.specs.Commits.{Commit, Commits, asked_parents}
 use Rattle.gix_traverse_commit.specs.Fetching.{ReadFault, TimeFault, TimeIsTold, HasRowsGeneration, one_more}
 use Rattle.gix_traverse_commit.specs.Known.{KnownCommits, turns_of}
-use Rattle.gix_traverse_commit.specs.Meeting.{Asks, CountsAll, CountsOne, CountsTimes, IsFresh, MarksMet, accepted}
+use Rattle.gix_traverse_commit.specs.Meeting.{Asks, CountsAll, CountsOne, CountsTimes, IsFresh, MarksAll, MarksMet, accepted}
 use Rattle.gix_traverse_commit.specs.Nodes.{is_met}
-use Rattle.gix_traverse_commit.specs.Painting.{Paints, ReachedFrom, StaysPainted, StopsPainting}
+use Rattle.gix_traverse_commit.specs.Painting.{Paints, PaintsSome, ReachedFrom, StaysPainted, StopsPainting}
 use Rattle.gix_traverse_commit.specs.Queueing.{QueuesSome}
 use Rattle.gix_traverse_commit.specs.Rows.{AllHeld, Holds}
 use Rattle.gix_traverse_commit.specs.Told.{AreTold, rows_of}
@@ -231,6 +231,7 @@ pub record Begins {F P : Type 0} (accepts : P → Id → Bool) (honest may_fail 
   pub stays : StaysAsked before begun
   pub painted : honest → (g : Commits ObjectId) → AreTold (rows_of before.source.rows) table g
       → Paints g a.hidden begun.known.nodes
+  pub met : MarksAll before.known.nodes a.tips begun.known.nodes
   pub gains : GainsNone before begun
 
 -- the walk begins, and the first commit comes
@@ -266,11 +267,32 @@ pub record FailsBegun {F P : Type 0} (accepts : P → Id → Bool) (honest may_f
   pub fails : FailsInTurn honest may_fail (rows_of before.source.rows) table begun error
   pub counts : CountsFault begun.source.lookups after.source.lookups error
 
+-- one object was asked for where a commit that the hidden ones reach isn't read; where memory is wanting none that was counted is lost
+abbrev pub CountsHiddenFault : ℕ → ℕ → Error → Type 0
+CountsHiddenFault before after (fault.Find error) = ⊥
+CountsHiddenFault before after (fault.ObjectDecode error) = ⊥
+CountsHiddenFault before after (fault.HiddenGraph error) = after ≡ one_more before
+CountsHiddenFault before after fault.Memory = before ≤ after
+
+-- a walk doesn't begin: some of what is hidden was asked for, each commit once, and then the one that isn't read
+abbrev pub CountsUnbegun : Type 0 → List Row → Table → List ObjectId → ℕ → ℕ → Error → Type 0
+CountsUnbegun honest rows table hidden before after error =
+    (behind : ℕ) × PaintsSome honest rows table hidden before behind
+    × CountsHiddenFault behind after error
+
+-- the walk doesn't begin, for this cause: a commit that the hidden ones reach isn't read
+pub record FailsUnbegun {F P : Type 0} (honest may_fail : Type 0) (table : Table) (a : Asked)
+    (before : Simple F P) (error : Error) (after : Simple F P) : Type 0 where
+  pub cause : SimpleFault (λ _. ⊥) a.parents honest may_fail (rows_of before.source.rows) table
+      a.hidden error
+  pub counts : CountsUnbegun honest (rows_of before.source.rows) table a.hidden
+      before.source.lookups after.source.lookups error
+
 -- why the first call gives no commit: one that the hidden commits reach isn't read, or the one whose turn it is
 abbrev pub FailsFirst : {F P : Type 0} → (P → Id → Bool) → Type 0 → Type 0 → Table → List Id → Asked
     → Simple F P → Error → Simple F P → Type 0
 FailsFirst accepts honest may_fail table ids a before error after =
-    SimpleFault (λ _. ⊥) a.parents honest may_fail (rows_of before.source.rows) table a.hidden error
+    FailsUnbegun honest may_fail table a before error after
     ⊎ FailsBegun accepts honest may_fail table ids a before error after
 
 -- what the next commit is, after this list

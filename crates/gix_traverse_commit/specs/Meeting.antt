@@ -28,6 +28,11 @@ abbrev pub MarksMet : List Node → List ObjectId → List Node → Type 0
 MarksMet nodes xs nodes' =
     (x : ObjectId) → (is_met nodes' x ≡ true) ↔ ((is_met nodes x ≡ true) ⊎ IsFresh nodes xs x)
 
+-- met now are those that were, and all of these commits
+abbrev pub MarksAll : List Node → List ObjectId → List Node → Type 0
+MarksAll nodes xs nodes' =
+    (x : ObjectId) → (is_met nodes' x ≡ true) ↔ ((is_met nodes x ≡ true) ⊎ Contains xs x)
+
 -- the commit alone, where it is not met and not hidden
 abbrev pub fresh : List Node → ObjectId → List ObjectId
 fresh nodes x = if is_met nodes x then [] else (if is_hidden nodes x then [] else x ∷ [])

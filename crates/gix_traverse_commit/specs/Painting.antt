@@ -1,9 +1,10 @@
 -- Which commits are painted as hidden.
-use Rattle.std.specs.Prelude.{◌≡◌, ◌↔◌, ℕ, Bool, true, false, List, Contains, ⊤}
+use Rattle.std.specs.Prelude.{◌≡◌, ◌≤◌, ◌↔◌, ℕ, Bool, true, false, List, Contains, ⊤}
 use Rattle.gix_hash_id.specs.declared.object_id.ObjectId.{ObjectId}
 use Rattle.gix_object_find.specs.Table.{Table}
 use Rattle.gix_traverse_commit.specs.Commits.{Commits, Reached}
-use Rattle.gix_traverse_commit.specs.Fetching.{FetchFault}
+use Rattle.gix_traverse_commit.specs.Fetching.{FetchFault, one_more}
+use Rattle.gix_traverse_commit.specs.Meeting.{CountsAll}
 use Rattle.gix_traverse_commit.specs.Nodes.{is_hidden}
 use Rattle.gix_traverse_commit.specs.Order.{At}
 use Rattle.gix_traverse_commit.specs.Told.{AreTold}
@@ -49,3 +50,28 @@ PaintFault honest may_fail rows table hidden (fault.Find error) =
 PaintFault honest may_fail rows table hidden (fault.ObjectDecode error) =
     StopsPainting honest may_fail rows table hidden (fault.ObjectDecode error)
 PaintFault honest may_fail rows table hidden fault.Memory = ⊤
+
+-- members of the set alone, each once
+pub record IsPartOf (S : ObjectId → Type 0) (xs : List ObjectId) : Type 0 where
+  pub each : (x : ObjectId) → Contains xs x → S x
+  pub once : (j k : ℕ) (x : ObjectId) → At xs j x → At xs k x → j ≡ k
+
+-- of what the hidden commits reach some were asked for, each once
+pub record PaintsSome (honest : Type 0) (rows : List Row) (table : Table) (hidden : List ObjectId)
+    (before after : ℕ) : Type 0 where
+  pub painted : List ObjectId
+  pub each : CountsAll rows painted before after
+  pub are_reached : honest → (g : Commits ObjectId) → AreTold rows table g
+      → IsPartOf (ReachedFrom g hidden) painted
+
+-- one object was asked for where a commit isn't read; where memory is wanting none that was counted is lost
+abbrev pub CountsUnread : ℕ → ℕ → FetchError → Type 0
+CountsUnread before after (fault.Find error) = after ≡ one_more before
+CountsUnread before after (fault.ObjectDecode error) = after ≡ one_more before
+CountsUnread before after fault.Memory = before ≤ after
+
+-- a painting ends early: some were asked for, and then the one that isn't read
+abbrev pub CountsUnpainted : Type 0 → List Row → Table → List ObjectId → ℕ → ℕ → FetchError → Type 0
+CountsUnpainted honest rows table hidden before after error =
+    (behind : ℕ) × PaintsSome honest rows table hidden before behind
+    × CountsUnread behind after error

@@ -8,7 +8,7 @@ ghost use Rattle.gix_traverse_commit.specs.Known.{turns_of};
 ghost use Rattle.gix_traverse_commit.specs.Nodes.{is_met, is_hidden};
 ghost use Rattle.gix_traverse_commit.specs.Numbered.{same_id};
 ghost use Rattle.gix_traverse_commit.specs.Order.{At, IsListOf};
-ghost use Rattle.gix_traverse_commit.specs.Painting.{IsPainted, IsUnpainted, Paints, PaintFault, ReachedFrom, every};
+ghost use Rattle.gix_traverse_commit.specs.Painting.{CountsUnpainted, IsPainted, IsUnpainted, Paints, PaintFault, ReachedFrom, every};
 ghost use Rattle.gix_traverse_commit.specs.Rows.{AllHeld};
 ghost use Rattle.gix_traverse_commit.specs.Meeting.{CountsAll};
 ghost use Rattle.gix_traverse_commit.specs.Standing.{Reads};
@@ -125,6 +125,9 @@ pub fn paint<F: Find>(
         × (IsUnpainted known.old.nodes → F.is_honest source.old.objects → (g : Commits ObjectId)
         → AreTold (rows_of source.old.rows) (F.table source.old.objects) g
         → IsListOf (ReachedFrom g hidden.now) asked)) }
+    ensures counted_fault { IsUnpainted known.old.nodes → IfErr result (CountsUnpainted
+        (F.is_honest source.old.objects) (rows_of source.old.rows) (F.table source.old.objects)
+        hidden.now source.old.lookups source.new.lookups) }
     ensures refused { IsUnpainted known.old.nodes
         → IfErr result (PaintFault (F.is_honest source.old.objects) (F.may_fail source.old.objects)
         (rows_of source.old.rows) (F.table source.old.objects) hidden.now) }

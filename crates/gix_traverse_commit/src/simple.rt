@@ -150,6 +150,7 @@ impl<F: Find + Drop, P: Accept + Drop> Simple<F, P> {
             (F.table (objects_of self)) a.tips (IsAccepted a)) }
         ensures left { IfOk result (GainsNone self) }
         ensures over { IsOver self → IfOk result IsOver }
+        ensures still { IsOver self → IfOk result (λ walk. lookups_of walk ≡ lookups_of self) }
         ensures whole { IsOver self → IsOk result }
         ensures kind { IfOk result (λ walk. kind_of walk ≡ kind_of self) }
     {
@@ -200,6 +201,7 @@ impl<F: Find + Drop, P: Accept + Drop> Simple<F, P> {
         ensures content { content_of result ≡ content_of self }
         ensures unasked { predicate_of result ≡ predicate_of self }
         ensures made { (a : Asked) → IsMade P.accepts a self → IsMade P.accepts a result }
+        ensures same { result ≡ record self { source = record (source_of self) { rows = rows } } }
         ensures going { (ids : List Id) (g : Commits ObjectId) (a : Asked) (listed : List ObjectId)
             → ((x : ObjectId) → Contains listed x → IsKnown (rows_of rows) ids x)
             → IsUnderWay P.accepts ids g a listed self
@@ -238,10 +240,9 @@ impl<F: Find + Drop, P: Accept + Drop> Simple<F, P> {
 impl<F: Find + Drop, P: Accept + Drop> Iterator for Simple<F, P> {
     type Item = Result<Info, Error>;
 
-    ghost next_gives = { λ before item after. GivesNext P.accepts P.goes (F.is_honest before.source.objects)
-        (F.may_fail before.source.objects) (F.table before.source.objects)
-        (F.ids before.source.objects)
-        before item after };
+    ghost next_gives = { λ before item after. GivesNext P.accepts P.goes
+        (F.is_honest before.source.objects) (F.may_fail before.source.objects)
+        (F.table before.source.objects) (F.ids before.source.objects) before item after };
 
     ghost remaining = { λ walk. at_most (answers_left (F.ids (objects_of walk)) walk) };
 

@@ -5,7 +5,7 @@ ghost use Rattle.gix_hash_id.specs.Id.{id_of};
 ghost use Rattle.gix_hash_id.specs.declared.object_id.ObjectId.{ObjectId};
 ghost use Rattle.gix_traverse_commit.specs.Ending.{NoneGains, times_in};
 ghost use Rattle.gix_traverse_commit.specs.Keeping.{Kept, KeptAll};
-ghost use Rattle.gix_traverse_commit.specs.Meeting.{Asks, AsksOnce, IsFresh, MarksMet, fresh};
+ghost use Rattle.gix_traverse_commit.specs.Meeting.{Asks, AsksOnce, IsFresh, MarksAll, MarksMet, fresh};
 ghost use Rattle.gix_traverse_commit.specs.Known.{turns_of};
 ghost use Rattle.gix_traverse_commit.specs.Nodes.{is_asked, is_met, is_hidden};
 ghost use Rattle.gix_traverse_commit.specs.Numbered.{same_id};
@@ -133,6 +133,7 @@ pub fn queue_tips(known: &mut Known, tips: &[ObjectId]) -> Result<(), AllocError
         → keep x ≡ not (is_hidden known.old.nodes x))
         → Kept along tips.now keep (is_met known.old.nodes) known.old.queue 0 0
         → KeptAll along tips.now keep (is_met known.new.nodes) known.new.queue 0) }
+    ensures met { OnOk result (MarksAll known.old.nodes tips.now known.new.nodes) }
 {
     'tips: for tip in tips {
         queue_tip(known, *tip)?;

@@ -7,13 +7,14 @@ ghost use Rattle.gix_traverse_commit.specs.Commits.{Commits, asked_parents};
 ghost use Rattle.gix_traverse_commit.specs.Ending.{times_in};
 ghost use Rattle.gix_traverse_commit.specs.Fetching.{TimeIsTold};
 ghost use Rattle.gix_traverse_commit.specs.Known.{turns_of};
-ghost use Rattle.gix_traverse_commit.specs.Meeting.{Asks, CountsOne, CountsTimes, CountsTips, IsFresh, MarksMet, accepted, unmet};
+ghost use Rattle.gix_traverse_commit.specs.Meeting.{Asks, CountsOne, CountsTimes, CountsTips, IsFresh, MarksAll, MarksMet, accepted, unmet};
+ghost use Rattle.gix_traverse_commit.specs.Nodes.{is_met};
 ghost use Rattle.gix_traverse_commit.specs.Order.{IsListOf};
 ghost use Rattle.gix_traverse_commit.specs.Painting.{Paints, StaysPainted};
 ghost use Rattle.gix_traverse_commit.specs.Queueing.{QueuesSome};
 ghost use Rattle.gix_traverse_commit.specs.Rows.{AllHeld, Holds};
 ghost use Rattle.gix_traverse_commit.specs.Simply.{Answers, Asked, HasAhead, IsMade, IsNew, IsPaintedFor, IsUnderWay, IsAtTurn, IsOver, IsKnown, IsSure, Stands, GainsNone, content_of, times_queued, timing, StaysAsked};
-ghost use Rattle.gix_traverse_commit.specs.Giving.{CountsBeginning, CountsFault, CountsUpTo, IsInfo, IsMetWith, IsTurn, IsContentOf, IsUnmet, IsWanted, InRows, Meets, StopsFetch, TipFault, SimpleFault};
+ghost use Rattle.gix_traverse_commit.specs.Giving.{CountsBeginning, CountsFault, CountsUnbegun, CountsUpTo, IsInfo, IsMetWith, IsTurn, IsContentOf, IsUnmet, IsWanted, InRows, Meets, StopsFetch, TipFault, SimpleFault};
 ghost use Rattle.gix_traverse_commit.specs.Sorting.{IsByTime, timing_of};
 ghost use Rattle.gix_traverse_commit.specs.Timely.{LetsWaitIn, TakesTurn};
 ghost use Rattle.gix_traverse_commit.specs.Told.{AreTold, rows_of};
@@ -104,6 +105,9 @@ impl<F: Find + Drop, P: Accept + Drop> Simple<F, P> {
             → (self.new ≡ self.old) × IsOk result }
         ensures made { (a : Asked) → IsMade P.accepts a self.old
             → OnOk result (IsNew P.accepts a self.new) }
+        ensures met { (a : Asked) → IsMade P.accepts a self.old → OnOk result ((x : ObjectId)
+            → ((is_met self.new.known.nodes x ≡ true) ⊎ Contains a.tips x)
+            ↔ ((is_met self.old.known.nodes x ≡ true) ⊎ Contains a.tips x)) }
         ensures left { OnOk result (GainsNone self.old self.new) }
         ensures order { (self.new.parents ≡ self.old.parents)
             × (self.new.sorting ≡ self.old.sorting) }
@@ -154,6 +158,8 @@ impl<F: Find + Drop, P: Accept + Drop> Simple<F, P> {
             × (self.new.begun ≡ true)) }
         ensures kind { self.new.kind ≡ self.old.kind }
         ensures painted { OnOk result (StaysPainted self.old.known.nodes self.new.known.nodes) }
+        ensures met { OnOk result (MarksAll self.old.known.nodes self.old.tips.items
+            self.new.known.nodes) }
     {
         let Some(timing) = time_order(self.parents, self.sorting) else {
             queue_tips(&mut self.known, self.tips.as_slice())?;
@@ -191,6 +197,10 @@ impl<F: Find + Drop, P: Accept + Drop> Simple<F, P> {
         ensures counted { OnOk result ((a : Asked) → IsMade P.accepts a self.old
             → CountsBeginning (F.is_honest self.old.source.objects) (rows_of self.old.source.rows)
             (F.table self.old.source.objects) a self.old.source.lookups self.new.source.lookups) }
+        ensures counted_fault { (a : Asked) → IsMade P.accepts a self.old
+            → IfErr result (CountsUnbegun (F.is_honest self.old.source.objects)
+            (rows_of self.old.source.rows) (F.table self.old.source.objects) a.hidden
+            self.old.source.lookups self.new.source.lookups) }
         ensures order { (self.new.parents ≡ self.old.parents)
             × (self.new.sorting ≡ self.old.sorting) }
         ensures refused { (a : Asked) → IsMade P.accepts a self.old
@@ -203,6 +213,8 @@ impl<F: Find + Drop, P: Accept + Drop> Simple<F, P> {
             → F.is_honest self.old.source.objects → (g : Commits ObjectId)
             → AreTold (rows_of self.old.source.rows) (F.table self.old.source.objects) g
             → Paints g a.hidden self.new.known.nodes) }
+        ensures met { OnOk result ((a : Asked) → IsMade P.accepts a self.old
+            → MarksAll self.old.known.nodes a.tips self.new.known.nodes) }
     {
         self.gather()?;
         let alloc: Global = *self.tips.allocator();
@@ -240,6 +252,10 @@ impl<F: Find + Drop, P: Accept + Drop> Simple<F, P> {
         ensures counted { OnOk result ((a : Asked) → IsMade P.accepts a self.old
             → CountsBeginning (F.is_honest self.old.source.objects) (rows_of self.old.source.rows)
             (F.table self.old.source.objects) a self.old.source.lookups self.new.source.lookups) }
+        ensures counted_fault { (a : Asked) → IsMade P.accepts a self.old
+            → IfErr result (CountsUnbegun (F.is_honest self.old.source.objects)
+            (rows_of self.old.source.rows) (F.table self.old.source.objects) a.hidden
+            self.old.source.lookups self.new.source.lookups) }
         ensures order { (self.new.parents ≡ self.old.parents)
             × (self.new.sorting ≡ self.old.sorting) }
         ensures refused { (g : Commits ObjectId) (ids : List Id) (a : Asked)
@@ -253,6 +269,8 @@ impl<F: Find + Drop, P: Accept + Drop> Simple<F, P> {
             → F.is_honest self.old.source.objects → (g : Commits ObjectId)
             → AreTold (rows_of self.old.source.rows) (F.table self.old.source.objects) g
             → Paints g a.hidden self.new.known.nodes) }
+        ensures met { OnOk result ((a : Asked) → IsMade P.accepts a self.old
+            → MarksAll self.old.known.nodes a.tips self.new.known.nodes) }
     {
         if self.begun {
             return Ok(());
@@ -415,9 +433,9 @@ impl<F: Find + Drop, P: Accept + Drop> Simple<F, P> {
             → OnOk result (InRows self.new × (self.new.source.lookups ≡ self.old.source.lookups)) }
         ensures failed { IfErr result (CountsFault self.old.source.lookups
             self.new.source.lookups) }
-        ensures refused { IfErr result (StopsFetch self.old.parents (F.is_honest self.old.source.objects)
-            (F.may_fail self.old.source.objects) (rows_of self.old.source.rows)
-            (F.table self.old.source.objects) id) }
+        ensures refused { IfErr result (StopsFetch self.old.parents
+            (F.is_honest self.old.source.objects) (F.may_fail self.old.source.objects)
+            (rows_of self.old.source.rows) (F.table self.old.source.objects) id) }
         ensures stays { OnOk result (self.old.begun ≡ true → StaysAsked self.old self.new) }
         ensures painted { OnOk result (StaysPainted self.old.known.nodes self.new.known.nodes) }
         ensures marks { IfOk result (λ info. MarksMet self.old.known.nodes info.parent_ids.items

@@ -7,7 +7,7 @@ ghost use Rattle.gix_traverse_commit.specs.Commits.{Commits};
 ghost use Rattle.gix_traverse_commit.specs.Ending.{NoneGains, times_in, times_waiting};
 ghost use Rattle.gix_traverse_commit.specs.Fetching.{TimeIsTold, one_more};
 ghost use Rattle.gix_traverse_commit.specs.Known.{turns_of};
-ghost use Rattle.gix_traverse_commit.specs.Meeting.{Asks, CountsAll, IsFresh, MarksMet, accepted, fresh, unmet};
+ghost use Rattle.gix_traverse_commit.specs.Meeting.{Asks, CountsAll, IsFresh, MarksAll, MarksMet, accepted, fresh, unmet};
 ghost use Rattle.gix_traverse_commit.specs.Nodes.{is_met, is_hidden};
 ghost use Rattle.gix_traverse_commit.specs.Numbered.{same_id};
 ghost use Rattle.gix_traverse_commit.specs.Order.{At, IsListOf, IsOpen};
@@ -240,6 +240,7 @@ pub fn await_tips<F: Find>(
         × IsListOf (IsFresh known.old.nodes tips.now) timed
         × CountsAll (rows_of source.old.rows) timed source.old.lookups source.new.lookups) }
     ensures refused { IfErr result (λ error. error ≡ Memory) }
+    ensures met { OnOk result (MarksAll known.old.nodes tips.now known.new.nodes) }
 {
     'tips: for tip in tips {
         await_tip(source, known, since, *tip)?;

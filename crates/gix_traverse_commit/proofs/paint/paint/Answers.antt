@@ -15,6 +15,8 @@ use Rattle.gix_traverse_commit.proofs.Keeping.{kept_next}
 use Rattle.gix_traverse_commit.proofs.Lists.{contains_from_at}
 use Rattle.gix_traverse_commit.proofs.Painting.{painted_all, painted_reached, known_longer, read_fit, paint_fault, shorter}
 use Rattle.gix_traverse_commit.proofs.RowLemmas.{at_item}
+use Rattle.gix_traverse_commit.specs.Painting.{PaintsSome}
+use Rattle.gix_traverse_commit.proofs.Counting.{paints_none, paints_some, unread_counts}
 use Rattle.gix_traverse_commit.proofs.paint.paint.Goals as goal
 
 pub returns-in_err-commit-clause-refused : goal.returns-in_err-commit-clause-refused
@@ -129,3 +131,32 @@ returns-clause-counted g c =
 pub returns-clause-painted : goal.returns-clause-painted
 returns-clause-painted g c = λ unpainted honest commits told.
     painted_all commits c.args.hidden.now c.painted.known.nodes c.painted.painted.items c.painted.read (c.painted.invariant.walked unpainted honest commits told) (omega arith)
+
+pub returns-in_err-commit-clause-counted_fault : goal.returns-in_err-commit-clause-counted_fault
+returns-in_err-commit-clause-counted_fault g c = λ unpainted.
+    let p = err_from_is_err_and c.from_residual-in_err-commit.result c.from_residual-in_err-commit.ensures.1 in
+    let items : List ObjectId = c.painted.painted.items in
+    let honest = g.F.Lookup.is_honest c.args.source.now.objects in
+    let table = g.F.Lookup.table c.args.source.now.objects in
+    let rows = rows_of c.args.source.now.rows in
+    let f = rw (c.painted.invariant.rows, c.painted.invariant.objects) at c.in_err-commit.ensures.refused in
+    let asked = rw c.painted.invariant.rows at c.fetch.ensures.asked in
+    let some : PaintsSome honest rows table c.args.hidden.now c.args.source.now.lookups c.painted.source.lookups = paints_some honest rows table c.args.hidden.now c.painted.known.nodes items c.painted.read c.args.source.now.lookups c.painted.source.lookups c.painted.invariant.counted c.painted.invariant.painted (c.painted.invariant.walked unpainted) in
+    let one = unread_counts honest (g.F.Lookup.may_fail c.args.source.now.objects) rows table c.index.result.now c.in_err-commit.field-0.0 c.painted.source.lookups c.fetch.new.self.lookups f asked c.fetch.ensures.rising in
+    rw (p.1, p.2) (c.painted.source.lookups, some, one)
+
+pub returns-in_err-paint_tips-clause-counted_fault : goal.returns-in_err-paint_tips-clause-counted_fault
+returns-in_err-paint_tips-clause-counted_fault g c = λ unpainted.
+    let p = err_from_is_err_and c.from_residual.result c.from_residual.ensures.1 in
+    let before = c.args.source.now.lookups in
+    let least : before ≤ before = omega arith in
+    rw (p.1, p.2) (before, paints_none (g.F.Lookup.is_honest c.args.source.now.objects) (rows_of c.args.source.now.rows) (g.F.Lookup.table c.args.source.now.objects) c.args.hidden.now before, least)
+
+pub returns-in_err-paint_parents-clause-counted_fault : goal.returns-in_err-paint_parents-clause-counted_fault
+returns-in_err-paint_parents-clause-counted_fault g c = λ unpainted.
+    let p = err_from_is_err_and c.from_residual-in_err-paint_parents.result c.from_residual-in_err-paint_parents.ensures.1 in
+    let honest = g.F.Lookup.is_honest c.args.source.now.objects in
+    let table = g.F.Lookup.table c.args.source.now.objects in
+    let rows = rows_of c.args.source.now.rows in
+    let some = paints_some honest rows table c.args.hidden.now c.painted.known.nodes c.painted.painted.items c.painted.read c.args.source.now.lookups c.painted.source.lookups c.painted.invariant.counted c.painted.invariant.painted (c.painted.invariant.walked unpainted) in
+    rw (p.1, p.2) (c.painted.source.lookups, some, c.fetch.ensures.rising)

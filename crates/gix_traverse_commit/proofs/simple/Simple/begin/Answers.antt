@@ -1,8 +1,8 @@
-use Rattle.std.proofs.Common.{arith, Bool, true, ℕ, ◌≡◌, ◌↔◌, ◌≤◌, ◌+◌, sym, ◌∙◌, ap, refl, subst, List, [], Option, length}
+use Rattle.std.proofs.Common.{inl, inr, arith, Bool, true, ℕ, ◌≡◌, ◌↔◌, ◌≤◌, ◌+◌, sym, ◌∙◌, ap, refl, subst, List, [], Option, length}
 use Rattle.gix_hash_id.specs.declared.object_id.ObjectId.{ObjectId}
 use Rattle.gix_hash_id.specs.Id.{Id}
 use Rattle.gix_traverse_commit.specs.Ending.{times_in, times_waiting}
-use Rattle.gix_traverse_commit.specs.Painting.{PaintFault, Paints, ReachedFrom}
+use Rattle.gix_traverse_commit.specs.Painting.{CountsUnpainted, PaintFault, Paints, ReachedFrom, CountsUnread, PaintsSome}
 use Rattle.gix_traverse_commit.specs.Order.{IsListOf}
 use Rattle.gix_traverse_commit.specs.Rows.{AllHeld}
 use Rattle.std.specs.Prelude.{Contains, IsSome}
@@ -11,7 +11,7 @@ use Rattle.gix_traverse_commit.specs.Known.{turns_of}
 use Rattle.gix_traverse_commit.specs.Nodes.{is_hidden}
 use Rattle.gix_traverse_commit.specs.Sorting.{timing_of}
 use Rattle.gix_traverse_commit.specs.Simply.{IsNew, IsSure, times_queued, timing}
-use Rattle.gix_traverse_commit.specs.Giving.{IsAccepted, SimpleFault, hidden_error, IsWanted}
+use Rattle.gix_traverse_commit.specs.Giving.{CountsHiddenFault, CountsUnbegun, IsAccepted, SimpleFault, hidden_error, IsWanted}
 use Rattle.gix_traverse_commit.specs.Timely.{AllRowed, LetsWaitIn}
 use Rattle.gix_traverse_commit.specs.Told.{AreTold, rows_of}
 use Rattle.gix_object_find.specs.Table.{Table}
@@ -29,6 +29,8 @@ use Rattle.gix_traverse_commit.proofs.Pending.{is_false}
 use Rattle.gix_traverse_commit.proofs.Simply.{accepts_more}
 use Rattle.gix_traverse_commit.proofs.Times.{met_or_accepted}
 use Rattle.gix_traverse_commit.proofs.Awaiting.{waits_in}
+use Rattle.gix_traverse_commit.proofs.Counting.{paints_none}
+use Rattle.std.proofs.lemmas.Result.{err_from_is_err_and}
 use Rattle.gix_traverse_commit.proofs.simple.Simple.begin.Goals as goal
 
 pub returns-clause-going : goal.returns-clause-going
@@ -191,3 +193,64 @@ returns-clause-painted g c = λ a m honest0 commits told0.
     let hidden : c.as_slice.result.now ≡ a.hidden = c.as_slice.ensures.value ∙ w.hidden in
     let painted = subst (λ (hs : List ObjectId). Paints commits hs c.paint.new.known.nodes) hidden (c.in_default.ensures.painted w.asked.unpainted honest commits told) in
     λ x. subst (λ (b : Bool). (b ≡ true) ↔ ReachedFrom commits a.hidden x) (sym (c.in_ok-line_up.ensures.painted x)) (painted x)
+
+pub returns-clause-met : goal.returns-clause-met
+returns-clause-met g c = λ a m x.
+    let w : IsNew g.P.Accept.accepts a c.gather.new.self = c.in_ok-gather.ensures.made a m in
+    let around = c.in_ok-gather.ensures.met a m x in
+    let line = c.in_ok-line_up.ensures.met x in (
+      (λ h. around.0 (elim (line.0 h) [ inl p ↦ inl (sym (c.in_default.ensures.met x) ∙ p) | inr k ↦ inr (subst (λ (ts : List ObjectId). Contains ts x) w.tips k) ])),
+      (λ d. line.1 (elim (around.1 d) [ inl q ↦ inl (c.in_default.ensures.met x ∙ q) | inr k ↦ inr (subst (λ (ts : List ObjectId). Contains ts x) (sym w.tips) k) ])),
+    )
+
+hidden_counts : (before after : ℕ) (error : FetchError) → CountsUnread before after error → CountsHiddenFault before after (hidden_error error)
+hidden_counts before after (fault.Find error) h = h
+hidden_counts before after (fault.ObjectDecode error) h = h
+hidden_counts before after fault.Memory h = h
+
+pub returns-in-Err-clause-counted_fault : goal.returns-in-Err-clause-counted_fault
+returns-in-Err-clause-counted_fault g c = λ a m.
+    let still = c.gather.ensures.source in
+    let w : IsNew g.P.Accept.accepts a c.gather.new.self = c.in_ok-gather.ensures.made a m in
+    let honest = g.F.Lookup.is_honest c.args.self.now.source.objects in
+    let rows = rows_of c.args.self.now.source.rows in
+    let table = g.F.Lookup.table c.args.self.now.source.objects in
+    let error : FetchError = c.in-Err.error in
+    let before = c.args.self.now.source.lookups in
+    let after = c.paint.new.source.lookups in
+    let hidden : c.as_slice.result.now ≡ a.hidden = c.as_slice.ensures.value ∙ w.hidden in
+    let here = subst (λ s. CountsUnpainted (g.F.Lookup.is_honest s.objects) (rows_of s.rows) (g.F.Lookup.table s.objects) c.as_slice.result.now s.lookups after error) still (c.in-Err.ensures.counted_fault w.asked.unpainted) in
+    let of_tips = subst (λ (hs : List ObjectId). CountsUnpainted honest rows table hs before after error) hidden here in
+    let (behind, some, one) = of_tips in
+    subst (λ (e : Error). CountsUnbegun honest rows table a.hidden before after e) (sym c.of_painting.ensures) (behind, some, hidden_counts behind after error one)
+
+pub returns-in_err-gather-clause-counted_fault : goal.returns-in_err-gather-clause-counted_fault
+returns-in_err-gather-clause-counted_fault g c = λ a m.
+    let p = err_from_is_err_and c.from_residual.result c.from_residual.ensures.1 in
+    let before = c.args.self.now.source.lookups in
+    let e = ap (λ s. s.lookups) c.gather.ensures.source in
+    let least : before ≤ c.gather.new.self.source.lookups = omega (arith, e) in
+    rw (p.1, p.2) (before, paints_none (g.F.Lookup.is_honest c.args.self.now.source.objects) (rows_of c.args.self.now.source.rows) (g.F.Lookup.table c.args.self.now.source.objects) a.hidden before, least)
+
+pub returns-in_err-line_up-clause-counted_fault : goal.returns-in_err-line_up-clause-counted_fault
+returns-in_err-line_up-clause-counted_fault g c = λ a m.
+    let p = err_from_is_err_and c.from_residual-in_err-line_up.result c.from_residual-in_err-line_up.ensures.1 in
+    let still = c.gather.ensures.source in
+    let w : IsNew g.P.Accept.accepts a c.gather.new.self = c.in_ok-gather.ensures.made a m in
+    let honest = g.F.Lookup.is_honest c.args.self.now.source.objects in
+    let rows = rows_of c.args.self.now.source.rows in
+    let table = g.F.Lookup.table c.args.self.now.source.objects in
+    let before = c.args.self.now.source.lookups in
+    let behind = c.paint.new.source.lookups in
+    let after = c.line_up.new.self.source.lookups in
+    let hidden : c.as_slice.result.now ≡ a.hidden = c.as_slice.ensures.value ∙ w.hidden in
+    let (asked, each, list) = c.in_default.ensures.counted in
+    let some : PaintsSome honest rows table a.hidden before behind = record {
+      painted = asked;
+      each = subst (λ s. CountsAll (rows_of s.rows) asked s.lookups behind) still each;
+      are_reached = (λ h commits told.
+          let all = subst (λ (hs : List ObjectId). IsListOf (ReachedFrom commits hs) asked) hidden
+          (list w.asked.unpainted (subst (λ s. g.F.Lookup.is_honest s.objects) (sym still) h) commits (subst (λ s. AreTold (rows_of s.rows) (g.F.Lookup.table s.objects) commits) (sym still) told)) in
+          record { each = λ x k. (all.each x).0 k; once = all.once });
+    } in
+    rw (p.1, p.2) (subst (λ (e : Error). CountsUnbegun honest rows table a.hidden before after e) (sym c.in_err-line_up.ensures.refused) (behind, some, c.line_up.ensures.rising))

@@ -1,4 +1,4 @@
-use Rattle.std.proofs.Common.{arith, ◌+◌, ◌≡◌, ◌∙◌, sym, ap, subst, inl, inr, List, [], ◌++◌}
+use Rattle.std.proofs.Common.{arith, ◌+◌, ◌≡◌, ◌∙◌, ◌⊎◌, sym, ap, subst, refl, inl, inr, List, [], ◌++◌, Bool, true, false}
 use Rattle.std.specs.Prelude.{Contains}
 use Rattle.gix_hash_id.specs.declared.object_id.ObjectId.{ObjectId}
 use Rattle.gix_traverse_commit.specs.Rows.{AllHeld}
@@ -86,3 +86,29 @@ returns-clause-left g c =
         | inr d ↦ inr (let a = waiting_some (turns_of old) x (waited_waits old x d) in omega (arith, a))
       ]
     ])
+
+pub returns-then-is_idle-clause-met : goal.returns-then-is_idle-clause-met
+returns-then-is_idle-clause-met g c = λ a m x. ((λ d. d), (λ d. d))
+
+-- what was met is met still, or has come
+met_or_come : (has has' : ObjectId → Bool) (tips : List ObjectId) (x : ObjectId) → (has' x ≡ false → (has x ≡ false) ⊎ Contains tips x) → has x ≡ true → (has' x ≡ true) ⊎ Contains tips x
+met_or_come has has' tips x unmet h = go (has' x) refl
+  where
+    go : (b : Bool) → has' x ≡ b → (has' x ≡ true) ⊎ Contains tips x
+    go true e = inl e
+    go false e = elim (unmet e) [ inl f ↦ (let z : ⊥ = cc in absurd z) | inr k ↦ inr k ]
+
+pub returns-clause-met : goal.returns-clause-met
+returns-clause-met g c = λ a m. elim m [
+  | inl n ↦ (let f = c.if-is_idle.false in let t = c.is_idle.ensures.1 (n.empty, n.none_waits) in let z : ⊥ = cc in absurd z)
+  | inr t ↦ (
+      let all : c.unpaint.new.known.queue ≡ a.tips = c.in_ok-unpaint.ensures.queue ∙ c.in_ok-queue_waiting.ensures.queued ∙ t.queued in
+      let was : (x : ObjectId) → is_met c.unpaint.new.known.nodes x ≡ is_met c.args.self.now.known.nodes x = λ x. c.in_ok-unpaint.ensures.met x ∙ ap (λ (ns : List Node). is_met ns x) c.queue_waiting.ensures.nodes in
+      λ x. (
+        (λ d. elim d [ inl h ↦ inl (sym (was x) ∙ (c.in_ok-take_all.ensures.met x h).0) | inr k ↦ inr k ]),
+        (λ d. elim d [
+          | inl h ↦ met_or_come (is_met c.unpaint.new.known.nodes) (is_met c.take_all.new.known.nodes) a.tips x (λ f. subst (λ (zs : List ObjectId). (is_met c.unpaint.new.known.nodes x ≡ false) ⊎ Contains zs x) all (c.in_ok-take_all.ensures.unmet x f)) (was x ∙ h)
+          | inr k ↦ inr k
+        ]),
+      ))
+]

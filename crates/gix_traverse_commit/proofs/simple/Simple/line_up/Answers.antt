@@ -3,7 +3,7 @@ use Rattle.std.specs.Prelude.{Contains, not, ◌&&◌, IsSome}
 use Rattle.gix_hash_id.specs.Id.{id_of}
 use Rattle.gix_hash_id.specs.declared.object_id.ObjectId.{ObjectId}
 use Rattle.gix_traverse_commit.specs.Commits.{asked_parents}
-use Rattle.gix_traverse_commit.specs.Meeting.{CountsTimes, IsFresh}
+use Rattle.gix_traverse_commit.specs.Meeting.{CountsTimes, IsFresh, MarksAll}
 use Rattle.gix_traverse_commit.specs.Order.{IsListOf}
 use Rattle.gix_traverse_commit.specs.Known.{turns_of}
 use Rattle.gix_traverse_commit.specs.Nodes.{is_hidden, is_met}
@@ -133,3 +133,9 @@ returns-clause-awaits g c = λ honest commits told.
     let may_fail = g.F.Lookup.may_fail c.args.self.now.source.objects in
     let waits = subst (λ (ts : List ObjectId). LetsWaitIn (Some c.in-Some.timing) may_fail commits (IsFresh c.args.self.now.known.nodes ts) (turns_of c.args.self.now.known) (turns_of c.await_tips.new.known)) c.as_slice-2.ensures.value (c.in_ok-await_tips.ensures.awaits honest commits told) in
     subst (λ (t : Option Timing). LetsWaitIn t may_fail commits (IsFresh c.args.self.now.known.nodes c.args.self.now.tips.items) (turns_of c.args.self.now.known) (turns_of c.await_tips.new.known)) (sym is) waits
+
+pub returns-in_default-clause-met : goal.returns-in_default-clause-met
+returns-in_default-clause-met g c = subst (λ (ts : List ObjectId). MarksAll c.args.self.now.known.nodes ts c.queue_tips.new.known.nodes) c.as_slice.ensures.value c.in_ok-queue_tips.ensures.met
+
+pub returns-clause-met : goal.returns-clause-met
+returns-clause-met g c = subst (λ (ts : List ObjectId). MarksAll c.args.self.now.known.nodes ts c.await_tips.new.known.nodes) c.as_slice-2.ensures.value c.in_ok-await_tips.ensures.met

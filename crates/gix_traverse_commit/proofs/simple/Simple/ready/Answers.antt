@@ -49,3 +49,9 @@ returns-then-self-clause-painted g c = λ a made. elim made [
   | inl m ↦ (let h = m.begun in let f = c.if-self.true in let z : ⊥ = cc in absurd z)
   | inr m ↦ (let h = m.begun in let f = c.if-self.true in let z : ⊥ = cc in absurd z)
 ]
+
+pub returns-then-self-clause-met : goal.returns-then-self-clause-met
+returns-then-self-clause-met g c = λ a made. elim made [
+  | inl m ↦ (let h = m.begun in let f = c.if-self.true in let z : ⊥ = cc in absurd z)
+  | inr m ↦ (let h = m.begun in let f = c.if-self.true in let z : ⊥ = cc in absurd z)
+]

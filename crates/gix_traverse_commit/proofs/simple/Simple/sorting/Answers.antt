@@ -11,6 +11,7 @@ use Rattle.gix_traverse_commit.specs.Simply.{IsNew, IsOver}
 use Rattle.gix_traverse_commit.specs.Giving.{IsAccepted, IsUnmet, TipFault}
 use Rattle.gix_traverse_commit.specs.Told.{rows_of}
 use Rattle.gix_traverse_commit.proofs.Meeting.{unmet_accepted}
+use Rattle.gix_traverse_commit.proofs.Pending.{none_held}
 use Rattle.gix_traverse_commit.proofs.Times.{met_or_accepted, tip_fault_more}
 use Rattle.gix_traverse_commit.proofs.simple.Simple.sorting.Goals as goal
 
@@ -93,3 +94,12 @@ returns-in_err-read_tips-clause-whole g c = λ o.
     let s : false ≡ true = c.in_err-read_tips.ensures.whole tips in
     let z : ⊥ = cc in
     absurd z
+
+pub returns-clause-still : goal.returns-clause-still
+returns-clause-still g c = λ o.
+    let t = c.turn.ensures.over o in
+    let tips : c.gather.new.self.tips.items ≡ [] = ap (λ w. w.tips.items) (c.gather.ensures.same t.empty t.none_waits).0 ∙ c.turn.ensures.emptied o in
+    let e = c.gather.ensures.source ∙ c.turn.ensures.source in
+    let rows = rows_of c.args.self.source.rows in
+    subst (λ s. AllHeld (rows_of s.rows) c.gather.new.self.tips.items → c.read_tips.new.self.source.lookups ≡ s.lookups) e c.read_tips.ensures.rowed
+    (subst (AllHeld rows) (sym tips) (none_held rows))

@@ -5,7 +5,7 @@ use Rattle.std.specs.List.{sum_by}
 use Rattle.gix_traverse_commit.specs.Ending.{may_come, times_in}
 use Rattle.gix_traverse_commit.specs.Meeting.{CountsOne, IsFresh, MarksMet}
 use Rattle.gix_traverse_commit.specs.Simply.{timing, IsAtTurn, IsOver, IsKnown, IsSure, IsUnderWay, is_over, known_ids, left_of, times_queued}
-use Rattle.gix_traverse_commit.specs.Giving.{CountsBeginning, IsWanted, CountsFault, CountsUpTo, IsContentOf, IsInfo, IsTurn, StopsFetch, ComesInTurn, FailsInTurn, IsMetWith, KeepsOrder}
+use Rattle.gix_traverse_commit.specs.Giving.{CountsBeginning, CountsUnbegun, IsWanted, CountsFault, CountsUpTo, IsContentOf, IsInfo, IsTurn, StopsFetch, ComesInTurn, FailsInTurn, IsMetWith, KeepsOrder}
 use Rattle.gix_traverse_commit.specs.Rows.{Holds}
 use Rattle.gix_traverse_commit.specs.Sorting.{timing_of}
 use Rattle.gix_traverse_commit.specs.Known.{turns_of}
@@ -63,7 +63,10 @@ returns-in-Err-clause-steps g c = record {
   paint_stays = λ b. tt;
   takes_one = tt;
   marks = λ b. tt;
-  first_fault = λ a m. inl (c.in-Err.ensures.refused (λ _. record { parents = []; time = pos 0 }) (g.F.Lookup.ids c.args.self.now.source.objects) a [] (inl (refl, m)));
+  first_fault = λ a m. inl (record {
+    cause = c.in-Err.ensures.refused (λ _. record { parents = []; time = pos 0 }) (g.F.Lookup.ids c.args.self.now.source.objects) a [] (inl (refl, m));
+    counts = subst (λ (n : ℕ). CountsUnbegun (g.F.Lookup.is_honest c.args.self.now.source.objects) (rows_of c.args.self.now.source.rows) (g.F.Lookup.table c.args.self.now.source.objects) a.hidden c.args.self.now.source.lookups n c.in-Err.error) (sym c.stop.ensures.lookups) (c.in-Err.ensures.counted_fault a m);
+  });
   unasked_fault = inr (c.stop.ensures.predicate ∙ c.ready.ensures.predicate);
   kind_end = tt;
   queues = λ b some. tt;
@@ -214,6 +217,7 @@ returns-in-Ok-clause-steps g c =
               tips_wait = λ honest commits told. c.in_default.ensures.awaits a m honest commits told;
               stays = c.in_default.ensures.stays;
               painted = λ honest commits told. c.in_default.ensures.painted a m honest commits told;
+              met = c.in_default.ensures.met a m;
               gains = c.in_default.ensures.left;
             };
             meets = meets_moved g.P.Accept.accepts g.P.Accept.goes (rows_of c.take.new.self.source.rows) rows c.take.new.self.known.nodes c.ready.new.self.known.nodes (timing_of c.take.new.self.parents c.take.new.self.sorting) (timing_of c.ready.new.self.parents c.ready.new.self.sorting) c.in-Ok.info c.take.new.self.predicate c.ready.new.self.predicate c.take.new.self.source.lookups c.ready.new.self.source.lookups c.enter.new.self.predicate c.enter.new.self.source.lookups
@@ -343,6 +347,7 @@ returns-in-Err-enter-clause-steps g c =
           tips_wait = λ honest commits told. c.in_default.ensures.awaits a m honest commits told;
           stays = c.in_default.ensures.stays;
           painted = λ honest commits told. c.in_default.ensures.painted a m honest commits told;
+          met = c.in_default.ensures.met a m;
           gains = c.in_default.ensures.left;
         };
         fails = record { id = id; others = turns_of c.take.new.self.known; taken = c.in-Some.ensures.waiting; cause = fault };

@@ -1,9 +1,10 @@
-use Rattle.std.proofs.Common.{◌≡◌, List, Bool, true, false}
+use Rattle.std.proofs.Common.{◌≡◌, List, Bool, true, false, take}
 use Rattle.std.specs.Prelude.{Contains, not}
 use Rattle.gix_hash_id.specs.declared.object_id.ObjectId.{ObjectId}
 use Rattle.gix_traverse_commit.specs.Known.{turns_of}
 use Rattle.gix_traverse_commit.specs.Ending.{NoneGains, times_in}
 use Rattle.gix_traverse_commit.specs.Keeping.{Kept}
+use Rattle.gix_traverse_commit.specs.Meeting.{MarksAll}
 use Rattle.gix_traverse_commit.specs.Nodes.{is_hidden, is_met}
 use Rattle.gix_traverse_commit.specs.Rows.{AllHeld}
 use Rattle.gix_traverse_commit.specs.declared.rows.Row.{Row}
@@ -15,6 +16,7 @@ invariant-tips l = record {
   hidden : (q : ObjectId) → is_hidden l.known.nodes q ≡ is_hidden l.fn.known.nodes q;
   grown : (q : ObjectId) → is_met l.fn.known.nodes q ≡ true → is_met l.known.nodes q ≡ true;
   left : NoneGains l.fn.known.nodes (times_in l.fn.known.queue) l.known.nodes (times_in l.known.queue);
+  met : MarksAll l.fn.known.nodes (take l.tip-index l.tips) l.known.nodes;
   rowed : (rows : List Row) → AllHeld rows l.fn.known.queue → AllHeld rows l.tips → AllHeld rows l.known.queue;
   walked : (along : ObjectId → List ObjectId) (keep : ObjectId → Bool)
       → ((x : ObjectId) → Contains l.tips x → is_met l.fn.known.nodes x ≡ false → keep x ≡ not (is_hidden l.fn.known.nodes x))

@@ -17,9 +17,9 @@ use Rattle.gix_traverse_commit.proofs.Ending.{gains_more, gains_none}
 use Rattle.gix_traverse_commit.proofs.Keeping.{met_more, unmet_before, met_itself}
 use Rattle.gix_traverse_commit.proofs.Lists.{contains_from_at}
 use Rattle.gix_traverse_commit.proofs.Timely.{in_nil, joins_same, met_renamed, next_tip, tip_joins}
-use Rattle.gix_traverse_commit.specs.Meeting.{CountsAll, IsFresh}
+use Rattle.gix_traverse_commit.specs.Meeting.{CountsAll, IsFresh, MarksAll}
 use Rattle.gix_traverse_commit.specs.Order.{IsListOf}
-use Rattle.gix_traverse_commit.proofs.Meeting.{Fresh, counts_more, meets_none, meets_step, tip_or_met}
+use Rattle.gix_traverse_commit.proofs.Meeting.{Fresh, all_none, all_step, counts_more, meets_none, meets_step, tip_or_met}
 use Rattle.gix_traverse_commit.specs.Commits.{Commits}
 use Rattle.gix_traverse_commit.proofs.Awaiting.{waits_more, waits_none, waits_same}
 use Rattle.gix_traverse_commit.proofs.simple.timed.await_tips.Goals as goal
@@ -31,6 +31,7 @@ tips-init g c = record {
   hidden = λ q. refl;
   queue = refl;
   grown = λ q h. h;
+  met = all_none c.args.known.now.nodes;
   most = omega arith;
   rising = omega arith;
   counted = λ all. refl;
@@ -53,6 +54,7 @@ tips-preserved g c =
       hidden = λ q. c.in_ok-await_tip.ensures.hidden q ∙ inv.hidden q;
       queue = c.in_ok-await_tip.ensures.queue ∙ inv.queue;
       grown = λ q h. met_more (is_met c.tips.known.nodes) (is_met c.await_tip.new.known.nodes) id q c.in_ok-await_tip.ensures.met (inv.grown q h);
+      met = all_step c.args.known.now.nodes c.tips.known.nodes c.await_tip.new.known.nodes ids c.tips.tip-index id here inv.met c.in_ok-await_tip.ensures.met;
       most = omega (arith, c.await_tip.ensures.counted, inv.most);
       rising = omega (arith, c.await_tip.ensures.rising, inv.rising);
       counted = λ all. (rowed (all id (contains_from_at ids c.tips.tip-index id here))).0 ∙ inv.counted all;
@@ -114,3 +116,6 @@ returns-clause-awaits g c = λ honest h told.
     (λ x k. subst (λ (ts : List ObjectId). Fresh has hides ts x) all ((w.list.each x).0 k))
     (λ x k. (w.list.each x).1 (subst (λ (ts : List ObjectId). Fresh has hides ts x) (sym all) k))
     (waits honest h told)
+
+pub returns-clause-met : goal.returns-clause-met
+returns-clause-met g c = subst (λ (ts : List ObjectId). MarksAll c.args.known.now.nodes ts c.tips.known.nodes) (take_all c.args.tips.now c.tips.tip-index c.tips-test.false) c.tips.invariant.met

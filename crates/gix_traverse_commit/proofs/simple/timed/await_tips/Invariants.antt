@@ -4,7 +4,7 @@ use Rattle.gix_hash_id.specs.Id.{Id, id_of}
 use Rattle.gix_hash_id.specs.declared.object_id.ObjectId.{ObjectId}
 use Rattle.gix_traverse_commit.specs.Commits.{Commits}
 use Rattle.gix_traverse_commit.specs.Ending.{NoneGains, times_waiting}
-use Rattle.gix_traverse_commit.specs.Meeting.{CountsAll}
+use Rattle.gix_traverse_commit.specs.Meeting.{CountsAll, MarksAll}
 use Rattle.gix_traverse_commit.specs.Known.{turns_of}
 use Rattle.gix_traverse_commit.specs.Nodes.{is_hidden, is_met}
 use Rattle.gix_traverse_commit.specs.Rows.{AllHeld}
@@ -20,6 +20,7 @@ invariant-tips g l = record {
   hidden : (q : ObjectId) → is_hidden l.known.nodes q ≡ is_hidden l.fn.known.nodes q;
   queue : l.known.queue ≡ l.fn.known.queue;
   grown : (q : ObjectId) → is_met l.fn.known.nodes q ≡ true → is_met l.known.nodes q ≡ true;
+  met : MarksAll l.fn.known.nodes (take l.tip-index l.tips) l.known.nodes;
   most : l.source.lookups ≤ l.fn.source.lookups + l.tip-index;
   rising : l.fn.source.lookups ≤ l.source.lookups;
   counted : AllHeld (rows_of l.fn.source.rows) l.tips → l.source.lookups ≡ l.fn.source.lookups;
