@@ -41,7 +41,8 @@ fn is_of(it: &ObjectId, id: oid<'_>) -> bool
 }
 
 impl Accept for Refusing<'_> {
-    ghost accepts = { λ predicate id. not (list_any (λ it. id_eq (id_of it) id) predicate.refused.items) };
+    ghost accepts = { λ predicate id.
+        not (list_any (λ it. id_eq (id_of it) id) predicate.refused.items) };
 
     ghost goes = { λ before _ after. after.refused ≡ before.refused };
 

@@ -9,7 +9,7 @@ use Rattle.gix_traverse_commit.specs.Ending.{is_empty}
 use Rattle.gix_traverse_commit.specs.declared.info.Info.{Info}
 use Rattle.gix_traverse_commit.specs.declared.parents.Parents.{Parents}
 use Rattle.gix_traverse_commit.specs.declared.rows.Row.{Row}
-use Rattle.gix_traverse_topo.specs.Giving.{AsksEach, AsksRest, GivesNext, answers_left, left_of}
+use Rattle.gix_traverse_topo.specs.Giving.{AsksEach, AsksFault, AsksRest, GivesNext, answers_left, left_of}
 use Rattle.gix_traverse_topo.specs.Standing.{Answers, IsInfo, IsTurn, NoneReachesItself, Stands, all_accepted, topo_request}
 use Rattle.gix_traverse_topo.specs.Waiting.{waiting}
 use Rattle.gix_traverse_topo.specs.declared.error.Error.{Error}
@@ -38,8 +38,8 @@ module _ {P : Type 0} (accepts : P → Id → Bool) (goes : P → Id → P → T
       → IfNone item ((sorting : Sorting) (rows : List Row) (faults : ObjectId → Option Error) (g : Commits ObjectId) (tips ends listed : List ObjectId) → Stands sorting rows faults g tips ends before.parents (λ x. accepts before.predicate (id_of x)) listed before.known before.ready → NoneReachesItself g (topo_request tips ends before.parents all_accepted) → Answers sorting g (topo_request tips ends before.parents (λ x. accepts before.predicate (id_of x))) listed)
       → IfSome item (λ a. IfErr a (λ error. (sorting : Sorting) (rows : List Row) (faults : ObjectId → Option Error) (g : Commits ObjectId) (tips ends listed : List ObjectId) → Stands sorting rows faults g tips ends before.parents (λ x. accepts before.predicate (id_of x)) listed before.known before.ready → (error ≡ Memory) ⊎ ((x : ObjectId) × (faults x ≡ Some error) × IsTurn sorting faults g (topo_request tips ends before.parents (λ x. accepts before.predicate (id_of x))) listed x)))
       → IfSome item (λ a. OnErr a (waiting after.ready ≡ [])) → IfNone item (waiting after.ready ≡ []) → (waiting before.ready ≡ [] → IsNone item) → IfSome item (λ a. OnOk a (left_of after < left_of before))
-      → IfSome item (λ a. IfOk a (λ info. (passed : List ObjectId) × AsksEach goes before after (passed ++ info.id ∷ []))) → IfNone item (AsksRest goes before after) → GivesNext accepts goes before item after
-  gives_next parents same lookups more end refused failed over ended fewer asked asked_end = record {
+      → IfSome item (λ a. IfOk a (λ info. (passed : List ObjectId) × AsksEach goes before after (passed ++ info.id ∷ []))) → IfNone item (AsksRest goes before after) → IfSome item (λ a. IfErr a (AsksFault goes before after)) → GivesNext accepts goes before item after
+  gives_next parents same lookups more end refused failed over ended fewer asked asked_end asked_fault = record {
     lookups = lookups;
     more = λ sorting rows faults g tips ends given sd. ok_then item _ _ more (λ info f.
         let (s, i) = f sorting rows faults g tips ends given sd in (
@@ -51,6 +51,7 @@ module _ {P : Type 0} (accepts : P → Id → Bool) (goes : P → Id → P → T
     refused = λ sorting rows faults g tips ends given sd. err_then item _ _ refused (λ error f. f sorting rows faults g tips ends given sd);
     asked = asked;
     asked_end = asked_end;
+    asked_fault = asked_fault;
     failed = failed;
     over = over;
     ended = ended;

@@ -10,7 +10,7 @@ use Rattle.gix_traverse_commit.specs.declared.rows.Row.{Row}
 use Rattle.gix_object_find.specs.Table.{Table}
 use Rattle.gix_traverse_commit.specs.Told.{rows_of}
 use Rattle.gix_traverse_topo.specs.Asking.{Asked}
-use Rattle.gix_traverse_topo.specs.Standing.{Answers, Begins, IsInfo, IsTurn, NoneReachesItself, Standing, Stands, all_accepted, topo_request, weight}
+use Rattle.gix_traverse_topo.specs.Standing.{Answers, Begins, IsInfo, IsTurn, IsTurnOf, NoneReachesItself, Standing, Stands, all_accepted, topo_request, weight}
 use Rattle.gix_traverse_topo.specs.Waiting.{waiting}
 use Rattle.gix_traverse_topo.specs.declared.error.Error.{Error}
 use Rattle.gix_traverse_topo.specs.declared.error.Error.TheVariants.{Memory}
@@ -61,6 +61,16 @@ pub record AsksRest {P : Type 0} (goes : P → Id → P → Type 0) (before afte
   pub none_waits : waiting last.ready ≡ []
   pub same : after.predicate ≡ last.predicate
 
+-- those before its turn were finished and asked of so, up to a walk in which it is the turn of one that isn't read
+pub record AsksFault {P : Type 0} (goes : P → Id → P → Type 0) (before after : Topo P)
+    (error : Error) : Type 0 where
+  pub passed : List ObjectId
+  pub last : Topo P
+  pub each : AsksEach goes before last passed
+  pub turn : (sorting : Sorting) (rows : List Row) (tips finished : List ObjectId)
+      → IsTurnOf sorting rows tips before.parents finished last.known last.ready error
+  pub same : after.predicate ≡ last.predicate
+
 pub record GivesNext {P : Type 0} (accepts : P → Id → Bool) (goes : P → Id → P → Type 0)
     (before : Topo P) (item : Option (Result Info Error)) (after : Topo P) : Type 0 where
   pub lookups : after.lookups ≡ before.lookups
@@ -91,6 +101,7 @@ pub record GivesNext {P : Type 0} (accepts : P → Id → Bool) (goes : P → Id
       (λ answer. IfOk answer
       (λ info. (passed : List ObjectId) × AsksEach goes before after (passed ++ info.id ∷ [])))
   pub asked_end : IfNone item (AsksRest goes before after)
+  pub asked_fault : IfSome item (λ answer. IfErr answer (AsksFault goes before after))
   pub failed : IfSome item (λ answer. OnErr answer (waiting after.ready ≡ []))
   pub over : IfNone item (waiting after.ready ≡ [])
   pub ended : waiting before.ready ≡ [] → IsNone item

@@ -2,6 +2,7 @@
 
 ghost use Rattle.std.specs.Prelude.{◌≡◌, ◌+◌, ◌≤◌, ◌++◌, [], length, IfOk, IfErr, IfSome, IfNone, IsOk, None};
 ghost use Rattle.gix_hash_id.specs.declared.object_id.ObjectId.{ObjectId};
+ghost use Rattle.gix_traverse_commit.specs.Meeting.{CountsAll};
 ghost use Rattle.gix_traverse_commit.specs.Rows.{AllHeld, Holds};
 ghost use Rattle.gix_traverse_commit.specs.Told.{rows_of};
 ghost use Rattle.gix_traverse_commit.specs.declared.parents.Parents.TheVariants.{All as AllParents};
@@ -187,6 +188,8 @@ impl<F: Find + Drop, P: Accept + Drop> Builder<F, P> {
         ensures counted { IfOk result (λ walk. lookups_of walk ≤ length (commits_of walk)) }
         ensures each { (asked_of self).graph ≡ None
             → IfOk result (λ walk. lookups_of walk ≡ length (commits_of walk)) }
+        ensures asked { IfOk result (λ walk. CountsAll (rows_of (asked_of self).graph)
+            (commits_of walk) 0 (lookups_of walk)) }
         ensures rowed { AllHeld (rows_of (asked_of self).graph) (asked_of self).tips
             → AllHeld (rows_of (asked_of self).graph) (asked_of self).ends
             → IfOk result (λ walk. lookups_of walk ≡ 0) }
@@ -237,6 +240,8 @@ fn explore_ends<F: Find>(
         × (source.new.lookups ≡ source.old.lookups)) }
     ensures each { ((x : ObjectId) → ¬ Holds (rows_of source.old.rows) x) → source.old.lookups ≡ 0
         → IfOk result (λ known. source.new.lookups ≡ length known.ids.keys) }
+    ensures asked { IfOk result (λ known. CountsAll (rows_of source.old.rows) known.ids.keys
+        source.old.lookups source.new.lookups) }
     ensures refused { IfErr result (IsBuildFault (F.is_honest source.old.objects)
         (F.may_fail source.old.objects) (rows_of source.old.rows) (F.table source.old.objects)
         ends.now) }
@@ -270,6 +275,8 @@ fn explore<F: Find>(
         → IfOk result (λ _. source.new.lookups ≡ source.old.lookups) }
     ensures each { ((x : ObjectId) → ¬ Holds (rows_of source.old.rows) x) → source.old.lookups ≡ 0
         → IfOk result (λ known. source.new.lookups ≡ length known.ids.keys) }
+    ensures asked { IfOk result (λ known. CountsAll (rows_of source.old.rows) known.ids.keys
+        source.old.lookups source.new.lookups) }
     ensures refused { IfErr result (IsBuildFault (F.is_honest source.old.objects)
         (F.may_fail source.old.objects) (rows_of source.old.rows) (F.table source.old.objects)
         ends.now) }

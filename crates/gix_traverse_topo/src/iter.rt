@@ -9,7 +9,7 @@ ghost use Rattle.gix_traverse_commit.specs.declared.rows.Row.{Row};
 ghost use Rattle.gix_traverse_topo.specs.declared.init.Sorting.{Sorting};
 ghost use Rattle.gix_traverse_topo.specs.Nodes.{readings, counts, IsOnce};
 ghost use Rattle.gix_traverse_topo.specs.Asking.{lookups_of};
-ghost use Rattle.gix_traverse_topo.specs.Giving.{AsksEach, AsksRest, GivesNext, answers_left};
+ghost use Rattle.gix_traverse_topo.specs.Giving.{AsksEach, AsksFault, AsksRest, GivesNext, answers_left};
 ghost use Rattle.gix_traverse_topo.specs.Standing.{Answers, CountsOff, Gives, GoesOff, IsInfo, IsTurn, IsTurnOf, NoneReachesItself, NotCounted, RowOff, Standing, Stands, Steps, all_accepted, topo_request, weight};
 ghost use Rattle.gix_traverse_topo.specs.Waiting.{waiting};
 ghost use Rattle.gix_hash_id.specs.Id.{id_of};
@@ -203,6 +203,8 @@ impl<P: Accept + Drop> Topo<P> {
         ensures asked { IfSome result (λ given. IfOk given (λ info. (passed : List ObjectId)
             × AsksEach P.goes self.old self.new (passed ++ info.id ∷ []))) }
         ensures asked_end { IfNone result (AsksRest P.goes self.old self.new) }
+        ensures asked_fault { IfSome result (λ given. IfErr given (AsksFault P.goes self.old
+            self.new)) }
         ensures failed { IfSome result (λ given. OnErr given (waiting self.new.ready ≡ [])) }
         ensures over { IfNone result (waiting self.new.ready ≡ []) }
         ensures ended { waiting self.old.ready ≡ [] → IsNone result }

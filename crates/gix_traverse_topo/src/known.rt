@@ -5,6 +5,7 @@ ghost use Rattle.indexmap.specs.IndexSet.{insert_key};
 ghost use Rattle.gix_hash_id.specs.declared.object_id.ObjectId.{ObjectId};
 ghost use Rattle.gix_traverse_commit.specs.Commits.{asked};
 ghost use Rattle.gix_traverse_commit.specs.Fetching.{one_more};
+ghost use Rattle.gix_traverse_commit.specs.Meeting.{CountsAll};
 ghost use Rattle.gix_traverse_commit.specs.Numbered.{same_id};
 ghost use Rattle.gix_traverse_commit.specs.Order.{At};
 ghost use Rattle.gix_traverse_commit.specs.Rows.{AllHeld, Holds};
@@ -287,6 +288,8 @@ impl Known {
         ensures counted { source.new.lookups ≤ source.old.lookups + 1 }
         ensures asked { (¬ Holds (rows_of source.old.rows) id.now)
             → source.new.lookups ≡ one_more source.old.lookups }
+        ensures held { Holds (rows_of source.old.rows) id.now
+            → source.new.lookups ≡ source.old.lookups }
         ensures rowed { Holds (rows_of source.old.rows) id.now
             → AllHeld (rows_of source.old.rows) self.old.ids.keys
             → OnOk result (AllHeld (rows_of source.old.rows) self.new.ids.keys
@@ -322,6 +325,10 @@ impl Known {
             → source.old.lookups ≤ length self.old.nodes.items
             → source.new.lookups + length self.old.nodes.items
             ≡ source.old.lookups + length self.new.nodes.items) }
+        ensures asked { OnOk result (length self.old.nodes.items ≡ length self.old.ids.keys
+            → (first : ℕ)
+            → CountsAll (rows_of source.old.rows) self.old.ids.keys first source.old.lookups
+            → CountsAll (rows_of source.old.rows) self.new.ids.keys first source.new.lookups) }
         ensures rowed { OnOk result (AllHeld (rows_of source.old.rows) self.old.ids.keys
             → AllHeld (rows_of source.old.rows) tips.now
             → AllHeld (rows_of source.old.rows) self.new.ids.keys

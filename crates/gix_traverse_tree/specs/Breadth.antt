@@ -48,11 +48,13 @@ under tree id = record { id = id; above = tree.id ∷ tree.above }
 pub data Level (H M : Type 0) (table : Table) : List Tree → List Call → List Tree → End
     → Type 0 where
   none : Level H M table [] [] [] whole
-  tree : {t : Tree} {ts deeper : List Tree} {content : List ℕ} {calls more : List Call} {below : List Id} {end : End}
+  tree : {t : Tree} {ts deeper : List Tree} {content : List ℕ} {calls more : List Call}
+      {below : List Id} {end : End}
       → IsRead H table t.above t.id content → Listing t.id.kind content calls below whole
       → Level H M table ts more deeper end
       → Level H M table (t ∷ ts) (pop_front ∷ (calls ++ more)) (map (under t) below ++ deeper) end
-  ended : {t : Tree} {ts : List Tree} {content : List ℕ} {calls : List Call} {below : List Id} {error : Error}
+  ended : {t : Tree} {ts : List Tree} {content : List ℕ} {calls : List Call} {below : List Id}
+      {error : Error}
       → IsRead H table t.above t.id content → Listing t.id.kind content calls below (failed error)
       → Level H M table (t ∷ ts) (pop_front ∷ calls) [] (failed error)
   unread : {t : Tree} {ts : List Tree} {error : Error} → TreeFault H M table t.above t.id error

@@ -39,7 +39,8 @@ pub data InOrder (H : Type 0) (table : Table) (location : Option Location) : Kin
       → SpellsEntry ids content item rest → is_tree item ≡ false
       → InOrder H table location ids folder rest more
       → InOrder H table location ids folder content (recorded_in location folder item ∷ more)
-  tree : {ids : Kind} {folder : Bytes} {content rest below : List ℕ} {item : Item} {inside more : List Recorded}
+  tree : {ids : Kind} {folder : Bytes} {content rest below : List ℕ} {item : Item}
+      {inside more : List Recorded}
       → SpellsEntry ids content item rest → is_tree item ≡ true
       → (H → Stands table item.id kinds.Tree below)
       → InOrder H table location item.id.kind (folder_in folder item) below inside
@@ -69,7 +70,8 @@ pub data Listed (location : Option Location) (ids : Kind) (folder : Bytes) : Lis
 pub data LevelByLevel (H : Type 0) (table : Table) (location : Option Location) : List Folder
     → List Recorded → Type 0 where
   none : LevelByLevel H table location [] []
-  folder : {folder : Bytes} {id : Id} {rest below : List Folder} {content : List ℕ} {here more : List Recorded}
+  folder : {folder : Bytes} {id : Id} {rest below : List Folder} {content : List ℕ}
+      {here more : List Recorded}
       → (H → Stands table id kinds.Tree content) → Listed location id.kind folder content here below
       → LevelByLevel H table location (rest ++ below) more
       → LevelByLevel H table location ((folder, id) ∷ rest) (here ++ more)

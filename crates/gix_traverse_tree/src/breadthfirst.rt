@@ -138,7 +138,8 @@ fn list<V: Visit>(
 ) -> Result<(), Error>
     ensures listed { OnOk result
         (ShowsListing V.goes (place_of entries.entry).kind
-        (place_of entries.entry).input above delegate.old nodes.old.items delegate.new nodes.new.items) }
+        (place_of entries.entry).input above delegate.old nodes.old.items delegate.new
+        nodes.new.items) }
     ensures stopped { IfErr result
         (MemoryOr
         (StopsListing V.goes (place_of entries.entry).kind
@@ -167,7 +168,8 @@ impl State {
         ensures read { (tree : Tree) → StandsAt self.old.nodes.items number tree
             → OnOk result
             (ShowsTree V.goes (F.is_honest objects.now) (F.table objects.now)
-            (F.ids objects.now) number tree delegate.old self.old.nodes.items delegate.new self.new.nodes.items) }
+            (F.ids objects.now) number tree delegate.old self.old.nodes.items delegate.new
+            self.new.nodes.items) }
         ensures stopped { (tree : Tree) (trees : List Tree)
             → StandsAt self.old.nodes.items number tree
             → IfErr result
@@ -200,7 +202,8 @@ impl State {
             → OnOk result
             (ShowsLevel V.goes (F.is_honest objects.now) (F.may_fail objects.now)
             (F.table objects.now)
-            (F.ids objects.now) trees delegate.old self.old.nodes.items delegate.new self.new.nodes.items) }
+            (F.ids objects.now) trees delegate.old self.old.nodes.items delegate.new
+            self.new.nodes.items) }
         ensures stopped { (trees : List Tree) → AreAllFrom self.old.nodes.items start trees
             → IfErr result
             (MemoryOr

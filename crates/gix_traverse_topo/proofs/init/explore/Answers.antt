@@ -1,5 +1,6 @@
 use Rattle.std.proofs.Common.{◌≡◌, ◌∙◌, sym, inl, List, Option, subst, arith}
 use Rattle.std.proofs.lemmas.Result.{err_from_is_err_and}
+use Rattle.gix_traverse_commit.specs.Meeting.{CountsAll}
 use Rattle.gix_traverse_commit.specs.Rows.{AllHeld, Holds}
 use Rattle.gix_hash_id.specs.declared.object_id.ObjectId.{ObjectId}
 use Rattle.gix_traverse_commit.specs.Told.{rows_of}
@@ -53,6 +54,12 @@ returns-clause-each g c = λ bare zero.
     let first = c.in_ok-known.ensures.each bare zero in
     let each = c.in_ok-walk.ensures.each c.in_ok-known.ensures.painted.all_read bare' (omega (arith, first, c.in_ok-known.ensures.painted.all_read)) in
     omega (arith, each, first, c.in_ok-known.ensures.painted.all_read, all.all_read)
+
+pub returns-clause-asked : goal.returns-clause-asked
+returns-clause-asked g c =
+    let first = c.args.source.now.lookups in
+    let step = subst (λ (ro : Option (List Row)). CountsAll (rows_of ro) c.in_ok-known.known.ids.keys first c.explore_ends.new.source.lookups → CountsAll (rows_of ro) c.walk.new.self.ids.keys first c.walk.new.source.lookups) c.in_ok-known.ensures.rows (c.in_ok-walk.ensures.asked c.in_ok-known.ensures.painted.all_read first) in
+    step c.in_ok-known.ensures.asked
 
 pub returns-clause-rowed : goal.returns-clause-rowed
 returns-clause-rowed g c = λ tips_held ends_held.

@@ -1,6 +1,7 @@
 use Rattle.std.proofs.Common.{◌≡◌, ◌∙◌, List, [], inl, inr, length, refl, ap, sym, subst, arith}
 use Rattle.std.proofs.lemmas.Result.{err_from_is_err_and}
 use Rattle.gix_hash_id.specs.declared.object_id.ObjectId.{ObjectId}
+use Rattle.gix_traverse_commit.specs.Meeting.{CountsAll}
 use Rattle.gix_traverse_commit.specs.Rows.{AllHeld}
 use Rattle.gix_traverse_commit.specs.Told.{rows_of}
 use Rattle.gix_traverse_commit.specs.declared.rows.Row.{Row}
@@ -64,6 +65,13 @@ returns-in-None-clause-each g c = λ bare zero.
     let none_either : length c.new-known.result.ids.keys ≡ 0 = ap length c.new-known.ensures.ids in
     let each = c.in_ok-walk.ensures.each (none ∙ sym none_either) bare (omega (arith, zero)) in
     omega (arith, each, zero, none, many)
+
+pub returns-in-None-clause-asked : goal.returns-in-None-clause-asked
+returns-in-None-clause-asked g c =
+    let first = c.args.source.now.lookups in
+    let none : length c.new-known.result.nodes.items ≡ 0 = ap length c.new-known.ensures.nodes in
+    let none_either : length c.new-known.result.ids.keys ≡ 0 = ap length c.new-known.ensures.ids in
+    c.in_ok-walk.ensures.asked (none ∙ sym none_either) first (subst (λ (ks : List ObjectId). CountsAll (rows_of c.args.source.now.rows) ks first first) (sym c.new-known.ensures.ids) refl)
 
 none_held : (rows : List Row) → AllHeld rows []
 none_held rows x c = let (k, a) = at_from_contains [] x c in absurd (none_at_nil k x a)

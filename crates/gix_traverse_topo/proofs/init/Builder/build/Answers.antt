@@ -28,6 +28,9 @@ none_holds graph e x h =
 pub returns-clause-each : goal.returns-clause-each
 returns-clause-each g c = λ bare. c.in_ok-known.ensures.each (none_holds c.args.self.rows bare) refl
 
+pub returns-clause-asked : goal.returns-clause-asked
+returns-clause-asked g c = c.in_ok-known.ensures.asked
+
 pub returns-clause-rowed : goal.returns-clause-rowed
 returns-clause-rowed g c = λ tips ends.
     let rows : List Row = rows_of c.args.self.rows in

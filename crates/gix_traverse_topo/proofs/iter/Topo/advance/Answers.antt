@@ -6,7 +6,7 @@ use Rattle.gix_traverse_commit.specs.declared.parents.Parents.{Parents}
 use Rattle.gix_traverse_commit.specs.declared.rows.Row.{Row}
 use Rattle.gix_traverse_commit.proofs.Meeting.{asks_more}
 use Rattle.gix_traverse_topo.specs.Giving.{AsksEach}
-use Rattle.gix_traverse_topo.specs.Standing.{Standing, Stands, Steps, IsInfo}
+use Rattle.gix_traverse_topo.specs.Standing.{Standing, Stands, Steps, IsInfo, IsTurnOf}
 use Rattle.gix_traverse_topo.specs.declared.init.Sorting.{Sorting}
 use Rattle.gix_traverse_topo.specs.declared.known.Known.{Known}
 use Rattle.gix_traverse_topo.specs.declared.ready.Ready.{Ready}
@@ -102,3 +102,16 @@ returns-in-Some-accepted-clause-asked g c =
 
 pub returns-clause-asked_end : goal.returns-clause-asked_end
 returns-clause-asked_end g c = let (passed, asks, before) = c.turns.invariant.asked in record { passed = passed; last = c.turns.self; each = record { asked = asks; finishes = before }; none_waits = c.in_default.ensures.end; same = c.in_default.ensures.predicate }
+
+pub returns-in-Err-clause-asked_fault : goal.returns-in-Err-clause-asked_fault
+returns-in-Err-clause-asked_fault g c =
+    let inv = c.turns.invariant in
+    let refused = rw c.in-Err.is at c.in-Some.ensures.refused in
+    let (passed, asks, before) = inv.asked in
+    record {
+      passed = passed;
+      last = c.turns.self;
+      each = record { asked = asks; finishes = before };
+      turn = λ sorting rows tips finished. subst (λ (p : Parents). IsTurnOf sorting rows tips p finished c.turns.self.known c.turns.self.ready c.in-Err.error) inv.parents (refused sorting rows tips finished);
+      same = c.in-Some.ensures.predicate;
+    }

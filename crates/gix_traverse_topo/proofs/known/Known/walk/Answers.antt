@@ -1,14 +1,16 @@
 use Rattle.std.proofs.Common.{◌≡◌, ℕ, ◌+◌, ◌≤◌, List, [], Option, length, refl, sym, ◌∙◌, ap, subst, arith}
 use Rattle.std.proofs.lemmas.Result.{err_from_is_err_and}
+use Rattle.std.proofs.lemmas.List.{take_all}
 use Rattle.std.proofs.lemmas.Option.{slice_get_within}
 use Rattle.gix_hash_id.specs.declared.object_id.ObjectId.{ObjectId}
+use Rattle.gix_traverse_commit.specs.Meeting.{CountsAll, CountsOne}
 use Rattle.gix_traverse_commit.specs.Rows.{AllHeld, Holds}
 use Rattle.gix_traverse_commit.specs.Told.{rows_of}
 use Rattle.gix_traverse_commit.specs.declared.rows.Row.{Row}
 use Rattle.gix_traverse_commit.proofs.Lists.{contains_from_at}
 use Rattle.gix_traverse_commit.specs.Fetching.{one_more}
 use Rattle.gix_traverse_topo.specs.Walking.{Visits, Walking}
-use Rattle.gix_traverse_topo.proofs.Lookups.{IsCountedFrom, counted_all, counted_more, counted_none}
+use Rattle.gix_traverse_topo.proofs.Lookups.{IsCountedFrom, counted_all, counted_more, counted_none, counts_next, counts_start}
 use Rattle.gix_traverse_topo.proofs.Meeting.{row_met, met_held}
 use Rattle.gix_traverse_topo.proofs.Updates.{past_end, le_self, index_smaller}
 use Rattle.gix_traverse_topo.proofs.Walking.{many_all, walking_none, walking_step}
@@ -26,6 +28,7 @@ walk-init g c =
       walking = subst (λ (n : ℕ). Walking (g.F.Lookup.is_honest c.args.source.now.objects) (g.F.Lookup.may_fail c.args.source.now.objects) (rows_of c.args.source.now.rows) (g.F.Lookup.table c.args.source.now.objects) c.args.along c.args.tips.now keys c.args.self.now.nodes.items n keys' c.meet.new.self.nodes.items) (sym start) (walking_none (g.F.Lookup.is_honest c.args.source.now.objects) (g.F.Lookup.may_fail c.args.source.now.objects) (rows_of c.args.source.now.rows) (g.F.Lookup.table c.args.source.now.objects) c.args.along c.args.tips.now keys c.args.self.now.nodes.items keys' c.meet.new.self.nodes.items c.in_ok-meet.ensures.meets c.in_ok-meet.ensures.names);
       rowed = λ held tips. (met_held (rows_of c.args.source.now.rows) c.args.tips.now keys keys' (row_met keys keys' c.args.tips.now c.in_ok-meet.ensures.meets.met) held tips, refl);
       each = λ bare. subst (λ (n : ℕ). IsCountedFrom c.args.source.now.lookups (length c.args.self.now.nodes.items) c.args.source.now.lookups n) (sym start) (counted_none c.args.source.now.lookups (length c.args.self.now.nodes.items));
+      asked = λ many first before. counts_start (rows_of c.args.source.now.rows) keys keys' (length c.as_slice-place.result.now) first c.args.source.now.lookups c.in_ok-meet.ensures.meets.kept (start ∙ many) before;
       counted = subst (λ (n : ℕ). c.args.source.now.lookups + length c.args.self.now.nodes.items ≤ c.args.source.now.lookups + n) (sym start) (le_self (c.args.source.now.lookups + length c.args.self.now.nodes.items));
     }
 
@@ -48,6 +51,12 @@ walk-preserved g c =
       each = λ bare.
           let asked = subst (λ (ro : Option (List Row)). (Holds (rows_of ro) id → ⊥) → c.visit.new.source.lookups ≡ one_more c.walk.source.lookups) inv.rows c.visit.ensures.asked in
           counted_more c.args.source.now.lookups (length c.args.self.now.nodes.items) c.walk.source.lookups c.walk.place c.visit.new.source.lookups (c.walk.place + 1) (inv.each bare) (asked (bare id)) refl;
+      asked = λ many first before.
+          let one : CountsOne (rows_of c.args.source.now.rows) id c.walk.source.lookups c.visit.new.source.lookups = record {
+            stored = subst (λ (ro : Option (List Row)). (Holds (rows_of ro) id → ⊥) → c.visit.new.source.lookups ≡ one_more c.walk.source.lookups) inv.rows c.visit.ensures.asked;
+            rowed = subst (λ (ro : Option (List Row)). Holds (rows_of ro) id → c.visit.new.source.lookups ≡ c.walk.source.lookups) inv.rows c.visit.ensures.held;
+          } in
+          counts_next (rows_of c.args.source.now.rows) c.walk.self.ids.keys c.visit.new.self.ids.keys c.walk.place id first c.walk.source.lookups c.visit.new.source.lookups (sym c.in-Some.ensures.id) visits.meets.kept (inv.asked many first before) one;
       counted = omega (arith, c.in_ok-visit.ensures.counted, inv.counted);
     }
 
@@ -69,6 +78,11 @@ returns-clause-each g c = λ many bare few.
     let all = counted_all c.args.source.now.lookups (length c.args.self.now.nodes.items) c.walk.source.lookups c.walk.place (inv.each bare) few c.in_default.ensures.small in
     let end = many_all (g.F.Lookup.is_honest c.args.source.now.objects) (g.F.Lookup.may_fail c.args.source.now.objects) (rows_of c.args.source.now.rows) (g.F.Lookup.table c.args.source.now.objects) c.args.along c.args.tips.now c.args.self.now.ids.keys c.args.self.now.nodes.items c.walk.place c.walk.self.ids.keys c.walk.self.nodes.items inv.walking (past_end c.walk.self.ids.keys c.walk.place (sym c.in_default.ensures.id)) many in
     omega arith
+
+pub returns-clause-asked : goal.returns-clause-asked
+returns-clause-asked g c = λ many first before.
+    let keys : List ObjectId = c.walk.self.ids.keys in
+    subst (λ (ks : List ObjectId). CountsAll (rows_of c.args.source.now.rows) ks first c.walk.source.lookups) (take_all c.walk.place keys (past_end keys c.walk.place (sym c.in_default.ensures.id))) (c.walk.invariant.asked many first before)
 
 pub returns-in_err-visit-clause-refused : goal.returns-in_err-visit-clause-refused
 returns-in_err-visit-clause-refused g c =

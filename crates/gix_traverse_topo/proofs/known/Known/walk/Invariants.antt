@@ -1,4 +1,5 @@
-use Rattle.std.proofs.Common.{◌≡◌, ◌+◌, ◌-◌, ◌^◌, ◌≤◌, length}
+use Rattle.std.proofs.Common.{◌≡◌, ℕ, ◌+◌, ◌-◌, ◌^◌, ◌≤◌, length, take}
+use Rattle.gix_traverse_commit.specs.Meeting.{CountsAll}
 use Rattle.gix_traverse_commit.specs.Rows.{AllHeld, Holds}
 use Rattle.gix_traverse_topo.proofs.Lookups.{IsCountedFrom}
 use Rattle.gix_hash_id.specs.declared.object_id.ObjectId.{ObjectId}
@@ -14,6 +15,7 @@ invariant-walk g l = record {
   walking : Walking (g.F.Lookup.is_honest l.fn.source.objects) (g.F.Lookup.may_fail l.fn.source.objects) (rows_of l.fn.source.rows) (g.F.Lookup.table l.fn.source.objects) l.along l.fn.tips l.fn.self.ids.keys l.fn.self.nodes.items l.place l.self.ids.keys l.self.nodes.items;
   rowed : AllHeld (rows_of l.fn.source.rows) l.fn.self.ids.keys → AllHeld (rows_of l.fn.source.rows) l.fn.tips → AllHeld (rows_of l.fn.source.rows) l.self.ids.keys × (l.source.lookups ≡ l.fn.source.lookups);
   each : ((x : ObjectId) → ¬ Holds (rows_of l.fn.source.rows) x) → IsCountedFrom l.fn.source.lookups (length l.fn.self.nodes.items) l.source.lookups l.place;
+  asked : length l.fn.self.nodes.items ≡ length l.fn.self.ids.keys → (first : ℕ) → CountsAll (rows_of l.fn.source.rows) l.fn.self.ids.keys first l.fn.source.lookups → CountsAll (rows_of l.fn.source.rows) (take l.place l.self.ids.keys) first l.source.lookups;
   counted : l.source.lookups + length l.fn.self.nodes.items ≤ l.fn.source.lookups + l.place;
 }
 
