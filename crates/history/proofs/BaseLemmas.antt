@@ -40,7 +40,7 @@ use Rattle.history_model.specs.Forms.{is_name}
 use Rattle.history_store.specs.References.{NameHolds}
 use Rattle.history.specs.Face.{names_part}
 use Rattle.history.specs.Faults.{file_fault}
-use Rattle.history.specs.Stands.{Serves}
+use Rattle.history.specs.Serving.{Serves}
 use Rattle.history.specs.declared.repository.Repository as own_repository
 use Rattle.history.proofs.NameReads.{held, refs_front}
 

@@ -14,7 +14,7 @@ use Rattle.history_model.specs.Repository.{Reference, HasWholeNames, stands, Hav
 use Rattle.history_steps.specs.TreeSteps.{MovesName}
 use Rattle.history_store.specs.Formats.{entry_of}
 use Rattle.gix_ref_file.specs.Tree.{Tree}
-use Rattle.history_store.proofs.NameFolders.{both_true}
+use Rattle.history_model.proofs.PartLemmas.{both_true}
 use Rattle.history_model.specs.Commands.{CommitCommand, Commit}
 use Rattle.history_model.specs.Replies.{Committed, reply_text}
 use Rattle.history_model.specs.Spelling.{Line, part_text}
@@ -37,7 +37,8 @@ use Rattle.history_store.specs.Face.{ids_of_objects}
 use Rattle.history.specs.Face.{objects_part, names_part, KeepsAllButObjects, KeepsAllButNames}
 use Rattle.history.specs.Halves.{objects_tree, names_tree, ObjectsStand, NamesStand, FitsAmong, KnowsIds}
 use Rattle.history.specs.Plans.{IsMove}
-use Rattle.history.specs.Stands.{pair_of, Serves, Stands}
+use Rattle.history.specs.Stands.{pair_of, Stands}
+use Rattle.history.specs.Serving.{Serves}
 use Rattle.history.specs.declared.planning.Moves.{Moves}
 use Rattle.history.specs.declared.repository.Repository.{Repository}
 use Rattle.history.proofs.Collisions.{fits_so}

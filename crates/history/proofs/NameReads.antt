@@ -19,7 +19,8 @@ use Rattle.gix_hash_id.specs.declared.kind.Kind.{Kind}
 use Rattle.history_model.proofs.PlaceLemmas.{one_text, texts_apart}
 use Rattle.history_store.specs.References.{SpellsId, NameHolds}
 use Rattle.gix_hash_id.specs.declared.object_id.ObjectId.{ObjectId}
-use Rattle.history.specs.Stands.{Serves, pair_of}
+use Rattle.history.specs.Stands.{pair_of}
+use Rattle.history.specs.Serving.{Serves}
 use Rattle.history.specs.Face.{names_part}
 use Rattle.history.specs.declared.repository.Repository as own
 

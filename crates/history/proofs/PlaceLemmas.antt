@@ -18,7 +18,8 @@ use Rattle.history_steps.proofs.OfferedFiles.{all_keys}
 use Rattle.history_store.specs.Stores.{IsAbove}
 use Rattle.history_store.specs.References.{HasWay, TellsCollision}
 use Rattle.history.specs.Face.{names_part}
-use Rattle.history.specs.Stands.{Serves, pair_of}
+use Rattle.history.specs.Stands.{pair_of}
+use Rattle.history.specs.Serving.{Serves}
 use Rattle.history.specs.Halves.{NamesStand}
 use Rattle.history.specs.declared.repository.Repository.{Repository}
 use Rattle.history.proofs.Collisions.{none_any, neither, above_it, new_collides, fits_so}

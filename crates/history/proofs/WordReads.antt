@@ -9,7 +9,7 @@ use Rattle.history_model.specs.Words.{ReadsAs, Unknown, word_reading, name_readi
 use Rattle.gix_ref_file.specs.History.{History}
 use Rattle.history_store.specs.References.{NameHolds}
 use Rattle.gix_hash_id.specs.declared.object_id.ObjectId.{ObjectId}
-use Rattle.history.specs.Stands.{Serves}
+use Rattle.history.specs.Serving.{Serves}
 use Rattle.history.specs.Face.{names_part}
 use Rattle.history.specs.declared.repository.Repository as own
 use Rattle.history.proofs.FieldLemmas.{both_true}

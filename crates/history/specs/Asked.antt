@@ -12,7 +12,7 @@ use Rattle.history_word.specs.declared.command.CommitCommand.{CommitCommand}
 use Rattle.history_word.specs.declared.command.Edit.{Edit}
 use Rattle.history_word.specs.declared.reader.Reading.{Reading}
 use Rattle.history.specs.CommitCauses.{first_among, name_causes}
-use Rattle.history.specs.Stands.{Serves}
+use Rattle.history.specs.Serving.{Serves}
 use Rattle.history.specs.declared.repository.Repository.{Repository}
 
 -- A repository is asked for what was read: this command, which is offered.

@@ -5,7 +5,6 @@ use Rattle.history_model.specs.Repository as plain
 use Rattle.history_model.specs.Places.{Pair}
 use Rattle.history_model.specs.StandsFor.{StandsWhole}
 use Rattle.history_model.specs.Recovery.{recovered}
-use Rattle.history_steps.specs.Offered.{IsOfStage}
 use Rattle.history.specs.declared.repository.Repository.{Repository}
 use Rattle.std.specs.FinMap.{contains_key}
 use Rattle.gix_hash_id.specs.Id.{Id}
@@ -33,12 +32,6 @@ pub record Stands {F : Type 0} (IsHonest : F → Type 0) (history : F → Histor
   pub branch : repository.branch.items ≡ r.branch
   -- the ids that are known are those of what is stored
   pub known : (id : Id) → contains_key (known_ids repository) id ≡ contains_key r.objects id
-
--- It stands for this plain repository, which is one of this stage: what the calls below `run` take for granted.
-pub record Serves {F : Type 0} (IsHonest : F → Type 0) (history : F → History)
-    (repository : Repository F) (r : plain.Repository) : Type 0 where
-  pub stands : Stands IsHonest history repository r
-  pub stage : IsOfStage r (pair_of history repository)
 
 -- What recovery makes of the two trees that stand is the pair of this plain repository, which is whole and in its written form.
 abbrev pub Recovers : {F : Type 0} → (F → History) → Repository F → plain.Repository → Type 0

@@ -16,7 +16,7 @@ ghost use Rattle.history.specs.Asked.{AskedCommit};
 ghost use Rattle.history.specs.Bases.{IsBase, IsExpected, expected_readings, held_cause, parents_cause, words_cause};
 ghost use Rattle.history.specs.CommitCauses.{Tests, name_causes, place_causes};
 ghost use Rattle.history.specs.Readings.{commit_in, reading_of};
-ghost use Rattle.history.specs.Stands.{Serves};
+ghost use Rattle.history.specs.Serving.{Serves};
 ghost use Rattle.gix_hash_id.specs.Id.{id_of};
 ghost use Rattle.gix_hash_id.specs.Order.{id_eq};
 

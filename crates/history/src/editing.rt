@@ -11,7 +11,7 @@ ghost use Rattle.history_files.specs.Editing.{HavePaths};
 ghost use Rattle.history_store.specs.Stores.{AreObjectsOf};
 ghost use Rattle.history.specs.Acts.{Gives};
 ghost use Rattle.history.specs.Files.{AreChangesOf, AreReadAs, EditsFiles, IsChangeOf, IsTreeBefore, change_parts, edit_parts, kept_edit, unmade};
-ghost use Rattle.history.specs.Stands.{Serves};
+ghost use Rattle.history.specs.Serving.{Serves};
 
 use crate::fields::into_kept;
 use crate::repository::Repository;

@@ -46,7 +46,7 @@ fn files_text(alloc: Global, files: &[File]) -> Result<Vec<u8>, AllocError>
 impl<F: Files> Repository<F> {
     ghost use Rattle.history_model.specs.Repository as plain;
     ghost use Rattle.history_model.specs.Commands as model;
-    ghost use Rattle.history.specs.Stands.{Serves};
+    ghost use Rattle.history.specs.Serving.{Serves};
     ghost use Rattle.history.specs.Acts.{AnswersReading};
 
     /// The reply to `files`: the files of the commit that the word stands for, their paths ascending.

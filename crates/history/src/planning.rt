@@ -19,7 +19,7 @@ ghost use Rattle.history.specs.Asked.{AskedCommit, AskedFiles};
 ghost use Rattle.history.specs.Bases.{IsBase};
 ghost use Rattle.history.specs.CommitCauses.{first_among, is_long, path_causes};
 ghost use Rattle.history.specs.Plans.{AreActors, AreAdded, AreNewFiles, Commits, GivesObjects, HasActors, IsMade, IsNotAdded, IsUnplanned, MakesCommit, Plans, Says, is_long_tree, object_parts, tree_parts};
-ghost use Rattle.history.specs.Stands.{Serves};
+ghost use Rattle.history.specs.Serving.{Serves};
 ghost use Rattle.history.specs.declared.stopped.Stopped.TheVariants as why;
 
 use crate::actors::actor_at;

@@ -147,7 +147,8 @@ impl<F: Files> Repository<F> {
     ghost use Rattle.history_word.specs.Fields.{Keeps};
     ghost use Rattle.std.specs.FinMap.{get};
     ghost use Rattle.history_model.specs.Objects.{StoredBytes};
-    ghost use Rattle.history.specs.Stands.{Serves, Stands};
+    ghost use Rattle.history.specs.Stands.{Stands};
+    ghost use Rattle.history.specs.Serving.{Serves};
     ghost use Rattle.history.specs.Acts.{AnswersReading, Gives};
 
     /// The reply to `show` of a commit.

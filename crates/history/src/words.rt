@@ -124,7 +124,7 @@ impl WordReading {
 
 impl<F: Files> Repository<F> {
     ghost use Rattle.history_model.specs.Repository as plain;
-    ghost use Rattle.history.specs.Stands.{Serves};
+    ghost use Rattle.history.specs.Serving.{Serves};
     ghost use Rattle.history.specs.Acts.{Gives, ReadsWord};
 
     /// What a word stands for: HEAD for its branch, else the first candidate that stands.

@@ -17,7 +17,7 @@ split_slash : Bytes → List Bytes
 split_slash text = slice_split (λ b. b == 47) text
 
 -- the text that ends so, in two parts
-ends_parts : (back text : Bytes) → ends back text ≡ true → text ≡ take (length text - length back) text ++ back
+pub ends_parts : (back text : Bytes) → ends back text ≡ true → text ≡ take (length text - length back) text ++ back
 ends_parts back text h = sym (parts (length text - length back) text) ∙ ap (λ t. take (length text - length back) text ++ t) (sym ((bytes_eq-Decides back (drop (length text - length back) text)).0 h))
   where
     parts : (n : ℕ) (t : Bytes) → take n t ++ drop n t ≡ t
@@ -26,7 +26,7 @@ ends_parts back text h = sym (parts (length text - length back) text) ∙ ap (λ
     parts (suc n) (b ∷ t) = ap (λ bs. b ∷ bs) (parts n t)
 
 -- a text with more in front of it ends so too
-ends_after : (front back : Bytes) → ends back (front ++ back) ≡ true
+pub ends_after : (front back : Bytes) → ends back (front ++ back) ≡ true
 ends_after front back = (bytes_eq-Decides back (drop (length (front ++ back) - length back) (front ++ back))).1 (sym (whole front))
   where
     gone : (f : Bytes) → drop (length f) (f ++ back) ≡ back
@@ -36,12 +36,12 @@ ends_after front back = (bytes_eq-Decides back (drop (length (front ++ back) - l
     whole : (f : Bytes) → drop (length (f ++ back) - length back) (f ++ back) ≡ back
     whole f = ap (λ n. drop n (f ++ back)) (let sum = Rattle.std.proofs.Common.length-append f back in omega arith) ∙ gone f
 
-some_or : (a b : Bool) → (a ≡ true) ⊎ (b ≡ true) → (a || b) ≡ true
+pub some_or : (a b : Bool) → (a ≡ true) ⊎ (b ≡ true) → (a || b) ≡ true
 some_or true b h = refl
 some_or false b (inl e) = cc
 some_or false b (inr e) = e
 
-or_some : (a b : Bool) → (a || b) ≡ true → (a ≡ true) ⊎ (b ≡ true)
+pub or_some : (a b : Bool) → (a || b) ≡ true → (a ≡ true) ⊎ (b ≡ true)
 or_some true b h = inl refl
 or_some false b h = inr h
 
@@ -49,7 +49,7 @@ or_some false b h = inr h
 some_part : Bytes → List Bytes → Bool
 some_part back parts = list_any (ends back) parts
 
-ends_cons : (b : ℕ) (back text : Bytes) → ends back text ≡ true → ends back (b ∷ text) ≡ true
+pub ends_cons : (b : ℕ) (back text : Bytes) → ends back text ≡ true → ends back (b ∷ text) ≡ true
 ends_cons b back text h = rw (ends_parts back text h) (ends_after (b ∷ take (length text - length back) text) back)
 
 with_byte : (b : ℕ) (back : Bytes) (parts : List Bytes) → some_part back parts ≡ true → some_part back (onto_first b parts) ≡ true
@@ -80,7 +80,7 @@ last_part back h (b ∷ front) = go (last_part back h front) (b == 47)
     go rest false = with_byte b back (slice_split (λ b. b == 47) (front ++ back)) rest
 
 -- where each component passes, none ends with `.lock`
-no_lock : (parts : List Bytes) → list_all is_name_component parts ≡ true → list_any (ends (codes ".lock")) parts ≡ false
+pub no_lock : (parts : List Bytes) → list_all is_name_component parts ≡ true → list_any (ends (codes ".lock")) parts ≡ false
 no_lock [] h = refl
 no_lock (part ∷ parts) h =
     let here = both_true (is_name_component part) (list_all is_name_component parts) h in
@@ -94,7 +94,7 @@ no_lock (part ∷ parts) h =
     turned true h = cc
     turned false h = refl
 
-and_first : (a b : Bool) → (a && b) ≡ true → a ≡ true
+pub and_first : (a b : Bool) → (a && b) ≡ true → a ≡ true
 and_first a b h = (both_true a b h).0
 
 -- the first of the tests that make a name

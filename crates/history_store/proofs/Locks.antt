@@ -12,7 +12,9 @@ use Rattle.history_model.specs.Forms.{is_name, max_name}
 use Rattle.history_model.specs.Places.{log_place, is_lock_file}
 use Rattle.history_store.specs.Stores.{IsAbove}
 use Rattle.history_store.specs.References.{lock_place}
-use Rattle.history_store.proofs.NameFolders.{both_true, ends_after, refs_of}
+use Rattle.history_model.proofs.PartLemmas.{both_true}
+use Rattle.history_model.proofs.NameLemmas.{ends_after}
+use Rattle.history_store.proofs.NameFolders.{refs_of}
 use Rattle.history_store.proofs.Ways.{name_parts}
 
 abbrev lock_end : Bytes

@@ -12,47 +12,13 @@ use Rattle.history_model.specs.Bytes.{Bytes, begins, ends}
 use Rattle.history_model.specs.FileMap.{components}
 use Rattle.history_model.specs.Forms.{is_name}
 use Rattle.gix_object_lines.specs.NameTest.{is_partial_name}
+use Rattle.history_model.proofs.NameLemmas.{and_first, ends_after, ends_cons, ends_parts, no_lock, or_some, some_or}
+use Rattle.history_model.proofs.PartLemmas.{both_true}
 use Rattle.history_model.proofs.NameTests.{is_name_component, components_of}
 use Rattle.history_model.specs.Places.{is_name_folder, log_place}
 use Rattle.history_store.specs.Stores.{IsAbove}
 use Rattle.history_store.specs.References.{FoldersOfName}
 use Rattle.history_store.proofs.FolderPlaces.{Behind, behind}
-
-pub both_true : (a b : Bool) → (a && b) ≡ true → (a ≡ true) × (b ≡ true)
-both_true true b h = (refl, h)
-both_true false b h = cc
-
--- the text that ends so, in two parts
-ends_parts : (back text : Bytes) → ends back text ≡ true → text ≡ take (length text - length back) text ++ back
-ends_parts back text h = sym (parts (length text - length back) text) ∙ ap (λ t. take (length text - length back) text ++ t) (sym ((bytes_eq-Decides back (drop (length text - length back) text)).0 h))
-  where
-    parts : (n : ℕ) (t : Bytes) → take n t ++ drop n t ≡ t
-    parts zero t = refl
-    parts (suc n) [] = refl
-    parts (suc n) (b ∷ t) = ap (λ bs. b ∷ bs) (parts n t)
-
--- a text with more in front of it ends so too
-pub ends_after : (front back : Bytes) → ends back (front ++ back) ≡ true
-ends_after front back = (bytes_eq-Decides back (drop (length (front ++ back) - length back) (front ++ back))).1 (sym (whole front))
-  where
-    gone : (f : Bytes) → drop (length f) (f ++ back) ≡ back
-    gone [] = refl
-    gone (b ∷ f) = gone f
-
-    whole : (f : Bytes) → drop (length (f ++ back) - length back) (f ++ back) ≡ back
-    whole f = ap (λ n. drop n (f ++ back)) (let sum = Rattle.std.proofs.Common.length-append f back in omega arith) ∙ gone f
-
-some_or : (a b : Bool) → (a ≡ true) ⊎ (b ≡ true) → (a || b) ≡ true
-some_or true b h = refl
-some_or false b (inl e) = cc
-some_or false b (inr e) = e
-
-or_some : (a b : Bool) → (a || b) ≡ true → (a ≡ true) ⊎ (b ≡ true)
-or_some true b h = inl refl
-or_some false b h = inr h
-
-ends_cons : (b : ℕ) (back text : Bytes) → ends back text ≡ true → ends back (b ∷ text) ≡ true
-ends_cons b back text h = rw (ends_parts back text h) (ends_after (b ∷ take (length text - length back) text) back)
 
 with_byte : (b : ℕ) (back : Bytes) (parts : List Bytes) → list_any (ends back) parts ≡ true → list_any (ends back) (onto_first b parts) ≡ true
 with_byte b back [] h = cc
@@ -71,24 +37,6 @@ part_before back rest (b ∷ front) here = go (part_before back rest front here)
         → list_any (ends back) (cond c ([] ∷ slice_split (λ b. b == 47) (front ++ back ++ 47 ∷ rest)) (onto_first b (slice_split (λ b. b == 47) (front ++ back ++ 47 ∷ rest)))) ≡ true
     go later true = some_or (ends back []) _ (inr later)
     go later false = with_byte b back (slice_split (λ b. b == 47) (front ++ back ++ 47 ∷ rest)) later
-
--- where each component passes, none ends with `.lock`
-no_lock : (parts : List Bytes) → list_all is_name_component parts ≡ true → list_any (ends (codes ".lock")) parts ≡ false
-no_lock [] h = refl
-no_lock (part ∷ parts) h =
-    let here = both_true (is_name_component part) (list_all is_name_component parts) h in
-    or_false (ends (codes ".lock") part) (list_any (ends (codes ".lock")) parts) (turned (ends (codes ".lock") part) (both_true _ (not (ends (codes ".lock") part)) here.0).1) (no_lock parts here.1)
-  where
-    or_false : (a b : Bool) → a ≡ false → b ≡ false → (a || b) ≡ false
-    or_false true b e f = cc
-    or_false false b e f = f
-
-    turned : (b : Bool) → not b ≡ true → b ≡ false
-    turned true h = cc
-    turned false h = refl
-
-pub and_first : (a b : Bool) → (a && b) ≡ true → a ≡ true
-and_first a b h = (both_true a b h).0
 
 pub partial_of : (name : Bytes) → is_name name ≡ true → is_partial_name name ≡ true
 partial_of name h = and_first _ _ (and_first _ _ (and_first _ _ h))

@@ -16,7 +16,9 @@ use Rattle.history_steps.specs.TreeHalves.{HoldsNames}
 use Rattle.history_store.specs.Stores.{IsAbove}
 use Rattle.history_store.specs.References.{HasWay, Logs}
 use Rattle.history_store.specs.declared.log_entry.LogEntry.{LogEntry}
-use Rattle.history_store.proofs.NameFolders.{both_true, and_first, partial_of, refs_of}
+use Rattle.history_model.proofs.PartLemmas.{both_true}
+use Rattle.history_model.proofs.NameLemmas.{and_first}
+use Rattle.history_store.proofs.NameFolders.{partial_of, refs_of}
 
 -- ---- a name is a path, and so is its log's place
 split_free : (p : ℕ → Bool) (text : Bytes) → list_any p text ≡ false → list_all (λ part. not (list_any p part)) (slice_split is_slash text) ≡ true

@@ -1,6 +1,6 @@
 use Rattle.std.proofs.Common.{◌≡◌, drop}
 use Rattle.history_model.specs.Repository as plain
-use Rattle.history.specs.Stands.{Serves}
+use Rattle.history.specs.Serving.{Serves}
 use Rattle.history.proofs.WordReads.{first_meant, first_left}
 use Rattle.history.proofs.repository.Repository.read_word.Given as goal
 

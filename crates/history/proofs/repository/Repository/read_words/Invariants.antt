@@ -3,7 +3,7 @@ use Rattle.std.specs.declared.alloc.Global.{Global}
 use Rattle.history_model.specs.Repository as plain
 use Rattle.history_model.specs.Words.{word_reading}
 use Rattle.history.specs.Readings.{reading_of}
-use Rattle.history.specs.Stands.{Serves}
+use Rattle.history.specs.Serving.{Serves}
 use Rattle.history.proofs.repository.Repository.read_words.Given as goal
 
 -- what the words so far read as
