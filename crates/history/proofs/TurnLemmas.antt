@@ -1,7 +1,9 @@
 -- What a turn does, and turns in a row.
-use Rattle.std.proofs.Common.{◌≡◌, ℕ, ◌⊎◌, Bool, true, false, not, ◌&&◌, ◌||◌, ◌==◌, ◌≢◌, ◌<◌, length, List, [], ◌∷◌, ◌++◌, Option, Some, None, Result, Ok, Err, refl, sym, ap, subst, ◌∙◌, inl, inr, IsTrue, IsFalse, arith}
-use Rattle.std.proofs.lemmas.List.{append-nil}
+use Rattle.std.proofs.Common.{◌≡◌, ℕ, ◌⊎◌, Bool, true, false, not, ◌&&◌, ◌||◌, ◌==◌, ◌≢◌, ◌<◌, length, List, [], ◌∷◌, ◌++◌, Option, Some, None, Result, Ok, Err, refl, sym, ap, subst, ◌∙◌, inl, inr, IsTrue, IsFalse, arith, ◌≤◌, take, drop}
+use Rattle.std.proofs.lemmas.List.{append-nil, length-take-le, take-append-drop}
 use Rattle.std.proofs.lemmas.Bool.Decides.{nat_tests}
+use Rattle.std.specs.Io.KnownBytes.{Appends}
+use Rattle.gix_hash_id.specs.Writes.{AppendsFewer}
 use Rattle.history_model.specs.Bytes.{Bytes, begins}
 use Rattle.history_model.specs.Repository.{Repository}
 use Rattle.history_model.specs.Commands.{Command}
@@ -53,6 +55,13 @@ only_fails false = refl
 no_goes : (failed on : Bool) → failed ≡ not on → failed ≡ true → IsFalse on
 no_goes failed true e f = absurd (cc (sym f ∙ e))
 no_goes failed false e f = refl
+
+-- what a writer that failed has taken of a text, and what it hasn't
+pub in_two : (old new : Option Bytes) (text : Bytes) → AppendsFewer old new text → (front back : Bytes) × (text ≡ front ++ back) × (length front < length text) × Appends old new front
+in_two old new text (count, less, wrote) =
+    let within : count ≤ length text = omega (arith, less) in
+    let long = length-take-le count text within in
+    (take count text, drop count text, sym (take-append-drop count text), omega (arith, long, less), wrote)
 
 -- ---- of a command that was answered
 module _ (objects names : History) (MayFail : Type 0) (StandsNow RecoversNow : Repository → Type 0) (start finish : Moment) (r : Repository) (order : Command) (answer : own.Reply) (failed : Bool)
